@@ -17,7 +17,7 @@ use Rattle.deal_rules.specs.declared.deal_kind.DealKind.{DealKind}
 use Rattle.deal_rules.proofs.ShardListLemmas.{each_shard_has_list}
 use Rattle.deal_rules.specs.Dealing.{dealt_list, dealt_lists, AreDealt, DealingFollowsRule, IsDealing, AreDealingLists}
 
--- the lists of so many shards, from shard `from` on, end to end
+-- the lists of `count` shards, from shard `from` on, joined in their order
 abbrev joined_dealing : (ℕ → List RecordValue) → ℕ → ℕ → List RecordValue
 joined_dealing f from count = flat_map (λ list. list) (map f (range_with_len from count))
 
@@ -28,7 +28,7 @@ dealing_with_first n r f shard = cond (eqb n shard) (r ∷ f shard) (f shard)
 dealing_shard_is_later : (n from : ℕ) → from ≤ n → (n ≡ from → ⊥) → from + 1 ≤ n
 dealing_shard_is_later n from least apart = omega (arith, least, apart)
 
--- shards behind the record's own stay as they were
+-- the lists of the shards after the record's own are as before
 joined_dealing-past : (n : ℕ) (r : RecordValue) (f : ℕ → List RecordValue) (from count : ℕ) → n < from
     → joined_dealing (dealing_with_first n r f) from count ≡ joined_dealing f from count
 joined_dealing-past n r f from zero past = refl
@@ -38,7 +38,7 @@ joined_dealing-past n r f from (suc count) past =
     (λ here. let e : n ≡ from = eqb-true n from here in absurd (omega (arith, e, past)))
     (λ other. ap (λ l. f from ++ l) (joined_dealing-past n r f (from + 1) count (omega (arith, past))))
 
--- the record comes once to all lists, wherever its shard stands
+-- the joined lists have the record once more, whichever its shard is
 joined_dealing-first : (n : ℕ) (r : RecordValue) (f : ℕ → List RecordValue) (from count : ℕ) → from ≤ n → n < from + count
     → IsPermutation (r ∷ joined_dealing f from count) (joined_dealing (dealing_with_first n r f) from count)
 joined_dealing-first n r f from zero least most = absurd (omega (arith, least, most))
@@ -55,7 +55,7 @@ joined_dealing-first n r f from (suc count) least most =
     IsPermutation-trans _ _ _ (IsPermutation-sym _ _ (IsPermutation-middle (f from) r (joined_dealing f (from + 1) count)))
     (IsPermutation-append_right (f from) _ _ later))
 
--- no record, no list
+-- without records the joined lists are empty
 joined_dealing-none : (from count : ℕ) → joined_dealing (λ shard. []) from count ≡ []
 joined_dealing-none from zero = refl
 joined_dealing-none from (suc count) = joined_dealing-none (from + 1) count
@@ -109,7 +109,7 @@ dealing_sum-same f g same (x ∷ xs) =
     sum_by-cons f x xs ∙ ap (λ n. n + sum_by f xs) (same x) ∙ ap (λ n. g x + n) (dealing_sum-same f g same xs)
     ∙ sym (sum_by-cons g x xs)
 
--- what covered records weigh, as a sum over all of them
+-- the weight of the covered records, as a sum over all records
 dealing_weight-sum : (prefix : PrefixValue) (rs : List RecordValue)
     → prefix_weight prefix rs ≡ sum_by (λ rec. cond (covers prefix rec) rec.weight 0) rs
 dealing_weight-sum prefix [] = refl
@@ -125,7 +125,7 @@ dealing_weight-sum prefix (r ∷ rs) =
     [ true ↦ sum_by-cons weigh r later | false ↦ omega arith ] in
     here ∙ ap (λ n. part r + n) ih ∙ sym (sum_by-cons part r rs)
 
--- the laws, of lists that are dealt
+-- the laws of dealt lists
 pub dealing_permutes_records : (shards : ℕ) (records : List RecordValue) (numbers : List ℕ) (lists : List (List RecordValue))
     → AreDealt shards records numbers lists
     → IsPermutation records (flat_map (λ list. list) lists)

@@ -46,7 +46,7 @@ third_in_turn = record { round = λ e. refl; source = λ e. cc }
 pub third_by_source : IsNumberByDealRule BySource 2 third 3 1
 third_by_source = record { round = λ e. cc; source = λ e. refl }
 
--- places are counted from 0, so the first record in turn doesn't go to shard 1
+-- indices are counted from 0, so the first record in turn doesn't go to shard 1
 pub not_from_one : IsNumberByDealRule RoundRobin 0 first 2 1 → ⊥
 not_from_one of_kind = let h : 1 ≡ 0 = of_kind.round refl in omega (arith, h)
 
@@ -70,14 +70,14 @@ asked_past_the_last_place asked = omega (arith, asked.early)
 pub asked_for_17_shards : IsAskedOfDealRule 2 third 17 → ⊥
 asked_for_17_shards asked = omega (arith, asked.few)
 
--- a function that answers the place modulo the number of shards, and nothing else
+-- a function that returns the index modulo the number of shards, and nothing else
 abbrev place_in_turn : ℕ → RecordValue → ℕ → ℕ → Type 0
 place_in_turn place rec shards number = number ≡ place % shards
 
 pub third_may_be_dealt : RuleMayDeal RoundRobin place_in_turn 2 third 2 0
 third_may_be_dealt = record { below = omega arith; of_kind = third_in_turn; answered = refl }
 
--- Free takes what its function answers, and that alone
+-- Free allows only what its function returns
 pub other_answers_are_not_dealt : RuleMayDeal Free place_in_turn 2 third 2 1 → ⊥
 other_answers_are_not_dealt may = let h : 1 ≡ 0 = may.answered in omega (arith, h)
 
@@ -100,7 +100,7 @@ lists_of_each_other dealt =
     ap (λ (lists : List (List RecordValue)). (get_or (get_or lists 0 []) 0 third).src) dealt.parted in
     omega (arith, same)
 
--- the number at each place is the place modulo two
+-- the number at each index is the index modulo two
 number_at : (place number : ℕ) → slice_get (0 ∷ 1 ∷ 0 ∷ []) place ≡ Some number → number ≡ place % 2
 number_at zero number read = cc
 number_at (suc zero) number read = cc

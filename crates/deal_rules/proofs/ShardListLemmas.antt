@@ -68,7 +68,7 @@ shard_lists-push shards ns rs n r same below =
     (length-set old n (dealt_list n ns rs ++ r ∷ []) ∙ long)
     (λ k within. shard_list_after_push shards ns rs n r same below k within)
 
--- what is read of a list with one more element is read of the list, or is that element
+-- an element read from a list with one more is read from the list, or is the added one
 shard_list_item-push : {X : Type 0} (xs : List X) (x : X) (place : ℕ) (read : X) → slice_get (xs ++ x ∷ []) place ≡ Some read
     → (slice_get xs place ≡ Some read) ⊎ ((place ≡ length xs) × (read ≡ x))
 shard_list_item-push [] x zero read got = inr (refl, cc)

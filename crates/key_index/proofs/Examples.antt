@@ -9,12 +9,12 @@ use Rattle.key_index.specs.Cells.{Cells, AreCellsBelow, AreCells}
 use Rattle.key_index.specs.CellSearch.{SearchPassesCell, SearchPassesCells, SearchEndsAt}
 use Rattle.key_index.specs.declared.searching.End.TheVariants.{At, Free, Past}
 
--- key 0 is at home first at every turn
+-- the home of key 0 is the first cell at every turn
 pub home_of_key_0 : cell_path_home 2 7 0 ≡ 0
 unfolding cell_path_home
 home_of_key_0 = refl
 
--- key 1 has homes of its own for each multiplier, among the 4,096 of an index for 512 keys
+-- key 1 has different homes under different multipliers, among the 4,096 homes of an index for 512 keys
 pub last_home_of_key_1 : cell_path_home 512 0 1 ≡ 1413
 unfolding cell_path_home
 last_home_of_key_1 = refl
@@ -31,7 +31,7 @@ window_of_sixteen = refl
 abbrev marks : List ℕ
 marks = 0 ∷ 1 ∷ 2 ∷ 0 ∷ []
 
--- past the place of another key
+-- a walk goes past the place of another key
 pub walk_to_the_second_place : cell_path_leads_to (1 ∷ 2 ∷ 3 ∷ []) marks 1 ≡ true
 walk_to_the_second_place = refl
 
@@ -98,7 +98,7 @@ pub last_turn_goes_to_the_end : length (cell_path_from 1 0 0) ≡ 27
 unfolding cell_path_home
 last_turn_goes_to_the_end = refl
 
--- before that over seven windows
+-- before the last turn the path goes over seven windows
 pub whole_path : length (cell_path 1 0) ≡ 7 * 16 + 27
 unfolding cell_path cell_path_window cell_path_home
 whole_path = refl
@@ -121,7 +121,7 @@ no_keys_are_found = record { roomy = refl; places = λ k d below. absurd (omega 
 pub cells_of_another_room : KeyIndexHoldsKeys 2 [] no_cells → ⊥
 cells_of_another_room filled = omega (arith, filled.roomy)
 
--- the one key is still to enter
+-- the only key is still to be entered
 pub all_but_the_new_key : KeyIndexHoldsKeysButOne 0 1 (40 ∷ []) no_cells
 all_but_the_new_key = record {
   few = omega arith;

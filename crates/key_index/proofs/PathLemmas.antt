@@ -25,7 +25,7 @@ free_cell_ends_path marks rest cell place free =
     cond-false (eqb mark (place + 1)) true (cond (eqb mark 0) false (cell_path_leads_to rest marks place)) (ne_eqb mark (place + 1) (omega arith))
     ∙ cond-true (eqb mark 0) false (cell_path_leads_to rest marks place) (eq-eqb mark 0 free)
 
--- past cells in a row that hold the places of other keys
+-- a walk goes on past cells in a row that hold the places of other keys
 pub path_goes_past_others : (count first : ℕ) (marks keys rest : List ℕ) (key place : ℕ) → get_or keys place 0 ≡ key
     → SearchPassesCells marks keys key first (first + count)
     → cell_path_leads_to (range_with_len first count ++ rest) marks place ≡ cell_path_leads_to rest marks place
@@ -34,7 +34,7 @@ path_goes_past_others (suc count) first marks keys rest key place has others =
     path_goes_past_other marks keys (range_with_len (first + 1) count ++ rest) first key place has (others first (omega arith) (omega arith))
     ∙ path_goes_past_others count (first + 1) marks keys rest key place has (λ cell least below. others cell (omega arith) (omega arith))
 
--- up to a free cell behind the places of other keys
+-- a walk ends at a free cell after cells that hold the places of other keys
 pub later_free_cell_ends_path : (count first cell : ℕ) (marks keys rest : List ℕ) (key place : ℕ) → get_or keys place 0 ≡ key → first ≤ cell
     → cell < first + count
     → get_or marks cell 0 ≡ 0 → SearchPassesCells marks keys key first cell → cell_path_leads_to (range_with_len first count ++ rest) marks place ≡ false
@@ -61,7 +61,7 @@ path_ends_at_place marks rest cell place is =
     let mark = get_or marks cell 0 in
     cond-true (eqb mark (place + 1)) true (cond (eqb mark 0) false (cell_path_leads_to rest marks place)) (eq-eqb mark (place + 1) is)
 
--- through filled cells in a row
+-- a walk goes on through filled cells in a row until it comes to the place
 pub path_through_filled_cells : (count first : ℕ) (marks rest : List ℕ) (place : ℕ) → ((cell : ℕ) → first ≤ cell → cell < first + count
     → get_or marks cell 0 ≢ 0)
     → cell_path_leads_to rest marks place ≡ true → cell_path_leads_to (range_with_len first count ++ rest) marks place ≡ true
@@ -70,7 +70,7 @@ path_through_filled_cells (suc count) first marks rest place filled leads =
     path_through_filled_cell marks (range_with_len (first + 1) count ++ rest) first place (filled first (omega arith) (omega arith))
     (path_through_filled_cells count (first + 1) marks rest place (λ cell least below. filled cell (omega arith) (omega arith)) leads)
 
--- to a cell that holds the place, behind filled ones
+-- a walk comes to a cell that holds the place, if all cells before it are filled
 pub path_comes_to_place : (count first cell : ℕ) (marks rest : List ℕ) (place : ℕ) → first ≤ cell → cell < first + count → get_or marks cell 0 ≡ place + 1
     → ((other : ℕ) → first ≤ other → other < cell → get_or marks other 0 ≢ 0) → cell_path_leads_to (range_with_len first count ++ rest) marks place ≡ true
 path_comes_to_place zero first cell marks rest place least below is filled = absurd (omega arith)
@@ -82,7 +82,7 @@ path_comes_to_place (suc count) first cell marks rest place least below is fille
     (path_comes_to_place count (first + 1) cell marks rest place (omega arith) (omega arith) is (λ other behind before. filled other (omega arith) before)))
     (cases_eq cell first)
 
--- a free cell that is filled leaves each place where a walk came to it
+-- a walk that came to a place still does after a free cell is filled
 pub cell_path_leads_to-set : (cells marks : List ℕ) (cell mark place : ℕ) → get_or marks cell 0 ≡ 0 → cell_path_leads_to cells marks place ≡ true
     → cell_path_leads_to cells (set marks cell mark) place ≡ true
 cell_path_leads_to-set [] marks cell mark place free leads = leads
@@ -104,7 +104,7 @@ cell_path_leads_to-set (first ∷ rest) marks cell mark place free leads =
     ]) leads))
     (cases_eq first cell)
 
--- what is left of a path at a turn that isn't the last
+-- the rest of a path at a turn that isn't the last
 cell_path_from-turn : (room turn key : ℕ) → 0 < turn → cell_path_from room turn key ≡ cell_path_window (cell_path_home room turn key) ++ cell_path_from room
     (turn - 1) key
 cell_path_from-turn room zero key some = absurd (omega arith)
@@ -158,7 +158,7 @@ path_stops_in_last_turn room key place cell end marks keys low is has least belo
 abbrev pub PathCellsStayFilled : List ℕ → List ℕ → Type 0
 PathCellsStayFilled marks after = (cell : ℕ) → get_or marks cell 0 ≢ 0 → get_or after cell 0 ≢ 0
 
--- a walk through a filled window comes where what is left of the path comes
+-- a walk through a filled window comes to a place that the rest of the path leads to
 pub path_through_filled_window : (room turn key place : ℕ) (marks after : List ℕ) → 0 < turn
     → ((cell : ℕ) → cell_path_home room turn key ≤ cell → cell < cell_path_home room turn key + 16 → get_or marks cell 0 ≢ 0) → PathCellsStayFilled marks after
     → cell_path_leads_to (cell_path_from room (turn - 1) key) after place ≡ true → cell_path_leads_to (cell_path_from room turn key) after place ≡ true
@@ -168,7 +168,7 @@ path_through_filled_window room turn key place marks after some filled covers le
     ∙ path_through_filled_cells 16 (cell_path_home room turn key) after (cell_path_from room (turn - 1) key) place
     (λ cell least below. covers cell (filled cell least below)) leads
 
--- a mark on a free cell covers what was filled
+-- filled cells stay filled when a place is written to a cell
 PathCellsStayFilled-set : (marks : List ℕ) (cell place : ℕ) → cell < length marks → PathCellsStayFilled marks (set marks cell (place + 1))
 PathCellsStayFilled-set marks cell place within other filled =
     ⊎_elim
@@ -180,7 +180,7 @@ PathCellsStayFilled-set marks cell place within other filled =
     filled (sym (get_or-set_other marks cell other (place + 1) 0 there) ∙ none))
     (cases_eq other cell)
 
--- the place that is written to the first free cell of a window
+-- a walk comes to the place that is written to the first free cell of a window
 pub written_in_path_window : (room turn key place cell : ℕ) (marks : List ℕ) → 0 < turn → cell < length marks → cell_path_home room turn key ≤ cell
     → cell < cell_path_home room turn key + 16
     → ((other : ℕ) → cell_path_home room turn key ≤ other → other < cell → get_or marks other 0 ≢ 0)
@@ -203,7 +203,7 @@ written_at_path_end room key place cell marks low within below least filled =
     (get_or-set_same marks cell (place + 1) 0 within)
     (λ other behind before. PathCellsStayFilled-set marks cell place within other (filled other behind before))
 
--- what a walk through the rest of a path comes to, one along all of it does
+-- a walk along the whole path comes to each place that one along the rest of it comes to
 abbrev pub LeavesPath : ℕ → ℕ → ℕ → List ℕ → Type 0
 LeavesPath room turn key marks = (after : List ℕ) (place : ℕ) → PathCellsStayFilled marks after
     → cell_path_leads_to (cell_path_from room turn key) after place ≡ true → cell_path_leads_to (cell_path room key) after place ≡ true

@@ -4,7 +4,8 @@ use Rattle.std.specs.Prelude.{List, [], ◌∷◌, ◌++◌, slice_index}
 use Rattle.std.specs.List.{range_with_len}
 use Rattle.key_index.specs.declared.homes.TheConstants.{MULTIPLIERS}
 
--- the home of a key at a turn, one of eight for each key that there is room for: its product with the multiplier, scaled
+-- the home of a key at a turn: the high half of its product with the turn's multiplier, scaled to the number of homes,
+-- which is eight times the room
 unfoldable pub cell_path_home : ℕ → ℕ → ℕ → ℕ
 cell_path_home room turn key = (key * slice_index MULTIPLIERS turn % 2 ^ 64 / 2 ^ 32) * (8 * room) / 2 ^ 32
 
@@ -12,7 +13,7 @@ cell_path_home room turn key = (key * slice_index MULTIPLIERS turn % 2 ^ 64 / 2 
 unfoldable pub cell_path_window : ℕ → List ℕ
 cell_path_window first = range_with_len first 16
 
--- the cells of the turns that are left: a window for each, and at the last turn all cells from the home on
+-- the cells of the remaining turns: a window for each, and at the last turn all cells from the home on
 abbrev pub cell_path_from : ℕ → ℕ → ℕ → List ℕ
 cell_path_from room zero key = range_with_len (cell_path_home room 0 key) (10 * room + 17 - cell_path_home room 0 key)
 cell_path_from room (suc turn) key = cell_path_window (cell_path_home room (suc turn) key) ++ cell_path_from room turn key
@@ -21,8 +22,8 @@ cell_path_from room (suc turn) key = cell_path_window (cell_path_home room (suc 
 unfoldable pub cell_path : ℕ → ℕ → List ℕ
 cell_path room key = cell_path_from room 7 key
 
--- a walk along these cells, which hold 0 where they are free and else a place and 1 more, comes to the place before it
--- comes to a free cell
+-- a walk along these cells, each of which holds 0 if it is free and otherwise a place plus 1, comes to the place before
+-- it comes to a free cell
 abbrev pub cell_path_leads_to : List ℕ → List ℕ → ℕ → Bool
 cell_path_leads_to [] cells place = false
 cell_path_leads_to (cell ∷ rest) cells place =

@@ -7,12 +7,12 @@ pub record Cells : Type 0 where
   pub fills : ℕ
   pub marks : List ℕ
 
--- no cell holds a place beyond these
+-- each cell is free or holds a place below this number
 abbrev pub AreCellsBelow : ℕ → List ℕ → Type 0
 AreCellsBelow count marks = All (λ mark. mark ≤ count) marks
 
--- eight homes for each key, and after them as many cells as may be filled, one window and one free cell; what lies
--- past the cells that can have been filled is free
+-- eight homes for each key, and after them as many cells as may be filled, one window and one free cell; the cells past
+-- those that can have been filled are free
 pub record AreCells (room fills : ℕ) (marks : List ℕ) : Type 0 where
   pub some : 1 ≤ room
   pub few : room < 2 ^ 16

@@ -14,7 +14,7 @@ pub record KeyIndexHoldsKeys (room : ℕ) (keys : List ℕ) (cells : Cells) : Ty
   pub places : AreCellsBelow (length keys) cells.marks
   pub found : (place : ℕ) → place < length keys → CellPathFinds room cells.marks (slice_index keys place) place
 
--- the same but for the key at one place, of which nothing is said
+-- the same, except that nothing is said of the key at one place
 pub record KeyIndexHoldsKeysButOne (but room : ℕ) (keys : List ℕ) (cells : Cells) : Type 0 where
   pub few : length keys ≤ room
   pub fits : room < 2 ^ 16

@@ -13,10 +13,10 @@ use std::marker::Model;
 /// Two cells for each key may be filled before all are emptied.
 const FILLS_A_KEY: usize = 2;
 
-/// Cells after the homes beside those that may be filled: a window, and one free cell.
+/// Cells after the homes besides those that may be filled: a window, and one free cell.
 const BEHIND: usize = 17;
 
-/// Marks in a row, one for each cell: 0 where it is free, else a place among the keys and 1 more.
+/// Marks in a row, one for each cell: 0 if it is free, else a place among the keys plus 1.
 #[derive(Debug, Drop)]
 pub(crate) struct KeyCells {
     room: usize,

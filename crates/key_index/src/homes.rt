@@ -12,8 +12,8 @@ pub(crate) const TURNS: usize = 7;
 /// How many homes there are for each key that the index has room for.
 pub(crate) const HOMES_A_KEY: usize = 8;
 
-/// Odd numbers by which a key is multiplied for its home, one for each turn of a search. The next home of keys that
-/// were chosen to share one is another for each (the multipliers of splitmix64, MurmurHash3, xorshift* and PCG).
+/// Odd numbers by which a key is multiplied for its home, one for each turn of a search. Keys that were chosen to share
+/// one home are spread over others at the next turn (the multipliers of splitmix64, MurmurHash3, xorshift* and PCG).
 pub(crate) const MULTIPLIERS: [u64; TURNS + 1] = [
     0x5851_f42d_4c95_7f2d,
     0x2545_f491_4f6c_dd1d,

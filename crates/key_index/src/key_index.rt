@@ -28,8 +28,8 @@ impl Model for KeyIndex {
 }
 
 impl KeyIndex {
-    /// An index of no keys with memory for as many as `room`, 1 to 65,535. It takes 28 bytes for each and 34 more,
-    /// and nothing later.
+    /// An empty index with memory for `room` keys, 1 to 65,535. It allocates 28 bytes for each and 34 more, and nothing
+    /// later.
     pub fn with_room(alloc: Global, room: usize) -> Result<KeyIndex, AllocError>
         requires some { 1 ≤ room }
         requires few { room < 2 ^ 16 }
@@ -42,7 +42,7 @@ impl KeyIndex {
         })
     }
 
-    /// A place of the key. It passes a few cells; for keys that were chosen to share their homes under several
+    /// A place of the key. It passes a few cells, or, for keys that were chosen to share their homes under several
     /// multipliers, sixteen cells for each of these.
     pub fn find(&self, key: u64) -> Option<usize>
         ensures { MatchOption result (All (λ other. other ≢ key) self.now.keys)
@@ -51,7 +51,7 @@ impl KeyIndex {
         self.cells.find(&self.keys, key)
     }
 
-    /// Appends a key. It takes no memory.
+    /// Appends a key. It allocates no memory.
     pub fn push(&mut self, key: u64)
         requires { length self.old.keys < self.old.room }
         ensures { self.new ≡ record self.old { keys = self.old.keys ++ key ∷ [] } }
@@ -61,7 +61,7 @@ impl KeyIndex {
         enter(&mut self.cells, &self.keys, place);
     }
 
-    /// Puts a key in the place of another, which is then no longer found. It takes no memory.
+    /// Replaces the key at this place, which is then no longer found there. It allocates no memory.
     pub fn replace(&mut self, place: usize, key: u64)
         requires { place < length self.old.keys }
         ensures { self.new ≡ record self.old { keys = slice_set self.old.keys place key } }
@@ -71,8 +71,8 @@ impl KeyIndex {
     }
 }
 
-// Enters the key at this place. Where the cells are used up, they are emptied, and all keys enter again: a cell
-// whose place has another key by now is given back by that alone.
+// Enters the key at this place. If the cells are used up, they are emptied and all keys are entered again. Only this
+// frees a cell whose place has another key by now.
 fn enter(cells: &mut KeyCells, keys: &[u64], place: usize)
     requires within { place < length keys.now }
     requires filled { KeyIndexHoldsKeysButOne place cells.old.room keys.now cells.old }

@@ -1,4 +1,4 @@
-//! Walks over the cells of an index. A free cell holds 0, another a place among the keys and 1 more.
+//! Walks over the cells of an index. A free cell holds 0, any other a place among the keys plus 1.
 
 ghost use Rattle.std.specs.Prelude.{◌≡◌, ◌≢◌, ◌+◌, ◌*◌, ◌^◌, ◌<◌, ◌≤◌, ℕ, IfSome, IfNone, false, true, length};
 ghost use Rattle.std.specs.Prelude.{slice_index, slice_set};

@@ -13,7 +13,8 @@ fn place_in(list: &[u64], key: u64) -> Option<usize> {
     None
 }
 
-/// Compares an index with a plain list of the same keys through 2,000 keys that come for others, a step apart.
+/// Compares an index with a plain list of the same keys through 2,000 turns in which a new key may replace another. All
+/// keys are multiples of `step`.
 fn follow_a_list(rt: &impl Abort, alloc: Global, room: usize, step: u64) -> Result<(), AllocError> {
     assert!(rt; room >= 1);
     assert!(rt; room < 1000);
@@ -72,7 +73,7 @@ fn inverse_of(odd: u64) -> u64 {
 #[test]
 fn keys_that_share_a_home_are_found(rt: HostRuntime) -> Result<(), Fail> {
     let alloc = rt.alloc();
-    // The products of these keys with the first turn's multiplier differ in their low half alone.
+    // The products of these keys with the first turn's multiplier differ only in their low half.
     let inverse = inverse_of(0x9e37_79b9_7f4a_7c15);
     let mut index = KeyIndex::with_room(alloc, 512)?;
     let mut list = Vec::new(alloc);

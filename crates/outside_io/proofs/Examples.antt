@@ -18,14 +18,14 @@ greatest_count_stays = refl
 pub count_that_rose : FaultCountRose 3 4
 count_that_rose = omega arith
 
--- at its greatest number a count rose though it stays
+-- a count at the greatest u64 counts as risen, although it is unchanged
 pub greatest_count_rose : FaultCountRose (2 ^ 64 - 1) (2 ^ 64 - 1)
 greatest_count_rose = omega arith
 
 pub count_that_stays_did_not_rise : FaultCountRose 3 3 → ⊥
 count_that_stays_did_not_rise rose = omega (arith, rose)
 
--- a call that failed, by the third fault
+-- a call that failed with the third fault
 pub call_that_failed : FailsByFaultCount {T = ℕ} {E = ℕ} 2 3 (Err 7)
 call_that_failed = record { later = omega arith; failed = omega arith; kept = tt }
 
@@ -44,11 +44,11 @@ beginning_of_a_list = (8 ∷ [], refl)
 pub longer_list_begins_nothing_shorter : IsBeginning {X = ℕ} (7 ∷ 8 ∷ []) (7 ∷ []) → ⊥
 longer_list_begins_nothing_shorter said = omega (arith, ap length said.1, length-append (7 ∷ 8 ∷ []) said.0)
 
--- of the text 7 8 a sink took the 7 behind what it held
+-- of the text 7 8 a sink took only the 7, after the 1 that it held
 pub text_cut_off : AppendsBeginning (Some (1 ∷ [])) (Some (1 ∷ 7 ∷ [])) (7 ∷ 8 ∷ [])
 text_cut_off = record { front = 7 ∷ []; is_beginning = beginning_of_a_list; cut = omega arith; appended = refl }
 
--- of a sink that tells nothing nothing is said but that some beginning is shorter
+-- where the bytes of a sink are unknown, all that is stated is that the text has a strict prefix
 pub text_cut_off_untold : AppendsBeginning None None (7 ∷ 8 ∷ [])
 text_cut_off_untold = record { front = 7 ∷ []; is_beginning = beginning_of_a_list; cut = omega arith; appended = tt }
 
@@ -72,11 +72,11 @@ pub sink_after_a_byte : memory_sink_after_bytes sink (7 ∷ 8 ∷ []) 1
     ≡ record { taken = 1 ∷ 2 ∷ 7 ∷ []; room = 3; fails = 4 ∷ []; calls = 4; faults = 0 }
 sink_after_a_byte = refl
 
--- the call number 4 fails, whatever the piece
+-- call number 4 fails, even for an empty piece
 pub told_call_fails : memory_sink_write_fails (memory_sink_after_bytes sink (7 ∷ 8 ∷ []) 1) 0 ≡ true
 told_call_fails = refl
 
--- a sink that is full, of whose calls none is to fail
+-- a full sink, none of whose calls is made to fail
 abbrev full_sink : MemorySinkState
 full_sink = record { taken = 1 ∷ 2 ∷ 3 ∷ []; room = 3; fails = []; calls = 3; faults = 0 }
 
@@ -111,6 +111,6 @@ pub source_after_two_bytes : memory_source_after_bytes source 2
     ≡ record { left = 3 ∷ []; fails = 0 ∷ []; step = 2; calls = 1; faults = 0 }
 source_after_two_bytes = refl
 
--- with one byte left no more is given, whatever the step and the room
+-- only the one remaining byte is given, although the step and the room allow more
 pub last_byte_given : given_by_memory_source (memory_source_after_bytes source 2) 10 ≡ 1
 last_byte_given = refl

@@ -5,7 +5,7 @@ use Rattle.std.specs.Io.KnownBytes.{Appends, Keeps}
 use Rattle.std.proofs.KnownBytes.{Appends-nil, Appends-trans}
 use Rattle.outside_io.specs.Beginning.{AppendsBeginning}
 
--- of the text a front was taken, and this rest is still to be written
+-- a front of the text was taken, and this rest is still to be written
 pub record IsSentText (old new : Option (List ℕ)) (text rest : List ℕ) : Type 0 where
   pub front : List ℕ
   pub joined : text ≡ front ++ rest
@@ -31,7 +31,7 @@ more_of_text_is_sent old mid new text rest count sent took after is_after = subs
 pub all_text_is_sent : (old new : Option (List ℕ)) (text : List ℕ) → IsSentText old new text [] → Appends old new text
 all_text_is_sent old new text sent = subst (Appends old new) (sym (sent.joined ∙ append-nil sent.front)) sent.appended
 
--- what was appended stays where a call takes nothing
+-- bytes that were appended stay appended after a call that takes nothing
 sent_text_stays : (old mid new : Option (List ℕ)) (front : List ℕ) → Appends old mid front → Keeps mid new
     → Appends old new front
 sent_text_stays None mid new front took kept = tt
@@ -39,7 +39,7 @@ sent_text_stays (Some x) None new front took kept = absurd took
 sent_text_stays (Some x) (Some y) None front took kept = absurd kept
 sent_text_stays (Some x) (Some y) (Some z) front took kept = kept ∙ took
 
--- a call that takes nothing leaves a beginning, where something is still to be written
+-- if bytes are still to be written when a call takes nothing, a strict prefix of the text was appended
 pub text_beginning_is_sent : (old mid new : Option (List ℕ)) (text rest : List ℕ)
     → IsSentText old mid text rest → 0 < length rest → Keeps mid new → AppendsBeginning old new text
 text_beginning_is_sent old mid new text rest sent some kept = record {

@@ -1,4 +1,4 @@
--- Frames under more bytes, and one frame more.
+-- Frames at the front of bytes when more bytes follow, and one more frame.
 use Rattle.std.proofs.Common.{ℕ, ◌≡◌, ◌+◌, ◌*◌, ◌≤◌, ◌<◌, true, false, ltb, eqb, Some, List, [], ◌∷◌, ◌++◌, length}
 use Rattle.std.proofs.Common.{drop, refl, sym, ap, ◌∙◌, arith, length-append, length-drop, subst, inl, inr}
 use Rattle.std.proofs.lemmas.Bool.{ltb-true, ltb-false, lt-ltb, le-ltb, cases_Bool, cases_lt}
@@ -10,7 +10,7 @@ use Rattle.pcap_frames.specs.Frame.{FrameValue}
 use Rattle.pcap_frames.specs.Frame.{frame_at, BeginsWithFrame, BeginsWithFrames, frame_bytes_needed, frame_fault}
 use Rattle.pcap_frames.proofs.FileNumberLemmas.{number_in_file_order-in_longer_file}
 
--- what a frame says stays under more bytes
+-- the frame at the front is the same when more bytes follow
 pub longer_bytes_begin_same_frame : (order : FileOrder) (bytes more : List ℕ) → 16 ≤ length bytes
     → 16 + number_in_file_order order 4 8 bytes ≤ length bytes → frame_at order (bytes ++ more) ≡ frame_at order bytes
 longer_bytes_begin_same_frame order bytes more header room =
@@ -21,7 +21,7 @@ longer_bytes_begin_same_frame order bytes more header room =
       take-append-le (number_in_file_order order 4 8 bytes) (drop 16 bytes) more (omega (arith, length-drop 16 bytes)),
     ) refl
 
--- a frame stays under more bytes
+-- a frame at the front stays there when more bytes follow
 pub BeginsWithFrame-append : (order : FileOrder) (bytes more : List ℕ) (frame : FrameValue)
     → BeginsWithFrame order bytes frame → BeginsWithFrame order (bytes ++ more) frame
 BeginsWithFrame-append order bytes more frame begins =
@@ -33,7 +33,7 @@ BeginsWithFrame-append order bytes more frame begins =
       room = omega (arith, begins.room, length-append bytes more);
     }
 
--- frames stay under more bytes
+-- frames at the front stay there when more bytes follow
 pub BeginsWithFrames-append : (order : FileOrder) (bytes : List ℕ) (frames : List FrameValue) (rest more : List ℕ)
     → BeginsWithFrames order bytes frames rest → BeginsWithFrames order (bytes ++ more) frames (rest ++ more)
 BeginsWithFrames-append order bytes [] rest more begins = ap (λ l. l ++ more) begins
@@ -52,7 +52,7 @@ BeginsWithFrames-more order bytes [] rest frame begins next =
 BeginsWithFrames-more order bytes (first ∷ frames) rest frame begins next =
     (begins.0, BeginsWithFrames-more order (drop (16 + first.captured) bytes) frames rest frame begins.1 next)
 
--- the rest is no longer than the bytes, by the limit on frames
+-- the bytes are no longer than the rest and 262,160 bytes for each frame
 pub BeginsWithFrames-length : (order : FileOrder) (bytes : List ℕ) (frames : List FrameValue) (rest : List ℕ)
     → BeginsWithFrames order bytes frames rest → length bytes ≤ 262160 * length frames + length rest
 BeginsWithFrames-length order bytes [] rest begins = omega (arith, ap length begins)
@@ -68,7 +68,7 @@ BeginsWithFrames-shorter order bytes (frame ∷ frames) rest begins =
     let behind = BeginsWithFrames-shorter order (drop (16 + frame.captured) bytes) frames rest begins.1 in
     omega (arith, length-drop (16 + frame.captured) bytes)
 
--- a frame that is whole leaves nothing needed
+-- a whole frame needs no more bytes than there are
 pub frame_bytes_needed-where_frame_begins : (order : FileOrder) (bytes : List ℕ) (frame : FrameValue) → BeginsWithFrame order bytes frame
     → frame_bytes_needed order bytes ≤ length bytes
 unfolding frame_bytes_needed
@@ -76,13 +76,13 @@ frame_bytes_needed-where_frame_begins order bytes frame begins =
     let captured : frame.captured ≡ number_in_file_order order 4 8 bytes = ap (λ f. f.captured) begins.is_frame in
     rw (le-ltb (length bytes) 16 begins.header) (omega (arith, begins.room))
 
--- what a frame needs, behind its header
+-- how many bytes a frame needs once its header is whole
 pub frame_bytes_needed-begins_frame_header : (order : FileOrder) (bytes : List ℕ) → 16 ≤ length bytes
     → frame_bytes_needed order bytes ≡ 16 + number_in_file_order order 4 8 bytes
 unfolding frame_bytes_needed
 frame_bytes_needed-begins_frame_header order bytes header = rw (le-ltb (length bytes) 16 header) refl
 
--- what a frame needs, inside its header
+-- how many bytes a frame needs before its header is whole
 pub frame_bytes_needed-begins_part_of_frame : (order : FileOrder) (bytes : List ℕ) → length bytes < 16 → frame_bytes_needed order bytes ≡ 16
 unfolding frame_bytes_needed
 frame_bytes_needed-begins_part_of_frame order bytes short = rw (lt-ltb (length bytes) 16 short) refl
@@ -94,7 +94,7 @@ frame_that_begins_needs_header order bytes = elim (cases_lt (length bytes) 16) [
   | inr header ↦ omega (arith, frame_bytes_needed-begins_frame_header order bytes header)
 ]
 
--- a fault shown behind frames stays under more bytes
+-- a fault that is shown after frames stays when more bytes follow
 pub frame_fault-begins_longer_rest : (order : FileOrder) (count place : ℕ) (rest more : List ℕ) (fault : CaptureFault)
     → frame_fault order count place rest ≡ Some fault → frame_fault order count place (rest ++ more) ≡ Some fault
 unfolding frame_fault

@@ -39,7 +39,7 @@ unfolding number_in_file_order
 AreCaptureFileBytes-bound Big count place bytes are = big_from-lt place count bytes are
 AreCaptureFileBytes-bound Little count place bytes are = little_from-lt place count bytes are
 
--- a frame that stands in a file of bytes is one
+-- a frame that begins a file of bytes is a frame of a capture
 IsFrame-in_capture_file : (order : FileOrder) (bytes : List ℕ) (frame : FrameValue) → AreCaptureFileBytes bytes
     → BeginsWithFrame order bytes frame → IsFrame frame
 IsFrame-in_capture_file order bytes frame are begins =

@@ -1,4 +1,4 @@
--- Faults that bytes show are none that the end of a file makes.
+-- Faults that bytes show are not those that the end of a file makes.
 use Rattle.std.proofs.Common.{◌≡◌, ℕ, Bool, true, false, List, length, Option, None, Some, inl, inr, sym, subst}
 use Rattle.std.specs.Prelude.{nat_lt, ◌==◌, if◌then◌else◌}
 use Rattle.pcap_frames.specs.declared.file_order.FileOrder.{FileOrder}

@@ -32,7 +32,7 @@ frame_bytes = 0 ∷ 0 ∷ 0 ∷ 0 ∷ 0 ∷ 0 ∷ 0 ∷ 0 ∷ 3 ∷ 0 ∷ 0 ∷ 
 abbrev pub frame : FrameValue
 frame = record { head = 7 ∷ 8 ∷ 9 ∷ []; captured = 3; original = 100 }
 
--- a capture of that frame, and the file that it is without its last byte
+-- a capture of that frame, and the same file without its last byte
 abbrev pub capture : List ℕ
 capture = header ++ frame_bytes
 
@@ -111,7 +111,7 @@ pub part_of_a_header_shows_nothing : header_fault (take 23 header) ≡ None
 unfolding number_in_file_order header_magic_order header_fault
 part_of_a_header_shows_nothing = refl
 
--- the magic is looked at before the version
+-- the magic is checked before the version
 pub magic_before_version : header_fault (0x1f ∷ 0x8b ∷ 8 ∷ 0 ∷ 3 ∷ 0 ∷ 4 ∷ 0 ∷ []) ≡ Some (header_fault_at NotCapture 0)
 unfolding number_in_file_order header_magic_order header_fault
 magic_before_version = refl
@@ -206,7 +206,7 @@ empty_file_ends_inside = inl empty_header
 pub empty_file : HasCaptureFault [] (header_fault_at ShortHeader 0)
 empty_file = ([], inr empty_file_ends_inside)
 
--- a file with a whole header ends inside no header
+-- a file with a whole header doesn't end inside its header
 pub whole_header_is_not_short : (frames : List FrameValue) (fault : CaptureFault) → CaptureEndsInHeader header frames fault → ⊥
 whole_header_is_not_short frames fault ends = omega (arith, ends.short)
 
@@ -217,7 +217,7 @@ compressed_header = record { shown = refl; none_before = refl }
 pub compressed_file : HasCaptureFault (0x1f ∷ 0x8b ∷ 8 ∷ 0 ∷ []) (header_fault_at NotCapture 0)
 compressed_file = ([], inl (inl compressed_header))
 
--- a version is told by the first eight bytes
+-- the first eight bytes show a wrong version
 pub other_version : ShowsCaptureFault (take 6 header ++ 3 ∷ 0 ∷ []) [] (header_fault_at Version 4)
 unfolding number_in_file_order header_magic_order header_fault
 other_version = inl (record { shown = refl; none_before = refl })
@@ -254,7 +254,7 @@ capture_has_no_fault fault = capture_files_are_decided.never_both capture (frame
 abbrev long_header : List ℕ
 long_header = take 8 frame_bytes ++ 1 ∷ 0 ∷ 4 ∷ 0 ∷ 0 ∷ 0 ∷ 0 ∷ 0 ∷ []
 
--- a long frame is told by its header, at the place behind the frames before it
+-- the header of a long frame shows the fault, at the offset after the frames before it
 pub long_frame_behind_another : ShowsCaptureFaultInFrames (capture ++ long_header) (frame ∷ []) (header_fault_at LongFrame 43)
 unfolding number_in_file_order frame_fault
 long_frame_behind_another = record {

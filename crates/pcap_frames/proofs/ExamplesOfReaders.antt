@@ -1,4 +1,4 @@
--- Worked examples of what a reader keeps, answers and shows, between two pieces of a capture.
+-- Worked examples of what a reader keeps, returns and shows, between two pieces of a capture.
 use Rattle.std.proofs.Common.{inl, ℕ, ◌≡◌, ◌≤◌, List, [], ◌∷◌, ◌++◌, length, take, Some, None, Ok, Err, refl, ap}
 use Rattle.std.proofs.Common.{sym, subst₂, ◌∙◌, append-nil, subst, arith}
 use Rattle.pcap_frames.specs.declared.fault.FaultKind.TheVariants.{NotCapture, CutFrame}
@@ -33,7 +33,7 @@ use Rattle.pcap_frames.proofs.Examples.{header_and_frame, compressed_header, fau
 abbrev pub album : List FrameValue → List FrameValue → Type 0
 album held frames = held ≡ frames
 
--- one that counts them, and has a number of its own beside
+-- one that counts them, and has another number besides
 abbrev counter : ℕ × ℕ → List FrameValue → Type 0
 counter v frames = v.0 ≡ length frames
 
@@ -49,7 +49,7 @@ counts_are_alike = record { forth = λ frames is. is; back = λ frames is. is }
 pub albums_are_not_alike : VisitorsRepresentSame album [] (frame ∷ []) → ⊥
 albums_are_not_alike alike = absurd (let same : frame ∷ [] ≡ [] = alike.forth [] refl in cc)
 
--- ---- a reader that was fed a file header and a frame but for its last byte
+-- ---- a reader that was fed a file header and a frame without its last byte
 
 -- what is kept of the frame
 abbrev kept : FrontValue
@@ -114,7 +114,7 @@ reader_in_a_frame_goes_on stopped = stopped
 pub reader_in_a_frame_answers_ok : IsFeedingResultInState {T = ℕ} (InFrames at) (Ok 1)
 reader_in_a_frame_answers_ok = refl
 
--- a cut file shows no fault, since it goes on to a capture
+-- a cut file shows no fault, since it may continue as a capture
 pub cut_file_is_not_refused : IsFeedingResultOfBytes {T = ℕ} cut_file (Ok 1)
 cut_file_is_not_refused frames fault shows =
     capture_files_are_decided.never_both capture (frame ∷ []) fault header_and_frame
@@ -126,12 +126,12 @@ cut_file_ends_with_a_fault = fault_of_a_cut_file
 pub capture_ends_with_its_count : IsFinalFeedingResult capture (frame ∷ []) (Ok 1)
 capture_ends_with_its_count = (header_and_frame, refl)
 
--- ---- a reader that was fed a file header but for its last byte, and then this byte and a frame
+-- ---- a reader that was fed a file header without its last byte, and then this byte and a frame
 
 abbrev piece : List ℕ
 piece = 0 ∷ frame_bytes
 
--- where the reader is before the frame, and behind it
+-- where the reader is before the frame, and after it
 abbrev before_frame : ReaderFramePlace
 before_frame = record { order = Little; count = 0; place = 24; kept = []; came = 0 }
 
@@ -200,7 +200,7 @@ piece_is_fed = record {
   sees = λ before held. ap (λ frames. frames ++ frame ∷ []) held;
 }
 
--- where memory ran out, an album without the frame saw a beginning
+-- if memory ran out, an album without the frame saw a front of the frames
 pub album_saw_a_beginning : FeedingShowsBeginning album [] [] (InHeader (take 23 header)) piece
 album_saw_a_beginning = record {
   given = [];
@@ -247,7 +247,7 @@ album_without_room = record {
   alike = record { forth = λ frames is. is; back = λ frames is. is };
 }
 
--- a frame that came to its end by another piece
+-- a frame that was completed by another piece
 pub frame_that_was_held : (held : HeldFrame) → held.order ≡ Little → held.kept.first ≡ frame_bytes
     → frames_held_in_step (Some held) ≡ frame ∷ []
 unfolding number_in_file_order
@@ -275,7 +275,7 @@ reader_at_a_fault_answers_it = refl
 pub reader_at_a_fault_answers_nothing_else : IsFeedingResultInState {T = ℕ} (AtFault (header_fault_at NotCapture 0)) (Ok 1) → ⊥
 reader_at_a_fault_answers_nothing_else answer = cc
 
--- ---- want of memory
+-- ---- out of memory
 
 pub reader_without_memory_represents_nothing : (bytes : List ℕ) (frames : List FrameValue)
     → ReaderRepresents LacksMemory bytes frames → ⊥

@@ -1,6 +1,5 @@
--- Worked examples of what reading a source answers, and of what its visitor saw: of a capture of one frame, and of
--- the file that
--- it is without its last byte.
+-- Worked examples of what reading a source returns, and of what its visitor saw: for a capture of one frame, and for
+-- the same file without its last byte.
 use Rattle.std.proofs.Common.{◌≡◌, [], ◌∷◌, ◌++◌, length, Some, Ok, Err, refl, ap, sym, ◌∙◌, append-nil, arith}
 use Rattle.pcap_frames.specs.declared.fault.FaultKind.TheVariants.{CutFrame, LongFrame}
 use Rattle.pcap_frames.specs.declared.fault.FeedFault.TheVariants as feed
@@ -16,7 +15,7 @@ use Rattle.pcap_frames.proofs.Examples.{frame, capture, cut_file, frame_of_three
 use Rattle.pcap_frames.proofs.Examples.{fault_of_a_cut_file, cut_file_is_no_capture, capture_has_no_fault}
 use Rattle.pcap_frames.proofs.ExamplesOfReaders.{album, cut_file_completes_no_frame, capture_completes_the_frame}
 
--- the album put a frame behind what it held, or nothing
+-- the album appended a frame, or nothing
 sees_frame : VisitorSees album [] (frame ∷ []) (frame ∷ [])
 sees_frame before held = ap (λ frames. frames ++ frame ∷ []) held
 
@@ -57,7 +56,7 @@ nothing_is_seen_of_a_cut_frame = record {
   at_end = λ ends. refl;
 }
 
--- that a frame is cut is not known before the source is at its end
+-- whether a frame is cut is not known before the source is at its end
 pub cut_frame_is_seen_at_the_end : SourceReadingShowsBeforeFault album [] [] (Some (cut_file ++ 9 ∷ [])) (Some (9 ∷ []))
     (header_fault_at CutFrame 24) → ⊥
 cut_frame_is_seen_at_the_end seen = absurd (let none_left : 9 ∷ [] ≡ [] = seen.at_end tt in cc)
@@ -65,7 +64,7 @@ cut_frame_is_seen_at_the_end seen = absurd (let none_left : 9 ∷ [] ≡ [] = se
 pub only_the_end_cuts_a_frame : IsCaptureEndFault CutFrame × (IsCaptureEndFault LongFrame → ⊥)
 only_the_end_cuts_a_frame = (tt, λ ends. ends)
 
--- the call behind the piece that was the cut file failed
+-- the call after the one that read the cut file failed
 pub front_is_seen : SourceReadingShowsFront album [] [] (Some capture) (Some (9 ∷ []))
 front_is_seen = record {
   front = cut_file;
@@ -76,7 +75,7 @@ front_is_seen = record {
   sees = sees_nothing;
 }
 
--- the whole capture was read, and memory for its frame lacked
+-- the whole capture was read, but memory ran out for its frame
 pub part_is_seen : SourceReadingShowsPart album [] [] (Some capture) (Some [])
 part_is_seen = record {
   front = capture;

@@ -39,7 +39,7 @@ module _ {V : Type 0} (represents : V → List FrameValue → Type 0) where
       → VisitorsRepresentSame represents mid saw → VisitorSees represents seen saw frames
   VisitorSees-alike_fed_piece seen mid saw frames first alike = λ before stands. alike.forth (before ++ frames) (first before stands)
 
-  -- a front of the piece is fed, and this rest is left
+  -- a front of the piece is fed, and this rest remains
   pub record IsFedPiece (seen saw : V) (old new : ReaderState) (piece rest : List ℕ) : Type 0 where
     pub done : List ℕ
     pub joined : piece ≡ done ++ rest
@@ -107,7 +107,7 @@ module _ {V : Type 0} (represents : V → List FrameValue → Type 0) where
             (lacks.frame ∷ found.0, append_cancel_left frames more _ rejoined);
       }
 
-  -- a reader that has stopped is fed nothing
+  -- what is fed to a reader that has stopped changes nothing
   pub piece_fed_to_stopped_reader : {T : Type 0} (state : ReaderState) (visitor : V) (piece : List ℕ) (result : Result T FeedFault)
       → ReaderHasStopped state → IsFeedingResultInState state result
       → IfFeedingHadMemory result (FeedsReader represents visitor visitor state state piece)
@@ -130,7 +130,7 @@ module _ {V : Type 0} (represents : V → List FrameValue → Type 0) where
         begins = λ before frames more stands. absurd stands;
       })
 
-  -- what is fed is answered exactly
+  -- the result for what is fed is exact
   pub fed_piece_is_answered_exactly : {T : Type 0} (seen saw : V) (old new : ReaderState) (piece : List ℕ) (result : Result T FeedFault)
       → FeedsReader represents seen saw old new piece → IsFeedingResultInState new result
       → (before : List ℕ) (frames : List FrameValue) → ReaderRepresents old before frames
@@ -138,7 +138,7 @@ module _ {V : Type 0} (represents : V → List FrameValue → Type 0) where
   fed_piece_is_answered_exactly seen saw old new piece result feeds answer before frames stands =
       let fed = feeds.advances in answer_tells_first_fault new (before ++ piece) _ result (fed.reads before frames stands) answer
 
--- a reader that has stopped answers exactly
+-- the result of a reader that has stopped is exact
 pub stopped_reader_answers_fed_piece : {T : Type 0} (state : ReaderState) (piece : List ℕ) (result : Result T FeedFault)
     → ReaderHasStopped state → IsFeedingResultInState state result
     → (before : List ℕ) (frames : List FrameValue) → ReaderRepresents state before frames
@@ -150,7 +150,7 @@ stopped_reader_answers_fed_piece (AtFault fault) piece result stopped answer bef
     answer_tells_first_fault (AtFault fault) (before ++ piece) (frames ++ []) result (stays.reads before frames stands) answer
 stopped_reader_answers_fed_piece LacksMemory piece result stopped answer before frames stands = absurd stands
 
--- a stage that no bytes leave takes all of them
+-- a reader that has stopped takes all bytes
 pub stopped_reader_takes_fed_piece : (state : ReaderState) (piece rest : List ℕ) → ReaderHasStopped state → 0 < length piece → rest ≡ []
     → ReaderStepTakes state state piece rest []
 stopped_reader_takes_fed_piece (InHeader kept) piece rest stopped some none = absurd stopped
@@ -170,7 +170,7 @@ stopped_reader_takes_fed_piece LacksMemory piece rest stopped some none =
       advances = reader_step_without_memory piece;
     }
 
--- a stage at a fault or without memory is that of a reader that has stopped
+-- a reader in the stage at a fault or out of memory has stopped
 pub fed_piece_stage_has_stopped : (now : Stage) (part : FramePart)
     → ((fault : CaptureFault) × (now ≡ stage.AtFault fault)) ⊎ (now ≡ stage.LacksMemory)
     → ReaderHasStopped (reader_state_of_part now part)

@@ -1,4 +1,4 @@
--- The file header under more bytes.
+-- The file header when more bytes follow.
 use Rattle.std.proofs.Common.{ℕ, ◌≡◌, ◌≤◌, false, ltb, eqb, Option, Some, None, List, ◌++◌, length, refl, ◌∙◌}
 use Rattle.std.proofs.Common.{arith, length-append, inl, inr}
 use Rattle.std.proofs.lemmas.Bool.{ltb-false, le-ltb, eqb-true, eq-eqb, cases_Bool}
@@ -9,7 +9,7 @@ use Rattle.pcap_frames.specs.FileOrder.{number_in_file_order}
 use Rattle.pcap_frames.specs.Header.{header_magic_order, header_fields_fault, header_fault, IsHeader}
 use Rattle.pcap_frames.proofs.FileNumberLemmas.{number_in_file_order-in_longer_file}
 
--- the magic stays under more bytes
+-- the magic stays when more bytes follow
 pub file_header_magic_stays : (bytes more : List ℕ) → 4 ≤ length bytes → header_magic_order (bytes ++ more) ≡ header_magic_order bytes
 unfolding header_magic_order
 file_header_magic_stays bytes more fits =
@@ -79,7 +79,7 @@ file_header_of_magic_order order bytes whole none magic =
 pub file_header_has_magic : (bytes : List ℕ) → 24 ≤ length bytes → header_fault bytes ≡ None → header_magic_order bytes ≡ None → ⊥
 file_header_has_magic bytes whole none magic = let found = file_header_is_whole bytes whole none in let is = found.1.magic in cc
 
--- a whole header stays under more bytes
+-- a whole header stays when more bytes follow
 pub IsHeader-in_longer_file : (order : FileOrder) (bytes more : List ℕ) → IsHeader order bytes → IsHeader order (bytes ++ more)
 IsHeader-in_longer_file order bytes more header = record {
   whole = omega (arith, header.whole, length-append bytes more);
@@ -89,7 +89,7 @@ IsHeader-in_longer_file order bytes more header = record {
   link = number_in_file_order-in_longer_file order 4 20 bytes more header.whole ∙ header.link;
 }
 
--- the fields' fault stays under more bytes
+-- the fault of the fields stays when more bytes follow
 file_header_fields_fault_stays : (magic : Option FileOrder) (bytes more : List ℕ) (fault : CaptureFault)
     → header_fields_fault magic bytes ≡ Some fault → header_fields_fault magic (bytes ++ more) ≡ Some fault
 file_header_fields_fault_stays None bytes more fault shown = shown
@@ -117,7 +117,7 @@ file_header_fields_fault_stays (Some order) bytes more fault shown = elim (cases
       ])
 ]
 
--- a fault that the header shows stays under more bytes
+-- a fault that the header shows stays when more bytes follow
 pub file_header_fault_stays : (bytes more : List ℕ) (fault : CaptureFault) → header_fault bytes ≡ Some fault
     → header_fault (bytes ++ more) ≡ Some fault
 unfolding header_fault

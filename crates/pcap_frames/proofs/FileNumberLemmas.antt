@@ -1,4 +1,4 @@
--- The numbers of a file under more bytes.
+-- The numbers of a file when more bytes follow.
 use Rattle.std.proofs.Common.{ℕ, ◌≡◌, ◌+◌, ◌≤◌, List, ◌++◌, length, take, refl, sym, ap, ◌∙◌}
 use Rattle.std.proofs.lemmas.List.{take_at}
 use Rattle.byteorder.specs.Numbers.{big_from-take, little_from-take}
@@ -13,7 +13,7 @@ unfolding number_in_file_order
 number_in_file_order-in_file_front Big count place n bytes fits = big_from-take place count n bytes fits
 number_in_file_order-in_file_front Little count place n bytes fits = little_from-take place count n bytes fits
 
--- a number stays under more bytes
+-- a number stays when more bytes follow
 pub number_in_file_order-in_longer_file : (order : FileOrder) (count place : ℕ) (bytes more : List ℕ) → place + count ≤ length bytes
     → number_in_file_order order count place (bytes ++ more) ≡ number_in_file_order order count place bytes
 number_in_file_order-in_longer_file order count place bytes more fits =

@@ -1,4 +1,4 @@
--- Two splits of a file into frames, and a split under more bytes.
+-- Two splits of a file into frames, and a split when more bytes follow.
 use Rattle.std.proofs.Common.{ℕ, ◌≡◌, ◌+◌, ◌-◌, ◌≤◌, Some, List, [], ◌∷◌, ◌++◌, length, drop, refl, sym, ap, ◌∙◌}
 use Rattle.std.proofs.Common.{arith, length-append, subst, inl, inr, ◌⊎◌, append-nil}
 use Rattle.std.proofs.lemmas.List.{drop-append-le, nil_from_length}
@@ -11,7 +11,7 @@ use Rattle.pcap_frames.specs.CaptureFault.{ShowsCaptureFault}
 use Rattle.pcap_frames.proofs.FileHeaderLemmas.{IsHeader-in_longer_file, file_header_fault_stays}
 use Rattle.pcap_frames.proofs.BeginsFrameLemmas.{BeginsWithFrames-append, frame_fault-begins_longer_rest}
 
--- a split stays under more bytes, which go to its rest
+-- a split stays when more bytes follow, which belong to its rest
 pub SplitsCapture-longer_file : (bytes more : List ℕ) (order : FileOrder) (frames : List FrameValue) (rest : List ℕ)
     → SplitsCapture bytes order frames rest → SplitsCapture (bytes ++ more) order frames (rest ++ more)
 SplitsCapture-longer_file bytes more order frames rest splits = record {
@@ -22,12 +22,12 @@ SplitsCapture-longer_file bytes more order frames rest splits = record {
   limit = splits.limit;
 }
 
--- the rest keeps its place under more bytes
+-- the rest keeps its offset when more bytes follow
 pub split_place_in_longer_file : (bytes rest more : List ℕ)
     → length (bytes ++ more) - length (rest ++ more) ≡ length bytes - length rest
 split_place_in_longer_file bytes rest more = omega (arith, length-append bytes more, length-append rest more)
 
--- a fault that is shown stays under more bytes
+-- a fault that is shown stays when more bytes follow
 pub ShowsCaptureFault-longer_split_file : (bytes more : List ℕ) (frames : List FrameValue) (fault : CaptureFault)
     → ShowsCaptureFault bytes frames fault → ShowsCaptureFault (bytes ++ more) frames fault
 ShowsCaptureFault-longer_split_file bytes more frames fault (inl shows) = inl (record {
@@ -48,7 +48,7 @@ ShowsCaptureFault-longer_split_file bytes more frames fault (inr shows) = inr (r
 abbrev pub IsLastFileSplit : FileOrder → ℕ → List FrameValue → List ℕ → Type 0
 IsLastFileSplit order limit frames rest = ((frame : FrameValue) → BeginsWithFrame order rest frame → ⊥) ⊎ (limit ≤ length frames)
 
--- frames that begin the bytes begin any frames that are the last
+-- frames that begin the bytes begin each list of frames that is the last
 pub last_file_split_begins : (order : FileOrder) (bytes : List ℕ) (limit : ℕ) (frames others : List FrameValue)
     (rest last : List ℕ)
     → BeginsWithFrames order bytes frames rest → BeginsWithFrames order bytes others last → length frames ≤ limit
@@ -69,7 +69,7 @@ last_file_split_begins order bytes limit (frame ∷ frames) (other ∷ others) r
     ap (λ f. f ∷ others) same ∙ ap (λ l. frame ∷ l) behind.1 in
     (behind.0, joined, behind.2)
 
--- two lists that are the last and begin the same bytes are one, and so are their rests
+-- two lists that are the last and begin the same bytes are the same, and so are their rests
 pub last_file_split_is_one : (order : FileOrder) (bytes : List ℕ) (limit : ℕ) (frames others : List FrameValue)
     (rest last : List ℕ)
     → BeginsWithFrames order bytes frames rest → BeginsWithFrames order bytes others last → length frames ≤ limit

@@ -30,7 +30,7 @@ use Rattle.pcap_frames.proofs.ReaderStepLemmas.{reader_step_past_limit}
 
 -- ---- where bytes end
 
--- no whole right header is there
+-- there is no whole and correct header
 pub record NoHeaderAtFirstFault (bytes : List ℕ) (frames : List FrameValue) : Type 0 where
   pub none : (order : FileOrder) → IsHeader order bytes → ⊥
   pub no_frame : frames ≡ []
@@ -45,7 +45,7 @@ pub record FramesToFirstFault (bytes : List ℕ) (frames : List FrameValue) : Ty
 abbrev pub ReachesFirstFault : List ℕ → List FrameValue → Type 0
 ReachesFirstFault bytes frames = NoHeaderAtFirstFault bytes frames ⊎ FramesToFirstFault bytes frames
 
--- behind a fault that is shown no frame begins, or there are as many as the limit allows
+-- where a fault is shown no frame begins, or there are as many frames as the limit allows
 no_frame_behind_first_fault : (order : FileOrder) (count place : ℕ) (rest : List ℕ) (fault : CaptureFault)
     → frame_fault order count place rest ≡ Some fault
     → ((frame : FrameValue) → BeginsWithFrame order rest frame → ⊥) ⊎ (16777216 ≤ count)
@@ -71,7 +71,7 @@ cut_frame_is_first_fault : (order : FileOrder) (rest : List ℕ) → length rest
     → BeginsWithFrame order rest frame → ⊥
 cut_frame_is_first_fault order rest cut frame begins = omega (arith, frame_bytes_needed-where_frame_begins order rest frame begins)
 
--- a header whose fault is shown isn't right
+-- a header that shows a fault isn't correct
 first_fault_refutes_header : (bytes : List ℕ) (fault : CaptureFault) → header_fault bytes ≡ Some fault → (order : FileOrder)
     → IsHeader order bytes → ⊥
 first_fault_refutes_header bytes fault shown order header = let right = file_header_shows_no_fault order bytes header in cc
@@ -260,7 +260,7 @@ behind_shows_no_first_fault at bytes frames others fault stands (inr shows) =
     let shown = rw (one.0, one.1, same, ← stands.count_is, place) at shows.shown in
     let none = stands.none_shown in cc
 
--- a reader that goes on stands for bytes that show no fault, and one at a fault for bytes that show it
+-- a reader that goes on represents bytes that show no fault, and one at a fault represents bytes that show it
 pub answer_tells_first_fault : {T : Type 0} (state : ReaderState) (bytes : List ℕ) (frames : List FrameValue)
     (result : Result T FeedFault) → ReaderRepresents state bytes frames → IsFeedingResultInState state result
     → IsFeedingResultOfBytes bytes result
@@ -273,9 +273,9 @@ answer_tells_first_fault (InFrames at) bytes frames (Err x) stands answer = absu
 answer_tells_first_fault (AtFault fault) bytes frames result stands answer = subst (IsFeedingResultOfBytes bytes) (sym answer) (frames, stands)
 answer_tells_first_fault LacksMemory bytes frames result stands answer = absurd stands
 
--- ---- there is an answer
+-- ---- existence
 
--- the frames that stand whole at the front of the bytes, up to a limit
+-- the whole frames at the front of the bytes, up to a limit
 pub record FrontToFirstFault (order : FileOrder) (limit : ℕ) (bytes : List ℕ) : Type 0 where
   pub frames : List FrameValue
   pub rest : List ℕ
@@ -330,7 +330,7 @@ front_reaches_first_fault order (suc limit) bytes = elim (cases_lt (length bytes
   ]
 ]
 
--- a rest at which the frames are stuck and that shows no fault is less than a frame
+-- a rest after the last frame that shows no fault is less than a frame
 no_first_fault_means_cut : (order : FileOrder) (count place : ℕ) (rest : List ℕ) → frame_fault order count place rest ≡ None
     → (length rest < frame_bytes_needed order rest)
     ⊎ (((16 ≤ length rest) × (262144 < number_in_file_order order 4 8 rest)) ⊎ (count ≡ 16777216))
@@ -396,7 +396,7 @@ fronts_complete_to_first_fault bytes = by_header (header_fault bytes) refl where
         behind header.0 header.1 (front_reaches_first_fault header.0 16777216 (drop 24 bytes)) _ refl
   ]
 
--- a file that a reader stands for to its end is a capture of the frames or has a fault behind them
+-- a file that a reader represents is a capture of the frames, or has a fault after them
 pub capture_or_first_fault : (state : ReaderState) (file : List ℕ) (frames : List FrameValue) → ReaderRepresents state file frames
     → IsCapture file frames ⊎ ((fault : CaptureFault) × HasCaptureFaultAfter file frames fault)
 capture_or_first_fault (InHeader kept) file frames stands =

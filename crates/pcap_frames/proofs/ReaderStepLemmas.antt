@@ -23,7 +23,7 @@ use Rattle.pcap_frames.proofs.FileSplitLemmas.{SplitsCapture-longer_file, ShowsC
 
 -- ---- the first bytes of a run are enough
 
--- the first bytes of a run that grows
+-- the first bytes of a run are the same when they are taken before more is appended
 pub reader_step_front_grows : (n : ℕ) (xs ys : List ℕ) → take n (take n xs ++ ys) ≡ take n (xs ++ ys)
 reader_step_front_grows n xs ys = elim (cases_lt n (length xs)) [
   | inl longer ↦
@@ -42,7 +42,7 @@ reader_step_least_front n m xs = elim (cases_lt n m) [
   | inr short ↦ ap (take n) (take-take m n xs short)
 ]
 
--- a test of the length reads no more than its front
+-- a test of the length gives the same for a front that is long enough
 reader_step_length_test : (n m : ℕ) (xs : List ℕ) → n ≤ m → ltb (length (take m xs)) n ≡ ltb (length xs) n
 reader_step_length_test n m xs fits = elim (cases_lt (length xs) n) [
   | inl short ↦ lt-ltb _ n (omega (arith, length-take m xs)) ∙ sym (lt-ltb (length xs) n short)
@@ -55,7 +55,7 @@ reader_step_nonempty_test m xs fits = elim (cases_lt 0 (length xs)) [
   | inr none ↦ le-ltb 0 _ (omega (arith, length-take m xs)) ∙ sym (le-ltb 0 (length xs) none)
 ]
 
--- the first 58 bytes say what a frame needs
+-- the first 58 bytes decide how many bytes a frame needs
 pub frame_bytes_needed-reader_step_front : (order : FileOrder) (rest : List ℕ) → frame_bytes_needed order (take 58 rest) ≡ frame_bytes_needed order rest
 unfolding frame_bytes_needed
 frame_bytes_needed-reader_step_front order rest =
@@ -84,7 +84,7 @@ frame_at-reader_step_front order rest =
 
 -- ---- a rest that shows no fault
 
--- a rest with a frame header that shows no fault stands before the limit on frames and isn't long
+-- a rest with a frame header that shows no fault is within the limits on frames and on captured bytes
 pub reader_step_at_right_frame : (order : FileOrder) (count place : ℕ) (rest : List ℕ) → frame_fault order count place rest ≡ None
     → 16 ≤ length rest → (count ≡ 16777216 → ⊥) × (number_in_file_order order 4 8 rest ≤ 262144)
 unfolding frame_fault
@@ -100,14 +100,14 @@ reader_step_at_right_frame order count place rest none header =
       ]
     ]
 
--- a byte behind as many frames as the limit allows is a fault
+-- a byte after as many frames as the limit allows is a fault
 pub reader_step_past_limit : (order : FileOrder) (count place : ℕ) (rest : List ℕ)
     → frame_fault order count place rest ≡ None → count ≡ 16777216 → 0 < length rest → ⊥
 unfolding frame_fault
 reader_step_past_limit order count place rest none full some =
     let first = rw (lt-ltb 0 (length rest) some, eq-eqb count 16777216 full) at none in cc
 
--- what a frame that shows no fault needs is bounded
+-- the number of bytes that a frame needs is bounded if it shows no fault
 pub frame_bytes_needed-reader_step_bound : (order : FileOrder) (count place : ℕ) (rest : List ℕ) → frame_fault order count place rest ≡ None
     → frame_bytes_needed order rest ≤ 262160
 frame_bytes_needed-reader_step_bound order count place rest none = elim (cases_lt (length rest) 16) [
@@ -115,11 +115,11 @@ frame_bytes_needed-reader_step_bound order count place rest none = elim (cases_l
   | inr past ↦ omega (arith, frame_bytes_needed-begins_frame_header order rest past, (reader_step_at_right_frame order count place rest none past).1)
 ]
 
--- nothing kept needs a frame header
+-- a frame of which no byte is kept needs its header
 pub frame_bytes_needed-empty_reader_step : (order : FileOrder) (rest : List ℕ) → rest ≡ [] → frame_bytes_needed order rest ≡ 16
 frame_bytes_needed-empty_reader_step order rest none = frame_bytes_needed-begins_part_of_frame order rest (omega (arith, ap length none))
 
--- a frame needs no less when more of it came
+-- a frame needs no fewer bytes when more of it arrived
 pub frame_bytes_needed-reader_step_grows : (order : FileOrder) (kept front now : List ℕ) → now ≡ take 58 (kept ++ front)
     → frame_bytes_needed order kept ≤ frame_bytes_needed order now
 frame_bytes_needed-reader_step_grows order kept front now is =
@@ -137,7 +137,7 @@ frame_bytes_needed-reader_step_grows order kept front now is =
           )
     ]
 
--- the kept bytes of a whole frame have its header and its head
+-- the kept bytes of a whole frame contain its header and its head
 pub reader_step_held_frame_fits : (order : FileOrder) (count place came : ℕ) (now : List ℕ) → frame_fault order count place now ≡ None
     → length now ≡ min 58 came → frame_bytes_needed order now ≤ came
     → (16 ≤ length now) × (number_in_file_order order 4 8 now ≤ 262144) × (16 + min 42 (number_in_file_order order 4 8 now) ≤ length now)
@@ -146,14 +146,14 @@ reader_step_held_frame_fits order count place came now none size whole =
     let right = reader_step_at_right_frame order count place now none past in
     (past, right.1, omega (arith, frame_bytes_needed-begins_frame_header order now past))
 
--- nothing shows no fault
+-- no bytes show no fault
 pub frame_fault-empty_reader_step : (order : FileOrder) (count place : ℕ) → frame_fault order count place [] ≡ None
 unfolding frame_fault
 frame_fault-empty_reader_step order count place = refl
 
 -- ---- steps in the file header
 
--- a new reader stands for no bytes
+-- a new reader represents no bytes
 pub reader_before_first_step : ReaderRepresents (InHeader []) [] []
 unfolding header_fault
 reader_before_first_step = record { kept_is = refl; short = omega arith; none_shown = refl; no_frame = refl }
@@ -163,7 +163,7 @@ reader_step_keeps_all : (kept front now : List ℕ) → now ≡ take 58 (kept ++
     → now ≡ kept ++ front
 reader_step_keeps_all kept front now is fits = is ∙ take_all 58 (kept ++ front) (omega (arith, length-append kept front))
 
--- less than a header, still
+-- still less than a header
 pub reader_step_in_header : (kept front now : List ℕ) → now ≡ take 58 (kept ++ front) → length kept + length front < 24
     → header_fault now ≡ None → ReaderAdvances (InHeader kept) (InHeader now) front []
 reader_step_in_header kept front now is short none =
@@ -191,7 +191,7 @@ reader_step_to_header_fault kept front now fault is fits shown =
       });
     }
 
--- behind the header
+-- the place after the header
 abbrev pub reader_step_first_place : FileOrder → ReaderFramePlace
 reader_step_first_place order = record { order = order; count = 0; place = 24; kept = []; came = 0 }
 
@@ -225,15 +225,15 @@ reader_step_ends_header kept front now order is whole none magic =
           });
     }
 
--- ---- steps behind some frames
+-- ---- steps after some frames
 
--- the first bytes of the rest, after more of it came
+-- the first bytes of the rest, after more of it arrived
 reader_step_keeps_more : (at : ReaderFramePlace) (before front now : List ℕ) (frames : List FrameValue)
     (stands : IsReaderBehind at before frames) → now ≡ take 58 (at.kept ++ front) → now ≡ take 58 (stands.rest ++ front)
 reader_step_keeps_more at before front now frames stands is =
     is ∙ ap (λ l. take 58 (l ++ front)) stands.kept_is ∙ reader_step_front_grows 58 stands.rest front
 
--- more of a frame came, and it isn't whole
+-- more of a frame arrived, and it isn't whole
 reader_step_part_so_far : (at : ReaderFramePlace) (front now : List ℕ) → now ≡ take 58 (at.kept ++ front)
     → frame_fault at.order at.count at.place now ≡ None → at.came + length front < frame_bytes_needed at.order now
     → ReaderAdvances (InFrames at) (InFrames (record at { kept = now; came = at.came + length front })) front []
@@ -294,7 +294,7 @@ reader_step_to_frame_fault at front now fault is shown = record {
       }));
 }
 
--- behind one frame more, of this many bytes
+-- the place after one more frame, of this many bytes
 abbrev pub reader_step_next_place : ReaderFramePlace → ℕ → ReaderFramePlace
 reader_step_next_place at size = record { order = at.order; count = at.count + 1; place = at.place + size; kept = []; came = 0 }
 
@@ -376,7 +376,7 @@ reader_step_ends_frame at front now total size is sum none whole is_size =
     (sym sum ∙ whole ∙ sym is_size)
     (reader_step_whole_so_far at front now is none (omega (arith, frame_that_begins_needs_header at.order now)) (sym sum ∙ whole))
 
--- a frame stands whole in the piece, and nothing of it came before
+-- the whole frame is in the piece, and no byte of it arrived before
 reader_step_frame_in_piece : (at : ReaderFramePlace) (front : List ℕ) → at.came ≡ 0 → at.kept ≡ [] → at.count < 16777216
     → 16 ≤ length front → number_in_file_order at.order 4 8 front ≤ 262144 → length front ≡ 16 + number_in_file_order at.order 4 8 front
     → ReaderAdvances (InFrames at) (InFrames (reader_step_next_place at (length front))) front (frame_at at.order front ∷ [])
@@ -448,7 +448,7 @@ reader_step_at_fault fault front = record {
       (ShowsCaptureFault-longer_split_file before front frames fault stands);
 }
 
--- a reader without memory stands for nothing
+-- a reader without memory represents no bytes
 pub reader_step_without_memory : (front : List ℕ) → ReaderAdvances LacksMemory LacksMemory front []
 reader_step_without_memory front = record { reads = λ before frames stands. absurd stands }
 

@@ -64,14 +64,14 @@ source_read_is_bounded (InFrames at) bytes frames stands goes =
 source_read_is_bounded (AtFault fault) bytes frames stands goes = absurd (goes tt)
 source_read_is_bounded LacksMemory bytes frames stands goes = absurd stands
 
--- a reader that answers Ok goes on
+-- a reader that returns Ok goes on
 pub source_read_answer_goes_on : {T : Type 0} (state : ReaderState) (x : T) → IsFeedingResultInState state (Ok x) → ReaderHasStopped state → ⊥
 source_read_answer_goes_on (InHeader kept) x answer stopped = stopped
 source_read_answer_goes_on (InFrames at) x answer stopped = stopped
 source_read_answer_goes_on (AtFault fault) x answer stopped = cc
 source_read_answer_goes_on LacksMemory x answer stopped = cc
 
--- a reader that refuses stands for bytes that show its fault
+-- a reader that refuses represents bytes that show its fault
 pub source_read_shows_fault : (T : Type 0) (state : ReaderState) (bytes : List ℕ) (frames : List FrameValue)
     (fault : CaptureFault) → ReaderRepresents state bytes frames
     → IsFeedingResultInState {T = T} state (Err (feed.Refused fault)) → ShowsCaptureFault bytes frames fault
@@ -81,7 +81,7 @@ source_read_shows_fault T (AtFault shown) bytes frames fault stands answer =
     subst (ShowsCaptureFault bytes frames) (let same : shown ≡ fault = cc in same) stands
 source_read_shows_fault T LacksMemory bytes frames fault stands answer = absurd stands
 
--- ---- what a source that tells its bytes held
+-- ---- what a source with known bytes held
 
 pub source_read_holds_always : {X : Type 0} (o : Option X) (P : X → Type 0) → ((x : X) → P x) → IfSome o P
 source_read_holds_always None P every = tt
@@ -110,7 +110,7 @@ source_read_fault_within file frames fault (inr (inl ends)) = omega (arith, ap l
 source_read_fault_within file frames fault (inr (inr ends)) = let splits = ends.splits in splits.limit
 
 module _ {V : Type 0} (represents : V → List FrameValue → Type 0) where
-  -- these bytes were read, the reader that goes on stands for them, and the visitor saw their frames
+  -- these bytes were read, the reader, which goes on, represents them, and the visitor saw their frames
   pub record HasReadSource (seen saw : V) (left now : Option (List ℕ)) (state : ReaderState) : Type 0 where
     pub bytes : List ℕ
     pub frames : List FrameValue
@@ -225,7 +225,7 @@ module _ {V : Type 0} (represents : V → List FrameValue → Type 0) where
             (λ rest. ((_, first rest), λ frames capture. capture_has_no_first_fault _ frames fault capture (_, first rest))),
       )
 
-  -- the answer to a piece that ends the reading
+  -- the result for a piece that ends the reading
   pub source_read_is_stopped : (T : Type 0) (seen mid saw : V) (left now after : Option (List ℕ)) (old new : ReaderState)
       (piece : List ℕ) (fault : FeedFault)
       → HasReadSource seen mid left now old → Consumes now after piece

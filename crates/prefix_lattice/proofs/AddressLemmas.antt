@@ -39,7 +39,7 @@ pub address_unit_is_positive : (k : ℕ) → 0 < 256 ^ k
 address_unit_is_positive zero = omega (arith, pow-zero 256)
 address_unit_is_positive (suc k) = omega (arith, pow-suc 256 k, address_unit_is_positive k)
 
--- the high part of an address has at most as many digits as bytes are kept
+-- the high part of an address has at most one digit for each byte kept
 address_high_part_is_small : (n address : ℕ) → n ≤ 4 → address < 2 ^ 32 → address / 256 ^ (4 - n) < 256 ^ n
 address_high_part_is_small n address few small =
     (div-lt_iff_lt-mul (address_unit_is_positive (4 - n))).1 (subst (λ bound. address < bound) (sym (address_parts_have_four_bytes n few)) small)
@@ -62,7 +62,7 @@ address_of-small front leading =
     let number : address_number_from 256 0 front < 256 ^ n = omega (arith, digits_stay_below_power 256 0 front leading.bytes) in
     subst (λ bound. address_of front < bound) (address_parts_have_four_bytes n leading.few) (mul-lt-mul_of_pos_right number (address_unit_is_positive (4 - n)))
 
--- leading bytes that spell one address are the same, where they are as many
+-- two lists of leading bytes of the same length that spell the same address are the same
 pub address_tells_leading_bytes : (xs ys : List ℕ) → AreLeadingBytes xs → AreLeadingBytes ys → length xs ≡ length ys
     → address_of xs ≡ address_of ys → xs ≡ ys
 address_tells_leading_bytes xs ys xs_leading ys_leading same_length same =
@@ -75,7 +75,7 @@ address_tells_leading_bytes xs ys xs_leading ys_leading same_length same =
     ∙ mul-div_cancel (address_number_from 256 0 ys) has_unit in
     (same_digits 256 0 0 xs ys same_length xs_leading.bytes ys_leading.bytes spelled).1
 
--- two tests that hold together are one
+-- two tests that imply each other are equal
 pub address_tests_agree : (a b : Bool) → (a ≡ true → b ≡ true) → (b ≡ true → a ≡ true) → a ≡ b
 address_tests_agree true b to from = sym (to refl)
 address_tests_agree false true to from = from refl
@@ -109,19 +109,19 @@ address_front-masked n address few =
     ∙ ap (address_digits 256 n) (mul-div_cancel (address / unit) (address_unit_is_positive (4 - n)))
     ∙ sym (address_bytes-are_digits n address few)
 
--- what is left when the last bytes are set to zero is an address
+-- an address with its last bytes set to zero is still an address
 pub masked_address_is_small : (n address : ℕ) → address < 2 ^ 32 → address / 256 ^ (4 - n) * 256 ^ (4 - n) < 2 ^ 32
 masked_address_is_small n address small = omega (arith, div-mul-le_self address (256 ^ (4 - n)))
 
--- the address of its own first bytes, once the last ones are zero
+-- an address whose last bytes are zero is the address of its own first bytes
 pub address_of-masked : (n address : ℕ) → n ≤ 4 → address < 2 ^ 32
     → address_of (take n (address_bytes (address / 256 ^ (4 - n) * 256 ^ (4 - n))))
     ≡ address / 256 ^ (4 - n) * 256 ^ (4 - n)
 address_of-masked n address few small =
     ap address_of (address_front-masked n address few) ∙ address_of-leading n address few small
 
--- an address begins with the first bytes of another, whose last bytes are zero, where both are the same once its
--- last bytes are zero too
+-- an address begins with the first bytes of another, whose last bytes are zero, exactly where it equals the other
+-- once its last bytes are set to zero too
 pub kept_bytes_begin_with-masked_address : (n address other : ℕ) → n ≤ 4 → address < 2 ^ 32 → other < 2 ^ 32
     → address_of (take n (address_bytes other)) ≡ other
     → kept_bytes_begin_with (address_bytes address) (take n (address_bytes other))
@@ -140,7 +140,7 @@ kept_bytes_begin_with-masked_address n address other few small other_small maske
     (as_many ∙ sym (address_front-masked n address few)
     ∙ ap (λ m. take n (address_bytes m)) (eqb-true (address / unit * unit) other same)))
 
--- the first bytes of an address begin with those of another that are as many at most, where the address does
+-- the first n bytes of an address begin with the first m of another, m at most n, exactly where the address does
 pub address_front-begins_with : (n m address other : ℕ) → m ≤ n → n ≤ 4
     → kept_bytes_begin_with (take n (address_bytes address)) (take m (address_bytes other))
     ≡ kept_bytes_begin_with (address_bytes address) (take m (address_bytes other))
@@ -148,7 +148,7 @@ address_front-begins_with n m address other fewer few =
     list_front-taken (address_bytes address) (take m (address_bytes other)) n
     (omega (arith, address_front-length m other (omega arith)))
 
--- the first bytes of an address don't begin with more of another's
+-- the first n bytes of an address don't begin with more than n bytes of another
 pub address_front-begins_no_more : (n m address other : ℕ) → n < m → m ≤ 4
     → kept_bytes_begin_with (take n (address_bytes address)) (take m (address_bytes other)) ≡ false
 address_front-begins_no_more n m address other more few =

@@ -6,7 +6,7 @@ use Rattle.prefix_lattice.specs.PrefixText.{address_text}
 use Rattle.prefix_lattice.proofs.TextCutLemmas.{TextLacksCutByte, first_text_cut, text_cut-next_number}
 use Rattle.prefix_lattice.proofs.TextCutLemmas.{decimal_lacks_text_cut, lacks_text_cut-append, lacks_text_cut-cons}
 
--- what stands behind the first, the second and the third number of an address
+-- the text after the first dot of an address, and after the second
 abbrev pub address_text_after_first : ℕ → List ℕ
 address_text_after_first address =
     decimal (address / 256 / 256 % 256) ++ 46 ∷ (decimal (address / 256 % 256) ++ 46 ∷ decimal (address % 256))
@@ -19,7 +19,7 @@ pub record IsAddressTextCut (text before after : List ℕ) : Type 0 where
   pub is_before : before ≡ before_first (λ b. eqb b 46) text
   pub joined : text ≡ before ++ 46 ∷ after
 
--- a number, a dot and what stands behind it are cut there
+-- a number, a dot and a rest are cut at that dot
 address_text_number_cut : (number : ℕ) (rest : List ℕ) → number < 256 → IsAddressTextCut (decimal number ++ 46 ∷ rest) (decimal number) rest
 address_text_number_cut number rest small = record {
   is_before = sym (first_text_cut 46 (decimal number) rest (decimal_lacks_text_cut 46 number (omega arith) (omega arith)));
@@ -76,14 +76,14 @@ address_text-lacks byte address low no_dot =
 pub address_text-lacks_slash : (address : ℕ) → TextLacksCutByte 47 (address_text address)
 address_text-lacks_slash address = address_text-lacks 47 address (omega arith) refl
 
--- the numbers of an address tell it
+-- addresses with the same four numbers are the same
 same_address_text_numbers : (address other : ℕ) → address < 2 ^ 32 → other < 2 ^ 32
     → address / 256 / 256 / 256 % 256 ≡ other / 256 / 256 / 256 % 256
     → address / 256 / 256 % 256 ≡ other / 256 / 256 % 256
     → address / 256 % 256 ≡ other / 256 % 256 → address % 256 ≡ other % 256 → address ≡ other
 same_address_text_numbers address other small other_small first second third fourth = omega arith
 
--- a text spells one address
+-- addresses with the same text are the same
 pub address_text-tells_address : (address other : ℕ) → address < 2 ^ 32 → other < 2 ^ 32
     → address_text address ≡ address_text other → address ≡ other
 address_text-tells_address address other small other_small same =

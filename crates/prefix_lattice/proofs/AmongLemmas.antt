@@ -119,7 +119,7 @@ AllPairs-from_among R (x ∷ xs) each =
     AllPairs-cons R x xs (All-from_among (R x) xs (λ y among. each x y (inl refl) (inr among)))
     (AllPairs-from_among R xs (λ y z among other. each y z (inr among) (inr other)))
 
--- what holds of all that is made holds of what is made of a list
+-- what holds of each value made of an element holds of all values made of a list
 pub All-filter_map_among : {X Y : Type 0} (P : Y → Type 0) (made : X → Option Y) (xs : List X)
     → ((x : X) (y : Y) → Among x xs → made x ≡ Some y → P y) → All P (filter_map made xs)
 All-filter_map_among P made [] each = All-nil P

@@ -28,7 +28,7 @@ pub record IsChainMember (members : List PrefixValue) (rec : RecordValue) (prefi
   pub among : Among prefix members
   pub covered : covers prefix rec ≡ true
 
--- of two prefixes that cover one record one is under the other where it keeps as much on both sides
+-- of two prefixes that cover a record, one is under the other if it keeps at least as many bytes on both sides
 pub under-by_chain_bytes : (rec : RecordValue) (lower upper : PrefixValue) → covers lower rec ≡ true
     → covers upper rec ≡ true
     → chain_source_bytes upper ≤ chain_source_bytes lower → chain_dest_bytes upper ≤ chain_dest_bytes lower → under lower upper ≡ true
@@ -38,7 +38,7 @@ under-by_chain_bytes rec lower upper covered upper_covered sources dests =
     and_from _ _ (list_front-shorter (address_bytes rec.src) lower.source upper.source sides.0 uppers.0 sources)
     (list_front-shorter (address_bytes rec.dst) lower.dest upper.dest sides.1 uppers.1 dests)
 
--- what is under a prefix keeps as much on both sides
+-- a prefix under another keeps at least as many bytes on both sides
 pub chain_bytes-by_under : (lower upper : PrefixValue) → under lower upper ≡ true
     → (chain_source_bytes upper ≤ chain_source_bytes lower) × (chain_dest_bytes upper ≤ chain_dest_bytes lower)
 chain_bytes-by_under lower upper is_under =
@@ -62,7 +62,7 @@ pub record DescendsChain (prefix next : PrefixValue) : Type 0 where
   pub source : chain_source_bytes prefix < chain_source_bytes next
   pub dest : chain_dest_bytes next < chain_dest_bytes prefix
 
--- two members that cover a record are one step or more apart, one way or the other
+-- of two distinct members that cover a record, one descends to the other
 pub chain_descends_either_way : (members : List PrefixValue) (rec : RecordValue) (prefix other : PrefixValue)
     → AreIncomparableLines members → IsChainMember members rec prefix → IsChainMember members rec other → prefix ≢ other
     → DescendsChain prefix other ⊎ DescendsChain other prefix
@@ -98,7 +98,7 @@ abbrev pub IsChain : List PrefixValue → Type 0
 IsChain [] = Unit {0}
 IsChain (prefix ∷ rest) = ((next : PrefixValue) → Among next rest → DescendsChain prefix next) × IsChain rest
 
--- a prefix that is apart from all of a chain has its place in it
+-- a prefix that descends to or from each member of a chain can be inserted into it
 pub chain_has_place_for_prefix : (prefix : PrefixValue) (chain : List PrefixValue) → IsChain chain
     → ((other : PrefixValue) → Among other chain → DescendsChain prefix other ⊎ DescendsChain other prefix)
     → IsChain (ordered_insert chain_source_bytes prefix chain)

@@ -119,7 +119,7 @@ closest_kept_meet-is_meet members first second lowest = by_meet (meet first seco
     by_meet None kept = kept
     by_meet (Some found) kept = by_third found (is_under_third_beside_pair members first second found) kept
 
--- what a meet has from its members holds of the kept ones
+-- what a meet inherits from its members holds of the kept meets
 closest_kept_meets_inherit : (P : PrefixValue → Type 0) (members some : List PrefixValue)
     → ((first second lowest : PrefixValue) → P first → P second → meet first second ≡ Some lowest → P lowest)
     → All P some → All P (kept_pair_meets_among members some)
@@ -132,7 +132,7 @@ closest_kept_meets_inherit P members (first ∷ rest) of_meet all =
     (closest_kept_meet-is_meet members first second lowest kept)))
     (closest_kept_meets_inherit P members rest of_meet (All-tail P first rest all))
 
--- what members are strictly under, their kept meets are strictly under
+-- kept meets are strictly under each prefix that all members are strictly under
 pub closest_kept_meets_stay_under : (prefix : PrefixValue) (members : List PrefixValue)
     → All (λ member. strictly_under member prefix ≡ true) members
     → All (λ lowest. strictly_under lowest prefix ≡ true) (kept_pairs members)

@@ -7,7 +7,7 @@ use Rattle.std.proofs.Math.Nat.{pow-zero, pow-suc, pow-succ', div-one, div-div-e
 use Rattle.std.proofs.Math.Nat.{mul-le-mul_right, mul_assoc}
 use Rattle.prefix_lattice.specs.Address.{address_digits, address_number_from}
 
--- as many digits as asked
+-- there are as many digits as requested
 pub length-digits : (base count number : ℕ) → length (address_digits base count number) ≡ count
 length-digits base zero number = refl
 length-digits base (suc count) number =
@@ -52,7 +52,7 @@ take-digits base n (suc k) number =
     ∙ take-digits base n k (number / base)
     ∙ ap (address_digits base n) higher
 
--- a bound on each of some numbers and on one more
+-- a bound on each number of a list and on one more number bounds the longer list
 digits_small-push : (bound y : ℕ) (xs : List ℕ) (place : ℕ) → 0 < bound → ((k : ℕ) → get_or xs k 0 < bound) → y < bound
     → get_or (xs ++ y ∷ []) place 0 < bound
 digits_small-push bound y [] zero has_bound small y_small = y_small
@@ -68,7 +68,7 @@ digits_small base (suc count) number place has_base =
     digits_small-push base (number % base) (address_digits base count (number / base)) place has_base
     (λ k. digits_small base count (number / base) k has_base) (omega arith)
 
--- digits below the base, as many of them, spell one number in one way
+-- two lists of digits below the base that have the same length and spell the same number are the same
 pub same_digits : (base high other : ℕ) (xs ys : List ℕ) → length xs ≡ length ys
     → ((place : ℕ) → get_or xs place 0 < base) → ((place : ℕ) → get_or ys place 0 < base)
     → address_number_from base high xs ≡ address_number_from base other ys → (high ≡ other) × (xs ≡ ys)

@@ -31,7 +31,7 @@ answer = record { src = 0x14010203; dst = 0x0a010203; weight = 60 }
 abbrev pub prefix : PrefixValue
 prefix = record { source = 10 ∷ []; dest = 20 ∷ 1 ∷ [] }
 
--- what stands above the lowest two digits isn't among them
+-- digits above the lowest two are left out
 pub lowest_two_bytes : address_digits 256 2 0x0a1401 ≡ 20 ∷ 1 ∷ []
 lowest_two_bytes = refl
 
@@ -227,7 +227,8 @@ greater_levels_come_first = refl
 pub sources_rise_within_a_level : report_order from_ten to_twenty ≡ Greater
 sources_rise_within_a_level = refl
 
--- from 0.0.0.0 the one that keeps no byte of it comes first, whatever the destinations
+-- of two prefixes with source address 0.0.0.0, the one that keeps fewer of its bytes comes first, whatever the
+-- destinations
 pub kept_bytes_rise_within_a_source : report_order to_twenty (record { source = 0 ∷ []; dest = [] }) ≡ Less
 kept_bytes_rise_within_a_source = refl
 
@@ -252,7 +253,7 @@ level_of_whole_addresses = refl
 pub records_are_few : record_limit ≡ 2 ^ 24
 records_are_few = refl
 
--- the least that the records of all shards stay below
+-- the limit of a total is the product of the limits of shards, records and weights
 pub limit_of_a_total : shard_limit * (record_limit * 2 ^ 32) ≡ total_limit
 limit_of_a_total = refl
 
@@ -264,7 +265,7 @@ weight_within = record { low = omega arith; high = omega arith }
 pub weight_above : IntervalHoldsWeight 4 5 6 → ⊥
 weight_above holds = omega (arith, holds.high)
 
--- an interval that is 2 wide is narrow for three entries of a table with a total of 6, not for four
+-- an interval of width 2 is narrow in a table of capacity 3 with a total of 6, but not in one of capacity 4
 pub width_for_three_entries : IsNarrowInterval 4 6 3 6
 width_for_three_entries = omega arith
 

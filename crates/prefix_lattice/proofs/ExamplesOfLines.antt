@@ -24,16 +24,16 @@ no_line_is_under_itself = refl
 pub lines_that_cover_the_packet : one_line_covers lines packet ≡ true
 lines_that_cover_the_packet = refl
 
--- none but the root covers the way back
+-- only the root covers the answer
 pub lines_that_cover_no_answer : one_line_covers (lines_under root lines) answer ≡ false
 lines_that_cover_no_answer = refl
 
--- a line explains the packet, and leaves the answer
+-- a line explains the packets, but not the answer
 pub conditioned_by_a_line : conditioned_weight root (from_ten_to_twenty ∷ root ∷ []) (packet ∷ answer ∷ packet ∷ [])
     ≡ 60
 conditioned_by_a_line = refl
 
--- a line explains nothing of itself
+-- a line explains none of its own weight
 pub not_conditioned_by_itself : conditioned_weight prefix (prefix ∷ []) (packet ∷ answer ∷ packet ∷ []) ≡ 200
 not_conditioned_by_itself = refl
 
@@ -78,7 +78,7 @@ none_of_the_stairs_is_under_another = refl
 pub outer_meet_is_under_the_middle_step : is_under_third_beside_pair stairs lowest_step highest_step outer_meet ≡ true
 outer_meet_is_under_the_middle_step = refl
 
--- the two whose meet it is don't count
+-- the two members whose meet it is don't count as a third
 pub lower_meet_is_under_no_third_step : is_under_third_beside_pair stairs lowest_step middle_step lower_meet ≡ false
 lower_meet_is_under_no_third_step = refl
 
@@ -91,14 +91,14 @@ prefix_under_no_third_stays = refl
 pub meet_of_neighbours_is_kept : kept_pair_meet stairs middle_step highest_step ≡ Some upper_meet
 meet_of_neighbours_is_kept = refl
 
--- it is there, and not kept
+-- the meet exists, but is not kept
 pub meet_of_the_outer_two : meet lowest_step highest_step ≡ Some outer_meet
 meet_of_the_outer_two = refl
 
 pub meet_of_the_outer_two_is_not_kept : kept_pair_meet stairs lowest_step highest_step ≡ None
 meet_of_the_outer_two_is_not_kept = refl
 
--- the pairs that begin behind the lowest step
+-- the pairs whose first member follows the lowest step
 pub kept_pairs_of_the_upper_steps : kept_pair_meets_among stairs (middle_step ∷ highest_step ∷ []) ≡ upper_meet ∷ []
 kept_pairs_of_the_upper_steps = refl
 
@@ -139,6 +139,6 @@ kept_pairs_that_cover = refl
 pub stairs_obey_the_law : LinesObeyStaircase stairs climber
 stairs_obey_the_law some = refl
 
--- of three lines under one another just one pair is kept, and all three cover the packet
+-- of three lines under one another only one pair is kept, although all three cover the packet
 pub comparable_lines_do_not_obey : LinesObeyStaircase (prefix ∷ from_ten_to_twenty ∷ to_twenty ∷ []) packet → ⊥
 comparable_lines_do_not_obey obeys = omega (arith, obeys (omega arith))

@@ -118,18 +118,18 @@ fault_of_a_length = (refl, (0x0a000000, omega arith, refl), fifteen_is_no_length
 pub fault_of_bits_past_a_length : TextHasSideFault Dest (codes "10.1.2.0/16") (LooseBits Dest)
 fault_of_bits_past_a_length = (refl, bits_past_a_length)
 
--- a fault of one side isn't told of the other
+-- a fault of one side is not reported as one of the other
 pub fault_of_another_side : TextHasSideFault Dest (codes "10.1.2.0/16") (LooseBits Source) → ⊥
 fault_of_another_side has = cc (has.0)
 
--- the destination isn't looked at where the source has a fault
+-- the destination is not checked if the source has a fault
 pub fault_of_the_source : HasPrefixTextFault (codes "10.1.2/8") (codes "x") (BadAddress Source)
 fault_of_the_source = inl fault_of_three_numbers
 
 pub fault_of_the_destination : HasPrefixTextFault (codes "10.0.0.0/8") (codes "10.1.2.0/16") (LooseBits Dest)
 fault_of_the_destination = inr ((10 ∷ [], text_of_the_source), fault_of_bits_past_a_length)
 
--- of six bytes the two from place 2 on were written
+-- of six bytes the two from offset 2 on were written
 pub part_that_was_written : WritesPrefixTextPart (codes "xxxxxx") (codes "xx10xx") 2 4 (codes "10")
 part_that_was_written = record { ends = refl; written = refl }
 

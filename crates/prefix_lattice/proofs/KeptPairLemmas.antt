@@ -30,7 +30,7 @@ kept_pair-count members rec (first ∷ rest) =
     (count_by-filter_map (λ prefix. covers prefix rec) (kept_pair_meet members first) rest)
     ∙ ap (λ n. count_by (keeps_pair members rec first) rest + n) (kept_pair-count members rec rest)
 
--- a pair is kept whichever member is named first
+-- whether a prefix is under a third member doesn't depend on the order of the pair
 pub kept_pair-third_turned : (members : List PrefixValue) (first second lowest : PrefixValue)
     → is_under_third_beside_pair members first second lowest ≡ is_under_third_beside_pair members second first lowest
 kept_pair-third_turned members first second lowest = any_among-agrees
@@ -57,7 +57,7 @@ keeps_pair-turned members rec first second =
     by_meet None = refl
     by_meet (Some lowest) = ap (λ b. cond b None (Some lowest)) (kept_pair-third_turned members first second lowest)
 
--- whether a pair is kept is told by its meet
+-- whether a pair is kept depends only on its meet and on whether a third member is above the meet
 pub keeps_pair-by_kept_meet : (members : List PrefixValue) (rec : RecordValue) (first second lowest : PrefixValue)
     (is_third : Bool) → meet first second ≡ Some lowest → is_under_third_beside_pair members first second lowest ≡ is_third
     → keeps_pair members rec first second ≡ counts_if_some (λ prefix. covers prefix rec) (cond is_third None (Some lowest))

@@ -51,7 +51,7 @@ list_front-shorter (x ∷ xs) (y ∷ ys) (z ∷ zs) first second shorter =
     and_from (eqb y z) (kept_bytes_begin_with ys zs) (eq-eqb y z (sym (eqb-true x y firsts.0) ∙ eqb-true x z seconds.0))
     (list_front-shorter xs ys zs firsts.1 seconds.1 (omega arith))
 
--- the front of a list begins with what begins the list and is no longer
+-- the front of a list begins with a list that is no longer exactly where the whole list does
 pub list_front-taken : (xs ys : List ℕ) (n : ℕ) → length ys ≤ n → kept_bytes_begin_with (take n xs) ys ≡ kept_bytes_begin_with xs ys
 list_front-taken xs [] n enough = refl
 list_front-taken xs (y ∷ ys) zero enough = absurd (omega arith)
@@ -86,7 +86,7 @@ longer_list_front-begins front other longer found = of_case (longer_list_front-c
     of_case (inl is) = rw is.0 (list_front-reflexive front, is.1)
     of_case (inr is) = rw is.0 (is.1, list_front-reflexive other)
 
--- the longer of two lists that begin one list is there, and begins it too
+-- the longer of two lists that begin the same list exists, and begins it too
 pub record IsLongerListFront (bytes front other longer : List ℕ) : Type 0 where
   pub is : meet_side front other ≡ Some longer
   pub begins : kept_bytes_begin_with bytes longer ≡ true

@@ -1,20 +1,20 @@
 -- Facts of lists by their head and their tail. The crates above cite this file too, as they do the standard library's.
 use Rattle.std.proofs.Common.{◌≡◌, zero, suc, List, [], ◌∷◌, Contains, All, AllPairs, ◌⊎◌, inl, inr, refl, arith}
 
--- the head stands in the list
+-- a list contains its head
 pub Contains-list_head : {X : Type 0} (x : X) (xs : List X) → Contains (x ∷ xs) x
 Contains-list_head x xs = (0, omega arith, refl)
 
--- so does what stands in the tail
+-- and each element of its tail
 pub Contains-list_tail : {X : Type 0} (x : X) (xs : List X) (y : X) → Contains xs y → Contains (x ∷ xs) y
 Contains-list_tail x xs y (place, within, same) = (suc place, omega arith, same)
 
--- what stands in a list is its head or stands in its tail
+-- an element of a list is its head or an element of its tail
 pub Contains-list_cons : {X : Type 0} (x : X) (xs : List X) (y : X) → Contains (x ∷ xs) y → (x ≡ y) ⊎ Contains xs y
 Contains-list_cons x xs y (zero, within, same) = inl same
 Contains-list_cons x xs y (suc place, within, same) = inr (place, omega arith, same)
 
--- nothing stands in the empty list
+-- the empty list has no element
 pub Contains-empty_list : {X : Type 0} (y : X) → Contains {X = X} [] y → ⊥
 Contains-empty_list y (place, within, same) = omega arith
 

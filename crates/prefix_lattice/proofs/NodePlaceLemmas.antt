@@ -1,12 +1,12 @@
--- The nodes of the lattice and their places. The crates above cite this file too.
+-- The nodes of the lattice and their indices. The crates above cite this file too.
 use Rattle.std.proofs.Common.{◌≡◌, ℕ, ◌/◌, ◌%◌, ◌<◌, ◌≤◌, ap, ◌∙◌, arith}
 use Rattle.prefix_lattice.specs.Node.{NodeValue, IsNode, node_index, node_at}
 
--- the place of a node is below 25
+-- the index of a node is below 25
 pub node_place_is_small : (node : NodeValue) → IsNode node → node_index node < 25
 node_place_is_small node valid = omega (arith, valid.source, valid.dest)
 
--- a node is the one at its place
+-- a node is the one at its index
 pub node_at_own_place : (node : NodeValue) → IsNode node → node_at (node_index node) ≡ node
 node_at_own_place node valid =
     let few : node.dest_bytes ≤ 4 = valid.dest in
@@ -16,7 +16,7 @@ node_at_own_place node valid =
     let with_dest : ℕ → NodeValue = λ d. record { source_bytes = node.source_bytes; dest_bytes = d } in
     ap with_source source ∙ ap with_dest dest
 
--- what stands at such a place is a node
+-- there is a node at each index below 25
 pub IsNode-node_at_place : (place : ℕ) → place < 25 → IsNode (node_at place)
 IsNode-node_at_place place small = record { source = omega arith; dest = omega arith }
 

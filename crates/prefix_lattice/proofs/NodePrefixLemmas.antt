@@ -41,7 +41,7 @@ only_node_prefix_covers node rec other of_node covered =
     λ d. record { source = take node.source_bytes (address_bytes rec.src); dest = d } in
     ap with_source source ∙ ap with_dest dest
 
--- two prefixes of one node with one key are one
+-- two prefixes of one node with the same key are the same
 pub node_prefix-same_key : (prefix other : PrefixValue) → IsPrefix prefix → IsPrefix other → node_of_prefix prefix ≡ node_of_prefix other
     → prefix_key prefix ≡ prefix_key other → prefix ≡ other
 node_prefix-same_key prefix other valid other_valid of_node same =
@@ -78,7 +78,7 @@ node_prefix-covers_by_key prefix rec valid =
     (node_prefix-same_key own prefix own_valid valid own_node (eqb-true (prefix_key own) (prefix_key prefix) same))
     (node_prefix-covers node rec valid.source.few valid.dest.few))
 
--- what is made of a record's first bytes is its prefix at the node
+-- the prefix made of a record's first bytes is its prefix at the node
 pub node_prefix-made_of_bytes : (node : NodeValue) (rec : RecordValue) (m n : ℕ) (source dest : List ℕ) → m ≡ node.source_bytes
     → n ≡ node.dest_bytes
     → source ≡ take m (address_bytes rec.src) → dest ≡ take n (address_bytes rec.dst)

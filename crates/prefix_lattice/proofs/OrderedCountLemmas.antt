@@ -1,4 +1,4 @@
--- Counts of elements and of pairs of elements, in whatever order they stand.
+-- Counts of elements and of pairs of elements, in whatever order they are.
 use Rattle.std.proofs.Common.{◌≡◌, ℕ, ◌+◌, ltb, suc, Bool, true, false, cond, List, [], ◌∷◌, length, Option, None}
 use Rattle.std.proofs.Common.{Some, ◌⊎◌, inl, inr, refl, sym, ap, ◌∙◌, arith}
 use Rattle.std.specs.List.{count_by, filter, filter_map, cons_option}
@@ -31,7 +31,7 @@ abbrev pub counts_if_some : {Y : Type 0} → (Y → Bool) → Option Y → Bool
 counts_if_some test None = false
 counts_if_some test (Some y) = test y
 
--- what is made of some elements is counted where it is made
+-- values made of elements are counted at the elements that they are made of
 pub count_by-filter_map : {X Y : Type 0} (test : Y → Bool) (made : X → Option Y) (xs : List X)
     → count_by test (filter_map made xs) ≡ count_by (λ x. counts_if_some test (made x)) xs
 count_by-filter_map test made [] = refl
@@ -45,7 +45,7 @@ count_by-filter_map {X} {Y} test made (x ∷ xs) =
     by_option None = omega arith
     by_option (Some y) = count_by-cons test y (filter_map made xs)
 
--- a count of elements that pass another test too needs those alone
+-- filtering by a weaker test doesn't change a count
 pub count_by-filter : {X : Type 0} (test other : X → Bool) (xs : List X)
     → ((x : X) → test x ≡ true → other x ≡ true) → count_by test (filter other xs) ≡ count_by test xs
 count_by-filter test other [] implies = refl
@@ -58,12 +58,12 @@ count_by-filter test other (x ∷ xs) implies = by_test (count_by-filter test ot
         let fails : test x ≡ false = false_from_ne_true (test x) (λ passes. false≢true (sym is ∙ implies x passes)) in
         omega (arith, ap added_to_count fails, count_by-cons test x xs, rest)
 
--- how many pairs pass a test, an element and a later one
+-- how many pairs of an element and a later one pass a test
 abbrev pub pair_count : {X : Type 0} → (X → X → Bool) → List X → ℕ
 pair_count test [] = 0
 pair_count test (x ∷ xs) = count_by (test x) xs + pair_count test xs
 
--- a count of pairs whose members pass another test needs the elements that pass it alone
+-- nor does it change a count of pairs, if both members of each pair counted pass the filter
 pub pair_count-filter : {X : Type 0} (test : X → X → Bool) (other : X → Bool) (xs : List X)
     → ((x y : X) → test x y ≡ true → (other x ≡ true) × (other y ≡ true))
     → pair_count test (filter other xs) ≡ pair_count test xs
@@ -89,7 +89,7 @@ abbrev pub ordered_by : {X : Type 0} → (X → ℕ) → List X → List X
 ordered_by size [] = []
 ordered_by size (x ∷ xs) = ordered_insert size x (ordered_by size xs)
 
--- what is put among others is one of them
+-- an element after an insertion is the inserted one, or was there before
 pub ordered_insert-cases : {X : Type 0} (size : X → ℕ) (z x : X) (xs : List X) → Among z (ordered_insert size x xs) → (z ≡ x) ⊎ Among z xs
 ordered_insert-cases size z x [] among = among
 ordered_insert-cases size z x (y ∷ ys) among =
@@ -129,7 +129,7 @@ ordered_by-adds_none size z (x ∷ xs) among = either (ordered_by-adds_none size
     either in_rest (inl same) = inl same
     either in_rest (inr later) = inr (in_rest later)
 
--- counts don't tell where an element was put
+-- a count doesn't depend on where an element is inserted
 pub count_by-ordered_insert : {X : Type 0} (size : X → ℕ) (test : X → Bool) (x : X) (xs : List X)
     → count_by test (ordered_insert size x xs) ≡ added_to_count (test x) + count_by test xs
 count_by-ordered_insert size test x [] = count_by-cons test x []
@@ -160,7 +160,7 @@ pub ordered_by-same_count : {X : Type 0} (size : X → ℕ) (xs : List X) → le
 ordered_by-same_count size [] = refl
 ordered_by-same_count size (x ∷ xs) = ordered_insert-counts_one_more size x (ordered_by size xs) ∙ ap suc (ordered_by-same_count size xs)
 
--- nor do counts of pairs, where the test is the same both ways
+-- nor does a count of pairs, if the test is symmetric
 pub pair_count-ordered_insert : {X : Type 0} (size : X → ℕ) (test : X → X → Bool) (turned : (x y : X) → test x y ≡ test y x)
     (x : X) (xs : List X)
     → pair_count test (ordered_insert size x xs) ≡ count_by (test x) xs + pair_count test xs

@@ -59,7 +59,7 @@ one_prefix_with_key node key prefix other has other_has =
     node_prefix-same_key prefix other has.is_prefix other_has.is_prefix (has.of_node ∙ sym other_has.of_node)
     (has.of_key ∙ sym other_has.of_key)
 
--- an answer that has the key, or comes where no prefix of the node has it, is the one answer
+-- a result that has the key, or is None where the key is none of the node, is the only correct one
 pub prefix_is_some_for_key : (node : NodeValue) (key : ℕ) (result : Option PrefixValue) → IfSome result (HasPrefixKey node key)
     → IfNone result (IsPrefixKey node key → ⊥)
     → (IsSome result → IsPrefixKey node key) × (IsPrefixKey node key → IsSome result)

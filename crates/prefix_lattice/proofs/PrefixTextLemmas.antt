@@ -34,7 +34,7 @@ prefix_text-single_fault source dest fault other (inr has) (inl has_other) =
 prefix_text-single_fault source dest fault other (inr has) (inr has_other) =
     side_text-single_fault Dest dest fault other has.1 has_other.1
 
--- an answer that spells its prefix or has its fault is the one answer
+-- a result that is spelled by the texts, or is their fault, is the only correct one
 pub prefix_text-exactly_spelled : (source dest : List ℕ) (result : Result PrefixValue PrefixFault)
     → IfOk result (SpellsPrefix source dest) → IfErr result (HasPrefixTextFault source dest)
     → (prefix : PrefixValue)

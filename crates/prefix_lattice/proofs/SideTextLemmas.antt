@@ -13,24 +13,24 @@ use Rattle.prefix_lattice.proofs.AddressLemmas.{address_of-small, address_tells_
 use Rattle.prefix_lattice.proofs.AddressTextLemmas.{address_text-lacks_slash, address_text-tells_address}
 use Rattle.prefix_lattice.proofs.TextCutLemmas.{first_text_cut, same_text_cut}
 
--- what stands before the slash of an address and a length is the address
+-- in the text of an address and a length, the part before the slash is the address
 pub side_text-before_slash : (text : List ℕ) (address bytes : ℕ) → text ≡ side_text_of address bytes
     → text_before_slash text ≡ address_text address
 side_text-before_slash text address bytes spelled =
     ap text_before_slash spelled
     ∙ first_text_cut 47 (address_text address) (decimal (8 * bytes)) (address_text-lacks_slash address)
 
--- an address and a length have an address
+-- such a text has an address before its slash
 pub side_text-has_address : (text : List ℕ) (address bytes : ℕ) → address < 2 ^ 32 → text ≡ side_text_of address bytes
     → IsAddressText (text_before_slash text)
 side_text-has_address text address bytes small spelled = (address, small, side_text-before_slash text address bytes spelled)
 
--- an address and a length have a length
+-- and a length after it
 pub side_text-has_length : (text : List ℕ) (address bytes : ℕ) → bytes ≤ 4 → text ≡ side_text_of address bytes → TextHasLength text
 side_text-has_length text address bytes few spelled =
     (bytes, few, spelled ∙ ap (λ l. l ++ 47 ∷ decimal (8 * bytes)) (sym (side_text-before_slash text address bytes spelled)))
 
--- one address and one length
+-- such a text has only one address and one length
 pub one_side_text : (address bytes other others : ℕ) → address < 2 ^ 32 → other < 2 ^ 32 → bytes ≤ 4 → others ≤ 4
     → side_text_of address bytes ≡ side_text_of other others → (address ≡ other) × (bytes ≡ others)
 one_side_text address bytes other others small other_small few few_others same =
@@ -51,7 +51,7 @@ side_text-tells_side text front other spells spells_other =
     (sym spells.spelled ∙ spells_other.spelled) in
     address_tells_leading_bytes front other spells.leading spells_other.leading same.1 same.0
 
--- leading bytes leave nothing past them
+-- the address of leading bytes has no bit set past them
 side_text-nothing_loose : (front : List ℕ) → address_of front % 256 ^ (4 - length front) ≡ 0
 side_text-nothing_loose front = mul-mod_left (address_number_from 256 0 front) (256 ^ (4 - length front))
 

@@ -106,7 +106,7 @@ staircase_next_is_kept members rec step next later incomparable rest =
     (staircase_has_no_third members rec step next found.0 later incomparable rest found.1)
     ∙ and_from _ _ found.1.source_begins found.1.dest_begins
 
--- a step and one behind the next are no kept pair: their meet is under the next
+-- a step and one after the next are not a kept pair: their meet is under the next
 staircase_later_is_not_kept : (members : List PrefixValue) (rec : RecordValue) (step next : PrefixValue)
     (later : List PrefixValue) → AreStaircaseRest members rec step (next ∷ later)
     → (last : PrefixValue) → Among last later → keeps_pair members rec step last ≡ false
@@ -160,7 +160,7 @@ staircase_members members rec = filter (λ prefix. covers prefix rec) members
 abbrev staircase_chain : List PrefixValue → RecordValue → List PrefixValue
 staircase_chain members rec = ordered_by chain_source_bytes (staircase_members members rec)
 
--- where some members cover a record, just one kept pair fewer has a meet that covers it
+-- if n members cover a record and n is at least 1, exactly n - 1 kept pairs have a meet that covers it
 pub staircase : (members : List PrefixValue) (rec : RecordValue) → AreIncomparableLines members → LinesObeyStaircase members rec
 staircase members rec incomparable some =
     let pairs : covering_line_count rec (kept_pairs members) ≡ pair_count (keeps_pair members rec) (staircase_chain members rec) =

@@ -16,7 +16,7 @@ use Rattle.std.proofs.lemmas.Str.Parse.{digit_at}
 pub record TextLacksCutByte (byte : ℕ) (text : List ℕ) : Type 0 where
   pub each : (place : ℕ) → place < length text → eqb (get_or text place 0) byte ≡ false
 
--- a text is what stands before such a byte, the byte and what stands after it
+-- a text is the part before the first such byte, the byte and the part after it
 pub text_cut-joined : (byte place : ℕ) (text : List ℕ) → position (λ b. eqb b byte) text ≡ Some place
     → text ≡ take place text ++ byte ∷ drop 1 (drop place text)
 text_cut-joined byte place text found =
@@ -30,7 +30,7 @@ text_cut-joined byte place text found =
     ∙ ap (λ l. take place text ++ l)
     (drop-cons text place 0 within ∙ ap (λ b. b ∷ drop (suc place) text) byte_is ∙ ap (λ l. byte ∷ l) behind)
 
--- the first such byte is the one behind a text that lacks it
+-- the first such byte of a text is the one that follows a front that lacks it
 first_text_cut-place : (byte : ℕ) (front rest : List ℕ) → TextLacksCutByte byte front
     → position_or_len (λ b. eqb b byte) (front ++ byte ∷ rest) ≡ length front
 first_text_cut-place byte front rest lacks =
@@ -39,13 +39,13 @@ first_text_cut-place byte front rest lacks =
     (λ k before. ap (λ b. eqb b byte) (get_or-append front (byte ∷ rest) 0 k before) ∙ lacks.each k before)
     (λ _. ap (λ b. eqb b byte) (get_or-append_seam front byte rest 0) ∙ eq-eqb byte byte refl)
 
--- before it stands that text
+-- the part before it is that front
 pub first_text_cut : (byte : ℕ) (front rest : List ℕ) → TextLacksCutByte byte front
     → before_first (λ b. eqb b byte) (front ++ byte ∷ rest) ≡ front
 first_text_cut byte front rest lacks =
     ap (λ k. take k (front ++ byte ∷ rest)) (first_text_cut-place byte front rest lacks) ∙ take-append_seam front (byte ∷ rest)
 
--- and after it all that follows
+-- and the part after it is the rest
 pub first_text_cut_behind : (byte : ℕ) (front rest : List ℕ) → TextLacksCutByte byte front
     → after_first (λ b. eqb b byte) (front ++ byte ∷ rest) ≡ rest
 first_text_cut_behind byte front rest lacks =
@@ -55,7 +55,7 @@ first_text_cut_behind byte front rest lacks =
     ∙ ap (drop (length (front ++ byte ∷ []))) (sym (append_assoc front (byte ∷ []) rest))
     ∙ drop_at (front ++ byte ∷ []) rest (length (front ++ byte ∷ [])) refl
 
--- there is one way to cut a text at its first such byte
+-- there is only one way to cut a text at its first such byte
 pub same_text_cut : (byte : ℕ) (text before after front rest : List ℕ) → before ≡ before_first (λ b. eqb b byte) text
     → text ≡ before ++ byte ∷ after
     → text ≡ front ++ byte ∷ rest → TextLacksCutByte byte front → (before ≡ front) × (after ≡ rest)
@@ -75,7 +75,7 @@ no_text_cut byte text front rest whole spelled lacks =
     sym whole ∙ ap (before_first (λ b. eqb b byte)) spelled ∙ first_text_cut byte front rest lacks in
     absurd (omega (arith, ap length same_front, ap length spelled, length-append front (byte ∷ rest)))
 
--- a number in decimal has digits alone
+-- a number in decimal consists of digits only
 pub decimal_lacks_text_cut : (byte number : ℕ) → byte < 48 → number < 2 ^ 64 → TextLacksCutByte byte (decimal number)
 decimal_lacks_text_cut byte number low small = record {
   each = λ place within. ne_eqb (get_or (decimal number) place 0) byte
@@ -83,7 +83,7 @@ decimal_lacks_text_cut byte number low small = record {
       omega (arith, digit.0, same, low));
 }
 
--- a text spells one number
+-- a text spells at most one number
 pub cut_text-tells_number : (text : List ℕ) (number other : ℕ) → number < 2 ^ 64 → other < 2 ^ 64 → text ≡ decimal number
     → text ≡ decimal other → number ≡ other
 cut_text-tells_number text number other small other_small spelled other_spelled =
@@ -117,7 +117,7 @@ lacks_text_cut-append byte (first ∷ front) rest front_lacks lacks =
     lacks_text_cut-cons byte first (front ++ rest) (front_lacks.each 0 (omega arith))
     (lacks_text_cut-append byte front rest (record { each = λ place within. front_lacks.each (suc place) (omega arith) }) lacks)
 
--- what stands behind a byte in two spellings with the same front
+-- two splits of a text with the same front and the same byte have the same rest
 pub text_cut-same_behind : (byte : ℕ) (text front after rest : List ℕ) → text ≡ front ++ byte ∷ after
     → text ≡ front ++ byte ∷ rest → after ≡ rest
 text_cut-same_behind byte text front after rest spelled respelled =

@@ -46,7 +46,7 @@ whole_text-written_as_read source dest prefix spells =
     ap (λ (l : List ℕ). l ++ 32 ∷ side_text prefix.dest) (sym spells.source.spelled)
     ∙ ap (λ (l : List ℕ). source ++ 32 ∷ l) (sym spells.dest.spelled)
 
--- two prefixes have two texts
+-- distinct prefixes have distinct texts
 pub whole_text-tells_prefix : (prefix other : PrefixValue) → IsPrefix prefix → IsPrefix other
     → prefix_text prefix ≡ prefix_text other → prefix ≡ other
 whole_text-tells_prefix prefix other valid other_valid same =

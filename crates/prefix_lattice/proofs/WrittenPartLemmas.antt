@@ -1,11 +1,11 @@
--- Parts of a text that are written one behind another.
+-- Parts of a text that are written one after another.
 use Rattle.std.proofs.Common.{◌≡◌, ℕ, ◌+◌, ◌<◌, ◌≤◌, suc, List, [], ◌∷◌, ◌++◌, length, take, drop, set, refl, sym}
 use Rattle.std.proofs.Common.{ap, ◌∙◌, arith, length-append, append_assoc, subst, decimal}
 use Rattle.std.proofs.lemmas.Slice.{drop-append-drop}
 use Rattle.std.proofs.lemmas.List.{take_at, length-take, set_split}
 use Rattle.prefix_lattice.specs.PrefixText.{WritesPrefixTextPart}
 
--- two parts that are written one behind the other are one part
+-- two parts that are written one after the other are one part
 pub written_parts-joined : (old middle new : List ℕ) (start between end : ℕ) (part other : List ℕ) → between ≤ length old
     → WritesPrefixTextPart old middle start between part → WritesPrefixTextPart middle new between end other
     → WritesPrefixTextPart old new start end (part ++ other)
@@ -48,7 +48,7 @@ written_part-sides old middle new byte between end part other within same_length
     marked second in
     (written_parts-joined old middle new 0 between end part (byte ∷ other) (omega arith) first both).written
 
--- a part under another name
+-- a written part may be replaced by an equal one
 pub written_part-same : (old new : List ℕ) (start end : ℕ) (part same : List ℕ) → part ≡ same
     → WritesPrefixTextPart old new start end part → WritesPrefixTextPart old new start end same
 written_part-same old new start end part same is writes = subst (λ l. WritesPrefixTextPart old new start end l) is writes

@@ -5,7 +5,7 @@ use Rattle.prefix_lattice.specs.Prefix.{PrefixValue}
 use Rattle.prefix_lattice.specs.Lattice.{under, same_in_lattice}
 use Rattle.prefix_lattice.specs.Meets.{meet}
 
--- a prefix is under some member beside these two
+-- a prefix is under some member besides these two
 abbrev pub is_under_third_beside_pair : List PrefixValue → PrefixValue → PrefixValue → PrefixValue → Bool
 is_under_third_beside_pair members first second prefix =
     list_any (λ third. under prefix third && not (same_in_lattice third first || same_in_lattice third second)) members

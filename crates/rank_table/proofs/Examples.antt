@@ -26,12 +26,12 @@ slot key count error time = record { entry = entry key count error; time = time 
 abbrev slots : List Slot
 slots = slot 1 5 0 2 ∷ slot 2 3 0 0 ∷ slot 3 5 0 1 ∷ []
 
--- a count is worth more than any time
+-- a greater count outranks any time
 pub rank_by_count_first : slot_rank (slot 2 3 0 9) < slot_rank (slot 1 4 0 0)
 unfolding slot_rank
 rank_by_count_first = omega arith
 
--- of equal counts the one put in first comes first
+-- in a tie, the slot with the earlier time comes first
 pub slots_in_order : slots_in_rank_order slots ≡ slot 2 3 0 0 ∷ slot 3 5 0 1 ∷ slot 1 5 0 2 ∷ []
 unfolding slot_rank
 slots_in_order = refl
@@ -59,7 +59,7 @@ slots_of_two_keys = record {
   distinct = ((slots_apart, tt), (tt, tt));
 }
 
--- a slot of a time to come
+-- a slot whose time is not before now
 pub slot_of_now : AreOrderedSlots 2 (slot 1 5 0 2 ∷ []) → ⊥
 slot_of_now are = omega (arith, are.timed.0)
 
@@ -68,7 +68,7 @@ pub word_of_a_rank : rank_word 3 (slot 1 5 0 2) 1 ≡ 2 * 2 ^ 36 + 2 * 4096 + 1
 unfolding rank_word
 word_of_a_rank = refl
 
--- an excess of 2^28 and one of 2^29 have one word
+-- an excess of 2^28 and one of 2^29 have the same word
 pub far_counts_have_one_word : rank_word 0 (slot 1 268435456 0 2) 1 ≡ rank_word 0 (slot 1 536870912 0 2) 1
 unfolding rank_word
 far_counts_have_one_word = refl
@@ -95,7 +95,7 @@ pub greater_is_not_least : HasLeastRank (slot 1 5 0 2 ∷ slot 2 3 0 0 ∷ []) 0
 unfolding slot_rank
 greater_is_not_least least = omega (arith, least.least 1 slot_without_mark (omega arith))
 
--- leaves as many as the capacity
+-- there must be as many leaves as the capacity
 pub leaf_is_missing : AreRankLeaves 2 0 (0 ∷ []) [] → ⊥
 leaf_is_missing leaves = omega (arith, leaves.shape)
 
@@ -145,7 +145,7 @@ keys_of_the_slots = record { roomy = refl; as_many = refl; keyed = refl }
 pub stale_key : AreRankTableParts 4 (record { room = 4; keys = 1 ∷ 3 ∷ [] }) two_slots → ⊥
 stale_key together = cc
 
--- no tables of no capacity
+-- there is no table of capacity 0
 pub no_room_for_slots : AreRanked 0 4 0 [] [] → ⊥
 no_room_for_slots ranked = omega (arith, ranked.some)
 

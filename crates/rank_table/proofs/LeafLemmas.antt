@@ -1,4 +1,4 @@
--- Leaves beside slots, through changes of both.
+-- The leaves over slots, through changes of both.
 use Rattle.std.proofs.Common.{◌≡◌, ◌≢◌, ℕ, ◌+◌, ◌-◌, ◌*◌, ◌%◌, ◌^◌, ◌<◌, ◌≤◌, List, [], ◌∷◌, ◌++◌, length, get_or, set}
 use Rattle.std.proofs.Common.{sym, ap, ◌∙◌}
 use Rattle.std.proofs.Common.{subst, ⊎_elim, arith, All, Contains, sum, length-set, get_or-set_same, get_or-set_other}
@@ -14,7 +14,7 @@ use Rattle.rank_table.specs.Ranks.{AreRankLeaves, AreRanked, HasLeastRank}
 use Rattle.rank_table.proofs.RankWordLemmas.{rank_word_names_place, rank_word_not_below_place, rank_word_fits}
 use Rattle.rank_table.proofs.RankWordLemmas.{rank_word_rises, exact_rank_word_is_least}
 
--- leaves that are their places' numbers
+-- leaves that are their own indices are lower bounds of the slots' words
 pub leaf_starts_as_its_place : (capacity base : ℕ) (slots : List Slot) → capacity ≤ 4096 → length slots ≤ capacity
     → ((place : ℕ) (d : Slot) → place < length slots → base ≤ (get_or slots place d).entry.count)
     → AreRankLeaves capacity base (range_with_len 0 capacity) slots
@@ -42,7 +42,7 @@ leaf_stands_at_its_place capacity base leaf leaves slots are present =
     let named : leaf % 4096 ≡ place = ap (λ n. n % 4096) (sym is) ∙ are.placed place within in
     (omega arith, ap (λ n. get_or leaves n 0) named ∙ is)
 
--- a leaf that becomes its slot's word
+-- the leaves stay lower bounds when one becomes its slot's word
 pub leaf_is_mended_to_word : (capacity base : ℕ) (leaves : List ℕ) (slots : List Slot) (place : ℕ) (slot : Slot) → AreRankLeaves capacity base leaves slots
     → place < length slots
     → slot ≡ get_or slots place slot → AreRankLeaves capacity base (set leaves place (rank_word base slot place)) slots
@@ -72,7 +72,7 @@ leaf_is_mended_to_word capacity base leaves slots place slot are within read =
       based = are.based;
     }
 
--- a slot that changes to one of no smaller count and time
+-- the leaves stay lower bounds when a slot changes to one of no smaller count and time
 pub leaf_stays_below_raised_slot : (capacity base : ℕ) (leaves : List ℕ) (slots : List Slot) (place : ℕ) (slot : Slot)
     → AreRankLeaves capacity base leaves slots
     → place < length slots
@@ -101,7 +101,7 @@ leaf_stays_below_raised_slot capacity base leaves slots place slot are within mo
           (cases_eq other place);
     }
 
--- a slot more, where the base is 0
+-- the leaves stay lower bounds when a slot is appended, if the base is 0
 pub leaf_stays_after_push : (capacity base : ℕ) (leaves : List ℕ) (slots : List Slot) (slot : Slot) → AreRankLeaves capacity base leaves slots
     → length slots < capacity → base ≡ 0
     → AreRankLeaves capacity base leaves (slots ++ slot ∷ [])
@@ -126,7 +126,7 @@ leaf_stays_after_push capacity base leaves slots slot are room unbased =
       based = λ other d inside. omega arith;
     }
 
--- so much can leaves still rise
+-- the sum by which leaves can still rise falls when a leaf that differs from its slot's word is mended
 pub leaf_rises_when_mended : (capacity base : ℕ) (leaves : List ℕ) (slots : List Slot) (place : ℕ) (slot : Slot) → AreRankLeaves capacity base leaves slots
     → capacity ≡ length slots → place < capacity
     → slot ≡ get_or slots place slot → get_or leaves place 0 ≢ rank_word base slot place
@@ -144,7 +144,7 @@ leaf_rises_when_mended capacity base leaves slots place slot are full within rea
     omega (arith, get_or_default (set leaves place new) other d 0 inside, low, rank_word_fits base (get_or slots other slot) other (omega arith)) in
     omega (arith, length-set leaves place new, sum_by-set (λ x. x) leaves place new 0 (omega arith), sum_by-le (λ x. x) (2 ^ 64) (set leaves place new) small)
 
--- the winner of an exact rank comes first
+-- a winner whose word is exact comes first
 pub exact_leaf_is_least : (capacity base : ℕ) (leaves : List ℕ) (slots : List Slot) (place : ℕ) (slot : Slot) → AreRankLeaves capacity base leaves slots
     → place < length slots
     → slot ≡ get_or slots place slot → IsExactRankWord base slot
@@ -164,7 +164,7 @@ exact_leaf_is_least capacity base leaves slots place slot are within read exact 
           (least other d inside)));
     }
 
--- a tree that restarts from the least count
+-- the leaves of a tree that restarts with the least count as its base
 pub leaf_restarts_at_least_count : (capacity reserved base : ℕ) (leaves : List ℕ) (slots : List Slot) (place : ℕ) (slot : Slot)
     → AreRanked capacity reserved base leaves slots → length slots ≡ capacity
     → place < length slots → slot ≡ get_or slots place slot → ((other : ℕ) (d : Slot) → other < length slots

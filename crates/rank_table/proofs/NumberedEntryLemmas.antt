@@ -1,4 +1,4 @@
--- Entries of a table that are put in one after the other.
+-- Entries of a table that are inserted one after the other.
 use Rattle.std.proofs.Common.{◌≡◌, ℕ, ◌+◌, ◌<◌, ◌≤◌, true, false, cond, eqb, List, [], ◌∷◌, ◌++◌, length, map, None}
 use Rattle.std.proofs.Common.{Some, refl, sym, ap, ◌∙◌, arith}
 use Rattle.std.specs.List.{AllByRecursion}
@@ -27,12 +27,12 @@ numbered_for_marks-push_entry time [] entry last is = ap (λ n. (let s : Slot = 
 numbered_for_marks-push_entry time (first ∷ rest) entry last is = ap (λ l. (let s : Slot = record { entry = first; time = time } in s) ∷ l)
     (numbered_for_marks-push_entry (time + 1) rest entry last (omega arith))
 
--- counts that rise from a number rise from less
+-- counts that rise from a number rise from each smaller one
 numbered_entries_rise_from_less : (less least : ℕ) (entries : List Entry) → TableRisesFrom least entries → less ≤ least → TableRisesFrom less entries
 numbered_entries_rise_from_less less least [] rises below = tt
 numbered_entries_rise_from_less less least (entry ∷ rest) rises below = (let above : least ≤ entry.count = rises.0 in omega arith, rises.1)
 
--- the first entry has another key than one that is missing
+-- the first entry's key differs from one that is missing
 missing_numbered_entry_parts : (key : ℕ) (entry : Entry) (rest : List Entry) → table_entry key (entry ∷ rest) ≡ None → (entry.key ≡ key → ⊥)
     × (table_entry key rest ≡ None)
 missing_numbered_entry_parts key entry rest missing =
@@ -42,7 +42,7 @@ missing_numbered_entry_parts key entry rest missing =
       | false ↦ λ no is. (eqb-false entry.key key no, is)
     ]) refl missing
 
--- slots of rising counts and times stand in order
+-- slots of rising counts and times are in order
 numbered_entry_ranks_rise : (slot : Slot) (time : ℕ) (entries : List Entry) → slot.time < time → TableRisesFrom slot.entry.count entries
     → AllByRecursion (λ other. slot_rank slot ≤ slot_rank other) (numbered_for_marks time entries)
 unfolding slot_rank
@@ -73,7 +73,7 @@ pub keys-numbered_entries : (time : ℕ) (entries : List Entry) → map (λ (ent
 keys-numbered_entries time [] = refl
 keys-numbered_entries time (entry ∷ rest) = ap (λ l. entry.key ∷ l) (keys-numbered_entries (time + 1) rest)
 
--- an entry that is missing among others is apart from their slots
+-- a slot whose key is missing among later entries is apart from their slots
 apart_from_numbered_entries : (slot : Slot) (time : ℕ) (entries : List Entry) → slot.time < time → table_entry slot.entry.key entries ≡ None
     → AllByRecursion (AreApartSlots slot) (numbered_for_marks time entries)
 apart_from_numbered_entries slot time [] sooner missing = tt
@@ -94,7 +94,7 @@ AreOrderedSlots-numbered_entries time now (entry ∷ rest) apart fits =
 pub AreOrderedSlots-all_numbered_entries : (entries : List Entry) → AreApartInTable entries → AreOrderedSlots (length entries) (numbered_for_marks 0 entries)
 AreOrderedSlots-all_numbered_entries entries apart = AreOrderedSlots-numbered_entries 0 (length entries) entries apart (omega arith)
 
--- a table has no more entries than its total, since each counts something
+-- a table has no more entries than its total, since each count is at least 1
 numbered_entries_count_something : (capacity total : ℕ) (entries : List Entry) → AllByRecursion (HasSmallTableError capacity total) entries
     → length entries ≤ table_total entries
 numbered_entries_count_something capacity total [] small = omega arith

@@ -49,7 +49,7 @@ IsRankTable-add capacity clock total weight index index_after ranked ranked_afte
       };
     }
 
--- the time is small
+-- the clock is below 2^56
 pub rank_table_clock_is_small : (capacity clock total : ℕ) (index : IndexedKeys) (ranked : Slots) → IsRankTable capacity clock total index ranked
     → clock < 2 ^ 56
 rank_table_clock_is_small capacity clock total index ranked table = omega (arith, table.clocked, table.adds_up, table.are_entries.bounded)
@@ -95,13 +95,13 @@ pub rank_table_length_as_seen : (capacity : ℕ) (seen slots : List Slot) (table
 rank_table_length_as_seen capacity seen slots table same view = ap length same ∙ sym (slot_change_entry_count slots)
     ∙ ap (λ (t : TableValue). length t.entries) view
 
--- times of a table are small
+-- the times of a table are below 2^64
 pub rank_table_times_are_small : (capacity clock total : ℕ) (index : IndexedKeys) (ranked : Slots) → IsRankTable capacity clock total index ranked
     → AreOrderedSlots (2 ^ 64) ranked.slots
 rank_table_times_are_small capacity clock total index ranked table =
     AreOrderedSlots-change_of_time clock (2 ^ 64) ranked.slots (omega (arith, rank_table_clock_is_small capacity clock total index ranked table)) table.slots
 
--- a table of entries that were put in one after the other
+-- a table of entries that were inserted one after the other
 pub IsRankTable-loaded : (capacity total : ℕ) (entries : List Entry) (index : IndexedKeys) (ranked : Slots) → 2 ≤ capacity → capacity ≤ 4096
     → AreTableEntries capacity entries → total ≡ table_total entries
     → index.room ≡ capacity → ranked.capacity ≡ capacity → index.keys ≡ map (λ (entry : Entry). entry.key) entries → ranked.slots ≡ numbered_for_marks 0 entries

@@ -15,12 +15,12 @@ rank_word_names_place base slot place within =
     let split : excess * 2 ^ 36 + time * 4096 + place ≡ (excess * 2 ^ 24 + time) * 4096 + place = omega arith in
     ap (λ n. n % 4096) split ∙ mod-mul-add (excess * 2 ^ 24 + time) 4096 place within
 
--- and is at least it
+-- and is at least that place
 pub rank_word_not_below_place : (base : ℕ) (slot : Slot) (place : ℕ) → place ≤ rank_word base slot place
 unfolding rank_word
 rank_word_not_below_place base slot place = omega arith
 
--- and fits
+-- and fits into 64 bits
 pub rank_word_fits : (base : ℕ) (slot : Slot) (place : ℕ) → place < 4096 → rank_word base slot place < 2 ^ 64
 unfolding rank_word
 rank_word_fits base slot place within = omega arith
@@ -31,7 +31,7 @@ pub rank_word_rises : (base : ℕ) (slot after : Slot) (place : ℕ) → slot.en
 unfolding rank_word
 rank_word_rises base slot after place more later = omega arith
 
--- an exact slot of a word that is no greater has a rank that is no greater
+-- a slot whose word is exact and no greater than another's has a rank that is no greater
 pub exact_rank_word_is_least : (base : ℕ) (slot other : Slot) (place at : ℕ) → IsExactRankWord base slot → base ≤ slot.entry.count → base ≤ other.entry.count
     → place < 4096 → at < 4096
     → rank_word base slot place ≤ rank_word base other at → slot_rank slot ≤ slot_rank other

@@ -1,4 +1,4 @@
--- What each kind of step is for slots, for their order and for their entries.
+-- What each kind of step does to slots, to their order and to their entries.
 use Rattle.std.proofs.Common.{◌≡◌, ◌≢◌, ℕ, ◌+◌, ◌^◌, ◌<◌, ◌≤◌, zero, suc, ltb, List, [], ◌∷◌, ◌++◌, length, map, get_or}
 use Rattle.std.proofs.Common.{set, None, Some, refl, sym, ap, ◌∙◌, subst, arith, length-set, get_or-set_same}
 use Rattle.std.specs.List.{AllByRecursion}
@@ -71,14 +71,14 @@ AreDistinctSlots-slot_change_push (first ∷ rest) slot distinct apart = (
   AreDistinctSlots-slot_change_push rest slot distinct.1 apart.1,
 )
 
--- slots stay so until later
+-- ordered slots are still ordered at a later time
 pub AreOrderedSlots-change_of_time : (now later : ℕ) (slots : List Slot) → now ≤ later → AreOrderedSlots now slots → AreOrderedSlots later slots
 AreOrderedSlots-change_of_time now later slots after are = record {
   timed = all-ranked_slots_weaker (λ s. s.time < now) (λ s. s.time < later) (λ s before. omega arith) slots are.timed;
   distinct = are.distinct;
 }
 
--- a slot that is put in now is apart from others with other keys
+-- a slot of the present time is apart from earlier slots with other keys
 slot_change_stands_apart : (now : ℕ) (slots : List Slot) (slot : Slot) → slot.time ≡ now → AllByRecursion (λ other. other.time < now) slots
     → AllByRecursion (λ other. slot.entry.key ≢ other.entry.key) slots
     → AllByRecursion (AreApartSlots slot) slots
@@ -86,7 +86,7 @@ slot_change_stands_apart now slots slot is timed keys =
     all-both_in_slot_change (λ other. other.time < now) (λ other. slot.entry.key ≢ other.entry.key) (AreApartSlots slot)
     (λ other before apart. (apart, λ same. omega arith)) slots timed keys
 
--- a slot that changes now, to a key that no other has
+-- slots stay ordered when one changes now, to a key that no other has
 pub AreOrderedSlots-set_change : (now place : ℕ) (slots : List Slot) (slot : Slot) → AreOrderedSlots now slots → slot.time ≡ now
     → AllByRecursion (λ other. slot.entry.key ≢ other.entry.key) (other_ranked_slots place slots)
     → AreOrderedSlots (now + 1) (set slots place slot)
@@ -109,7 +109,7 @@ AreOrderedSlots-push_change now slots slot are is apart =
       distinct = AreDistinctSlots-slot_change_push slots slot are.distinct (slot_change_stands_apart now slots slot is are.timed apart);
     }
 
--- times are small
+-- all times are below 2^64
 pub slot_changes_are_early : (now : ℕ) (slots : List Slot) → now ≤ 2 ^ 64 → AreOrderedSlots now slots → AllByRecursion (λ slot. slot.time < 2 ^ 64) slots
 slot_changes_are_early now slots small are = (AreOrderedSlots-change_of_time now (2 ^ 64) slots small are).timed
 
@@ -142,7 +142,7 @@ other_keys_in_slot_change place slots d distinct within =
     all-ranked_slots_weaker (AreApartSlots (get_or slots place d)) (λ other. (get_or slots place d).entry.key ≢ other.entry.key) (λ other apart. apart.0)
     (other_ranked_slots place slots) (ranked_slot_apart_from_others place slots d distinct within)
 
--- a weight more for a key that has a slot
+-- slots stay ordered when a weight is added for the key of a slot
 pub AreOrderedSlots-grown_change : (weight now place : ℕ) (slots : List Slot) (d : Slot) → AreOrderedSlots now slots → place < length slots
     → AreOrderedSlots (now + 1) (set slots place (raised_slot_of_table_step weight now (get_or slots place d)))
 AreOrderedSlots-grown_change weight now place slots d are within = AreOrderedSlots-set_change now place slots
@@ -202,7 +202,7 @@ missing_entry_in_slot_change key slots missing = table_entry-missing_ranked_slot
 pub slot_change_entry_count : (slots : List Slot) → length (entries_in_slot_order slots) ≡ length slots
 slot_change_entry_count slots = length-map (slots_in_rank_order slots) ranked_slot_entry ∙ length-ranked_slots_in_order slots
 
--- a new key in free room
+-- slots stay ordered when a new key takes free room
 pub AreOrderedSlots-fresh_change : (key weight now : ℕ) (slots : List Slot) → AreOrderedSlots now slots → AllByRecursion (λ other. other.entry.key ≢ key) slots
     → AreOrderedSlots (now + 1) (slots ++ fresh_slot_of_table_step key weight now ∷ [])
 AreOrderedSlots-fresh_change key weight now slots are missing = AreOrderedSlots-push_change now slots (fresh_slot_of_table_step key weight now) are refl
@@ -226,7 +226,7 @@ fresh_slot_change_is_step capacity key weight now slots small are missing room =
     (lt-ltb (length (entries_in_slot_order slots)) capacity (omega (arith, slot_change_entry_count slots))))
     ∙ ap (λ o. table_after_step_from o capacity (entries_in_slot_order slots) add) (sym (missing_entry_in_slot_change key slots missing))
 
--- a new key in place of the first one
+-- slots stay ordered when a new key takes over a slot
 pub AreOrderedSlots-heir_change : (key weight now place : ℕ) (slots : List Slot) (d : Slot) → AreOrderedSlots now slots
     → AllByRecursion (λ other. other.entry.key ≢ key) slots
     → AreOrderedSlots (now + 1) (set slots place (heir_slot_of_table_step key weight now (get_or slots place d)))

@@ -1,4 +1,4 @@
--- The keys of slots beside those of an index.
+-- The keys of slots, compared with those of an index.
 use Rattle.std.proofs.Common.{◌≡◌, ◌≢◌, ℕ, ◌<◌, List, [], ◌∷◌, length, map, get_or, set, slice_get, All, Some, sym, ap}
 use Rattle.std.proofs.Common.{◌∙◌, subst, arith}
 use Rattle.std.specs.List.{AllByRecursion}

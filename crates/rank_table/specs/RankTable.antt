@@ -5,14 +5,14 @@ use Rattle.space_saving.specs.{table_total, AreTableEntries}
 use Rattle.rank_table.specs.SlotOrder.{AreOrderedSlots, entries_in_slot_order}
 use Rattle.rank_table.specs.Slots.{Slots}
 
--- an index of the keys of the slots, which are as many as the capacity at most
+-- an index of the keys of the slots, both with this capacity
 pub record AreRankTableParts (capacity : ℕ) (index : IndexedKeys) (ranked : Slots) : Type 0 where
   pub roomy : index.room ≡ capacity
   pub as_many : ranked.capacity ≡ capacity
   pub keyed : index.keys ≡ map (λ slot. slot.entry.key) ranked.slots
 
--- what a table keeps: its capacity is allowed, its parts are of one content, each add took a time of its own, and
--- its total is the sum of the counts
+-- what always holds of a table: its capacity is allowed, its parts agree, its slots have different times, and its total
+-- is the sum of the counts
 pub record IsRankTable (capacity clock total : ℕ) (index : IndexedKeys) (ranked : Slots) : Type 0 where
   pub least : 2 ≤ capacity
   pub most : capacity ≤ 4096

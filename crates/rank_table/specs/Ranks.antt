@@ -1,9 +1,9 @@
--- Slots beside the leaves of a tree, which no public contract cites.
+-- Slots and the leaves of a tree over them, which no public contract cites.
 use Rattle.std.specs.Prelude.{ℕ, ◌≡◌, ◌%◌, ◌<◌, ◌≤◌, List, length, slice_index, slice_index_or, ◌+◌, ◌*◌, ◌^◌}
 use Rattle.rank_table.specs.declared.slot.Slot.{Slot}
 use Rattle.rank_table.specs.RankWords.{rank_word}
 
--- the count, and among equal counts the time
+-- the count, and for equal counts the time
 unfoldable pub slot_rank : Slot → ℕ
 slot_rank slot = slot.entry.count * 2 ^ 64 + slot.time
 
@@ -22,7 +22,7 @@ pub record AreRankLeaves (capacity base : ℕ) (leaves : List ℕ) (slots : List
   pub below : (place : ℕ) (d : Slot) → place < length slots → slice_index leaves place ≤ rank_word base (slice_index_or slots place d) place
   pub based : (place : ℕ) (d : Slot) → place < length slots → base ≤ (slice_index_or slots place d).entry.count
 
--- memory for all slots, such leaves, and a base of 0 as long as a slot may come with any count
+-- memory for all slots, such leaves, and a base of 0 as long as there is room for one more slot
 pub record AreRanked (capacity reserved base : ℕ) (leaves : List ℕ) (slots : List Slot) : Type 0 where
   pub some : 1 ≤ capacity
   pub has_room : capacity ≤ reserved

@@ -5,7 +5,7 @@ use Rattle.rank_table.specs.declared.slot.Slot.{Slot}
 use Rattle.rank_table.specs.Ranks.{HasLeastRank}
 use Rattle.rank_table.specs.Slots.{Slots}
 
--- the slot with this weight more
+-- the slot after this weight is added at this time
 abbrev pub raised_slot_of_table_step : ℕ → ℕ → Slot → Slot
 raised_slot_of_table_step weight now slot = record { entry = record slot.entry { count = slot.entry.count + weight }; time = now }
 
@@ -13,11 +13,11 @@ raised_slot_of_table_step weight now slot = record { entry = record slot.entry {
 abbrev pub fresh_slot_of_table_step : ℕ → ℕ → ℕ → Slot
 fresh_slot_of_table_step key weight now = record { entry = record { key = key; count = weight; error = 0 }; time = now }
 
--- the slot of a key that takes over another: that one's count becomes its error
+-- the slot after a new key takes it over: its count becomes the error of the new entry
 abbrev pub heir_slot_of_table_step : ℕ → ℕ → ℕ → Slot → Slot
 heir_slot_of_table_step key weight now slot = record { entry = record { key = key; count = slot.entry.count + weight; error = slot.entry.count }; time = now }
 
--- the slot of the least rank has this key now
+-- the slot of the least rank was taken over by this key
 pub record IsTakenOverByTableStep (key weight now : ℕ) (index : IndexedKeys) (ranked : Slots) (index_after : IndexedKeys) (ranked_after : Slots) : Type 0 where
   pub place : ℕ
   pub least : HasLeastRank ranked.slots place

@@ -1,5 +1,5 @@
-//! Entries in the order of a table, without memory: marks of the slots are sorted where the entries will be, and each
-//! then gives way to its slot's entry.
+//! Entries in the order of a table, without allocating memory: marks of the slots are sorted where the entries will be,
+//! and each mark is then replaced by its slot's entry.
 
 ghost use Rattle.std.specs.Prelude.{◌≡◌, ◌^◌, ◌<◌, All, length, map};
 ghost use Rattle.std.specs.List.Sorted.{IsNonDecreasingBy, IsPermutation};

@@ -21,7 +21,7 @@ pub struct RankTable {
     capacity: u32,
     index: KeyIndex,
     ranked: RankedSlots,
-    // How many adds there were, so that no two entries were put in at one time.
+    // The time of the next add, later than that of each slot, so that no two slots have the same time.
     clock: u64,
     total: u64,
 }
@@ -81,8 +81,8 @@ impl Summary for RankTable {
         interval_of(&self.index, self.ranked.slots(), self.capacity, key)
     }
 
-    /// The entry at this place below the length, from 0, in the order of rising counts. It compares each slot with
-    /// each; a reader of many entries copies the table.
+    /// The entry at this index, from 0 and below the length, in the order of rising counts. It may compare every slot
+    /// with every other, so a reader of many entries copies the table first.
     fn entry(&self, place: usize) -> Entry {
         slot_at(self.ranked.slots(), place).entry
     }
@@ -104,7 +104,7 @@ impl Summary for RankTable {
     }
 
     fn copy_into(&self, into: &mut Flat) {
-        // A look at a field shows what the table keeps, which `refill` asks for.
+        // Reading a field makes the invariant of the table known, which `refill` requires.
         let _ = &self.capacity;
         into.refill(self);
     }

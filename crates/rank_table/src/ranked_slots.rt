@@ -1,4 +1,4 @@
-//! Slots, and a tree that answers which one comes first.
+//! Slots, and a tree that shows which one comes first.
 
 ghost use Rattle.std.specs.Prelude.{◌≡◌, ◌+◌, ◌<◌, ◌≤◌, ◌++◌, ◌∷◌, [], ℕ, IfOk, IsTrue, false, ◌↔◌, length};
 ghost use Rattle.std.specs.Prelude.{slice_index_or, slice_set};
@@ -13,8 +13,8 @@ use std::alloc::{AllocError, Global};
 use std::marker::Model;
 use winner_tree::WinnerTree;
 
-/// Slots at fixed places. The leaves of the tree are lower bounds of the slots' words, so that a slot whose rank
-/// rises leaves the tree alone.
+/// Slots at fixed places. The leaves of the tree are lower bounds of the slots' words, so the tree need not change
+/// when the rank of a slot rises.
 #[derive(Debug, Drop)]
 pub(crate) struct RankedSlots {
     capacity: usize,
@@ -50,7 +50,7 @@ impl RankedSlots {
         })
     }
 
-    /// The slots by place.
+    /// The slots in the order of their places.
     pub(crate) fn slots(&self) -> &[Slot]
         ensures slots { result.now ≡ self.now.slots }
         ensures within_capacity { length result.now ≤ self.now.capacity }
@@ -66,7 +66,7 @@ impl RankedSlots {
         self.slots.len() < self.capacity
     }
 
-    /// Appends a slot. It takes no memory.
+    /// Appends a slot. It allocates no memory.
     pub(crate) fn push(&mut self, slot: Slot)
         requires { length self.old.slots < self.old.capacity }
         ensures { self.new ≡ record self.old { slots = self.old.slots ++ slot ∷ [] } }
@@ -84,8 +84,8 @@ impl RankedSlots {
         self.slots[place] = slot;
     }
 
-    /// Makes the leaf of a place its slot's word. Whoever asks for the least slot would do it too; done at once, it
-    /// runs beside the look-ups of the next keys, and no one waits for it.
+    /// Sets the leaf of a place to its slot's word. `least` would do it too; done at once, it overlaps with the
+    /// look-ups of the next keys, and nothing waits for it.
     pub(crate) fn mend(&mut self, place: usize)
         requires { place < length self.old.slots }
         ensures { self.new ≡ self.old }
@@ -94,8 +94,8 @@ impl RankedSlots {
         self.tree.set(place, word);
     }
 
-    /// The place of the slot that comes before all others, where there is a slot at each place. It looks at all
-    /// slots where the rank of this one doesn't fit into a word.
+    /// The place of the slot that comes before all others, among as many slots as the capacity. It looks at all slots
+    /// if the rank of this one doesn't fit into a word.
     pub(crate) fn least(&mut self) -> usize
         requires { length self.old.slots ≡ self.old.capacity }
         ensures same { self.new ≡ self.old }

@@ -47,7 +47,7 @@ fn count_before(slots: &[Slot], slot: &Slot) -> usize
     slots.iter().filter(|other| is_before(other, slot)).count()
 }
 
-/// The slot before which `place` others come. It compares each slot with each.
+/// The slot before which `place` others come. It may compare every slot with every other.
 pub(crate) fn slot_at(slots: &[Slot], place: usize) -> Slot
     requires slots { AreOrderedSlots (2 ^ 64) slots.now }
     requires within { place < length slots.now }

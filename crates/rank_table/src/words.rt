@@ -5,10 +5,10 @@ ghost use Rattle.rank_table.specs.RankWords.{IsExactRankWord, rank_word};
 
 use crate::slot::Slot;
 
-/// A place takes this many values in a word.
+/// The number of values that a place can have in a word.
 pub(crate) const PLACES: u64 = 1 << 12;
 
-/// One more of excess is as much as all times and places.
+/// What one more of excess adds to a word, which is more than any time and place do.
 const EXCESS_STEP: u64 = 1 << 36;
 
 /// The greatest excess that fits. A slot that has more gets this.

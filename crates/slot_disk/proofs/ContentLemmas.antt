@@ -1,4 +1,4 @@
--- What a write leaves of gates, header and bodies.
+-- What gates, header and bodies are after a write.
 use Rattle.std.specs.Prelude.{if◌then◌else◌}
 use Rattle.std.proofs.Common.{◌≡◌, [], ◌∷◌, ◌⊎◌, ℕ, zero, suc, ◌+◌, ◌-◌, ◌<◌, ◌≤◌, List, length, take, drop, min}
 use Rattle.std.proofs.Common.{Bool, true, false, Option, Some, None, refl, sym, ap, ◌∙◌, subst, inl, inr, ⊎_elim}
@@ -165,7 +165,7 @@ content_other_slot_is_small : (slot : ℕ) → other_slot_of_put slot < 2
 content_other_slot_is_small zero = omega arith
 content_other_slot_is_small (suc slot) = omega arith
 
--- beside a slot all is as before where its gate is written
+-- all but a slot is as before when its gate is written
 content_beside_gate_stays : (span slot count : ℕ) (old image : List ℕ) → slot < 2 → count ≤ 1 → layout_front_bytes ≤ length old
     → IsTornImage slot count old image → IsSoundForPut (layout_slot_content span (other_slot_of_put slot) old) → IsSameApartFromPut span slot old image
 content_beside_gate_stays span slot count old image small short long torn sound = record {
@@ -179,14 +179,14 @@ content_beside_gate_stays span slot count old image small short long torn sound 
       (inr (omega (arith, content_follows_front span (other_slot_of_put slot)))) was);
 }
 
--- bodies lie apart
+-- the two bodies are apart
 content_bodies_are_apart : (span slot count : ℕ) → slot < 2 → count ≤ span
     → IsContentApart (layout_body_place span (other_slot_of_put slot)) (layout_body_place span (other_slot_of_put slot) + span)
     (layout_body_place span slot) count
 content_bodies_are_apart span zero count small fits = inr (omega arith)
 content_bodies_are_apart span (suc slot) count small fits = inl (omega arith)
 
--- beside a slot all is as before where its body is written
+-- all but a slot is as before when its body is written
 content_beside_body_stays : (span slot count : ℕ) (old image : List ℕ) → slot < 2 → count ≤ span → layout_front_bytes ≤ length old
     → IsTornImage (layout_body_place span slot) count old image → IsSoundForPut (layout_slot_content span (other_slot_of_put slot) old)
     → IsSameApartFromPut span slot old image
@@ -202,7 +202,7 @@ content_beside_body_stays span slot count old image small fits long torn sound =
       (content_bodies_are_apart span slot count small fits) was);
 }
 
--- the body of a slot whose gate is written
+-- the body of a slot is as before when its gate is written
 content_own_body_stays : (span slot count : ℕ) (body old image : List ℕ) → slot < 2 → count ≤ 1 → IsTornImage slot count old image
     → layout_body span slot old ≡ Some body → layout_body span slot image ≡ Some body
 content_own_body_stays span slot count body old image small short torn was =
@@ -298,7 +298,7 @@ content_once_gate_is_open span slot body old new small can written =
           ∙ ap shown_in_layout (content_own_body_stays span slot 1 body old new small (omega arith) written.torn can.stored);
     }
 
--- an image that a write leaves of the only image
+-- a write that is cut short starts from the only image
 pub content_torn_from_only : (possible : List ℕ → Type 0) (place count : ℕ) (old image : List ℕ) → IsOnlyImage old possible
     → IsTornFromImage possible place count image → IsTornImage place count old image
 content_torn_from_only possible place count old image only torn =

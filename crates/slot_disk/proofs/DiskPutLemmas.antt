@@ -135,7 +135,7 @@ disk_put_may_leave_open span slot body old closed stored image first second thir
   slot_holds = inr third.slot_holds;
 }
 
--- a store that was made takes a put into either slot
+-- a store with both gates closed is ready for a put into either slot
 pub closed_slots_take_disk_put : (span slot : ℕ) (bytes header : List ℕ) (possible : List ℕ → Type 0) → slot < 2
     → IsStoreOfKnownSlots bytes possible (closed_known_slots header) → IsReadyForPut span slot bytes
 closed_slots_take_disk_put span slot bytes header possible small store =
@@ -151,7 +151,7 @@ closed_slots_take_disk_put span slot bytes header possible small store =
     either_ready span (suc zero) bytes small first second = record { other_holds = inr (first, second); slot_holds = inr second }
     either_ready span (suc (suc slot)) bytes small first second = absurd (omega arith)
 
--- after a put the other slot may be put
+-- after a put the store is ready for a put into the other slot
 pub next_slot_takes_disk_put : (span slot : ℕ) (body old new : List ℕ) → slot < 2 → IsReadyForPut span slot old → IsPut span slot body old new
     → IsReadyForPut span (other_slot_of_put slot) new
 next_slot_takes_disk_put span zero body old new small ready put = record {

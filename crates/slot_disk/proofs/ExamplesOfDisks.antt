@@ -20,14 +20,14 @@ use Rattle.slot_disk.specs.OverLaws.{torn_from_itself}
 pub known_bytes_are_short : IfImageKnown (Some (5 ∷ [])) (λ bytes. length bytes ≤ 1)
 known_bytes_are_short bytes is = let same : 5 ∷ [] ≡ bytes = cc is in omega (arith, ap length same)
 
--- of a disk whose bytes are unknown nothing is said
+-- nothing is said of a disk whose bytes are unknown
 pub unknown_bytes : IfImageKnown None (λ bytes. length bytes ≤ 1)
 unknown_bytes bytes is = absurd (cc is)
 
 pub bytes_that_stayed : IfBothImagesKnown (Some (5 ∷ [])) (Some (5 ∷ [])) (λ before after. before ≡ after)
 bytes_that_stayed before after was is = cc (was, is)
 
--- a read of two bytes at offset 1 of three bytes; the room has a third place
+-- a read at offset 1 of three bytes gives two, although there is room for three
 pub two_bytes_are_read : GivesImageRange 1 3 (5 ∷ 6 ∷ 7 ∷ []) (6 ∷ 7 ∷ 0 ∷ []) 2
 two_bytes_are_read = record { count_is = refl; bytes_are = refl }
 
@@ -203,7 +203,7 @@ large_write_at_the_fuse_is_not_begun = refl
 pub count_changes_nothing : IsUnchangedAtMoment memory_disk_reads memory_disk_image_now disk (memory_disk_after_call disk)
 count_changes_nothing = record { same_reads = refl; same_images = λ image. (λ is. is, λ is. is) }
 
--- in a call that counts only, no image comes
+-- a call that only counts adds no image
 pub time_goes_on : MomentsGoOn memory_disk_moment memory_disk_image_since disk (memory_disk_after_call disk)
 time_goes_on = record { later = omega arith; earlier = λ t image le was. inl was }
 

@@ -15,7 +15,7 @@ use Rattle.slot_disk.specs.Puts.{PutMayLeave, IsPut, PutHoldsNewest}
 abbrev body : List ℕ
 body = 0 ∷ 0 ∷ 0 ∷ 0 ∷ 0 ∷ 0 ∷ 0 ∷ 9 ∷ 5 ∷ []
 
--- a store with a header of zero bytes and these gates, in which the body stands in slot 0
+-- a store with a header of zero bytes and these gates, with the body in slot 0
 abbrev store : ℕ → ℕ → List ℕ
 store first second = first ∷ second ∷ (recorded_zeros 62 ++ body)
 
@@ -114,7 +114,7 @@ newest_may_not_be_put ready = lost ready.other_holds
     lost (inl whole) = let shut : Closed ≡ Whole whole.0 = whole.1 in cc shut
     lost (inr closed) = let open_slot : Whole body ≡ Closed = closed.1 in cc open_slot
 
--- a gate that is open is closed by a byte, a closed one by nothing
+-- an open gate is closed by writing a byte, a closed one by writing none
 pub byte_closes : closing_put true ≡ 0 ∷ []
 byte_closes = refl
 
@@ -129,7 +129,7 @@ pub after_the_put : IsPut 16 0 body (store 0 0) (store 1 0)
 unfolding layout_number_at
 after_the_put = record { beside = record { long = omega arith; header = refl; other_slot = refl }; slot_holds = refl }
 
--- an image in which the other gate came open is none that the put may leave
+-- the put may not leave an image in which the other gate is open
 pub other_gate_stays : PutMayLeave 16 0 body (store 0 0) (store 1 1) → ⊥
 unfolding layout_number_at
 other_gate_stays may = let broken : Broken ≡ Closed = may.beside.other_slot in cc broken

@@ -8,7 +8,7 @@ use Rattle.slot_disk.specs.MemoryDisk.{memory_disk_after_fault}
 use Rattle.slot_disk.specs.RecordedLaws.{reading_is_image, only_now}
 use Rattle.slot_disk.specs.OverLaws.{torn_from_itself}
 
--- a call that counts only, or fails
+-- a call that only counts, or fails
 pub images_after_call : (old new : MemoryDiskState) → new ≡ memory_disk_after_call old → (image : List ℕ)
     → memory_disk_image_since new (memory_disk_moment old) image → memory_disk_image_now old image
 images_after_call old new is image was =

@@ -5,7 +5,7 @@ use Rattle.std.proofs.lemmas.List.{take_all, take_more, take_min, drop_min, reve
 use Rattle.slot_disk.specs.declared.step_entry.StepEntry.{StepEntry}
 use Rattle.slot_disk.specs.StepEntries.{entry_steps, entry_step}
 
--- it stands last in the list of entries
+-- it is the last in the list of entries
 pub newest_entry_gives_newest_step : (entries earlier : List StepEntry) (log front piece : List ℕ) (last cut : ℕ) (d : StepEntry)
     → last + 1 ≡ length entries → earlier ≡ take last entries → cut ≡ min (get_or entries last d).start (length log)
     → front ≡ take cut log → piece ≡ drop cut log

@@ -39,7 +39,7 @@ DiskMatchesKnownSlots reads possible slots = IfImageKnown reads (λ bytes. IsSto
 abbrev pub closed_known_slots : List ℕ → KnownSlotsState
 closed_known_slots header = record { first_open = false; second_open = false; header = header }
 
--- a disk stands as before after a call that changes neither what a read gives nor the images
+-- a disk still matches its slots after a call that changes neither what a read gives nor the images
 pub DiskMatchesKnownSlots-unchanged : {D : Type 0} (reads : D → Option (List ℕ)) (image_now : D → List ℕ → Type 0) (old new : D)
     (slots : KnownSlotsState) → IsUnchangedAtMoment reads image_now old new → DiskMatchesKnownSlots (reads old) (image_now old) slots
     → DiskMatchesKnownSlots (reads new) (image_now new) slots

@@ -20,8 +20,8 @@ IsWholeForPut held = (body : List ℕ) × (held ≡ Whole body)
 abbrev pub IsSoundForPut : LayoutSlotContent → Type 0
 IsSoundForPut held = IsWholeForPut held ⊎ (held ≡ Closed)
 
--- A put into a slot loses nothing: the other slot is whole, and is the newest one, or no slot is open; and where the
--- slot is open itself, it is whole too.
+-- a store is ready for a put into a slot: the other slot, which is taken to be the newest, is whole, or both slots are
+-- closed; and the slot itself is whole or closed
 pub record IsReadyForPut (span slot : ℕ) (image : List ℕ) : Type 0 where
   pub other_holds : IsWholeForPut (layout_slot_content span (other_slot_of_put slot) image)
       ⊎ ((layout_slot_content span (other_slot_of_put slot) image ≡ Closed) × (layout_slot_content span slot image ≡ Closed))
@@ -33,7 +33,7 @@ pub record FitsPutSlot (span : ℕ) (body : List ℕ) : Type 0 where
   pub most : length body ≤ span
   pub says : layout_number_at 0 body ≡ length body
 
--- a gate may be closed, and stands as it is known
+-- a gate may be closed: it is open or closed as it is known, and each slot is whole or closed
 pub record PutCanClose (span slot : ℕ) (known : Bool) (image : List ℕ) : Type 0 where
   pub long : layout_front_bytes ≤ length image
   pub gate : layout_gate_is_open slot image ≡ known
@@ -59,39 +59,39 @@ pub record IsSameApartFromPut (span slot : ℕ) (old image : List ℕ) : Type 0 
   pub header : layout_header image ≡ layout_header old
   pub other_slot : layout_slot_content span (other_slot_of_put slot) image ≡ layout_slot_content span (other_slot_of_put slot) old
 
--- beside it the slot is as before, or closed
+-- all but the slot is as before, and the slot is as before, or closed
 pub record MayBeClosedByPut (span slot : ℕ) (old image : List ℕ) : Type 0 where
   pub beside : IsSameApartFromPut span slot old image
   pub slot_holds : (layout_slot_content span slot image ≡ layout_slot_content span slot old) ⊎ (layout_slot_content span slot image ≡ Closed)
 
--- beside it the slot is closed
+-- all but the slot is as before, and the slot is closed
 pub record IsClosedByPut (span slot : ℕ) (old image : List ℕ) : Type 0 where
   pub beside : IsSameApartFromPut span slot old image
   pub slot_holds : layout_slot_content span slot image ≡ Closed
 
--- beside it the slot is closed, over this whole body
+-- all but the slot is as before, and the slot is closed, over this whole body
 pub record IsStoredByPut (span slot : ℕ) (body old image : List ℕ) : Type 0 where
   pub closed : IsClosedByPut span slot old image
   pub stored : layout_body span slot image ≡ Some body
 
--- beside it the slot is closed, or whole with this body
+-- all but the slot is as before, and the slot is closed, or whole with this body
 pub record MayBeOpenByPut (span slot : ℕ) (body old image : List ℕ) : Type 0 where
   pub beside : IsSameApartFromPut span slot old image
   pub slot_holds : (layout_slot_content span slot image ≡ Closed) ⊎ (layout_slot_content span slot image ≡ Whole body)
 
--- a put of this body may leave this image: beside the slot all is as before, and the slot is as before, closed, or whole
+-- a put of this body may leave this image: all but the slot is as before, and the slot is as before, closed, or whole
 -- with the new body
 pub record PutMayLeave (span slot : ℕ) (body old image : List ℕ) : Type 0 where
   pub beside : IsSameApartFromPut span slot old image
   pub slot_holds : (layout_slot_content span slot image ≡ layout_slot_content span slot old) ⊎
       ((layout_slot_content span slot image ≡ Closed) ⊎ (layout_slot_content span slot image ≡ Whole body))
 
--- the put is done: beside the slot all is as before, and the slot is whole with the new body
+-- the put is done: all but the slot is as before, and the slot is whole with the new body
 pub record IsPut (span slot : ℕ) (body old image : List ℕ) : Type 0 where
   pub beside : IsSameApartFromPut span slot old image
   pub slot_holds : layout_slot_content span slot image ≡ Whole body
 
--- the newest body stands: the old one whole in the other slot, or where no slot was open, nothing or the new one
+-- the newest body is kept: the old one whole in the other slot, or, if no slot was open, nothing or the new one
 abbrev pub PutHoldsNewest : ℕ → ℕ → List ℕ → List ℕ → List ℕ → Type 0
 PutHoldsNewest span slot body old image =
     ((held : List ℕ) × (layout_slot_content span (other_slot_of_put slot) old ≡ Whole held)

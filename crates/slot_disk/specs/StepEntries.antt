@@ -12,17 +12,17 @@ entry_step kind.Wrote place piece = Wrote place piece
 entry_step kind.Began place piece = Began place piece
 entry_step kind.Synced place piece = Synced
 
--- the steps of entries, newest first, whose bytes stand in one list: those of an entry begin at its start, and end
--- where those of the next one begin
+-- the steps of entries, newest first, whose bytes are in one list: those of an entry begin at its start, and end
+-- where those of the next newer one begin
 abbrev pub entry_steps : List StepEntry → List ℕ → List RecordedStep
 entry_steps [] log = []
 entry_steps (entry ∷ earlier) log = entry_step entry.kind entry.place (drop entry.start log) ∷ entry_steps earlier (take entry.start log)
 
--- the steps of entries that stand in a list with the newest last
+-- the steps of entries in a list with the newest last
 abbrev pub steps_of_entries_newest_last : List StepEntry → List ℕ → List RecordedStep
 steps_of_entries_newest_last entries log = entry_steps (reverse entries) log
 
--- what a disk keeps beside its record: the bytes that a read gives, and how far its lists have grown in their room
+-- what a disk keeps besides its record: the bytes that a read gives, and lists that stay within their room
 pub record HasStepEntries (room log : ℕ) (first bytes : List ℕ) (entries : List StepEntry) (written : List ℕ) : Type 0 where
   pub contents : bytes ≡ recorded_reading first (steps_of_entries_newest_last entries written)
   pub counted : recorded_bytes (steps_of_entries_newest_last entries written) ≡ length written

@@ -1,9 +1,9 @@
--- How two slots stand in the bytes of a store.
+-- The layout of two slots in the bytes of a store.
 use Rattle.std.specs.Prelude.{ℕ, zero, suc, ◌≡◌, ◌+◌, ◌<◌, ◌≤◌, MatchOption, Bool, ◌==◌, ◌&&◌, nat_le, if◌then◌else◌}
 use Rattle.std.specs.Prelude.{List, length, take, drop, slice_index, Option, None, Some}
 use Rattle.byteorder.specs.Endian.{big_from}
 
--- how many bytes the gates and the header have, which begin the store
+-- the bytes of the gates and the header, which begin the store
 abbrev pub layout_front_bytes : ℕ
 layout_front_bytes = 64
 
@@ -48,7 +48,7 @@ layout_body_at span place image = if layout_body_is_whole span place image then 
 abbrev pub layout_body : ℕ → ℕ → List ℕ → Option (List ℕ)
 layout_body span slot image = layout_body_at span (layout_body_place span slot) image
 
--- what a slot holds: nothing as its gate is closed, or under an open gate a broken body or a whole one
+-- what a slot holds: nothing if its gate is closed, or under an open gate a broken body or a whole one
 pub data LayoutSlotContent : Type 0 where
   Closed : LayoutSlotContent
   Broken : LayoutSlotContent

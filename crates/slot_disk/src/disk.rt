@@ -45,7 +45,8 @@ pub trait Disk {
         ensures time { MomentsGoOn moment image_since self.old self.new }
         ensures cause { FailsByFaultCount (faults self.old) (faults self.new) result };
 
-    /// Writes the bytes at an offset, past the end too. After `Failed` they may be written in part, or be others.
+    /// Writes the bytes at an offset, which may be past the end. After `Failed` the written range, and everything past
+    /// the old end, may hold any bytes.
     fn write_at(&mut self, place: u64, bytes: &[u8]) -> Result<(), Failed>
         ensures known { is_some (reads self.new) ≡ is_some (reads self.old) }
         ensures torn { IfBothImagesKnown (reads self.old) (reads self.new) (IsTornImage place (length bytes.now)) }

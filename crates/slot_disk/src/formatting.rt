@@ -1,4 +1,4 @@
-//! The making of a store.
+//! Making a store.
 
 ghost use Rattle.std.specs.Prelude.{◌≡◌, ℕ, ◌∷◌, List, Some, length, is_some, OnOk};
 ghost use Rattle.outside_io.specs.{FailsByFaultCount};

@@ -1,4 +1,4 @@
--- Where an entry stands and where it is put, by places.
+-- The index of an entry, and the index at which an entry is inserted.
 use Rattle.std.proofs.Common.{◌≡◌, ℕ, ◌+◌, ◌<◌, ◌≤◌, true, eqb, leb, List, [], ◌∷◌, ◌++◌, length, get_or, set, take}
 use Rattle.std.proofs.Common.{drop, zero, suc, Some, refl, sym, ap, subst, ◌∙◌, arith, drop-cons}
 use Rattle.std.proofs.lemmas.Bool.{eq-eqb, cond-true, cond-false, lt-leb, le-leb}
@@ -11,7 +11,7 @@ use Rattle.space_saving.specs.Places.{IsPlaceOf}
 use Rattle.space_saving.proofs.WithoutLemmas.{TableRisesFrom-less_before_without}
 use Rattle.space_saving.proofs.TableStepLemmas.{table_step_raised}
 
--- the first entry of the key, where none before this place has it
+-- an entry of the key is the first one if no entry before it has the key
 pub entry_place_is_found : (key : ℕ) (es : List Entry) (place : ℕ) (d : Entry) → place < length es → (get_or es place d).key ≡ key
     → table_entry key (drop place es) ≡ table_entry key es → take place es ++ table_without key (drop place es) ≡ table_without key es
     → IsPlaceOf key es place
@@ -30,14 +30,14 @@ entry_place_is_found key es place d within has still passed =
           ∙ ap (λ l. take place es ++ l) (cond-true (eqb e.key key) rest (e ∷ table_without key rest) yes);
     }
 
--- an entry is put first where the list is at its end
+-- an entry is inserted at the front if no entry follows
 pub put_in_table-entry_place_at_end : (new : Entry) (es : List Entry) (place : ℕ) → length es ≤ place
     → put_in_table new (drop place es) ≡ new ∷ drop place es
 put_in_table-entry_place_at_end new es place past =
     let none : drop place es ≡ [] = drop_all place es past in
     ap (put_in_table new) none ∙ ap (λ l. new ∷ l) (sym none)
 
--- an entry is put first where a greater count follows
+-- an entry is inserted at the front if a greater count follows
 pub put_in_table-entry_place_at_greater : (new : Entry) (es : List Entry) (place : ℕ) (d : Entry) → place < length es
     → new.count < (get_or es place d).count
     → put_in_table new (drop place es) ≡ new ∷ drop place es
@@ -49,7 +49,7 @@ put_in_table-entry_place_at_greater new es place d within greater =
     ∙ cond-false (leb f.count new.count) (f ∷ put_in_table new rest) (new ∷ f ∷ rest) (lt-leb f.count new.count greater)
     ∙ ap (λ l. new ∷ l) (sym split)
 
--- the entry written at its place
+-- an entry is written at the index at which it is inserted
 pub entry_place_settled : (new : Entry) (es goal : List Entry) (place : ℕ) → place < length es
     → put_in_table new (drop (place + 1) es) ≡ new ∷ drop (place + 1) es
     → take place es ++ put_in_table new (drop (place + 1) es) ≡ goal → set es place new ≡ goal
@@ -66,7 +66,7 @@ entry_at_place_rises least (f ∷ fs) zero d rises within = rises.0
 entry_at_place_rises least (f ∷ fs) (suc place) d rises within =
     entry_at_place_rises least fs place d (TableRisesFrom-less_before_without least f.count fs rises.1 rises.0) (omega arith)
 
--- an entry is put in after those before an entry whose count is at most its own
+-- an entry is inserted after the entries before one whose count is at most its own
 put_in_table-passes_entry_place : (least : ℕ) (e : Entry) (es rest : List Entry) (place : ℕ) (d : Entry) → TableRisesFrom least es
     → place < length es → (get_or es place d).count ≤ e.count
     → put_in_table e (take place es ++ rest) ≡ take place es ++ put_in_table e rest
@@ -80,7 +80,7 @@ put_in_table-passes_entry_place least e (f ∷ fs) rest (suc place) d rises with
     (le-leb f.count e.count passed)
     ∙ ap (λ l. f ∷ l) (put_in_table-passes_entry_place f.count e fs rest place d rises.1 inside at_most)
 
--- an entry that settles from its place on makes the step of its key
+-- inserting a raised entry from its old index on is the step of its key
 pub entry_place_settled_is_step : (capacity : ℕ) (es after : List Entry) (a : TableAdd) (place : ℕ) (e : Entry) → TableRisesFrom 0 es
     → IsPlaceOf a.key es place → e ≡ get_or es place e
     → after ≡ take place es ++ put_in_table (table_step_raised e a.weight) (drop (place + 1) es) → after ≡ table_after_step capacity es a

@@ -23,7 +23,7 @@ entry key count error = record { key = key; count = count; error = error }
 abbrev two_keys : List TableAdd
 two_keys = add 1 5 ∷ add 2 3 ∷ add 1 1 ∷ add 2 3 ∷ []
 
--- an entry that comes to the count of another stands behind it
+-- an entry whose count grows to that of another comes last in the tie
 pub grown_entries_stand_last : table_of 2 two_keys ≡ entry 1 6 0 ∷ entry 2 6 0 ∷ []
 grown_entries_stand_last = refl
 
@@ -38,7 +38,7 @@ three_keys = add 1 5 ∷ add 2 3 ∷ add 3 1 ∷ []
 pub new_key_takes_room : table_of 3 three_keys ≡ entry 3 1 0 ∷ entry 2 3 0 ∷ entry 1 5 0 ∷ []
 new_key_takes_room = refl
 
--- where no room is left it replaces the least entry, whose count is its error
+-- in a full table it replaces the least entry, whose count becomes its error
 pub new_key_replaces_the_least : table_of 2 three_keys ≡ entry 3 4 3 ∷ entry 1 5 0 ∷ []
 new_key_replaces_the_least = refl
 
@@ -49,7 +49,7 @@ interval_of_an_entry = refl
 pub interval_of_a_missing_key : table_interval_after 2 three_keys 2 ≡ record { low = 0; high = 4 }
 interval_of_a_missing_key = refl
 
--- with room left, a missing key has no weight
+-- in a table with free room a missing key has no weight
 pub interval_with_room_left : table_interval_after 4 three_keys 7 ≡ record { low = 0; high = 0 }
 interval_with_room_left = refl
 
@@ -59,7 +59,7 @@ counts_add_up = refl
 pub adds_that_weigh : AreWeighedForTable three_keys
 adds_that_weigh = All-from_recursion (λ a. 1 ≤ a.weight) three_keys (omega arith, (omega arith, (omega arith, tt)))
 
--- a weight of 0 is none
+-- a weight of 0 is not allowed
 pub add_of_nothing : AreWeighedForTable (add 2 0 ∷ []) → ⊥
 add_of_nothing all = omega (arith, All-head (λ a. 1 ≤ a.weight) (add 2 0) [] all)
 
@@ -88,7 +88,7 @@ one_key_taken_out = refl
 pub missing_key_taken_out : table_without 2 entries ≡ entries
 missing_key_taken_out = refl
 
--- a list with a key twice loses the first alone
+-- only the first of two entries with the same key is removed
 pub first_of_two_taken_out : table_without 3 (entry 3 1 0 ∷ entries) ≡ entries
 first_of_two_taken_out = refl
 
@@ -98,7 +98,7 @@ put_in_before_greater_counts = refl
 pub put_in_last : put_in_table (entry 2 5 0) entries ≡ entry 3 4 3 ∷ entry 1 5 0 ∷ entry 2 5 0 ∷ []
 put_in_last = refl
 
--- the head's count of 4 is the error of the key that takes its place
+-- the head's count of 4 becomes the error of the key that replaces it
 pub head_replaced : replace_table_head entries (add 2 2) ≡ entry 1 5 0 ∷ entry 2 6 4 ∷ []
 head_replaced = refl
 
@@ -111,7 +111,7 @@ enters_free_room = refl
 pub enters_a_full_table : enter_in_table 2 entries (add 2 2) ≡ replace_table_head entries (add 2 2)
 enters_a_full_table = refl
 
--- a key that is there grows and keeps its error
+-- the entry of a key that is present grows and keeps its error
 pub known_key_grows : table_after_step 2 entries (add 3 1) ≡ entry 1 5 0 ∷ entry 3 5 3 ∷ []
 known_key_grows = refl
 
@@ -134,7 +134,7 @@ interval_without_an_entry = refl
 pub counts_that_rise : TableRisesFrom 4 entries
 counts_that_rise = (omega arith, (omega arith, tt))
 
--- they aren't all at least 5
+-- not all counts are at least 5
 pub counts_below_five : TableRisesFrom 5 entries → ⊥
 counts_below_five rises = omega (arith, rises.0)
 

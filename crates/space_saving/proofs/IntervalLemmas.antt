@@ -46,7 +46,7 @@ missing_interval_high-le_least capacity es =
     cond_both (ltb (length es) capacity) 0 (least_table_count es) (λ n. n ≤ least_table_count es) (λ _. omega arith)
     (λ _. omega arith)
 
--- a table that is as long, with a least count that hasn't fallen, allows a missing key no less
+-- a table of the same length whose least count hasn't fallen allows a missing key at least as much
 missing_interval_grows : (capacity : ℕ) (es after : List Entry) → length after ≡ length es → least_table_count es ≤ least_table_count after
     → missing_interval_high capacity es ≤ missing_interval_high capacity after
 missing_interval_grows capacity es after same least =
@@ -66,7 +66,7 @@ interval_least_from_rise : (least : ℕ) (es : List Entry) → TableRisesFrom le
 interval_least_from_rise least [] rises some = absurd (omega arith)
 interval_least_from_rise least (f ∷ fs) rises some = rises.0
 
--- the least count doesn't fall where an entry with no smaller count is put in
+-- the least count doesn't fall when an entry with no smaller count is inserted
 interval_least_after_put : (least : ℕ) (e : Entry) (es : List Entry) → TableRisesFrom least es → least ≤ e.count
     → least ≤ least_table_count (put_in_table e es)
 interval_least_after_put least e es rises above =
@@ -114,7 +114,7 @@ interval_after_same_key capacity es a x some table held =
         (elim (eqb f.key key) as (λ b. cond b (Some f) (table_entry key fs) ≡ None → table_entry key fs ≡ None)
         [ true ↦ λ is. cc | false ↦ λ is. is ]) gone
 
--- what holds of a key by its entry, where the entry stays, or is missing before and after
+-- what holds of a key by its entry still holds if the entry stays, or is missing before and after
 interval_kept_from_entry : (capacity : ℕ) (es after : List Entry) (x : ℕ) (o : Option Entry)
     → missing_interval_high capacity es ≤ missing_interval_high capacity after
     → IntervalHoldsFrom o capacity es x → IntervalHoldsFrom o capacity after x

@@ -12,7 +12,7 @@ use Rattle.space_saving.proofs.WithoutLemmas.{all-entry_before_without, count-en
 use Rattle.space_saving.proofs.TableStepLemmas.{table_step_counts_add_up}
 use Rattle.space_saving.proofs.IntervalLemmas.{TableRisesFrom-interval_least}
 
--- what is so of every interval of a table with this capacity and total
+-- what holds of every interval of a table with this capacity and total
 pub record HasNarrowWidth (capacity total : ℕ) (interval : TableInterval) : Type 0 where
   pub ordered : interval.low ≤ interval.high
   pub within_total : interval.high ≤ total
@@ -80,7 +80,7 @@ interval_width_is_narrow capacity es key table =
       | Some e ↦ λ found. interval_width_of_found_key capacity es key e table found
     ]) refl
 
--- no key has a lesser high than a missing one
+-- no key has a smaller high than a missing one
 pub interval_width_over_missing_high : (capacity : ℕ) (es : List Entry) (key : ℕ) → IsTable capacity es
     → (table_interval_from None (record { capacity = capacity; entries = es })).high
     ≤ (interval_in_table (record { capacity = capacity; entries = es }) key).high

@@ -1,4 +1,4 @@
--- What putting an entry in leaves.
+-- The entries after one more is inserted.
 use Rattle.std.proofs.Common.{◌≡◌, ℕ, ◌+◌, ◌<◌, ◌≤◌, true, false, cond, eqb, leb, List, [], ◌∷◌, length, None, Some}
 use Rattle.std.proofs.Common.{refl, sym, ap, ◌∙◌, arith}
 use Rattle.std.specs.List.{AllByRecursion}
@@ -33,7 +33,7 @@ TableRisesFrom-put_entry least e (f ∷ fs) rises above =
     (λ at_most. (rises.0, TableRisesFrom-put_entry f.count e fs rises.1 (leb-true f.count e.count at_most)))
     (λ more. (above, (let less : e.count < f.count = leb-false f.count e.count more in omega arith, rises.1)))
 
--- the key that was put in has this entry now
+-- the key of the inserted entry has this entry now
 pub table_entry-put_same : (e : Entry) (es : List Entry) → table_entry e.key es ≡ None → table_entry e.key (put_in_table e es) ≡ Some e
 table_entry-put_same e [] missing = cond-true (eqb e.key e.key) (Some e) None (eq-eqb e.key e.key refl)
 table_entry-put_same e (f ∷ fs) missing =
@@ -54,7 +54,7 @@ table_entry-put_other key e (f ∷ fs) other =
     (λ _. ap (λ o. cond (eqb f.key key) (Some f) o) (table_entry-put_other key e fs other))
     (λ _. cond-false (eqb e.key key) (Some e) (table_entry key (f ∷ fs)) (ne_eqb e.key key other))
 
--- the first entry has another key than one that is missing
+-- the first entry's key differs from one that is missing
 pub put_entry_missing_from_first : (key : ℕ) (f : Entry) (fs : List Entry) → table_entry key (f ∷ fs) ≡ None
     → (f.key ≡ key → ⊥) × (table_entry key fs ≡ None)
 put_entry_missing_from_first key f fs missing =
@@ -74,7 +74,7 @@ AreApartInTable-put_entry e (f ∷ fs) apart missing =
     (λ _. (table_entry-put_other f.key e fs (λ same. parts.0 (sym same)) ∙ apart.0, AreApartInTable-put_entry e fs apart.1 parts.1))
     (λ _. (missing, apart))
 
--- what is true of each entry and of the new one stays so
+-- what is true of each entry and of the new one is true of each entry afterwards
 pub all-put_entry : (P : Entry → Type 0) (e : Entry) (es : List Entry) → AllByRecursion P es → P e
     → AllByRecursion P (put_in_table e es)
 all-put_entry P e [] all new = (new, tt)

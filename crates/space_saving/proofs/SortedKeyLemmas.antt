@@ -16,7 +16,7 @@ use Rattle.space_saving.specs.Table.{table_entry, AreApartInTable}
 abbrev pub keys_to_be_sorted : List Entry → List ℕ
 keys_to_be_sorted es = map (λ (e : Entry). e.key) es
 
--- whether two keys are one does not depend on which comes first
+-- whether two keys are the same does not depend on which comes first
 eqb-flip_of_sorted_keys : (x y : ℕ) → eqb x y ≡ eqb y x
 eqb-flip_of_sorted_keys x y = grind (arith, nat_tests)
 
@@ -38,7 +38,7 @@ missing_if_sorted_keys_differ key [] others = refl
 missing_if_sorted_keys_differ key (f ∷ fs) others =
     ap (λ b. cond b (Some f) (table_entry key fs)) (eqb-flip_of_sorted_keys f.key key ∙ others.0) ∙ missing_if_sorted_keys_differ key fs others.1
 
--- keys are distinct where no two entries have one, and the other way round
+-- the keys are distinct exactly where no two entries have the same key
 sorted_keys_distinct_if_apart : (es : List Entry) → AreApartInTable es → IsDistinct eqb (keys_to_be_sorted es)
 unfolding IsDistinct
 sorted_keys_distinct_if_apart [] apart = tt
@@ -57,7 +57,7 @@ sorted_keys_distinct_if_rising ks rise =
     ne_eqb _ _ (λ same. omega
     (arith, below_from_sorted ks i j d (sorted_from_strictly_increasing ks rise) before within)))
 
--- the keys rise once they are sorted exactly where no two entries have one
+-- the sorted keys rise strictly exactly where no two entries have the same key
 pub sorted_keys_rise_if_apart : (es : List Entry) (sorted : List ℕ) → IsPermutation (keys_to_be_sorted es) sorted → IsSorted nat_cmp sorted
     → IsStrictlyIncreasing sorted ↔ AreApartInTable es
 sorted_keys_rise_if_apart es sorted moved in_order = (

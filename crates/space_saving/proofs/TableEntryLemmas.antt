@@ -1,4 +1,4 @@
--- What is so of the entry at a place of a table.
+-- What holds of the entry at an index of a table.
 use Rattle.std.proofs.Common.{◌≡◌, ℕ, ◌≤◌, zero, suc, eqb, cond, true, false, List, [], ◌∷◌, take, slice_get, None}
 use Rattle.std.proofs.Common.{Some, refl, sym, ◌∙◌, subst, arith}
 use Rattle.std.proofs.lemmas.Bool.{eqb-true, eq-eqb, false≢true}
@@ -7,7 +7,7 @@ use Rattle.space_saving.specs.Table.{table_entry, table_total, AreApartInTable, 
 use Rattle.space_saving.proofs.PutEntryLemmas.{table_total-first_put_entry}
 use Rattle.space_saving.proofs.WithoutLemmas.{TableRisesFrom-less_before_without}
 
--- an entry at some place has another key than one that has no entry
+-- the key of an entry in the table differs from one that has no entry
 table_entry_has_other_key : (key : ℕ) (es : List Entry) (place : ℕ) (e : Entry) → table_entry key es ≡ None
     → slice_get es place ≡ Some e → eqb e.key key ≡ false
 table_entry_has_other_key key [] place e missing at = cc

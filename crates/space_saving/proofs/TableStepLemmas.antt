@@ -25,11 +25,11 @@ table_step_raised e weight = record e { count = e.count + weight }
 abbrev pub table_step_fresh : TableAdd → Entry
 table_step_fresh a = record { key = a.key; count = a.weight; error = 0 }
 
--- the entry of a key that takes the place of another
+-- the entry of a key that replaces another
 abbrev pub table_step_heir : Entry → TableAdd → Entry
 table_step_heir h a = record { key = a.key; count = h.count + a.weight; error = h.count }
 
--- what is so in each of the three cases is so after a step
+-- what holds in each of the three cases holds after a step
 pub table_step_cases : (P : List Entry → Type 0) (capacity : ℕ) (es : List Entry) (a : TableAdd) → 1 ≤ capacity
     → ((e : Entry) → table_entry a.key es ≡ Some e → P (put_in_table (table_step_raised e a.weight) (table_without a.key es)))
     → (table_entry a.key es ≡ None → length es < capacity → P (put_in_table (table_step_fresh a) es))
@@ -63,7 +63,7 @@ table_total-table_step capacity es a some =
     (λ _ _. omega (arith, table_total-put_entry (table_step_fresh a) es))
     (λ h rest is _ _. omega (arith, table_total-put_entry (table_step_heir h a) rest, table_total-first_put_entry h rest, ap table_total is))
 
--- so many counts, each at least this number, add up to at least their product
+-- n counts, each at least this number, add up to at least n times the number
 pub table_step_counts_add_up : (least : ℕ) (es : List Entry) → TableRisesFrom least es → least * length es ≤ table_total es
 table_step_counts_add_up least [] rises = omega arith
 table_step_counts_add_up least (f ∷ fs) rises =

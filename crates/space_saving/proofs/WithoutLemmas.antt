@@ -1,4 +1,4 @@
--- What taking the entry of a key out leaves.
+-- The entries after that of a key is removed.
 use Rattle.std.proofs.Common.{◌≡◌, ℕ, ◌+◌, ◌≤◌, true, false, cond, eqb, List, [], ◌∷◌, length, None, Some, refl}
 use Rattle.std.proofs.Common.{sym, ap, subst, ◌∙◌, arith}
 use Rattle.std.specs.List.{AllByRecursion}
@@ -99,7 +99,7 @@ missing-without other key (f ∷ fs) missing =
           ∙ missing-without other key fs is)
     ]) refl missing
 
--- the key that was taken out is missing
+-- the key whose entry was removed is missing
 pub table_entry-without_same : (key : ℕ) (es : List Entry) → AreApartInTable es → table_entry key (table_without key es) ≡ None
 table_entry-without_same key [] apart = refl
 table_entry-without_same key (f ∷ fs) apart =

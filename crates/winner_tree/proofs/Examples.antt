@@ -2,7 +2,7 @@
 use Rattle.std.proofs.Common.{◌≡◌, ◌<◌, ◌≤◌, ℕ, List, [], ◌∷◌, zero, suc, drop, refl, arith}
 use Rattle.winner_tree.specs.TreeNodes.{TreeNodeHoldsLesserChild, AreTreeNodes}
 
--- three leaves, 7, 3 and 5, behind an unused node, the root 3 and its child 3, whose children are the last two leaves
+-- an unused node, the root 3, its child 3, and the leaves 7, 3 and 5, the last two of which are that child's children
 abbrev nodes : List ℕ
 nodes = 0 ∷ 3 ∷ 3 ∷ 7 ∷ 3 ∷ 5 ∷ []
 
@@ -37,6 +37,6 @@ tree_of_three_leaves = record {
 pub node_is_missing : AreTreeNodes 3 (0 ∷ 3 ∷ 3 ∷ 7 ∷ 3 ∷ []) → ⊥
 node_is_missing tree = omega (arith, tree.shape)
 
--- a leaf that was raised without mending what is above it
+-- a leaf that was raised without mending the nodes above it
 pub leaf_raised_alone : AreTreeNodes 3 (0 ∷ 3 ∷ 3 ∷ 7 ∷ 9 ∷ 5 ∷ []) → ⊥
 leaf_raised_alone tree = omega (arith, tree.mended 2 (omega arith) (omega arith))

@@ -26,7 +26,7 @@ other_tree_nodes_stay_lesser nodes written word node apart first second lesser =
     ∙ ap (λ n. min n (get_or nodes (2 * node + 1) 0)) (sym (get_or-set_other nodes written (2 * node) word 0 first))
     ∙ ap (λ n. min (get_or (set nodes written word) (2 * node) 0) n) (sym (get_or-set_other nodes written (2 * node + 1) word 0 second))
 
--- the lesser of a node's word and its sibling's is that of the children of its parent
+-- the lesser of a node and its sibling is the lesser of the two children of its parent
 pub lesser_of_tree_node_siblings : (nodes : List ℕ) (node parent sibling word : ℕ) → parent ≡ node / 2 → sibling ≡ 4 * parent + 1 - node
     → get_or nodes node 0 ≡ word
     → min word (get_or nodes sibling 0) ≡ min (get_or nodes (2 * parent) 0) (get_or nodes (2 * parent + 1) 0)
@@ -112,7 +112,7 @@ tree_root_node_is_least leaves nodes root tree read place d within =
     let below = root_is_below_tree_nodes leaves nodes (leaves + place) (leaves + place) tree (omega arith) (omega arith) (omega arith) in
     omega (arith, is_leaf, is_root, below)
 
--- the nodes from this one on are mended, where those behind it were
+-- once this node is written, the nodes from it on are mended, if those after it were
 pub one_more_tree_node_mended : (nodes : List ℕ) (leaves from word : ℕ) → 1 ≤ from → from < length nodes
     → word ≡ min (get_or nodes (2 * from) 0) (get_or nodes (2 * from + 1) 0)
     → ((node : ℕ) → from + 1 ≤ node → 1 ≤ node → node < leaves → TreeNodeHoldsLesserChild nodes node)
@@ -124,7 +124,7 @@ one_more_tree_node_mended nodes leaves from word inner within is behind node at_
     (λ (other : node ≡ from → ⊥). other_tree_nodes_stay_lesser nodes from word node other (omega arith) (omega arith) (behind node (omega arith) some below))
     (cases_eq node from)
 
--- leaves that are their places' numbers
+-- leaves that are their own indices are the numbers from 0 on
 pub tree_leaf_nodes_are_numbered : (nodes : List ℕ) (leaves : ℕ) → length nodes ≡ 2 * leaves
     → ((place : ℕ) → place < leaves → get_or nodes (leaves + place) 0 ≡ place)
     → drop leaves nodes ≡ range_with_len 0 leaves

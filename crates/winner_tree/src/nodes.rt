@@ -24,7 +24,7 @@ pub(crate) fn write_leaf(nodes: &mut [u64], leaves: usize, place: usize, word: u
     }
 }
 
-/// Makes each leaf its place's number, and all nodes above those of a tree.
+/// Sets each leaf to its index, and mends all nodes above.
 pub(crate) fn number_leaves(nodes: &mut [u64], leaves: usize)
     requires some { 1 ≤ leaves }
     requires few { leaves < 2 ^ 32 }

@@ -27,7 +27,7 @@ impl Model for WinnerTree {
 }
 
 impl WinnerTree {
-    /// A tree of this many leaves, 1 to 2^32 - 1, each of which is its place's number. It takes two words a
+    /// A tree of this many leaves, 1 to 2^32 - 1, each of which is its index, from 0. It allocates two words for each
     /// leaf, and nothing later.
     pub fn with_leaves(alloc: Global, leaves: usize) -> Result<WinnerTree, AllocError>
         requires some { 1 ≤ leaves }
@@ -47,7 +47,7 @@ impl WinnerTree {
         self.nodes[1]
     }
 
-    /// Changes the leaf at this place, in one comparison a level.
+    /// Changes the leaf at this index, with one comparison for each level.
     pub fn set(&mut self, place: usize, word: u64)
         requires { place < length self.old }
         ensures { self.new ≡ slice_set self.old place word }
@@ -55,7 +55,7 @@ impl WinnerTree {
         write_leaf(&mut self.nodes, self.leaves, place, word);
     }
 
-    /// Makes each leaf its place's number again, in one comparison a leaf.
+    /// Sets each leaf to its index again, with one comparison for each leaf.
     pub fn restart(&mut self)
         ensures { self.new ≡ range_with_len 0 (length self.old) }
     {

@@ -2,7 +2,7 @@ use Rattle.std.proofs.Common.{◌≤◌}
 use Rattle.key_index.proofs.PathLemmas.{LeavesPath}
 use Rattle.key_index.proofs.searching.free_cell.Given as goal
 
--- what is left of the path is reached through filled cells
+-- the rest of the path is reached through filled cells
 abbrev pub invariant-loop-turn : goal.invariant-loop-turn
 invariant-loop-turn l = record {
   turns : l.turn ≤ 7;

@@ -2,7 +2,7 @@ use Rattle.std.proofs.Common.{◌≡◌, ℕ, ◌≤◌, get_or}
 use Rattle.key_index.specs.CellPaths.{cell_path, cell_path_from, cell_path_leads_to}
 use Rattle.key_index.proofs.searching.place_of.Given as goal
 
--- what is left of the path decides whether it leads to the key
+-- the rest of the path decides whether the path leads to the key
 abbrev pub invariant-loop-turn : goal.invariant-loop-turn
 invariant-loop-turn l = record {
   turns : l.turn ≤ 7;

@@ -1,7 +1,7 @@
 use Rattle.std.proofs.Common.{◌≡◌, length}
 use Rattle.key_index.proofs.tests.follow_a_list.Given as goal
 
--- so many keys were put in
+-- each turn so far appended one key
 abbrev pub invariant-loop-place : goal.invariant-loop-place
 invariant-loop-place g l = record {
   roomy : l.index.room ≡ l.room;

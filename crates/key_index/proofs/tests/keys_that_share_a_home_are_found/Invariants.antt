@@ -1,7 +1,7 @@
 use Rattle.std.proofs.Common.{◌≡◌, length}
 use Rattle.key_index.proofs.tests.keys_that_share_a_home_are_found.Given as goal
 
--- so many keys were put in
+-- each turn so far appended one key
 abbrev pub invariant-loop-number : goal.invariant-loop-number
 invariant-loop-number g l = record {
   roomy : l.index.room ≡ 512;

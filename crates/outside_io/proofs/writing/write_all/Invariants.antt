@@ -2,7 +2,7 @@ use Rattle.std.proofs.Common.{◌≡◌, length}
 use Rattle.outside_io.proofs.SentTextLemmas.{IsSentText}
 use Rattle.outside_io.proofs.writing.write_all.Given as goal
 
--- what is sent and what is left are the text, and no call failed
+-- the bytes sent and the rest make up the text, and no call failed
 abbrev pub invariant-loop-rest : goal.invariant-loop-rest
 invariant-loop-rest g l = record {
   sent : IsSentText (g.K.Sink.taken l.fn.sink) (g.K.Sink.taken l.sink) l.bytes l.rest;

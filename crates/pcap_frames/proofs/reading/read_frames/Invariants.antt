@@ -2,7 +2,7 @@ use Rattle.std.proofs.Common.{◌≡◌, ◌+◌, ◌-◌, ◌*◌}
 use Rattle.pcap_frames.proofs.SourceReadLemmas.{HasReadSource, source_read_extent}
 use Rattle.pcap_frames.proofs.reading.read_frames.Given as goal
 
--- what was read is what the reader stands for, and no call of the source failed
+-- the reader represents what was read, and no call of the source failed
 abbrev pub invariant-loop-count : goal.invariant-loop-count
 invariant-loop-count g l = record {
   read : HasReadSource g.V.FrameVisitor.represents l.fn.visitor l.visitor (g.S.Source.left l.fn.source)

@@ -2,7 +2,7 @@ use Rattle.std.proofs.Common.{◌≡◌, ◌+◌, ◌-◌, ◌<◌, ◌++◌, le
 use Rattle.space_saving.specs.Table.{put_in_table}
 use Rattle.space_saving.proofs.places.settle.Given as goal
 
--- what is still to be put in among the later entries
+-- the new entry is still to be inserted at this index or later
 abbrev pub invariant-loop-place : goal.invariant-loop-place
 invariant-loop-place l = record {
   within : l.place < length l.entries;

@@ -3,7 +3,7 @@ use Rattle.std.specs.List.{range_with_len}
 use Rattle.winner_tree.specs.TreeNodes.{TreeNodeHoldsLesserChild}
 use Rattle.winner_tree.proofs.nodes.number_leaves.Given as goal
 
--- the leaves so far are their places' numbers
+-- each leaf so far is its own index
 abbrev pub invariant-loop-place : goal.invariant-loop-place
 invariant-loop-place l = (place : ℕ) → place < l.place → get_or l.nodes (l.leaves + place) 0 ≡ place
 

@@ -6,7 +6,7 @@ use Rattle.prefix_lattice.proofs.NodePrefixLemmas.{node_prefix-covers, only_node
 use Rattle.prefix_lattice.proofs.NodePrefixLemmas.{node_prefix-made_of_bytes}
 use Rattle.prefix_lattice.proofs.prefix.Prefix.of.Goals as goal
 
--- what is made of the record's first bytes is its prefix at the node
+-- the prefix made of the record's first bytes is its prefix at the node
 made : (c : goal.After-of-2)
     → Path PrefixValue (record { source = c.of.result; dest = c.of-2.result })
     (prefix_at c.args.node c.args.rec.now)
