@@ -7,8 +7,8 @@ use Rattle.checkpoint.specs.declared.settings.StoreSettings.{StoreSettings}
 abbrev pub table_span : ℕ → ℕ
 table_span capacity = 12 + 24 * capacity
 
--- the most bytes of a body of so many shards and this capacity: its length in 8, its sequence in 8, its digest in 32, and
--- for each shard 8 for the position and those of its tables
+-- the most bytes of a body of this many shards and this capacity: its length in 8, its sequence in 8, its digest in 32,
+-- and for each shard 8 for the position and those of its tables
 abbrev pub body_span : ℕ → ℕ → ℕ
 body_span shards capacity = 48 + shards * (8 + node_count * table_span capacity)
 

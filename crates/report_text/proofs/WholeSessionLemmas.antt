@@ -1,4 +1,4 @@
--- The lines of a session: they lead to its end, and tell what it says.
+-- The lines of a session: they lead to its end, and determine what it says.
 use Rattle.std.proofs.Common.{◌≡◌, ℕ, ◌+◌, ◌<◌, ◌≤◌, ◌^◌, List, [], ◌∷◌, ◌++◌, map, length, All, Option}
 use Rattle.std.proofs.Common.{Some, None, IfSome, suc, refl, sym, ap, ◌∙◌, subst, arith, append_assoc}
 use Rattle.std.specs.List.{flat_map, AllZip, AllByRecursion}
@@ -180,7 +180,7 @@ whole_session_lines session is = (
       (is.frames, (record { not_ipv4 = is.not_ipv4; short = is.short; bad_header = is.bad_header }, (tt, tt))),
 )
 
--- lines of a report before `done` are told apart
+-- the lines of a report before `done`, and what follows it, are determined
 whole_session_lines_apart : (lines others : List LineValue) (rest other : List SessionLine)
     → map Line lines ++ Done ∷ rest ≡ map Line others ++ Done ∷ other → (lines ≡ others) × (rest ≡ other)
 whole_session_lines_apart [] [] rest other same = (refl, cc)
@@ -199,7 +199,7 @@ whole_session_not_saved : (reports : List Reported) (frames : ℕ) (tail : List 
 whole_session_not_saved [] frames tail positions lines same = cc
 whole_session_not_saved (reported ∷ reports) frames tail positions lines same = cc
 
--- saved positions and what follows are told apart
+-- saved positions, and what follows them, are determined
 whole_session_saved_apart : (positions others : Option (List ℕ)) (reports other_reports : List Reported) (frames other_frames : ℕ)
     (tail other : List SessionLine)
     → session_saved_lines positions ++ (flat_map session_reported_lines reports ++ Frames frames ∷ tail)
@@ -232,7 +232,7 @@ whole_session_spread reported reports tail =
     whole_session_report_groups (At reported.report.positions) (Total reported.report.total) (Threshold reported.report.threshold)
     (map Line reported.report.lines) (session_saved_lines reported.saved) (flat_map session_reported_lines reports) tail
 
--- reports before the counts are told apart
+-- what reports before the counts say, and the counts, are determined
 whole_session_reports_apart : (reports others : List Reported) (frames other_frames : ℕ) (tail other : List SessionLine)
     → flat_map session_reported_lines reports ++ Frames frames ∷ tail
     ≡ flat_map session_reported_lines others ++ Frames other_frames ∷ other
