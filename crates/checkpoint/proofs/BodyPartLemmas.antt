@@ -75,7 +75,7 @@ body_has_front_part shards capacity saved bytes after count small few is_count i
     (sym is_count ∙ is.spelled) in
     record { count_is = first.0 ∙ sym long.1; after_is = first.1 }
 
--- the sequence and the digest behind it
+-- the sequence and the digest after it
 pub record BodyHeadParts (shards capacity : ℕ) (saved : SavedValue) (sequence : ℕ) (digest rest : List ℕ) : Type 0 where
   pub sequence_is : sequence ≡ saved.sequence
   pub digest_is : digest ≡ saved.digest
@@ -172,7 +172,7 @@ body_part_of_table_fits : (capacity : ℕ) (entries : List Entry) → TableFitsS
     → length (body_table_bytes entries) ≤ table_span capacity
 body_part_of_table_fits capacity entries fits = omega (arith, part_length_of_table entries, fits.are_entries.is_table.fits)
 
--- a snapshot of a capacity has at most so many bytes
+-- a snapshot of a capacity has at most this many bytes
 body_part_of_shard_fits : (capacity : ℕ) (snapshot : SnapshotValue) → SnapshotFitsSpelling capacity snapshot
     → length (body_snapshot_bytes snapshot) ≤ 8 + 25 * table_span capacity
 body_part_of_shard_fits capacity snapshot fits =

@@ -16,7 +16,7 @@ use Rattle.checkpoint.specs.Store.{StoreOpensAsOldOrNew}
 use Rattle.checkpoint.specs.Saver.{SaverState, IsNewestForSaver, saver_of, IsKnownToSaver, DiskMatchesSaver}
 use Rattle.checkpoint.specs.Saver.{saver_after_save, next_saved}
 
--- so many shards with tables of two entries
+-- this many shards with tables of two entries
 abbrev settings : ℕ → StoreSettings
 settings shards = record { shards = shards; capacity = 2; weigh = Bytes; deal = RoundRobin }
 

@@ -17,7 +17,7 @@ use Rattle.checkpoint.proofs.PrefixFreeLemmas.{snapshots_are_prefix_free}
 use Rattle.checkpoint.proofs.ReadListLemmas.{read_list_is_same}
 use Rattle.checkpoint.proofs.SpellingLemmas.{spellings_in_bytes_are_apart, spelling_front_is_same}
 
--- the greatest span
+-- each span is below 2^32
 one_body_span_is_small : (settings : StoreSettings) → AreHeaderSettings settings → body_span settings.shards settings.capacity < 2 ^ 32
 one_body_span_is_small settings are =
     let most : settings.shards * (8 + 25 * table_span settings.capacity) ≤ 16 * (8 + 25 * table_span settings.capacity) =

@@ -44,7 +44,7 @@ part_length_of_table entries =
       part_length_of_entries entries,
     )
 
--- values of at most so many bytes each
+-- values of at most this many bytes each
 pub part_length_is_at_most : {A : Type 0} (spell : A → List ℕ) (most : ℕ) (xs : List A) → All (λ x. length (spell x) ≤ most) xs
     → length (flat_map spell xs) ≤ length xs * most
 part_length_is_at_most spell most xs each =

@@ -13,7 +13,7 @@ module _ {A : Type 0} (spell : A → List ℕ) (Fits : A → Type 0) where
   pub read_list_is_empty : (bytes : List ℕ) → BeginsWithSpelling (flat_map spell) (ListFitsSpelling Fits 0) bytes [] bytes
   read_list_is_empty bytes = record { fits = record { as_many = refl; each = All-nil Fits }; spelled = refl }
 
-  -- one value more
+  -- one more value
   pub read_list_grows : (bytes rest after : List ℕ) (count : ℕ) (values : List A) (value : A)
       → BeginsWithSpelling (flat_map spell) (ListFitsSpelling Fits count) bytes values rest → BeginsWithSpelling spell Fits rest value after
       → BeginsWithSpelling (flat_map spell) (ListFitsSpelling Fits (count + 1)) bytes (values ++ value ∷ []) after

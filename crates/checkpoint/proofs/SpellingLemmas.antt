@@ -15,7 +15,7 @@ abbrev pub SpellingsAreApart : {A : Type 0} → (A → List ℕ) → (A → Type
 SpellingsAreApart {A = A} spell Fits =
     (x y : A) (r s : List ℕ) → Fits x → Fits y → spell x ++ r ≡ spell y ++ s → (x ≡ y) × (r ≡ s)
 
--- fronts of one length are one
+-- fronts of equal length are equal
 pub spelling_front_is_same : (xs ys r s : List ℕ) → length xs ≡ length ys → xs ++ r ≡ ys ++ s → (xs ≡ ys) × (r ≡ s)
 spelling_front_is_same xs ys r s long same = (
   sym (take_at xs r (length xs) refl) ∙ ap (take (length xs)) same ∙ take_at ys s (length xs) (sym long),
@@ -37,7 +37,7 @@ pub spelling_starts_with_first : {A : Type 0} (spell : A → List ℕ) (x : A) (
     → flat_map spell (x ∷ xs) ++ r ≡ spell x ++ (flat_map spell xs ++ r)
 spelling_starts_with_first spell x xs r = ap (λ (l : List ℕ). l ++ r) (flat_map-cons spell x xs) ∙ append_assoc (spell x) (flat_map spell xs) r
 
--- lists of as many values
+-- lists of equal length
 pub joined_spellings_are_apart : {A : Type 0} (spell : A → List ℕ) (Fits : A → Type 0) → SpellingsAreApart spell Fits
     → (xs ys : List A) (r s : List ℕ) → length xs ≡ length ys → All Fits xs → All Fits ys
     → flat_map spell xs ++ r ≡ flat_map spell ys ++ s → (xs ≡ ys) × (r ≡ s)

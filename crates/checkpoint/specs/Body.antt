@@ -47,7 +47,7 @@ HasShortBodyKeys entries = All (λ entry. entry.key < 2 ^ 64) entries
 abbrev pub BodyKeysFit : SnapshotValue → Type 0
 BodyKeysFit snapshot = All HasShortBodyKeys snapshot.tables
 
--- what may be saved in a store of so many shards and this capacity
+-- what may be saved in a store of this many shards and this capacity
 pub record IsSavedBody (shards capacity : ℕ) (saved : SavedValue) : Type 0 where
   pub sequenced : 1 ≤ saved.sequence
   pub early : saved.sequence ≤ greatest_body_sequence
@@ -57,7 +57,7 @@ pub record IsSavedBody (shards capacity : ℕ) (saved : SavedValue) : Type 0 whe
   pub cut : IsCut saved.cut
   pub keys : All BodyKeysFit saved.cut.shards
 
--- the bytes are a body that spells this, in a store of so many shards and this capacity
+-- the bytes are a body that spells this, in a store of this many shards and this capacity
 pub record IsBody (shards capacity : ℕ) (saved : SavedValue) (bytes : List ℕ) : Type 0 where
   pub is_saved : IsSavedBody shards capacity saved
   pub spelled : bytes ≡ body_bytes saved

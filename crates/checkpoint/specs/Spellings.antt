@@ -14,7 +14,7 @@ pub record BeginsWithSpelling {A : Type 0} (spell : A → List ℕ) (Fits : A �
 abbrev pub BeginsWithNoSpelling : {A : Type 0} → (A → List ℕ) → (A → Type 0) → List ℕ → Type 0
 BeginsWithNoSpelling {A = A} spell Fits bytes = (value : A) (rest : List ℕ) → BeginsWithSpelling spell Fits bytes value rest → ⊥
 
--- so many values, each of which fits
+-- this many values, each of which fits
 pub record ListFitsSpelling {A : Type 0} (Fits : A → Type 0) (count : ℕ) (values : List A) : Type 0 where
   pub as_many : length values ≡ count
   pub each : All Fits values

@@ -23,12 +23,12 @@ use std::alloc::Global;
 /// The last sequence.
 const LAST_SEQUENCE: u64 = 1 << 62;
 
-/// What a body spells under these settings. `Damaged` is returned exactly where the bytes are no body: where they aren't
-/// as many as their length says, the sequence isn't from 1 to 2^62, a position is above 16,777,216, a table isn't one of
+/// What a body spells under these settings. `Damaged` is returned exactly if the bytes are no body: if they aren't as
+/// many as their length says, the sequence isn't from 1 to 2^62, a position is above 16,777,216, a table isn't one of
 /// the capacity, its total isn't the sum of its counts or that of another table of its shard, a key has a bit set that
 /// its node doesn't keep, or bytes are missing or follow.
 ///
-/// Whatever the bytes say, memory is taken for the tables of one cut and of one shard under the settings.
+/// Whatever the bytes say, memory is allocated for the tables of one cut and of one shard under the settings.
 pub fn decode(alloc: Global, bytes: &[u8], settings: &StoreSettings) -> Result<Saved, DecodeFault>
     requires { AreHeaderSettings settings.now }
     ensures body { IfOk result (λ saved. IsBody settings.now.shards settings.now.capacity

@@ -16,8 +16,8 @@ use shard_state::{Cut, Snapshot};
 use space_saving::{Entry, Flat};
 use std::alloc::{AllocError, Global};
 
-/// The body of a cut of at most 16 shards, with its sequence, 1 to 2^62, and the digest of the dealt records. Its memory is
-/// taken once, as much as the body has bytes. The only error is that memory runs out.
+/// The body of a cut of at most 16 shards, with its sequence, 1 to 2^62, and the digest of the dealt records. Its
+/// memory is allocated once: as many bytes as the body has. The only error is that memory runs out.
 pub fn encode(
     alloc: Global,
     sequence: u64,

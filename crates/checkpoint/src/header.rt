@@ -39,7 +39,7 @@ pub fn header_of(settings: &StoreSettings) -> [u8; 62]
     header
 }
 
-/// The settings that a header spells. `None` exactly where it spells none: other letters, another version, shards,
+/// The settings that a header spells. `None` exactly if it spells none: other letters, another version, shards,
 /// capacity, weighing or dealing outside their ranges, or a byte that isn't zero in the rest.
 pub fn read_header(bytes: &[u8; 62]) -> Option<StoreSettings>
     ensures { (settings : StoreSettings) → (result ≡ Some settings) ↔ (AreHeaderSettings settings × (bytes.now ≡ header_of_settings settings)) }

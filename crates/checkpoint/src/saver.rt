@@ -86,7 +86,7 @@ impl Saver {
     /// sequence, which is at most 2^62. It goes to the slot that isn't the newest, so a crash at any moment leaves the
     /// store as it opened before, or with the new cut.
     ///
-    /// The memory for the body is taken before the first call of the disk: where there is none, the saver is handed back
+    /// The memory for the body is allocated before the first call of the disk: if that fails, the saver is handed back
     /// and the disk is unchanged. After `DiskFault` the store is opened again.
     pub fn save<D: Disk>(self, alloc: Global, disk: &mut D, cut: &Cut) -> Result<Saver, SaveFault>
         requires early { self.sequence < greatest_body_sequence }

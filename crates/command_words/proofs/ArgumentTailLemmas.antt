@@ -1,4 +1,4 @@
--- What is left of the arguments behind the first one.
+-- The arguments after the first one.
 use Rattle.std.proofs.Common.{◌≡◌, ◌+◌, ◌-◌, ◌↔◌, take, drop, Bor, refl, sym, ap, ◌∙◌, subst, List, [], ◌∷◌, length}
 use Rattle.std.proofs.Common.{ℕ, Option, Some, arith}
 use Rattle.std.specs.List.{Contains}
@@ -11,13 +11,13 @@ use Rattle.command_words.specs.Arguments.{argument_texts}
 use Rattle.command_words.proofs.TextSearchLemmas.{text_search_skips_first}
 use Rattle.command_words.proofs.OneReadingLemmas.{one_reading_of_first_argument, one_reading_of_no_words}
 
--- arguments whose first is known: the others stand behind it
+-- arguments that begin with this one; the other words spell the rest
 pub record HasArgumentTail (argument : Argument) (others : List ArgumentText) (arguments : List Argument) : Type 0 where
   pub rest : List Argument
   pub are : arguments ≡ argument ∷ rest
   pub spelled : SpellAllArguments others rest
 
--- words that begin with an argument spell no list but those that begin with it
+-- words that begin with an argument spell only lists that begin with it
 pub argument_tail_follows : (words others : List ArgumentText) (argument : Argument) (arguments : List Argument)
     → BeginWithArgument words argument others → SpellAllArguments words arguments → HasArgumentTail argument others arguments
 argument_tail_follows words others argument [] begins spelled =
@@ -43,7 +43,7 @@ pub named_argument_before_tail : (argument : Argument) (rest : List Argument) (n
 named_argument_before_tail (positional text) rest name is = cc
 named_argument_before_tail (option other value) rest name is = let same : other ≡ name = cc in ap (λ n. n ∷ names_in_arguments rest) same
 
--- an argument of another name than this changes nothing about where this name stands
+-- an argument of another name doesn't change whether this name is present
 pub argument_keeps_tail_names : (argument : Argument) (rest : List Argument) (name : ArgumentText) → (scanned_option_name argument ≡ Some name → ⊥)
     → Contains (names_in_arguments (argument ∷ rest)) name ↔ Contains (names_in_arguments rest) name
 argument_keeps_tail_names (positional text) rest name other = (λ h. h, λ h. h)
@@ -52,18 +52,18 @@ argument_keeps_tail_names (option first value) rest name other = (
   Contains-append_right (first ∷ []) (names_in_arguments rest) name,
 )
 
--- the rest of some arguments, which the words spell, and in which a name stands just where it stands in all of them
+-- the rest of some arguments, which the words spell; a name is present in it exactly if it is present in all of them
 pub record ArgumentTailKeepsName (words : List ArgumentText) (arguments : List Argument) (name : ArgumentText) : Type 0 where
   pub rest : List Argument
   pub spelled : SpellAllArguments words rest
   pub same : Contains (names_in_arguments arguments) name ↔ Contains (names_in_arguments rest) name
 
--- all of them, at the start
+-- at the start, the rest is all of them
 pub whole_argument_tail_keeps_name : (words : List ArgumentText) (arguments : List Argument) (name : ArgumentText) → SpellAllArguments words arguments
     → ArgumentTailKeepsName words arguments name
 whole_argument_tail_keeps_name words arguments name spelled = record { rest = arguments; spelled = spelled; same = (λ h. h, λ h. h) }
 
--- and the others, behind an argument of another name
+-- after an argument of another name, it is the others
 pub next_argument_tail_keeps_name : (words others : List ArgumentText) (argument : Argument) (arguments : List Argument) (name : ArgumentText)
     → BeginWithArgument words argument others → (scanned_option_name argument ≡ Some name → ⊥)
     → ArgumentTailKeepsName words arguments name → ArgumentTailKeepsName others arguments name
@@ -79,7 +79,7 @@ next_argument_tail_keeps_name words others argument arguments name begins other 
       );
     }
 
--- a name stands where the argument at the front has it
+-- a name is present if the argument at the front has it
 pub name_stands_before_argument_tail : (words others : List ArgumentText) (argument : Argument) (arguments : List Argument) (name : ArgumentText)
     → BeginWithArgument words argument others → scanned_option_name argument ≡ Some name
     → ArgumentTailKeepsName words arguments name → Contains (names_in_arguments arguments) name
@@ -88,7 +88,7 @@ name_stands_before_argument_tail words others argument arguments name begins is 
     leaves.same.1 (subst (λ names. Contains names name)
     (sym (ap names_in_arguments behind.are ∙ named_argument_before_tail argument behind.rest name is)) (0, omega arith, refl))
 
--- and nowhere once no argument is left
+-- and missing once no argument remains
 pub empty_argument_tail_lacks_name : (words : List ArgumentText) (arguments : List Argument) (name : ArgumentText)
     → ((argument : Argument) (others : List ArgumentText) → BeginWithArgument words argument others → ⊥)
     → ArgumentTailKeepsName words arguments name → Contains (names_in_arguments arguments) name → ⊥
@@ -98,7 +98,7 @@ empty_argument_tail_lacks_name words arguments name never leaves h =
     (leaves.same.0 h) in
     omega (arith, none.1)
 
--- the argument at the front of the words from a place on, in the form that a range has, begins those words
+-- an argument at the front of the range `words[from..]` begins the words from that index on
 pub argument_begins_tail_range : (words : List (Bor ArgumentText)) (from step : ℕ) (found : Option ArgumentText)
     → (argument : Argument)
     × BeginWithArgument (argument_texts (take (length words - from) (drop from words))) argument
@@ -112,7 +112,7 @@ argument_begins_tail_range words from step found (argument, begins, is) = (
   is,
 )
 
--- and where none stands there, none begins them
+-- and if no argument is at the front of the range, none begins those words
 pub no_argument_begins_tail_range : (words : List (Bor ArgumentText)) (from : ℕ)
     → ((argument : Argument) (others : List ArgumentText)
     → BeginWithArgument (argument_texts (take (length words - from) (drop from words))) argument others → ⊥)
@@ -120,7 +120,7 @@ pub no_argument_begins_tail_range : (words : List (Bor ArgumentText)) (from : �
 no_argument_begins_tail_range words from never argument others begins =
     never argument others (subst (λ ws. BeginWithArgument (argument_texts ws) argument others) (sym (take_rest words from)) begins)
 
--- the argument at the front of all the words, with those behind it in the form that a range has
+-- the argument at the front of all words, with the words after it as the range `words[step..]`
 pub argument_leaves_tail_range : (words : List (Bor ArgumentText)) (step : ℕ) (found : Option ArgumentText)
     → (argument : Argument) × BeginWithArgument (argument_texts words) argument (argument_texts (drop step words))
     × (found ≡ scanned_option_name argument)
@@ -129,11 +129,11 @@ pub argument_leaves_tail_range : (words : List (Bor ArgumentText)) (step : ℕ) 
 argument_leaves_tail_range words step found (argument, begins, is) =
     (argument, subst (λ ws. BeginWithArgument (argument_texts words) argument (argument_texts ws)) (sym (take_rest words step)) begins, is)
 
--- no words have no texts
+-- an empty list of words has no texts
 pub argument_tail_has_no_texts : (words : List (Bor ArgumentText)) → length words ≡ 0 → argument_texts words ≡ []
 argument_tail_has_no_texts words none = ap argument_texts (nil_from_length words none)
 
--- and no texts stand for no words
+-- and a list of words without texts is empty
 pub argument_tail_has_no_words : (words : List (Bor ArgumentText)) → argument_texts words ≡ [] → length words ≡ 0
 argument_tail_has_no_words [] none = refl
 argument_tail_has_no_words (word ∷ words) none = cc

@@ -1,4 +1,4 @@
--- Worked examples of what stands behind a command's word.
+-- Worked examples of the words after a command's name.
 use Rattle.std.proofs.Common.{◌≡◌, ◌≢◌, ℕ, List, [], ◌∷◌, Some, None, inl, inr, refl, codes, arith, Bor}
 use Rattle.std.proofs.lemmas.List.Elements.{All-cons, All-nil}
 use Rattle.std.proofs.lemmas.List.Kept.{AllPairs-cons}
@@ -17,14 +17,14 @@ use Rattle.command_words.specs.declared.command_word.CommandWord.TheVariants.{We
 use Rattle.command_words.proofs.TextSearchLemmas.{text_search_finds_contained, text_search_finds_none}
 use Rattle.command_words.proofs.TextSearchLemmas.{text_search_tells_apart, text_search_shows_name}
 
--- the two signs that part words
+-- the two signs of options, `-` and `=`
 pub two_hyphens_before_a_name : long_argument (codes "phi") ≡ codes "--phi"
 two_hyphens_before_a_name = refl
 
 pub hyphen_and_equals_sign : argument_hyphen ∷ argument_equals_sign ∷ [] ≡ codes "-="
 hyphen_and_equals_sign = refl
 
--- a path may be a value, `-` and no text may not
+-- a path may be a value; `-` and the empty text may not
 pub path_is_a_value : IsArgumentValue (codes "a.pcap")
 path_is_a_value = λ same. omega (arith, same)
 
@@ -41,7 +41,7 @@ capture_is_a_name = text_search_shows_name (codes "capture") refl
 pub equals_sign_in_no_name : IsArgumentName (codes "a=b") → ⊥
 equals_sign_in_no_name name = name 1 0 (omega arith) refl
 
--- the one word `--x=a=b` has the value `a=b`, behind its first `=`
+-- the single word `--x=a=b` has the value `a=b`, which follows its first `=`
 pub option_in_one_word : SpellsArgument (codes "--x=a=b" ∷ []) (option (codes "x") (codes "a=b"))
 option_in_one_word = (text_search_shows_name (codes "x") refl, λ same. omega (arith, same), inr refl)
 
@@ -49,7 +49,7 @@ option_in_one_word = (text_search_shows_name (codes "x") refl, λ same. omega (a
 pub option_in_two_words : SpellsArgument (codes "--x" ∷ codes "7" ∷ []) (option (codes "x") (codes "7"))
 option_in_two_words = (text_search_shows_name (codes "x") refl, λ same. omega (arith, same), inl refl)
 
--- what stands in `--weigh=packets 10.0.0.0/8 --capture a.pcap 20.0.0.0/8`
+-- the words `--weigh=packets 10.0.0.0/8 --capture a.pcap 20.0.0.0/8`
 abbrev pub words : List ArgumentText
 words = codes "--weigh=packets" ∷ codes "10.0.0.0/8" ∷ codes "--capture" ∷ codes "a.pcap" ∷ codes "20.0.0.0/8" ∷ []
 
@@ -91,7 +91,7 @@ words_spell_the_arguments = (
   ),
 )
 
--- no words spell no arguments
+-- an empty list of words spells no arguments
 pub nothing_spelled : SpellAllArguments [] []
 nothing_spelled = refl
 
@@ -133,7 +133,7 @@ form_of_names name at = refl
 pub texts_of_two_words : (word other : Bor ArgumentText) → argument_texts (word ∷ other ∷ []) ≡ word.now ∷ other.now ∷ []
 texts_of_two_words word other = refl
 
--- the options stand once each
+-- each option is present once
 names_are_apart : AllPairs (λ name other. name ≢ other) (names_in_arguments arguments)
 names_are_apart =
     AllPairs-cons (λ name other. name ≢ other) (codes "weigh") (codes "capture" ∷ [])
@@ -172,7 +172,7 @@ pub option_of_report_alone : AreArgumentsOfForm form
     (positional (codes "x") ∷ positional (codes "y") ∷ option (codes "shards") (codes "1") ∷ []) → ⊥
 option_of_report_alone of_form = text_search_finds_none form.options (codes "shards") refl (of_form.known 0 [] (omega arith))
 
--- behind the first two arguments one positional and `--capture` are left
+-- after the first two arguments, one positional and `--capture` remain
 pub rest_of_the_words : FitsScannedRest form 1 (codes "--capture" ∷ codes "a.pcap" ∷ codes "20.0.0.0/8" ∷ [])
     (option (codes "capture") (codes "a.pcap") ∷ positional (codes "20.0.0.0/8") ∷ [])
 rest_of_the_words = record {

@@ -1,4 +1,4 @@
--- Worked examples of what `clap` is told, and of what it then finds.
+-- Worked examples of the parser that `clap` is given, and of what it finds.
 use Rattle.std.proofs.Common.{◌≡◌, [], ◌∷◌, Some, true, refl, codes}
 use Rattle.clap.specs.Words.{found_of, first_value, new_rule}
 use Rattle.clap.specs.declared.parser.matches.ArgMatches.{ArgMatches}
@@ -15,7 +15,7 @@ use Rattle.command_words.proofs.ExamplesOfWords.{weigh_line, words_of_a_command}
 pub option_by_its_long_name : (parser_rule_for (codes "phi")).long ≡ Some (codes "phi")
 option_by_its_long_name = refl
 
--- no word stands for the program, and `--help` has no meaning
+-- the first word is not the program's name, and `--help` has no meaning
 pub first_word_is_an_argument : (bare_parser (codes "report")).top.no_binary_name ≡ true
 first_word_is_an_argument = refl
 

@@ -80,7 +80,7 @@ no_shard_is_not_allowed allowed = omega (arith, allowed.0)
 pub shards_with_a_leading_zero : IsNoOptionNumber (option_kind_of Shards) (codes "01")
 shards_with_a_leading_zero = no_number_has_a_leading_zero
 
--- an option has a good value, or doesn't stand
+-- an option has a good value, or is missing
 pub free_is_good : IsGoodOption Deal (Some (codes "free"))
 free_is_good = (text_search_finds_contained (codes "round" ∷ codes "source" ∷ codes "free" ∷ []) (codes "free")).0 refl
 
@@ -96,7 +96,7 @@ shards_that_are_no_number = (refl, no_number_has_a_leading_zero)
 pub dealing_that_is_no_choice : IsBadGivenChoice Deal (Some (codes "hash")) (BadChoice Deal)
 dealing_that_is_no_choice = (refl, no_dealing_by_hash)
 
--- in `--deal hash --shards 17` the shards are looked at first
+-- in `--deal hash --shards 17` the shards are checked first
 abbrev two_bad_values : SettingValues
 two_bad_values =
     setting_values_in command.Report (option (codes "deal") (codes "hash") ∷ option (codes "shards") (codes "17") ∷ [])
@@ -132,7 +132,7 @@ dealing_is_not_the_fault fault =
     let same : good.0 ≡ 17 = decimal_injective good.0 17 good.1.bounded (omega arith) (sym good.1.spelled) in
     omega (arith, same, good.2.1)
 
--- what doesn't stand has its default
+-- a missing option has its default
 abbrev pub defaults : Settings
 defaults = record {
   shards = 4;
@@ -180,7 +180,7 @@ defaults_are_within_their_limits = record {
 pub too_many_shards : AreLimitedSettings (record defaults { shards = 17 }) → ⊥
 too_many_shards limited = omega (arith, limited.few_shards)
 
--- a hundredth of the weight can't hide in tables of 512, and 117,647 parts per million can in tables of 17
+-- tables of 512 can't hide a prefix of a hundredth of the total; tables of 17 can hide one of 117,647 parts per million
 pub defaults_are_wide : AreWideSettings defaults
 defaults_are_wide = omega arith
 
@@ -302,7 +302,7 @@ unfolding digits
 more_than_a_million_frames_are_outside =
     (1000001, record { spelled = refl; bounded = omega arith }, inr (omega arith))
 
--- the positionals are good, and nothing else is said
+-- the positionals are good, and nothing else is given
 pub traffic_is_good : AreGoodValues (setting_values_in command.Make traffic_arguments)
 unfolding digits
 traffic_is_good Seed = (7, record { spelled = refl; bounded = omega arith }, (omega arith, omega arith))

@@ -1,4 +1,4 @@
--- Worked examples of whole command lines: what they ask, or what is wrong with them.
+-- Worked examples of whole command lines: what they ask for, or what is wrong with them.
 use Rattle.std.proofs.Common.{◌≡◌, ◌≢◌, ◌<◌, ℕ, zero, suc, List, [], ◌∷◌, length, inl, inr, refl, sym, subst, codes}
 use Rattle.std.proofs.Common.{true}
 use Rattle.std.proofs.Common.{arith}
@@ -217,7 +217,7 @@ words_of_format = record {
 abbrev small_store : Settings
 small_store = record defaults { capacity = 2; store = true }
 
--- tables of 2 are too small for the default share, which matters to no store
+-- tables of 2 are too small for the default share, which `format` doesn't check
 pub asks_for_a_store : WordsAskToFormat (codes "format" ∷ store_words) small_store
 unfolding digits
 asks_for_a_store = record {

@@ -1,4 +1,4 @@
--- The first word of a command line, and what stands behind it.
+-- The first word of a command line, and the words after it.
 use Rattle.std.proofs.Common.{◌≡◌, ◌≢◌, ◌↔◌, Bool, List, ◌∷◌, Bor, Err, Result, ap, ◌∙◌, subst}
 use Rattle.clap.specs.declared.parser.matches.ArgMatches.{ArgMatches}
 use Rattle.std.specs.Bool.{IsTrue}
@@ -13,26 +13,26 @@ use Rattle.command_words.specs.declared.words_kind.WordsKind.TheVariants.{Unknow
 use Rattle.command_words.specs.declared.words_kind.WordsRefusal.{WordsRefusal}
 use Rattle.command_words.specs.declared.words_kind.WordsRefusal.TheVariants.{Bad}
 
--- words that begin with a command's word
+-- words that begin with a command's name
 first_word_begins_texts : (words : List (Bor ArgumentText)) (first : Bor ArgumentText) (others : List (Bor ArgumentText)) (word : CommandWord)
     → words ≡ first ∷ others → first.now ≡ form_word_of word
     → argument_texts words ≡ form_word_of word ∷ argument_texts others
 first_word_begins_texts words first others word are first_is = ap argument_texts are ∙ ap (λ text. text ∷ argument_texts others) first_is
 
--- a first word that is no command's is a fault
+-- a first word that is no command's name is a fault
 pub unknown_first_word_is_fault : (words : List (Bor ArgumentText)) (first : Bor ArgumentText) (others : List (Bor ArgumentText)) → words ≡ first ∷ others
     → ((word : CommandWord) → first.now ≢ form_word_of word)
     → HasWordsFault (argument_texts words) UnknownCommand
 unknown_first_word_is_fault words first others are no_command = (first.now, argument_texts others, ap argument_texts are, no_command)
 
--- what a test says of one form, it says of the same form
+-- what a test says of a form, it says of an equal form
 pub same_form_by_first_word : (test : Bool) (form other : ArgumentForm) (words : List ArgumentText) → form ≡ other
     → (IsTrue test ↔ ((arguments : List Argument) × AreWellFormedArguments form words arguments))
     → IsTrue test ↔ ((arguments : List Argument) × AreWellFormedArguments other words arguments)
 same_form_by_first_word test form other words same says =
     subst (λ f. IsTrue test ↔ ((arguments : List Argument) × AreWellFormedArguments f words arguments)) same says
 
--- words behind a command's word that are not well formed are a fault
+-- words after a command's name that are not well formed are a fault
 pub refused_behind_first_word : (words : List (Bor ArgumentText)) (first : Bor ArgumentText) (others : List (Bor ArgumentText)) (word : CommandWord)
     → words ≡ first ∷ others → first.now ≡ form_word_of word
     → ((arguments : List Argument) → AreWellFormedArguments (form_of word) (argument_texts others) arguments → ⊥)
@@ -40,7 +40,7 @@ pub refused_behind_first_word : (words : List (Bor ArgumentText)) (first : Bor A
 refused_behind_first_word words first others word are first_is no_form =
     (word, argument_texts others, first_word_begins_texts words first others word are first_is, no_form)
 
--- the matches of what stands behind a command's word tell the words
+-- the matches of the words after a command's name are those of the command line
 pub matches_behind_first_word : (words : List (Bor ArgumentText)) (first : Bor ArgumentText) (others : List (Bor ArgumentText)) (word : CommandWord)
     (matches : ArgMatches) → words ≡ first ∷ others → first.now ≡ form_word_of word
     → (arguments : List Argument) × AreWellFormedArguments (form_of word) (argument_texts others) arguments
@@ -56,7 +56,7 @@ matches_behind_first_word words first others word matches are first_is well tell
   told = tells well.0 well.1;
 }
 
--- what is told as bad is the fault that was found
+-- the fault that is reported is the one that was found
 pub first_word_fault_is_told : {T : Type 0} (words : List ArgumentText) (first kind : WordsKind) → HasWordsFault words first
     → Path (Result T WordsRefusal) (Err (Bad first)) (Err (Bad kind)) → HasWordsFault words kind
 first_word_fault_is_told {T} words first kind has same = subst (λ k. HasWordsFault words k) (same_kind first kind same) has

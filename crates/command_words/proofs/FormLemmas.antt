@@ -10,11 +10,11 @@ use Rattle.command_words.specs.Scanning.{scanned_option_name, FitsScannedRest}
 use Rattle.command_words.proofs.ArgumentTailLemmas.{argument_tail_follows, argument_tail_is_empty}
 use Rattle.prefix_lattice.proofs.ListLemmas.{AllPairs-list_head, AllPairs-list_tail}
 
--- the words spell so many positionals, and options of the form, none of them twice
+-- the words spell this many positionals, and options of the form, none of them twice
 abbrev pub FitForm : ArgumentForm → ℕ → List ArgumentText → Type 0
 FitForm form positionals words = (arguments : List Argument) × FitsScannedRest form positionals words arguments
 
--- no words fit where nothing is asked for
+-- an empty list of words fits if no positional is asked for
 pub empty_words_fit_form : (form : ArgumentForm) (positionals : ℕ) (words : List ArgumentText) → words ≡ [] → positionals ≡ 0
     → FitForm form positionals words
 empty_words_fit_form form positionals words none zero = (
@@ -27,7 +27,7 @@ empty_words_fit_form form positionals words none zero = (
   },
 )
 
--- words that begin with no argument fit only so
+-- if words that begin with no argument fit, there are none of them, and no positional is asked for
 pub form_fit_without_argument : (form : ArgumentForm) (positionals : ℕ) (words : List ArgumentText)
     → ((argument : Argument) (others : List ArgumentText) → BeginWithArgument words argument others → ⊥) → FitForm form positionals words
     → (words ≡ []) × (positionals ≡ 0)
@@ -35,7 +35,7 @@ form_fit_without_argument form positionals words never (arguments, fits) =
     let none = argument_tail_is_empty words arguments never fits.spelled in
     (subst (SpellAllArguments words) none fits.spelled, sym fits.as_many ∙ ap (λ list. length (positionals_in_arguments list)) none)
 
--- words with a positional at their front fit where those behind it fit with one positional less
+-- words with a positional at their front fit if a positional is asked for, and those after it fit with one less
 pub positional_fits_form : (form : ArgumentForm) (positionals : ℕ) (words others : List ArgumentText) (argument : Argument)
     → BeginWithArgument words argument others → None ≡ scanned_option_name argument → 0 < positionals
     → FitForm form (positionals - 1) others → FitForm form positionals words
@@ -50,7 +50,7 @@ positional_fits_form form positionals words others (positional text) begins is m
 )
 positional_fits_form form positionals words others (option name value) begins is more fits = cc
 
--- and only where they do
+-- and only if that is so
 pub form_fit_behind_positional : (form : ArgumentForm) (positionals : ℕ) (words others : List ArgumentText) (argument : Argument)
     → BeginWithArgument words argument others → None ≡ scanned_option_name argument
     → FitForm form positionals words → (0 < positionals) × FitForm form (positionals - 1) others
@@ -71,7 +71,7 @@ form_fit_behind_positional form positionals words others (positional text) begin
       ),
     )
 
--- words with an option at their front fit where the form knows it, those behind it fit, and it doesn't stand among them
+-- words with an option at their front fit if the form knows it, those after it fit, and it is missing among them
 pub option_fits_form : (form : ArgumentForm) (positionals : ℕ) (words others : List ArgumentText) (argument : Argument) (name : ArgumentText)
     → BeginWithArgument words argument others → Some name ≡ scanned_option_name argument
     → Contains form.options name
@@ -95,14 +95,14 @@ option_fits_form form positionals words others (option first value) name begins 
       },
     )
 
--- the form knows a name, and the arguments that fit behind it don't have it
+-- the form knows a name, and the words after the option spell arguments that fit and don't have it
 pub record FitsFormBehindOption (form : ArgumentForm) (positionals : ℕ) (others : List ArgumentText) (name : ArgumentText) : Type 0 where
   pub known : Contains form.options name
   pub rest : List Argument
   pub fits : FitsScannedRest form positionals others rest
   pub apart : Contains (names_in_arguments rest) name → ⊥
 
--- words with an option at their front fit only so
+-- words with an option at their front fit only if that is so
 pub form_fit_behind_option : (form : ArgumentForm) (positionals : ℕ) (words others : List ArgumentText) (argument : Argument) (name : ArgumentText)
     → BeginWithArgument words argument others → Some name ≡ scanned_option_name argument
     → FitForm form positionals words → FitsFormBehindOption form positionals others name

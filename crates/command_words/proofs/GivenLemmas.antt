@@ -97,7 +97,7 @@ settings_given word arguments settings lacks of_form set = record {
   settings_set = set;
 }
 
--- the settings where nothing is set
+-- the settings if nothing is set
 abbrev pub default_given_settings : Settings
 default_given_settings = record {
   shards = 4;
@@ -143,7 +143,7 @@ given_sets : (at : Opt) (default : ℕ) (told : Option ArgumentText) (value : �
 given_sets at default None value gives = absurd gives
 given_sets at default (Some text) value gives = gives
 
--- traffic that is given, beside settings that are set
+-- traffic that is given, with settings that are set
 pub traffic_given : (values : SettingValues) (path : Option ArgumentText) (seed frames : ℕ) (settings : Settings)
     → GivesTrafficSettings values seed frames → SetsSettings values path settings
     → SetsGiven values path (record { seed = seed; frames = frames; settings = settings })

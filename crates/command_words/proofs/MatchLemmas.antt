@@ -1,4 +1,4 @@
--- What `clap` tells of words is what the words say.
+-- What `clap` finds in words is what the words say.
 use Rattle.std.proofs.Common.{◌≡◌, ◌<◌, ◌≤◌, ℕ, zero, suc, List, [], ◌∷◌, length, Option, Some, None, Bor, refl, sym}
 use Rattle.std.proofs.Common.{ap}
 use Rattle.std.proofs.Common.{ap₂, ◌∙◌, subst, arith, codes, slice_index_or}
@@ -30,12 +30,12 @@ use Rattle.command_words.specs.declared.words_kind.WordsKind.{WordsKind}
 use Rattle.command_words.specs.declared.words_kind.WordsKind.TheVariants.{BadNumber, OutOfLimits, BadChoice, Bound}
 use Rattle.command_words.specs.declared.opt.Opt.TheVariants as opt
 
--- the byte that a name begins with: what a positional is for begins with a capital letter, which is at most 90
+-- the first byte of a name; the name of a positional begins with a capital letter, which is at most 90
 abbrev pub match_name_first_byte : ArgumentText → ℕ
 match_name_first_byte [] = 0
 match_name_first_byte (first ∷ rest) = first
 
--- a name that begins with a small letter is none of two that don't
+-- a name that begins with a lower-case letter is neither of two names that don't
 small_match_name_is_neither : (one two name : ArgumentText) → 90 < match_name_first_byte name → Contains (one ∷ two ∷ []) name → match_name_first_byte one ≤ 90
     → match_name_first_byte two ≤ 90 → ⊥
 small_match_name_is_neither one two name small has large other = go has.0 has.1 has.2
@@ -45,7 +45,7 @@ small_match_name_is_neither one two name small has large other = go has.0 has.1 
     go (suc zero) below same = omega (arith, ap match_name_first_byte same, other, small)
     go (suc (suc place)) below same = omega arith
 
--- a name that begins with a small letter is not that of a positional
+-- a name that begins with a lower-case letter is not that of a positional
 match_name_is_no_positional : (word : CommandWord) (name : ArgumentText) → 90 < match_name_first_byte name → Contains (form_of word).positionals name → ⊥
 match_name_is_no_positional Weigh name small has = small_match_name_is_neither (codes "SRC") (codes "DST") name small has (omega arith) (omega arith)
 match_name_is_no_positional Report name small has = omega (arith, has.1)
@@ -54,25 +54,25 @@ match_name_is_no_positional Audit name small has = omega (arith, has.1)
 match_name_is_no_positional Make name small has = small_match_name_is_neither (codes "SEED") (codes "FRAMES") name small has (omega arith) (omega arith)
 match_name_is_no_positional Demo name small has = small_match_name_is_neither (codes "SEED") (codes "FRAMES") name small has (omega arith) (omega arith)
 
--- the values that are told are those of the arguments
+-- the values that matches hold are those of the arguments
 pub matches_tell_values : (word : CommandWord) (arguments : List Argument) (matches : ArgMatches)
     → AreMatchesOf (form_of word) arguments matches → values_in_matches matches ≡ setting_values_in word arguments
 matches_tell_values word arguments matches told = fun_ext (λ at. told.by_name (option_name_of at))
 
--- if they are good, those of the arguments are
+-- if they are good, so are those of the arguments
 pub matches_tell_good_values : (word : CommandWord) (arguments : List Argument) (matches : ArgMatches)
     → AreMatchesOf (form_of word) arguments matches → AreGoodValues (values_in_matches matches)
     → AreGoodValues (setting_values_in word arguments)
 matches_tell_good_values word arguments matches told good =
     subst (λ values. AreGoodValues values) (matches_tell_values word arguments matches told) good
 
--- what is told of a path is what the arguments give
+-- the path that matches hold is the one that the arguments give
 pub matches_tell_path : (word : CommandWord) (arguments : List Argument) (matches : ArgMatches) (name : ArgumentText)
     → AreMatchesOf (form_of word) arguments matches → 90 < match_name_first_byte name
     → first_value (found_of matches) name ≡ argument_value_of name arguments
 matches_tell_path word arguments matches name told small = told.options name (match_name_is_no_positional word name small)
 
--- the text that is told of a path is the one that the arguments name
+-- the text for a path that is read from matches is the one that the arguments name
 pub matches_tell_named_path : (word : CommandWord) (arguments : List Argument) (matches : ArgMatches)
     (name default text : ArgumentText) → AreMatchesOf (form_of word) arguments matches → 90 < match_name_first_byte name
     → (Contains (form_of word).options name → text ≡ unwrap_or (first_value (found_of matches) name) default)
@@ -83,7 +83,7 @@ matches_tell_named_path word arguments matches name default text told small give
   absent = absent;
 }
 
--- settings that are told are those of the arguments
+-- settings that are read from matches are those of the arguments
 pub matches_tell_settings : (word : CommandWord) (arguments : List Argument) (matches : ArgMatches) (settings : Settings)
     → AreMatchesOf (form_of word) arguments matches
     → SetsSettings (values_in_matches matches) (store_in_matches matches) settings
@@ -94,7 +94,7 @@ matches_tell_settings word arguments matches settings told set =
     (subst (λ values. SetsSettings values (store_in_matches matches) settings)
     (matches_tell_values word arguments matches told) set)
 
--- a value that is bad among those that are told is what is wrong with the words
+-- the first fault of the values that matches hold is the fault of the words, if their positionals are good
 pub matches_tell_fault : (words : List ArgumentText) (word : CommandWord) (matches : ArgMatches)
     (tells : AreMatchesOfWords words word matches) (kind : WordsKind) → CommandHasGoodPositionals word tells.arguments
     → HasValueFault (values_in_matches matches) kind → HasWordsFault words kind
@@ -125,7 +125,7 @@ matches_tell_fault words word matches tells kind good has =
     }
     go _ fault = absurd fault
 
--- settings that are told to be too narrow are what is wrong with the words
+-- if matches give settings whose tables are too small for their share, that is the fault of the words
 pub matches_tell_narrow_settings : (words : List ArgumentText) (word : CommandWord) (matches : ArgMatches)
     (tells : AreMatchesOfWords words word matches) (settings : Settings) (kind : WordsKind) → IsBoundedCommand word
     → AreGoodValues (values_in_matches matches)
@@ -143,7 +143,7 @@ matches_tell_narrow_settings words word matches tells settings kind bounded good
       narrow = narrow;
     }
 
--- two positionals, and that they are told by their names
+-- two positionals, which matches hold by their names
 pub record MatchesTellTwo (arguments : List Argument) (matches : ArgMatches) (one two : ArgumentText) : Type 0 where
   pub first : ArgumentText
   pub second : ArgumentText
@@ -151,7 +151,7 @@ pub record MatchesTellTwo (arguments : List Argument) (matches : ArgMatches) (on
   pub first_told : first_value (found_of matches) one ≡ Some first
   pub second_told : first_value (found_of matches) two ≡ Some second
 
--- the positionals of a form that has two are told
+-- matches hold both positionals of a form that has two
 matches_tell_two_positionals : (form : ArgumentForm) (arguments : List Argument) (matches : ArgMatches) (one two : ArgumentText)
     → form.positionals ≡ one ∷ two ∷ [] → length (positionals_in_arguments arguments) ≡ 2
     → AreMatchesOf form arguments matches → MatchesTellTwo arguments matches one two
@@ -170,7 +170,7 @@ matches_tell_two_positionals form arguments matches one two has many told = go (
     }
     go (first ∷ second ∷ other ∷ more) are many = absurd (omega arith)
 
--- both sides of `weigh` are told
+-- matches hold both sides of `weigh`
 pub matches_tell_sides : (arguments : List Argument) (matches : ArgMatches) → length (positionals_in_arguments arguments) ≡ 2
     → AreMatchesOf (form_of Weigh) arguments matches → MatchesTellTwo arguments matches (codes "SRC") (codes "DST")
 matches_tell_sides arguments matches two told =
@@ -182,7 +182,7 @@ match_sets_given_number : (at : Opt) (default : ℕ) (told : Option ArgumentText
 match_sets_given_number at default None text value is set = cc
 match_sets_given_number at default (Some other) text value is set = set
 
--- what is told of made traffic is what the arguments give
+-- the traffic that is read from matches is what the arguments give
 matches_tell_traffic : (word : CommandWord) (arguments : List Argument) (matches : ArgMatches) (given : Given)
     → (form_of word).positionals ≡ codes "SEED" ∷ codes "FRAMES" ∷ [] → length (positionals_in_arguments arguments) ≡ 2
     → AreMatchesOf (form_of word) arguments matches
@@ -195,7 +195,7 @@ matches_tell_traffic word arguments matches given has many told sets =
       frames_given = match_sets_given_number opt.Frames 1 _ two.second given.frames two.second_told sets.frames_set;
     }
 
--- so words ask for it, behind `make`
+-- so the words of `make` ask for it
 pub matches_tell_make : (words : List ArgumentText) (matches : ArgMatches) (tells : AreMatchesOfWords words Make matches)
     (given : Given) → SetsGiven (values_in_matches matches) (store_in_matches matches) given
     → WordsAskToMake words given.seed given.frames
@@ -206,7 +206,7 @@ matches_tell_make words matches tells given sets = record {
       matches_tell_traffic Make tells.arguments matches given refl tells.are_words.well_formed.of_form.as_many tells.told sets;
 }
 
--- and for a demo of it, behind `demo`
+-- and those of `demo` ask for a demo of it
 pub matches_tell_demo : (words : List ArgumentText) (matches : ArgMatches) (tells : AreMatchesOfWords words Demo matches)
     (given : Given) → SetsGiven (values_in_matches matches) (store_in_matches matches) given
     → AreWideSettings given.settings → WordsAskToDemo words given.seed given.frames given.settings
@@ -219,13 +219,13 @@ matches_tell_demo words matches tells given sets wide = record {
   wide = wide;
 }
 
--- a text that is told is found
+-- a text that matches hold is found
 pub match_told_is_found : (found : Option (Bor ArgumentText)) (told : Option ArgumentText) (text : ArgumentText) → scanned_text_at found ≡ told
     → told ≡ Some text → IsSome found
 match_told_is_found None told text is told_is = cc
 match_told_is_found (Some word) told text is told_is = refl
 
--- what is found is the text that is told
+-- what is found is the text that matches hold
 match_found_is_told : (found : Option (Bor ArgumentText)) (told : Option ArgumentText) (text : ArgumentText) (word : Bor ArgumentText)
     → scanned_text_at found ≡ told → told ≡ Some text → found ≡ Some word → word.now ≡ text
 match_found_is_told found told text word is told_is found_is =
@@ -234,7 +234,7 @@ match_found_is_told found told text word is told_is found_is =
     same_some : (text other : ArgumentText) → Path (Option ArgumentText) (Some text) (Some other) → text ≡ other
     same_some text other same = cc
 
--- what is found behind `weigh` is its sides
+-- what is found for SRC and DST are the sides of `weigh`
 pub matches_found_are_sides : (words : List ArgumentText) (matches : ArgMatches) (tells : AreMatchesOfWords words Weigh matches)
     (found_source found_dest : Option (Bor ArgumentText)) (source dest : Bor ArgumentText)
     → scanned_text_at found_source ≡ first_value (found_of matches) (codes "SRC")

@@ -21,7 +21,7 @@ match_row_name_is_same text = (bytes_eq-Decides text text).1 refl
 pub match_row_name_is_other : (text other : ArgumentText) → text ≢ other → bytes_eq text other ≡ false
 match_row_name_is_other text other apart = false_from_ne_true _ (λ same. apart ((bytes_eq-Decides text other).0 same))
 
--- what holds of each text holds of the one at a place
+-- what holds for each text holds for the one at an index
 pub match_row_name_at_place : (P : ArgumentText → Type 0) (place : ℕ) (name : ArgumentText) (texts : List ArgumentText) → slice_get texts place ≡ Some name
     → All P texts → P name
 match_row_name_at_place P place name [] at all = let wrong : ⊥ = cc in absurd wrong
@@ -47,7 +47,7 @@ match_row_is_found_behind : (name id value : ArgumentText) (rows : List Row) →
     → first_of name (match_row id value ∷ rows) ≡ first_of name rows
 match_row_is_found_behind name id value rows apart = rw (match_row_name_is_other id name apart) refl
 
--- what is found first among rows is what is found first among arguments, if it is so behind the first of them
+-- rows and arguments give a name the same value, if those after the first row and the first argument do
 match_row_named_behind : (name other value : ArgumentText) (rows : List Row) (arguments : List Argument)
     → first_of name rows ≡ argument_value_of name arguments
     → first_of name (match_row other value ∷ rows) ≡ argument_value_of name (option other value ∷ arguments)
@@ -68,7 +68,7 @@ match_rows_give_named_value name (id ∷ ids) (positional text ∷ arguments) =
 match_rows_give_named_value name ids (option other value ∷ arguments) =
     match_row_named_behind name other value (match_rows_of ids arguments) (named_arguments ids arguments) (match_rows_give_named_value name ids arguments)
 
--- a name of an option gives its value
+-- the name of an option gives its value
 pub match_rows_give_option : (name : ArgumentText) (ids : List ArgumentText) (arguments : List Argument) → All (λ id. id ≢ name) ids
     → first_of name (match_rows_of ids arguments) ≡ argument_value_of name arguments
 match_rows_give_option name ids [] apart = refl
@@ -79,7 +79,7 @@ match_rows_give_option name (id ∷ ids) (positional text ∷ arguments) apart =
 match_rows_give_option name ids (option other value ∷ arguments) apart =
     match_row_named_behind name other value (match_rows_of ids arguments) arguments (match_rows_give_option name ids arguments apart)
 
--- a name of a positional gives the one in its place
+-- the name of a positional gives the positional at the same index
 pub match_rows_give_positional : (place : ℕ) (name : ArgumentText) (ids : List ArgumentText) (arguments : List Argument)
     → slice_get ids place ≡ Some name → AllPairs (λ a b. a ≢ b) ids
     → All (λ other. other ≢ name) (names_in_arguments arguments)

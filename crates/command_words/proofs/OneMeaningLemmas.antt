@@ -1,4 +1,4 @@
--- Words ask for one command at most, or have one fault at most, and never both.
+-- Words ask for at most one command, or have at most one fault, and never both.
 use Rattle.std.proofs.Common.{◌≡◌, ◌≢◌, ◌⊎◌, inl, inr, ◌==◌, cond, Option, List, [], ◌∷◌, Ok}
 use Rattle.std.proofs.Common.{Err}
 use Rattle.std.proofs.Common.{Result, refl, sym, ap, ap₂, ◌∙◌, subst}
@@ -35,7 +35,7 @@ use Rattle.command_words.proofs.OneValueFaultLemmas.{one_value_fault, no_value_f
 use Rattle.command_words.proofs.OneValueFaultLemmas.{values_give_one_thing}
 use Rattle.command_words.specs.declared.command.Command.TheVariants as command
 
--- what the texts of a prefix mean is told once
+-- the texts of a prefix have at most one meaning: a prefix or a fault
 pub record PrefixHasOneMeaning : Type 0 where
   pub one_prefix : (source dest : ArgumentText) (prefix other : PrefixValue) → SpellsPrefix source dest prefix
       → SpellsPrefix source dest other → prefix ≡ other
@@ -44,11 +44,11 @@ pub record PrefixHasOneMeaning : Type 0 where
   pub one_fault : (source dest : ArgumentText) (fault other : PrefixFault) → HasPrefixTextFault source dest fault
       → HasPrefixTextFault source dest other → fault ≡ other
 
--- what words come to: a command that they ask for, or a fault
+-- what words mean: a command that they ask for, or a fault
 abbrev MeaningOfWords : Type 0
 MeaningOfWords = Result Command WordsKind
 
--- the command whose word begins with a byte
+-- the command whose name begins with the first byte of a text, `report` if no other does
 abbrev meaning_by_command_word : ArgumentText → CommandWord
 meaning_by_command_word [] = Report
 meaning_by_command_word (first ∷ rest) =
@@ -63,11 +63,11 @@ meaning_by_command_word-own Audit = refl
 meaning_by_command_word-own Make = refl
 meaning_by_command_word-own Demo = refl
 
--- commands of one word are one command
+-- commands of the same name are the same command
 command_word_has_one_meaning : (word other : CommandWord) → form_word_of word ≡ form_word_of other → word ≡ other
 command_word_has_one_meaning word other same = sym (meaning_by_command_word-own word) ∙ ap meaning_by_command_word same ∙ meaning_by_command_word-own other
 
--- the words of two commands' words are of one command, and spell the same arguments
+-- words are those of at most one command, and spell at most one list of arguments
 command_line_has_one_meaning : (words : List ArgumentText) (word other : CommandWord) (arguments more : List Argument)
     → AreFormWords words word arguments → AreFormWords words other more
     → (word ≡ other) × (arguments ≡ more)
@@ -78,12 +78,12 @@ command_line_has_one_meaning words word other arguments more one two =
           (subst (λ behind. SpellAllArguments behind more) (sym (one_reading_of_rest _ _ _ _ same)) two.well_formed.spelled),
     )
 
--- what values and the path of a store come to: what they give, or the first fault of the values
+-- what values and the path of a store mean: what they give, or the first fault of the values
 abbrev IsOneMeaningOfValues : SettingValues → Option ArgumentText → Result Given WordsKind → Type 0
 IsOneMeaningOfValues values path (Ok given) = SetsGiven values path given
 IsOneMeaningOfValues values path (Err kind) = HasValueFault values kind
 
--- values come to one thing
+-- values have one meaning
 values_have_one_meaning : (values : SettingValues) (path : Option ArgumentText) (read other : Result Given WordsKind)
     → IsOneMeaningOfValues values path read → IsOneMeaningOfValues values path other → read ≡ other
 values_have_one_meaning values path (Ok given) (Ok other) one two = ap Ok (values_give_one_thing values path given other one two)
@@ -93,7 +93,7 @@ values_have_one_meaning values path (Err kind) (Ok given) one two =
     absurd (no_value_fault values kind (given_values_have_no_fault values path given two) one)
 values_have_one_meaning values path (Err kind) (Err other) one two = ap Err (one_value_fault values kind other one two)
 
--- what the values of a command's arguments come to
+-- what the values of a command's arguments mean
 abbrev IsMeaningOfCommandValues : CommandWord → List Argument → Result Given WordsKind → Type 0
 IsMeaningOfCommandValues word arguments read = IsOneMeaningOfValues (setting_values_in word arguments) (store_setting_in arguments) read
 
@@ -102,12 +102,12 @@ one_meaning_of_argument_values : (word : CommandWord) (arguments : List Argument
 one_meaning_of_argument_values word arguments read other one two =
     values_have_one_meaning (setting_values_in word arguments) (store_setting_in arguments) read other one two
 
--- what a command comes to, once its values are read, if nothing else is tested
+-- what a command means, once its values are read, if nothing else is checked
 abbrev command_meaning_of_values : (Given → Command) → Result Given WordsKind → MeaningOfWords
 command_meaning_of_values asked (Ok given) = Ok (asked given)
 command_meaning_of_values asked (Err kind) = Err kind
 
--- the command that is asked for by what is given
+-- the command that the given values ask for
 abbrev weigh_command_meaning : PrefixValue → Given → Command
 weigh_command_meaning prefix given = command.Weigh prefix given.settings
 
@@ -126,7 +126,7 @@ make_command_meaning given = command.Make given.seed given.frames
 abbrev demo_command_meaning : Given → Command
 demo_command_meaning given = command.Demo given.seed given.frames given.settings
 
--- what the arguments of `weigh` come to
+-- what the arguments of `weigh` mean
 data WeighHasMeaning (arguments : List Argument) (outcome : MeaningOfWords) : Type 0 where
   badly : (source dest : ArgumentText) (fault : PrefixFault) → CommandHasSides arguments source dest
       → HasPrefixTextFault source dest fault → outcome ≡ Err (BadPrefix fault)
@@ -136,7 +136,7 @@ data WeighHasMeaning (arguments : List Argument) (outcome : MeaningOfWords) : Ty
       → IsMeaningOfCommandValues Weigh arguments read → outcome ≡ command_meaning_of_values (weigh_command_meaning prefix) read
       → WeighHasMeaning arguments outcome
 
--- what is said of the two sides is said of the same two texts
+-- what holds for the two sides holds for the same two texts
 meaning_of_same_sides : (P : ArgumentText → ArgumentText → Type 0) (arguments : List Argument) (source dest other more : ArgumentText)
     → CommandHasSides arguments source dest → CommandHasSides arguments other more
     → P other more → P source dest
@@ -145,7 +145,7 @@ meaning_of_same_sides P arguments source dest other more one two holds =
     subst (λ s. P s dest) (sym (one_reading_of_head _ _ _ _ same))
     (subst (λ d. P other d) (sym (one_reading_of_head _ _ _ _ (one_reading_of_rest _ _ _ _ same))) holds)
 
--- the arguments of `weigh` come to one thing
+-- the arguments of `weigh` have one meaning
 weigh_has_one_meaning : PrefixHasOneMeaning → (arguments : List Argument) (outcome other : MeaningOfWords)
     → WeighHasMeaning arguments outcome → WeighHasMeaning arguments other → outcome ≡ other
 weigh_has_one_meaning reading arguments outcome other (badly source dest fault sides has is)
@@ -170,7 +170,7 @@ weigh_has_one_meaning reading arguments outcome other (well source dest prefix r
     is ∙ ap₂ (λ p r. command_meaning_of_values (weigh_command_meaning p) r) same (one_meaning_of_argument_values Weigh arguments read read' told told')
     ∙ sym is'
 
--- what a command whose share is bounded comes to, once its values are read
+-- what a command whose share is bounded means, once its values are read
 abbrev IsBoundedMeaning : (Given → Command) → Result Given WordsKind → MeaningOfWords → Type 0
 IsBoundedMeaning asked (Ok given) outcome =
     (AreWideSettings given.settings × (outcome ≡ Ok (asked given)))
@@ -185,7 +185,7 @@ bounded_meaning_is_one asked (Ok given) outcome other (inr one) (inl two) = absu
 bounded_meaning_is_one asked (Ok given) outcome other (inr one) (inr two) = one.1 ∙ sym two.1
 bounded_meaning_is_one asked (Err kind) outcome other one two = one ∙ sym two
 
--- what the arguments of a command come to, if its share is bounded
+-- what the arguments of a command mean, if its share is bounded
 record BoundedHasMeaning (word : CommandWord) (asked : Given → Command) (arguments : List Argument) (outcome : MeaningOfWords)
     : Type 0 where
   read : Result Given WordsKind
@@ -200,7 +200,7 @@ bounded_has_one_meaning word asked arguments outcome other one two =
     (subst (λ read. IsBoundedMeaning asked read other)
     (sym (one_meaning_of_argument_values word arguments one.read two.read one.told two.told)) two.comes_to)
 
--- what the arguments of a command come to, if nothing but its values is tested
+-- what the arguments of a command mean, if only its values are checked
 record UnboundedHasMeaning (word : CommandWord) (asked : Given → Command) (arguments : List Argument) (outcome : MeaningOfWords)
     : Type 0 where
   read : Result Given WordsKind
@@ -214,7 +214,7 @@ unbounded_has_one_meaning word asked arguments outcome other one two =
     one.comes_to ∙ ap (command_meaning_of_values asked) (one_meaning_of_argument_values word arguments one.read two.read one.told two.told)
     ∙ sym two.comes_to
 
--- what the arguments of a command come to
+-- what the arguments of a command mean
 abbrev ArgumentsHaveMeaning : CommandWord → List Argument → MeaningOfWords → Type 0
 ArgumentsHaveMeaning Weigh arguments outcome = WeighHasMeaning arguments outcome
 ArgumentsHaveMeaning Report arguments outcome = BoundedHasMeaning Report report_command_meaning arguments outcome
@@ -239,7 +239,7 @@ arguments_have_one_meaning reading Make arguments outcome other one two =
 arguments_have_one_meaning reading Demo arguments outcome other one two =
     bounded_has_one_meaning Demo demo_command_meaning arguments outcome other one two
 
--- what words come to, by the first thing that settles it
+-- what words mean, by the first test that decides it
 data WordsHaveMeaning (words : List ArgumentText) (outcome : MeaningOfWords) : Type 0 where
   nothing : words ≡ [] → outcome ≡ Err NoCommand → WordsHaveMeaning words outcome
   unknown : (first : ArgumentText) (behind : List ArgumentText) → words ≡ first ∷ behind
@@ -250,17 +250,17 @@ data WordsHaveMeaning (words : List ArgumentText) (outcome : MeaningOfWords) : T
   told : (word : CommandWord) (arguments : List Argument) → AreFormWords words word arguments
       → ArgumentsHaveMeaning word arguments outcome → WordsHaveMeaning words outcome
 
--- words with a first word are some
+-- words with a first word are not empty
 meaning_of_no_words_differs : (words : List ArgumentText) (first : ArgumentText) (behind : List ArgumentText) → words ≡ [] → words ≡ first ∷ behind → ⊥
 meaning_of_no_words_differs words first behind none are = one_reading_of_empty_list _ _ (sym none ∙ are)
 
--- a word that is no command's is not the first
+-- if the first word is no command's name, words don't begin with a command's name
 unknown_word_has_no_meaning : (words : List ArgumentText) (first : ArgumentText) (behind others : List ArgumentText) (word : CommandWord)
     → words ≡ first ∷ behind → ((word : CommandWord) → first ≢ form_word_of word)
     → words ≡ form_word_of word ∷ others → ⊥
 unknown_word_has_no_meaning words first behind others word are is_no_word begun = is_no_word word (one_reading_of_head _ _ _ _ (sym are ∙ begun))
 
--- words that are refused are no command's
+-- words that are refused are not well-formed words of a command
 refused_words_lack_meaning : (words behind : List ArgumentText) (word other : CommandWord) (arguments : List Argument)
     → words ≡ form_word_of word ∷ behind
     → ((arguments : List Argument) → AreWellFormedArguments (form_of word) behind arguments → ⊥)
@@ -271,7 +271,7 @@ refused_words_lack_meaning words behind word other arguments begun is_refused ar
     (subst (λ w. AreWellFormedArguments (form_of w) behind arguments) (command_word_has_one_meaning other word (one_reading_of_head _ _ _ _ same))
     (subst (λ b. AreWellFormedArguments (form_of other) b arguments) (one_reading_of_rest _ _ _ _ same) are_words.well_formed))
 
--- words come to one thing
+-- words have one meaning
 words_have_one_meaning : PrefixHasOneMeaning → (words : List ArgumentText) (outcome other : MeaningOfWords) → WordsHaveMeaning words outcome
     → WordsHaveMeaning words other
     → outcome ≡ other
@@ -314,7 +314,7 @@ words_have_one_meaning reading words outcome other (told word arguments are_word
     (subst (λ w. ArgumentsHaveMeaning w arguments other) (sym same.0)
     (subst (λ a. ArgumentsHaveMeaning word' a other) (sym same.1) tell'))
 
--- what words ask for is what they come to
+-- the command that words ask for is what they mean
 asked_command_is_meaning : (words : List ArgumentText) (asked : Command) → AskForCommand words asked → WordsHaveMeaning words (Ok asked)
 asked_command_is_meaning words (command.Weigh prefix settings) asks =
     told Weigh asks.arguments asks.are_words
@@ -366,7 +366,7 @@ asked_command_is_meaning words (command.Demo seed frames settings) asks =
       comes_to = inl (asks.wide, refl);
     }
 
--- a bad value is what arguments come to
+-- the first fault of the values is what arguments mean
 bad_value_is_argument_meaning : (word : CommandWord) (arguments : List Argument) (kind : WordsKind)
     → CommandHasGoodPositionals word arguments → HasValueFault (setting_values_in word arguments) kind
     → ArgumentsHaveMeaning word arguments (Err kind)
@@ -382,7 +382,7 @@ bad_value_is_meaning words kind has =
     told has.command has.arguments has.are_words
     (bad_value_is_argument_meaning has.command has.arguments kind has.positionals has.has_fault)
 
--- tables that are too small for the share are what the arguments of a bounded command come to
+-- that its tables are too small for its share is what the arguments of a bounded command mean
 narrow_is_bounded_meaning : (word : CommandWord) (asked : Given → Command) (arguments : List Argument) (settings : Settings)
     → AreGoodValues (setting_values_in word arguments) → SetsSettings (setting_values_in word arguments) (store_setting_in arguments) settings
     → (AreWideSettings settings → ⊥) → BoundedHasMeaning word asked arguments (Err Bound)
@@ -407,7 +407,7 @@ narrow_is_argument_meaning Make arguments settings bounded good set narrow = abs
 narrow_is_argument_meaning Demo arguments settings bounded good set narrow =
     narrow_is_bounded_meaning Demo demo_command_meaning arguments settings good set narrow
 
--- the fault of words is what they come to
+-- the fault of words is what they mean
 words_fault_is_meaning : (words : List ArgumentText) (kind : WordsKind) → HasWordsFault words kind → WordsHaveMeaning words (Err kind)
 words_fault_is_meaning words NoCommand has = nothing has refl
 words_fault_is_meaning words UnknownCommand has = unknown has.0 has.1 has.2 has.3 refl
@@ -421,7 +421,7 @@ words_fault_is_meaning words Bound has =
     told has.command has.arguments has.are_words
     (narrow_is_argument_meaning has.command has.arguments has.settings has.bounded has.good has.set has.narrow)
 
--- words ask for one command at most
+-- words ask for at most one command
 pub asked_meaning_is_one_command : PrefixHasOneMeaning → (words : List ArgumentText) (asked other : Command) → AskForCommand words asked
     → AskForCommand words other → asked ≡ other
 asked_meaning_is_one_command reading words asked other one two =
@@ -431,7 +431,7 @@ asked_meaning_is_one_command reading words asked other one two =
     same_ok : (asked other : Command) → Path MeaningOfWords (Ok asked) (Ok other) → asked ≡ other
     same_ok asked other same = cc
 
--- words that ask have no fault
+-- words that ask for a command have no fault
 pub asked_meaning_is_faultless : PrefixHasOneMeaning → (words : List ArgumentText) (asked : Command) (kind : WordsKind) → AskForCommand words asked
     → HasWordsFault words kind → ⊥
 asked_meaning_is_faultless reading words asked kind asks has =
@@ -441,7 +441,7 @@ asked_meaning_is_faultless reading words asked kind asks has =
     not_both : (asked : Command) (kind : WordsKind) → Path MeaningOfWords (Ok asked) (Err kind) → ⊥
     not_both asked kind same = cc
 
--- words have one fault at most
+-- words have at most one fault
 pub faulty_meaning_is_one_fault : PrefixHasOneMeaning → (words : List ArgumentText) (kind other : WordsKind) → HasWordsFault words kind
     → HasWordsFault words other → kind ≡ other
 faulty_meaning_is_one_fault reading words kind other one two =
@@ -451,7 +451,7 @@ faulty_meaning_is_one_fault reading words kind other one two =
     same_err : (kind other : WordsKind) → Path MeaningOfWords (Err kind) (Err other) → kind ≡ other
     same_err kind other same = cc
 
--- who reads words soundly, and answers, reads all that ask
+-- a sound reader reads all words that ask for a command, unless memory runs out
 pub asked_command_meaning_is_read : PrefixHasOneMeaning → (words : List ArgumentText) (read : Result Command WordsRefusal) → IfOk read (AskForCommand words)
     → ((kind : WordsKind) → read ≡ Err (Bad kind) → HasWordsFault words kind) → (asked : Command)
     → AskForCommand words asked → (read ≡ Ok asked) ⊎ (read ≡ Err OutOfMemory)
@@ -460,7 +460,7 @@ asked_command_meaning_is_read reading words (Err (Bad kind)) ok bad asked asks =
     absurd (asked_meaning_is_faultless reading words asked kind asks (bad kind refl))
 asked_command_meaning_is_read reading words (Err OutOfMemory) ok bad asked asks = inr refl
 
--- who accepts words soundly, and answers, accepts all that ask
+-- a sound reader accepts all words that ask for a command, unless memory runs out
 pub asked_command_meaning_is_accepted : {T : Type 0} → PrefixHasOneMeaning → (words : List ArgumentText) (read : Result T WordsRefusal)
     → ((kind : WordsKind) → read ≡ Err (Bad kind) → HasWordsFault words kind)
     → (asked : Command) → AskForCommand words asked → IsOk read ⊎ (read ≡ Err OutOfMemory)
@@ -469,7 +469,7 @@ asked_command_meaning_is_accepted reading words (Err (Bad kind)) bad asked asks 
     absurd (asked_meaning_is_faultless reading words asked kind asks (bad kind refl))
 asked_command_meaning_is_accepted reading words (Err OutOfMemory) bad asked asks = inr refl
 
--- who accepts words soundly, and tells faults, tells each fault
+-- a sound reader reports each fault of words, unless memory runs out
 pub faulty_meaning_is_always_told : {T : Type 0} → PrefixHasOneMeaning → (words : List ArgumentText) (read : Result T WordsRefusal)
     → IfOk read (λ _. (asked : Command) × AskForCommand words asked)
     → ((kind : WordsKind) → read ≡ Err (Bad kind) → HasWordsFault words kind) → (kind : WordsKind)

@@ -1,4 +1,4 @@
--- Words spell one list of arguments at most.
+-- Words spell at most one list of arguments.
 use Rattle.std.proofs.Common.{◌≡◌, ◌≢◌, ◌⊎◌, inl, inr, refl, sym, ap, ap₂, ◌∙◌, subst, ◌++◌, List, [], ◌∷◌}
 use Rattle.std.proofs.lemmas.List.Elements.{All-head, All-tail}
 use Rattle.command_words.specs.Arguments.{ArgumentText, Argument, positional, option, argument_hyphen}
@@ -17,7 +17,7 @@ one_reading_of_rest x y xs ys same = cc
 pub one_reading_of_empty_list : {A : Type 0} (x : A) (xs : List A) → Path (List A) [] (x ∷ xs) → ⊥
 one_reading_of_empty_list x xs same = cc
 
--- a name isn't what has an `=`
+-- a name has no `=`
 pub one_reading_of_name : (name other value : ArgumentText) → IsArgumentName name → name ≡ other ++ argument_equals_sign ∷ value → ⊥
 one_reading_of_name [] [] value is_name same = one_reading_of_empty_list _ _ same
 one_reading_of_name [] (x ∷ other) value is_name same = one_reading_of_empty_list _ _ same
@@ -26,7 +26,7 @@ one_reading_of_name (byte ∷ name) [] value is_name same =
 one_reading_of_name (byte ∷ name) (x ∷ other) value is_name same =
     one_reading_of_name name other value (All-tail (λ b. b ≢ argument_equals_sign) byte name is_name) (one_reading_of_rest _ _ _ _ same)
 
--- what stands before the first `=`, and what stands behind it, are told apart
+-- the text before the first `=`, and the text after it, are determined
 pub one_reading_of_equals_sign : (name other value more : ArgumentText) → IsArgumentName name → IsArgumentName other
     → name ++ argument_equals_sign ∷ value ≡ other ++ argument_equals_sign ∷ more → (name ≡ other) × (value ≡ more)
 one_reading_of_equals_sign [] [] value more is_name is_other same = (refl, one_reading_of_rest _ _ _ _ same)
@@ -40,7 +40,7 @@ one_reading_of_equals_sign (byte ∷ name) (x ∷ other) value more is_name is_o
     (All-tail (λ b. b ≢ argument_equals_sign) x other is_other) (one_reading_of_rest _ _ _ _ same) in
     (ap₂ (λ b bs. b ∷ bs) (one_reading_of_head _ _ _ _ same) behind.0, behind.1)
 
--- a value is no word that begins with a hyphen
+-- a value doesn't begin with a hyphen
 pub one_reading_of_value : (text rest : ArgumentText) → IsArgumentValue text → text ≡ argument_hyphen ∷ rest → ⊥
 one_reading_of_value [] rest is_value same = is_value
 one_reading_of_value (byte ∷ text) rest is_value same = is_value (one_reading_of_head _ _ _ _ same)
@@ -69,7 +69,7 @@ abbrev pub HaveOneOptionReading : List ArgumentText → ArgumentText → Argumen
 HaveOneOptionReading words name value others =
     (words ≡ long_argument name ∷ value ∷ others) ⊎ (words ≡ (long_argument name ++ argument_equals_sign ∷ value) ∷ others)
 
--- equal words have equal texts behind their hyphens
+-- equal words have equal texts after their hyphens
 pub one_reading_behind_hyphens : (text other : ArgumentText)
     → Path ArgumentText (argument_hyphen ∷ argument_hyphen ∷ text) (argument_hyphen ∷ argument_hyphen ∷ other)
     → text ≡ other
@@ -99,7 +99,7 @@ pub one_reading_by_option_form : (words front others : List ArgumentText) (name 
 one_reading_by_option_form words front others name value parted (inl one) = inl (one_reading_by_spelling words front others _ parted one)
 one_reading_by_option_form words front others name value parted (inr one) = inr (one_reading_by_spelling words front others _ parted one)
 
--- words begin with one argument at most, and leave the same words behind it
+-- words begin with at most one argument, and the words after it are determined
 pub one_reading_of_first_argument : (words others more : List ArgumentText) (argument other : Argument) → BeginWithArgument words argument others
     → BeginWithArgument words other more → (argument ≡ other) × (others ≡ more)
 one_reading_of_first_argument words others more (positional text) (positional other) one two =
@@ -118,7 +118,7 @@ one_reading_of_first_argument words others more (option name value) (option othe
     (one_reading_by_option_form words one.front others name value one.parted one.spelled.2)
     (one_reading_by_option_form words two.front more other worth two.parted two.spelled.2)
 
--- no words begin with an argument where there are none
+-- an empty list of words begins with no argument
 pub one_reading_of_no_words : (argument : Argument) (others : List ArgumentText) → BeginWithArgument [] argument others → ⊥
 one_reading_of_no_words (positional text) others begins =
     one_reading_of_empty_list _ _ (one_reading_by_spelling [] begins.front others _ begins.parted begins.spelled.1)
@@ -129,7 +129,7 @@ one_reading_of_no_words (option name value) others begins =
     go (inl one) = one_reading_of_empty_list _ _ one
     go (inr one) = one_reading_of_empty_list _ _ one
 
--- words spell one list of arguments at most
+-- words spell at most one list of arguments
 pub one_reading : (words : List ArgumentText) (arguments others : List Argument) → SpellAllArguments words arguments
     → SpellAllArguments words others → arguments ≡ others
 one_reading words [] [] one two = refl

@@ -1,4 +1,4 @@
--- Values set one thing at most, or have one first fault at most, and never both.
+-- Values set at most one thing, or have at most one first fault, and never both.
 use Rattle.std.proofs.Common.{◌≡◌, ◌<◌, ◌≤◌, ◌⊎◌, inl, inr, ℕ, Bool, Option, Some, None, refl, sym, ap, ◌∙◌, subst}
 use Rattle.std.proofs.Common.{arith}
 use Rattle.std.proofs.lemmas.Bool.{cases_lt}
@@ -25,12 +25,12 @@ use Rattle.frame_records.specs.declared.weigh.Weigh.TheVariants as weighing
 use Rattle.deal_rules.specs.declared.deal_kind.DealKind.TheVariants as dealing
 use Rattle.command_words.specs.declared.opt.Opt.TheVariants as opt
 
--- a text is one number at most
+-- a text is at most one number
 one_value_per_number_text : (text : ArgumentText) (value other : ℕ) → IsOptionNumber text value → IsOptionNumber text other → value ≡ other
 one_value_per_number_text text value other one two =
     decimal_injective value other one.bounded two.bounded (sym one.spelled ∙ two.spelled)
 
--- what a bad value is: it is no good one
+-- a value that is bad in this way is never good
 abbrev IsValueFault : (OptionKind → ArgumentText → Type 0) → Type 0
 IsValueFault IsBad = (kind : OptionKind) (text : ArgumentText) → IsGoodOptionText kind text → IsBad kind text → ⊥
 
@@ -48,21 +48,21 @@ outside_is_value_fault (number least greatest) text good bad = go (one_value_per
     go same (inr above) = omega (arith, good.2)
 outside_is_value_fault (choice words) text good bad = bad
 
--- a text that is none of the words is not good
+-- a text that is none of the choices is not good
 no_choice_is_value_fault : IsValueFault IsNoOptionChoice
 no_choice_is_value_fault (number least greatest) text good bad = bad
 no_choice_is_value_fault (choice words) text good bad = bad good
 
--- bad in two ways that can't both be
+-- no value is bad in both of these ways
 abbrev AreApartValueFaults : (OptionKind → ArgumentText → Type 0) → (OptionKind → ArgumentText → Type 0) → Type 0
 AreApartValueFaults IsBad IsWorse = (kind : OptionKind) (text : ArgumentText) → IsBad kind text → IsWorse kind text → ⊥
 
--- no number is outside the limits
+-- a text that is no number is not a number outside the limits
 value_fault_number_or_outside : AreApartValueFaults IsNoOptionNumber IsOutsideOptionLimits
 value_fault_number_or_outside (number least greatest) text bad worse = bad worse.0 worse.1
 value_fault_number_or_outside (choice words) text bad worse = bad
 
--- no option takes numbers and words
+-- no option takes both numbers and choices
 value_fault_number_or_choice : AreApartValueFaults IsNoOptionNumber IsNoOptionChoice
 value_fault_number_or_choice (number least greatest) text bad worse = worse
 value_fault_number_or_choice (choice words) text bad worse = bad
@@ -77,7 +77,7 @@ value_fault_is_not_good : (IsBad : OptionKind → ArgumentText → Type 0) (valu
 value_fault_is_not_good IsBad values opt is_no_good bad good =
     is_no_good (option_kind_of opt) bad.text (subst (λ told. IsGoodOption opt told) bad.value good) bad.is_bad
 
--- two first bad values are those of one option
+-- two first bad values are those of the same option
 value_faults_at_one_place : (IsBad IsWorse : OptionKind → ArgumentText → Type 0) (values : SettingValues) (opt other : Opt) → IsValueFault IsBad
     → IsValueFault IsWorse
     → IsFirstBadValue IsBad values opt → IsFirstBadValue IsWorse values other → opt ≡ other
@@ -91,7 +91,7 @@ value_faults_at_one_place IsBad IsWorse values opt other bad_no_good worse_no_go
         absurd (value_fault_is_not_good IsWorse values other worse_no_good worse (bad.before other before))
     go (inr after) (inr before) = value_check_tells_option opt other (omega arith)
 
--- one option's value is not bad in two ways that are apart
+-- an option's value is not bad in two ways that exclude each other
 value_fault_of_one_option : (IsBad IsWorse : OptionKind → ArgumentText → Type 0) (values : SettingValues) (opt : Opt) → AreApartValueFaults IsBad IsWorse
     → IsFirstBadValue IsBad values opt → IsFirstBadValue IsWorse values opt → ⊥
 value_fault_of_one_option IsBad IsWorse values opt apart bad worse =
@@ -102,7 +102,7 @@ value_fault_of_one_option IsBad IsWorse values opt apart bad worse =
     same_some : (text other : ArgumentText) → Path (Option ArgumentText) (Some text) (Some other) → text ≡ other
     same_some text other same = cc
 
--- values don't have two first faults that are apart
+-- values don't have two first faults that exclude each other
 value_faults_in_one_way : (IsBad IsWorse : OptionKind → ArgumentText → Type 0) (values : SettingValues) (opt other : Opt) → IsValueFault IsBad
     → IsValueFault IsWorse → AreApartValueFaults IsBad IsWorse
     → IsFirstBadValue IsBad values opt → IsFirstBadValue IsWorse values other → ⊥
@@ -111,7 +111,7 @@ value_faults_in_one_way IsBad IsWorse values opt other bad_no_good worse_no_good
     (subst (λ o. IsFirstBadValue IsWorse values o)
     (sym (value_faults_at_one_place IsBad IsWorse values opt other bad_no_good worse_no_good bad worse)) worse)
 
--- values have one first fault at most
+-- values have at most one first fault
 pub one_value_fault : (values : SettingValues) (kind other : WordsKind) → HasValueFault values kind
     → HasValueFault values other → kind ≡ other
 one_value_fault values (BadNumber at) (BadNumber place) one two =
@@ -175,7 +175,7 @@ no_value_fault values (OutOfLimits at) good has = value_fault_is_not_good IsOuts
 no_value_fault values (BadChoice at) good has = value_fault_is_not_good IsNoOptionChoice values at no_choice_is_value_fault has (good at)
 no_value_fault values _ good has = has
 
--- a value sets one number at most
+-- a value sets at most one number
 one_value_sets_one_number : (at : Opt) (default : ℕ) (told : Option ArgumentText) (value other : ℕ) → SetsNumberSetting at default told value
     → SetsNumberSetting at default told other → value ≡ other
 one_value_sets_one_number at default None value other one two = one ∙ sym two
@@ -205,7 +205,7 @@ one_value_sets_one_store : (path : Option ArgumentText) (store other : Bool) →
 one_value_sets_one_store None store other one two = one ∙ sym two
 one_value_sets_one_store (Some path) store other one two = one ∙ sym two
 
--- values set one thing at most
+-- values set at most one thing
 pub values_set_one_settings : (values : SettingValues) (path : Option ArgumentText) (settings other : Settings) → SetsSettings values path settings
     → SetsSettings values path other → settings ≡ other
 values_set_one_settings values path settings other one two =
@@ -226,7 +226,7 @@ values_set_one_settings values path settings other one two =
       store = one_value_sets_one_store path settings.store other.store one.store two.store i;
     }
 
--- values give one thing at most
+-- values give at most one thing
 pub values_give_one_thing : (values : SettingValues) (path : Option ArgumentText) (given other : Given) → SetsGiven values path given
     → SetsGiven values path other → given ≡ other
 values_give_one_thing values path given other one two =

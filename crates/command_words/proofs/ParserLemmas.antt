@@ -1,4 +1,4 @@
--- The parser of a command takes well-formed words, and tells their arguments.
+-- The parser of a command accepts well-formed words, and its matches hold their arguments.
 use Rattle.std.proofs.Common.{◌≡◌, ◌≢◌, ◌∙◌, ℕ, Bool, true, false, cond, List, [], ◌∷◌, None, Some, true≢false}
 use Rattle.std.proofs.Common.{eqb-true, length, refl, sym, ap, subst, codes, arith}
 use Rattle.std.specs.Prelude.{Contains, fold}
@@ -57,7 +57,7 @@ pub record ParserDemandsNothing (s : Shape) : Type 0 where
 
 module _ (s : Shape) (demands_nothing : ParserDemandsNothing s) (words : List ArgumentText) (position : ℕ) (rows : List Row)
     (reached : WalkReaches s (standing_walk nothing_held 1) words position rows) where
-  -- nothing comes to the rows at the end
+  -- no row is added at the end
   pub parser_reaches_rows : rows_after s.rules [] words ≡ rows
   parser_reaches_rows = rw reached.ends (parser_defaults_add_no_rows s.rules _ demands_nothing.empty ∙ reached.holds.rows_are)
 
@@ -93,7 +93,7 @@ parser_demands_nothing Demo = record { empty = refl; passes = refl; valid = λ r
 parser_texts_are_apart : (text other : ArgumentText) → bytes_eq text other ≡ false → text ≢ other
 parser_texts_are_apart text other differ same = true≢false (sym (match_row_name_is_same other) ∙ ap (λ t. bytes_eq t other) (sym same) ∙ differ)
 
--- what holds of each text holds of those that a list contains
+-- what holds for all texts of a list holds for each text that it contains
 parser_all_holds_of_each : (P : ArgumentText → Type 0) (texts : List ArgumentText) (name : ArgumentText) → All P texts → Contains texts name → P name
 parser_all_holds_of_each P texts name all within = subst P within.2 (all within.0 name within.1)
 
@@ -102,7 +102,7 @@ parser_knows_found_option : (s : Shape) (byte : ℕ) (name : ArgumentText) → a
     → arg_by_id s.rules (byte ∷ name) ≡ Some (parser_walk_option (byte ∷ name)) → WalkKnowsOption s (byte ∷ name)
 parser_knows_found_option s byte name met known = record { met = met; known = known; named = λ same. one_reading_of_empty_list byte name (sym same) }
 
--- each option and each positional of a command stands in its parser
+-- the parser of a command has each of its options, and its positionals in their order
 parser_knows_each_option : (command : CommandWord) → All (WalkKnowsOption (parser_shape command)) (form_of command).options
 parser_knows_each_option Weigh =
     let k = parser_knows_found_option (parser_shape Weigh) in
@@ -157,7 +157,7 @@ parser_has_positional_places Audit = tt
 parser_has_positional_places Make = (record { placed = refl; known = refl }, (record { placed = refl; known = refl }, tt))
 parser_has_positional_places Demo = (record { placed = refl; known = refl }, (record { placed = refl; known = refl }, tt))
 
--- a positional of `weigh` is none of its options
+-- a name that differs from both options of `weigh` is not that of an option
 no_option_of_weigh_parser : (id : ArgumentText) → bytes_eq id (codes "capture") ≡ false → bytes_eq id (codes "weigh") ≡ false
     → IsNoParserOptionName (form_of Weigh).options id
 no_option_of_weigh_parser id capture weigh name within =
@@ -165,7 +165,7 @@ no_option_of_weigh_parser id capture weigh name within =
     (All-from_recursion (λ other. id ≢ other) (form_of Weigh).options
     (parser_texts_are_apart id _ capture, (parser_texts_are_apart id _ weigh, tt))) within
 
--- nor is a positional of `demo` one of its
+-- nor is one that differs from all options of `demo`
 no_option_of_demo_parser : (id : ArgumentText) → bytes_eq id (codes "shards") ≡ false → bytes_eq id (codes "capacity") ≡ false
     → bytes_eq id (codes "phi") ≡ false → bytes_eq id (codes "deal") ≡ false
     → bytes_eq id (codes "block") ≡ false → bytes_eq id (codes "workers") ≡ false
@@ -206,7 +206,7 @@ two_parser_texts_are_apart one two differ = AllPairs-cons (λ a b. a ≢ b) one 
     (All-from_recursion (λ b. one ≢ b) (two ∷ []) (parser_texts_are_apart one two differ, tt))
     (AllPairs-cons (λ a b. a ≢ b) two [] (All-nil (λ b. two ≢ b)) empty_parser_texts_are_apart)
 
--- the positionals of a command have names of their own
+-- the positionals of a command have different names
 parser_positionals_are_apart : (command : CommandWord) → AllPairs (λ a b. a ≢ b) (form_of command).positionals
 parser_positionals_are_apart Weigh = two_parser_texts_are_apart (codes "SRC") (codes "DST") refl
 parser_positionals_are_apart Report = empty_parser_texts_are_apart
@@ -231,7 +231,7 @@ module _ (command : CommandWord) (words : List ArgumentText) (arguments : List A
       walk_reaches_all_arguments (parser_shape command) words arguments (form_of command).positionals 1 [] nothing_held
       well_formed.spelled fits (record { passes = refl; rows_are = refl })
 
--- the parser takes the words
+-- the parser accepts the words
 pub parser_takes_well_formed : (command : CommandWord) (words : List ArgumentText) (arguments : List Argument)
     → AreWellFormedArguments (form_of command) words arguments → takes (parser command) words ≡ true
 parser_takes_well_formed Weigh words arguments well_formed =
@@ -285,13 +285,13 @@ simple_parser Audit = refl
 simple_parser Make = refl
 simple_parser Demo = refl
 
--- ---- what the matches tell
+-- ---- what the matches hold
 
 parser_texts_all_differ : (texts : List ArgumentText) (name : ArgumentText) → (Contains texts name → ⊥) → All (λ text. text ≢ name) texts
 parser_texts_all_differ texts name never = λ place default within same.
     never (place, within, get_or_default texts place name default within ∙ same)
 
--- matches with the rows of arguments tell them
+-- matches with the rows of arguments hold the arguments
 pub parser_found_tells_arguments : (command : CommandWord) (arguments : List Argument) (matches : ArgMatches)
     → AreArgumentsOfForm (form_of command) arguments
     → rows_of (found_of matches) ≡ match_rows_of (form_of command).positionals arguments

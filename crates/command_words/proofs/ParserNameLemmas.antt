@@ -1,4 +1,4 @@
--- Arguments of a form stand in a parser that has what the form names.
+-- Arguments of a form fit a parser that has the options and positionals of the form.
 use Rattle.std.proofs.Common.{◌≡◌, ◌≢◌, ◌+◌, ◌++◌, ℕ, false, List, [], ◌∷◌, length, min, refl, sym, arith}
 use Rattle.std.specs.Prelude.{⊤, Contains}
 use Rattle.std.specs.List.{All, AllPairs}
@@ -14,7 +14,7 @@ use Rattle.prefix_lattice.proofs.ListLemmas.{AllPairs-list_head, AllPairs-list_t
 use Rattle.command_words.proofs.MatchRowLemmas.{match_row_name_is_other, match_row}
 use Rattle.command_words.proofs.ParserWalkLemmas.{FitParserWalk, WalkKnowsPositional, IsNewInWalk, WalkKnowsOption}
 
--- one more row is of no other name
+-- a name without a row has none after a row of another name is added
 parser_name_stays_new : (name id value : ArgumentText) (rows : List Row) → has_row name rows ≡ false → id ≢ name
     → has_row name (rows ++ match_row id value ∷ []) ≡ false
 parser_name_stays_new name id value [] none apart = or_from _ _ (match_row_name_is_other id name apart) refl
@@ -31,17 +31,17 @@ parser_names_stay_new : (id value : ArgumentText) (rows : List Row) (names : Lis
 parser_names_stay_new id value rows names none apart = λ place default within.
     parser_name_stays_new _ id value rows (none place default within) (apart place default within)
 
--- positionals stand in a parser from a place on
+-- a parser has these positionals, from a position on
 abbrev pub ParserPlacesNames : Shape → ℕ → List ArgumentText → Type 0
 ParserPlacesNames s position [] = ⊤
 ParserPlacesNames s position (id ∷ ids) = WalkKnowsPositional s position id × ParserPlacesNames s (min (position + 1) usize_max) ids
 
 module _ (options : List ArgumentText) where
-  -- a name is no option's
+  -- a name is not that of an option
   abbrev pub IsNoParserOptionName : ArgumentText → Type 0
   IsNoParserOptionName id = (name : ArgumentText) → Contains options name → id ≢ name
 
-  -- none of the names is an option's
+  -- none of the names is that of an option
   abbrev pub AreNoParserOptionNames : List ArgumentText → Type 0
   AreNoParserOptionNames ids = All IsNoParserOptionName ids
 
@@ -52,7 +52,7 @@ module _ (options : List ArgumentText) where
   known_parser_name_differs : (name : ArgumentText) (ids : List ArgumentText) → Contains options name → AreNoParserOptionNames ids → All (λ id. name ≢ id) ids
   known_parser_name_differs name ids known apart = λ place default within same. apart place default within name known (sym same)
 
-  -- arguments of a form, with rows before them that are none of theirs
+  -- arguments of a form fit the parser, if none of their names has a row yet
   pub arguments_fit_parser_names : (s : Shape) → ((name : ArgumentText) → Contains options name → WalkKnowsOption s name)
       → (position : ℕ) (ids : List ArgumentText) (rows : List Row) (arguments : List Argument)
       → ParserPlacesNames s position ids → AreNoParserOptionNames ids → AllPairs (λ a b. a ≢ b) ids

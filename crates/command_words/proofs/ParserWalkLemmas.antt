@@ -21,7 +21,7 @@ use Rattle.command_words.proofs.MatchRowLemmas.{match_row, match_rows_of, match_
 
 -- ---- rows
 
--- a change at a row that isn't there
+-- a change at a missing row appends the new rows
 walk_changes_missing_row : (id : ArgumentText) (change : Row → List Row) (missing rows : List Row) → has_row id rows ≡ false
     → at_row id change missing rows ≡ rows ++ missing
 walk_changes_missing_row id change missing [] none = refl
@@ -38,7 +38,7 @@ walk_without_missing_row id rows none = walk_changes_missing_row id (λ _. []) [
 abbrev pub parser_walk_option : ArgumentText → Rule
 parser_walk_option name = filled (parser_rule_for name)
 
--- a positional at a place, the first of which is 1
+-- a positional at an index, counted from 1
 abbrev pub parser_walk_positional : ℕ → ArgumentText → Rule
 parser_walk_positional place name = with_index place (filled (new_rule name))
 
@@ -117,12 +117,12 @@ standing_walk held position = record {
   stopped = None;
 }
 
--- what is held comes to these rows, once what is pending is used
+-- what is held gives these rows, once the pending value is used
 pub record WalkHoldsRows (s : Shape) (held : Held) (rows : List Row) : Type 0 where
   pub passes : settle_passes s.rules s.args_override_self held ≡ true
   pub rows_are : (settled s.rules held).rows ≡ rows
 
--- words bring the walk to a position, and what is held to rows
+-- words bring the walk to this position, and what is held to these rows
 pub record WalkReaches (s : Shape) (start : Walk) (words : List ArgumentText) (position : ℕ) (rows : List Row) : Type 0 where
   pub held : Held
   pub ends : fold (walked s.rules []) start words ≡ standing_walk held position
@@ -138,7 +138,7 @@ walk_passes_both s start (word ∷ front) others one two =
     let parts = and_parts _ _ one in
     and_from _ _ parts.0 (walk_passes_both s (walked s.rules [] start word) front others parts.1 two)
 
--- words that stand one behind the other
+-- words that follow other words
 pub walk_reaches_both_halves : (s : Shape) (start : Walk) (front others : List ArgumentText) (middle position : ℕ)
     (between rows : List Row) → WalkReaches s start front middle between
     → ((held : Held) → WalkHoldsRows s held between → WalkReaches s (standing_walk held middle) others position rows)
@@ -168,7 +168,7 @@ walk_reaches_by_word s start word position rows held passes is holds = record {
 }
 
 module _ (s : Shape) (held : Held) (rows : List Row) (holds : WalkHoldsRows s held rows) (position : ℕ) where
-  -- what is held after a value that waits to be used
+  -- what is held while a value waits to be used
   abbrev pending_in_walk : ArgumentText → ArgumentText → Held
   pending_in_walk name value = record (settled s.rules held) { pending = Some (name, value ∷ []) }
 
@@ -214,7 +214,7 @@ module _ (s : Shape) (held : Held) (rows : List Row) (holds : WalkHoldsRows s he
       walk_reaches_by_word s (standing_walk held position) value (min (position + 1) usize_max) (rows ++ match_row name value ∷ [])
       (pending_in_walk name value) passes is (walk_holds_pending_positional position name value known none)
 
-  -- the walk behind a word that names an option
+  -- the walk after a word that names an option
   abbrev awaiting_walk : ArgumentText → Walk
   awaiting_walk name = record (standing_walk (record (settled s.rules held) { pending = Some (name, []) }) position) {
     waiting = awaits name;
@@ -237,7 +237,7 @@ module _ (s : Shape) (held : Held) (rows : List Row) (holds : WalkHoldsRows s he
     unfolding walked
     walk_takes_value = let apart = parser_walk_tells_value_apart value is_value in rw (apart.2, apart.0, apart.1, known, match_row_name_is_same name) refl
 
-    -- an option and its value behind it
+    -- an option, and its value in the next word
     pub walk_reaches_option : WalkReaches s (standing_walk held position) (long_argument name ∷ value ∷ []) position
         (rows ++ match_row name value ∷ [])
     unfolding walk_passes
@@ -248,7 +248,7 @@ module _ (s : Shape) (held : Held) (rows : List Row) (holds : WalkHoldsRows s he
       holds = walk_holds_pending_option name value known none;
     }
 
-    -- what is held behind a word with its value
+    -- what is held after a word with its value
     abbrev joined_in_walk : Held
     joined_in_walk = record { rows = rows ++ match_row name value ∷ []; pending = None; skip = held.skip }
 
@@ -275,13 +275,13 @@ module _ (s : Shape) (held : Held) (rows : List Row) (holds : WalkHoldsRows s he
 
 -- ---- all words
 
--- an option stands in a parser
+-- a parser has this option
 pub record WalkKnowsOption (s : Shape) (name : ArgumentText) : Type 0 where
   pub met : arg_by_long s.rules name ≡ Some (parser_walk_option name)
   pub known : arg_by_id s.rules name ≡ Some (parser_walk_option name)
   pub named : name ≢ []
 
--- a positional stands at a place of a parser
+-- a parser has this positional at a position
 pub record WalkKnowsPositional (s : Shape) (position : ℕ) (id : ArgumentText) : Type 0 where
   pub placed : arg_by_index s.rules position ≡ Some (parser_walk_positional position id)
   pub known : arg_by_id s.rules id ≡ Some (parser_walk_positional position id)
@@ -290,7 +290,7 @@ pub record WalkKnowsPositional (s : Shape) (position : ℕ) (id : ArgumentText) 
 abbrev pub IsNewInWalk : List Row → ArgumentText → Type 0
 IsNewInWalk rows name = has_row name rows ≡ false
 
--- arguments stand in a parser, from a place of its positionals on, and none has a row before
+-- a parser has these arguments, its positionals from a position on, and none has a row before
 abbrev pub FitParserWalk : Shape → ℕ → List ArgumentText → List Row → List Argument → Type 0
 FitParserWalk s position ids rows [] = ⊤
 FitParserWalk s position [] rows (positional text ∷ arguments) = ⊥
@@ -300,13 +300,13 @@ FitParserWalk s position (id ∷ ids) rows (positional text ∷ arguments) =
 FitParserWalk s position ids rows (option name value ∷ arguments) =
     WalkKnowsOption s name × IsNewInWalk rows name × FitParserWalk s position ids (rows ++ match_row name value ∷ []) arguments
 
--- where the walk stands in the end
+-- the position of the walk at the end
 abbrev pub parser_walk_final_position : ℕ → List Argument → ℕ
 parser_walk_final_position position [] = position
 parser_walk_final_position position (positional text ∷ arguments) = parser_walk_final_position (min (position + 1) usize_max) arguments
 parser_walk_final_position position (option name value ∷ arguments) = parser_walk_final_position position arguments
 
--- words behind those of an argument
+-- words after those of an argument
 walk_reaches_more : (s : Shape) (start : Walk) (words front others : List ArgumentText) (middle position : ℕ)
     (before more : List Row) (found : Row) → words ≡ front ++ others
     → WalkReaches s start front middle (before ++ found ∷ [])

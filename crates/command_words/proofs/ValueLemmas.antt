@@ -19,7 +19,7 @@ use Rattle.frame_records.specs.declared.weigh.Weigh.TheVariants as weighing
 use Rattle.deal_rules.specs.declared.deal_kind.DealKind.TheVariants as dealing
 use Rattle.command_words.specs.declared.opt.Opt.TheVariants as opt
 
--- the option at a place
+-- the option at an index
 abbrev value_checked_at : ℕ → Opt
 value_checked_at place =
     if place == 0 then opt.Seed else if place == 1 then opt.Frames else if place == 2 then opt.Weigh else
@@ -40,15 +40,15 @@ value_checked_at-own opt.Workers = refl
 value_checked_at-own opt.Callers = refl
 value_checked_at-own opt.Rounds = refl
 
--- options at one place are one option
+-- options with equal indexes are equal
 pub value_check_tells_option : (opt other : Opt) → option_place_of opt ≡ option_place_of other → opt ≡ other
 value_check_tells_option opt other same = sym (value_checked_at-own opt) ∙ ap value_checked_at same ∙ value_checked_at-own other
 
--- nothing stands before the first place
+-- there is no option before index 0
 pub values_before_first_are_good : (values : SettingValues) → AreGoodGivenValuesBefore values 0
 values_before_first_are_good values other before = absurd (omega arith)
 
--- the value at a place is good, and so are those before the place behind it
+-- if the values before an option and its own value are good, so are those before the next index
 pub values_before_next_are_good : (values : SettingValues) (opt : Opt) (told : Option ArgumentText) → values opt ≡ told
     → AreGoodGivenValuesBefore values (option_place_of opt) → IsGoodOption opt told
     → AreGoodGivenValuesBefore values (suc (option_place_of opt))
@@ -85,7 +85,7 @@ deal_value_is_good (Some text) dealing.RoundRobin sets = (0, omega arith, sym se
 deal_value_is_good (Some text) dealing.BySource sets = (1, omega arith, sym sets)
 deal_value_is_good (Some text) dealing.Free sets = (2, omega arith, sym sets)
 
--- a number that is bad, where all before it are good, is the first fault
+-- a bad number is the first fault, if all values before it are good
 pub bad_numeric_value_is_first : (values : SettingValues) (opt : Opt) (told : Option ArgumentText) (kind : WordsKind) → values opt ≡ told
     → AreGoodGivenValuesBefore values (option_place_of opt)
     → IsBadGivenNumber opt told kind → HasValueFault values kind
@@ -98,7 +98,7 @@ bad_numeric_value_is_first values opt (Some text) (OutOfLimits at) same before b
     { before = before; text = text; value = same; is_bad = bad.1 }
 bad_numeric_value_is_first values opt (Some text) _ same before bad = absurd bad
 
--- a choice that is bad, where all before it are good, is the first fault
+-- a bad choice is the first fault, if all values before it are good
 pub bad_choice_value_is_first : (values : SettingValues) (opt : Opt) (told : Option ArgumentText) (kind : WordsKind) → values opt ≡ told
     → AreGoodGivenValuesBefore values (option_place_of opt)
     → IsBadGivenChoice opt told kind → HasValueFault values kind

@@ -1,4 +1,4 @@
--- What stands at the front of words, by what their first word is.
+-- The argument at the front of words, by their first word.
 use Rattle.std.proofs.Common.{◌≡◌, ◌≢◌, ◌<◌, inl, inr, refl, sym, ap, ◌∙◌, subst, ◌++◌, List, [], ◌∷◌, length, drop}
 use Rattle.std.proofs.Common.{get_or, ℕ, Bor, Bool, true, false, Option, None, arith}
 use Rattle.std.specs.Bool.{IsTrue, then_some}
@@ -19,23 +19,23 @@ use Rattle.command_words.proofs.OneReadingLemmas.{one_reading_by_spelling}
 abbrev pub IsShortFrontWord : ArgumentText → Type 0
 IsShortFrontWord word = (rest : ArgumentText) → word ≡ argument_hyphen ∷ argument_hyphen ∷ rest → ⊥
 
--- what `then_some` gives, it gives where the test holds
+-- if `then_some` gives a value, the test holds
 pub word_front_given_if_true : {T : Type 0} (test : Bool) (value : T) (given : Option T) (P : T → Type 0)
     → given ≡ then_some test value → (IsTrue test → P value) → IfSome given P
 word_front_given_if_true true value given P is h = subst (λ g. IfSome g P) (sym is) (h refl)
 word_front_given_if_true false value given P is h = subst (λ g. IfSome g P) (sym is) tt
 
--- it gives nothing where the test fails
+-- if it gives none, the test fails
 pub no_word_front_unless_true : {T : Type 0} (test : Bool) (value : T) (given : Option T) (P : Type 0)
     → given ≡ then_some test value → ((IsTrue test → ⊥) → P) → IfNone given P
 no_word_front_unless_true true value given P is h = subst (λ g. IfNone g P) (sym is) tt
 no_word_front_unless_true false value given P is h = subst (λ g. IfNone g P) (sym is) (h (λ e. false≢true e))
 
--- nothing was given, so what holds then holds
+-- if no value was given, only the claim for that case is left to prove
 pub no_word_front_if_none : {T : Type 0} (given : Option T) (P : Type 0) → given ≡ None → P → IfNone given P
 no_word_front_if_none given P is h = subst (λ g. IfNone g P) (sym is) h
 
--- a name, by the places of its bytes
+-- a name, by the indexes of its bytes
 pub name_at_word_front : (name : ArgumentText) → ((i : ℕ) → i < length name → get_or name i 0 ≢ argument_equals_sign) → IsArgumentName name
 name_at_word_front name lacks = All-from_get_or (λ byte. byte ≢ argument_equals_sign) name 0 lacks
 
@@ -46,7 +46,7 @@ positional_at_word_front words others word are is_value =
     subst (λ ws. BeginWithArgument (argument_texts ws) (positional word.now) (argument_texts (drop 1 ws))) (sym are) record
     { front = word.now ∷ []; parted = refl; spelled = (is_value, refl) }
 
--- a word with `=` and a value behind it is an option
+-- a word with `=` and a value after it is an option
 pub joined_option_at_word_front : (words others : List (Bor ArgumentText)) (word : Bor ArgumentText) (name value : ArgumentText) → words ≡ word ∷ others
     → word.now ≡ long_argument name ++ argument_equals_sign ∷ value → IsArgumentName name → IsArgumentValue value
     → BeginWithArgument (argument_texts words) (option name value) (argument_texts (drop 1 words))
@@ -106,7 +106,7 @@ no_joined_option_word_front words others more word name value other worth are sp
     (sym (one_reading_of_equals_sign name other value worth is_name is_other
     (one_reading_behind_hyphens _ _ (sym spelled ∙ one_reading_of_head _ _ _ _ (sym are ∙ one)))).1) is_worth)
 
--- a word with `=` and no value behind it begins no argument
+-- a word with `=` and no value after it begins no argument
 pub no_joined_word_front : (words others : List (Bor ArgumentText)) (word : Bor ArgumentText) (name value : ArgumentText)
     → words ≡ word ∷ others → word.now ≡ long_argument name ++ argument_equals_sign ∷ value → IsArgumentName name → (IsArgumentValue value → ⊥)
     → (argument : Argument) (more : List ArgumentText) → BeginWithArgument (argument_texts words) argument more → ⊥
@@ -142,12 +142,12 @@ no_apart_word_front words others word name are spelled name_at_word_front no_val
     name_at_word_front no_value begins.spelled.1
     (one_reading_by_option_form (argument_texts words) begins.front more other worth begins.parted begins.spelled.2)
 
--- a word that `--` is stripped off
+-- a word from which `--` is stripped is `--` and the rest
 pub stripped_word_front_is_long : (word text : ArgumentText) (cut : ℕ) → word ≡ argument_hyphen ∷ argument_hyphen ∷ drop cut word → text ≡ drop cut word
     → word ≡ long_argument text
 stripped_word_front_is_long word text cut is same = is ∙ ap long_argument (sym same)
 
--- no words behind the first
+-- no word follows the first
 pub nothing_behind_word_front : (others : List (Bor ArgumentText)) → length others ≡ 0 → (value : ArgumentText) (rest : List ArgumentText)
     → argument_texts others ≡ value ∷ rest → ⊥
 nothing_behind_word_front [] none value rest same = one_reading_of_empty_list _ _ same

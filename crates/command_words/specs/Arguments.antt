@@ -72,7 +72,8 @@ argument_value_of name [] = None
 argument_value_of name (positional text ∷ arguments) = argument_value_of name arguments
 argument_value_of name (option other value ∷ arguments) = if bytes_eq other name then Some value else argument_value_of name arguments
 
--- the arguments with each positional as an option, whose name stands in its place among these names
+-- the arguments with each positional as an option: the first positional has the first of these names, and so on; a
+-- positional for which there is no name is dropped
 abbrev pub named_arguments : List ArgumentText → List Argument → List Argument
 named_arguments names [] = []
 named_arguments [] (positional text ∷ arguments) = named_arguments [] arguments

@@ -85,7 +85,7 @@ pub record GivesTrafficSettings (values : SettingValues) (seed frames : ℕ) : T
   pub seed_given : GivesNumberSetting Seed (values Seed) seed
   pub frames_given : GivesNumberSetting Frames (values Frames) frames
 
--- so many frames can be made from this seed
+-- this many frames can be made from this seed
 pub record AreTrafficSettings (seed frames : ℕ) : Type 0 where
   pub is_seed : seed < 2 ^ 64
   pub some_frames : 1 ≤ frames

@@ -1,4 +1,4 @@
-//! What the words after a command's name may be.
+//! What the arguments after a command's name may be.
 
 ghost use Rattle.std.specs.Prelude.{◌↔◌, Contains, IsTrue};
 ghost use Rattle.command_words.specs.Scanning.{scanned_form};

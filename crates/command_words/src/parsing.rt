@@ -1,4 +1,4 @@
-//! Reading well-formed words with `clap`.
+//! Reading well-formed arguments with `clap`.
 
 ghost use Rattle.std.specs.Prelude.{◌≡◌, List, IfOk};
 ghost use Rattle.clap.specs.Words.{app_of};
@@ -13,7 +13,7 @@ use clap::error::ErrorKind;
 use clap::{Arg, ArgMatches, Command};
 use std::alloc::{AllocError, Global};
 
-/// Reads the well-formed words after the command's name.
+/// Reads the well-formed arguments after the command's name.
 pub(crate) fn parse<'a>(
     alloc: Global,
     command: CommandWord,
@@ -30,7 +30,7 @@ pub(crate) fn parse<'a>(
     }
 }
 
-// The parser of a command: it knows the command's positionals and options, and gives no other word a meaning.
+// The parser of a command: it knows the command's positionals and options, and nothing else, not even `--help`.
 fn parser_of<'a>(alloc: Global, command: CommandWord) -> Result<Command<'a>, AllocError>
     ensures { IfOk result (λ parser. app_of parser ≡ parser_for (form_word_of command) (form_of command)) }
 {

@@ -25,7 +25,7 @@ use clap::ArgMatches;
 use prefix_lattice::{Prefix, prefix_texts_have_one_reading};
 use std::alloc::Global;
 
-/// A command line: its first word, the command that it asks for, and what `clap` found in it.
+/// A command line: the name of its command, the command that it asks for, and what `clap` found in it.
 #[derive(Drop)]
 pub(crate) struct CommandLine<'a> {
     pub(crate) word: CommandWord,

@@ -66,7 +66,7 @@ fn stands(words: &[&str], name: &str) -> bool
     false
 }
 
-// The argument that the first of some words spell.
+// The argument at the front of words.
 #[derive(Clone, Copy)]
 struct Front<'a> {
     // How many words spell the argument.
@@ -87,7 +87,7 @@ impl Front<'_> {
     }
 }
 
-// The argument that the first of the words spell, if they spell one.
+// The argument that the first words spell, if they spell one.
 fn front_of<'a>(words: &[&'a str]) -> Option<Front<'a>>
     ensures fits { IfSome result (λ front. (0 < front.words) × (front.words ≤ length words.now)) }
     ensures some { IfSome result (λ front. (argument : Argument)

@@ -86,7 +86,7 @@ const ROUNDS: Numeric = Numeric {
     default: 0,
 };
 
-/// What options and positionals give, with defaults filled in. A command takes of it what its form has.
+/// What options and positionals give, with defaults filled in. A command uses what its form has.
 #[derive(Drop)]
 pub(crate) struct Given {
     pub(crate) seed: u64,

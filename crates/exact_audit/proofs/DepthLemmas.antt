@@ -127,7 +127,7 @@ strictly_under_by_depth node rec is line covered =
     (nat_le (length line.source) node.source_bytes) d) dest.1
     ∙ more_depth_on_either_side node.source_bytes node.dest_bytes (length line.source) (length line.dest)
 
--- lines strictly under the record's prefix of a node cover it exactly where lines reach further down that cover it
+-- a line strictly under the record's prefix of a node covers it exactly if a line that covers it reaches further down
 pub explained_by_reached_depth : (lines : List PrefixValue) (node : NodeValue) (rec : RecordValue) → IsNode node
     → one_line_covers (lines_under (prefix_at node rec) lines) rec
     ≡ (reaches_depth lines rec (node.source_bytes + 1) node.dest_bytes || reaches_depth lines rec node.source_bytes
@@ -161,7 +161,7 @@ explained_by_reached_depth lines node rec is =
         (nat_le node.source_bytes (length line.source) && nat_le (node.dest_bytes + 1) (length line.dest))
         (strictly_under_by_depth node rec is line)
 
--- lines reach no less far where less is asked
+-- lines reach at least as far if less is asked
 pub lesser_depth_is_reached : (lines : List PrefixValue) (rec : RecordValue) (s d t e : ℕ) → t ≤ s → e ≤ d
     → reaches_depth lines rec s d ≡ true → reaches_depth lines rec t e ≡ true
 lesser_depth_is_reached lines rec s d t e less fewer =
@@ -357,7 +357,7 @@ depths_at lines rec depths are (suc (suc (suc (suc zero)))) few = are.four
 depths_at lines rec depths are (suc (suc (suc (suc (suc zero))))) few = are.five
 depths_at lines rec depths are (suc (suc (suc (suc (suc (suc n)))))) few = absurd (omega arith)
 
--- depths tell at each node whether a line strictly under the record's prefix covers the record
+-- depths decide at each node whether a line strictly under the record's prefix covers the record
 pub explained_by_depths : (lines : List PrefixValue) (rec : RecordValue) (depths : Depths) (node : NodeValue)
     → AreDepths lines rec depths → IsNode node
     → explained_by_depth depths node ≡ one_line_covers (lines_under (prefix_at node rec) lines) rec

@@ -27,7 +27,7 @@ use Rattle.exact_audit.specs.Findings.{first_finding_by, first_finding_with, IsF
 use Rattle.exact_audit.specs.Findings.{IsFirstFindingWith}
 use Rattle.exact_audit.proofs.DepthLemmas.{coded_depth_has_line, uncoded_depth_has_no_line}
 
--- the first of those that meet a condition is the first of those that meet another one that comes to the same
+-- the first of those that meet a condition is the first of those that meet an equivalent one
 pub IsFirstFinding-same_left_out : (Meets Others : PrefixValue → ℕ → Type 0) (found : Option LeftOut)
     → ((prefix : PrefixValue) (weight : ℕ) → Meets prefix weight → Others prefix weight)
     → ((prefix : PrefixValue) (weight : ℕ) → Others prefix weight → Meets prefix weight)

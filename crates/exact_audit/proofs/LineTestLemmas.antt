@@ -42,7 +42,7 @@ line_test_sums_at_place lines records sums place line d are within at =
     get_or_from_slice_get sums place (sums_of (prefixes_of_lines lines) records line.prefix) d
     (are.each place line (slice_get_read lines (length lines) place line refl within at))
 
--- what is at a place, after one element is set
+-- what is at an index, after one element is set
 line_test_reads_set_place : {X : Type 0} (xs : List X) (place : ℕ) (x : X) → place < length xs
     → slice_get (set xs place x) place ≡ Some x
 line_test_reads_set_place xs place x within =

@@ -36,7 +36,7 @@ list_any-either p q (x ∷ xs) =
     swap false false true false = refl
     swap false false false d = refl
 
--- where each element that passes a test makes another pass, and one passes the first
+-- if each element that passes a test passes another, and one passes the first, one passes the other
 pub list_any-weaker : {X : Type 0} (p q : X → Bool) (xs : List X)
     → ((place : ℕ) (d : X) → place < length xs → p (get_or xs place d) ≡ true → q (get_or xs place d) ≡ true)
     → list_any p xs ≡ true → list_any q xs ≡ true

@@ -27,7 +27,7 @@ use Rattle.exact_audit.specs.LineTests.{LinesPassJustifiedTest, LinePassesJustif
 use Rattle.exact_audit.specs.Verdict.{VerdictReachesLines}
 use Rattle.exact_audit.proofs.VerdictLemmas.{no_verdict_where_all_pass}
 
--- two first lines that fail a test are one
+-- two first lines that fail a test are the same
 one_verdict_names_one_line : (Passes : Line → Type 0) (lines : List Line) (number other : ℕ) → IsFirstFailingLine Passes lines number
     → IsFirstFailingLine Passes lines other → number ≡ other
 one_verdict_names_one_line Passes lines number other is other_is =
@@ -47,7 +47,7 @@ one_verdict_names_one_line Passes lines number other is other_is =
         ∙ get_or_from_slice_get lines is.before is.line is.line is.is)
         (other_is.passed is.before is.line (omega (arith, less, long))))
 
--- two first prefixes that are left out are one
+-- two first prefixes that are left out are the same
 one_verdict_names_one_prefix : IsTotalOrder report_order
     → ((prefix other : PrefixValue) → IsPrefix prefix → IsPrefix other → report_order prefix other ≡ Equal → prefix
     ≡ other)
@@ -173,7 +173,7 @@ one_verdict_is_no_earlier of verdict other is other_is less =
     test_fails_at_one_verdict of verdict is (each_test_before_one_verdict of (tests_before_one_verdict other) (tests_before_one_verdict verdict) less
     (tests_hold_before_one_verdict of other other_is))
 
--- two verdicts that fail at one test are one
+-- two verdicts that fail at the same test are the same
 one_verdict_at_one_test : IsTotalOrder report_order
     → ((prefix other : PrefixValue) → IsPrefix prefix → IsPrefix other → report_order prefix other ≡ Equal → prefix
     ≡ other)

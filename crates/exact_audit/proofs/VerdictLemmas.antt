@@ -73,7 +73,7 @@ no_verdict_where_all_pass Passes lines number all first =
     first.fails (subst Passes (get_or_from_slice_get lines first.before first.line first.line first.is)
     (all first.before first.line (slice_get_within lines first.before first.line first.is)))
 
--- a sound report gets no other verdict than that
+-- the verdict on a sound report is that it is sound
 pub verdict_on_sound_is_good : (lists : List (List RecordValue)) (capacity phi : ℕ) (report : Report) (verdict : Verdict)
     → IsSound report lists capacity phi → IsVerdict lists capacity phi report verdict → verdict ≡ Good
 verdict_on_sound_is_good lists capacity phi report Good sound is = refl
@@ -92,7 +92,7 @@ verdict_on_sound_is_good lists capacity phi report (LeftOut prefix weight) sound
     let out = is.lines.4.left_out in
     absurd (omega (arith, sound.complete prefix out.is_prefix out.no_line, out.weighs, out.heavy))
 
--- the verdict is that a report is sound exactly where it is
+-- the verdict is that a report is sound exactly if it is
 pub verdict_is_good_iff_sound : (lists : List (List RecordValue)) (capacity phi : ℕ) (report : Report) (verdict : Verdict)
     → IsVerdict lists capacity phi report verdict → (verdict ≡ Good) ↔ IsSound report lists capacity phi
 verdict_is_good_iff_sound lists capacity phi report verdict is = (

@@ -1,4 +1,4 @@
--- How far down lines reach that cover a record.
+-- How far down the lines that cover a record reach.
 use Rattle.std.specs.Prelude.{ℕ, ◌≡◌, ◌+◌, nat_le, nat_lt, ◌&&◌, ◌||◌, Bool, List, [], ◌∷◌, length, slice_index}
 use Rattle.std.specs.List.{list_any}
 use Rattle.prefix_lattice.specs.{RecordValue, NodeValue, PrefixValue, covers}
@@ -9,8 +9,8 @@ abbrev pub reaches_depth : List PrefixValue → RecordValue → ℕ → ℕ → 
 reaches_depth lines rec source dest =
     list_any (λ line. covers line rec && (nat_le source (length line.source) && nat_le dest (length line.dest))) lines
 
--- how far down lines reach that keep at least this many source bytes: one more than the most destination bytes that one
--- of them keeps, and 0 if there is none
+-- how far down the lines that keep at least this many source bytes reach: one more than the most destination bytes that
+-- one of them keeps, and 0 if there is none
 abbrev pub IsDepth : List PrefixValue → RecordValue → ℕ → ℕ → Type 0
 IsDepth lines rec source depth = (dest : ℕ) → nat_lt dest depth ≡ reaches_depth lines rec source dest
 

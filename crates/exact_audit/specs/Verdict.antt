@@ -38,7 +38,7 @@ IsLineVerdict by records lines BadThreshold = ⊥
 abbrev pub IsTotalForVerdict : List (List RecordValue) → Report → Type 0
 IsTotalForVerdict lists report = report.total ≡ total_weight (records_before_cut lists report.positions)
 
--- the three tests hold that speak of no line, so the verdict goes on to the lines
+-- the three tests that don't concern lines hold, so the verdict goes on to the lines
 pub record VerdictReachesLines (lists : List (List RecordValue)) (phi : ℕ) (report : Report) : Type 0 where
   pub positions : AreWithinListsInSoundReport report.positions lists
   pub total : IsTotalForVerdict lists report

@@ -21,10 +21,10 @@ use std::alloc::{AllocError, Global};
 /// per million, and if not, the first of the eight tests that fails.
 ///
 /// The audit knows no table, merge or bound. It sums the plain records before the report's positions, node by node: one
-/// pass to find how far lines reach that cover each record, then one pass for each of the 25 nodes. Its memory is that of
-/// these records and of the keys of one node. A line that its own conditioned weight doesn't justify costs a search for
-/// its closest lines besides. The keys of a node are found by hashes with a fixed seed, so traffic that is made for it
-/// can make a pass slow, and can't change the verdict.
+/// pass to find how far the lines that cover each record reach, then one pass for each of the 25 nodes. Its memory is
+/// that of these records and of the keys of one node. A line that its own conditioned weight doesn't justify costs an
+/// additional search for its closest lines. The keys of a node are found by hashes with a fixed seed, so traffic made
+/// for this purpose can make a pass slow, but can't change the verdict.
 ///
 /// The capacity is 2 to 4,096 and `phi` 1 to 1,000,000. The only error is that memory runs out.
 pub fn audit(

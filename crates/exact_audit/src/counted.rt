@@ -15,7 +15,7 @@ use prefix_lattice::Record;
 use shard_state::Positions;
 use std::alloc::{AllocError, Global};
 
-/// A record that is counted, with the depths that lines reach that cover it.
+/// A record that is counted, with the depths that the lines that cover it reach.
 #[derive(Clone, Copy, Debug, PartialEq, Eq)]
 pub(crate) struct Counted {
     pub(crate) rec: Record,

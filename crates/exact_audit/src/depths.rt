@@ -1,4 +1,4 @@
-//! How far down lines reach that cover a record.
+//! How far down the lines that cover a record reach.
 
 ghost use Rattle.std.specs.Prelude.{◌≡◌, ◌+◌, ◌≤◌, List};
 ghost use Rattle.prefix_lattice.specs.{PrefixValue, address_length};
@@ -8,7 +8,7 @@ ghost use Rattle.exact_audit.specs.Depths.{AreDepths, IsDepth, explained_by_dept
 use crate::line_codes::LineCodes;
 use prefix_lattice::{Node, Prefix, Record, keys_are_of_their_node};
 
-/// For each number of source bytes, how far down the lines reach that cover a record and keep at least that many: one
+/// For each number of source bytes, how far down the lines that cover a record and keep at least that many reach: one
 /// more than the most destination bytes that one of them keeps, and 0 if there is none. These five numbers decide at
 /// each node whether a line strictly under the record's prefix there covers the record.
 #[derive(Clone, Copy, Debug, PartialEq, Eq)]

@@ -20,8 +20,8 @@ pub(crate) struct LeftOut {
     pub(crate) weight: u64,
 }
 
-/// The first, in the order of a report, of a prefix that was found before, if one was, and of those of a node that are left
-/// out. It costs one pass over the node's keys.
+/// The first, in the order of a report, among a prefix that was found before, if any, and the prefixes of a node that
+/// are left out. It costs one pass over the node's keys.
 pub(crate) fn first_left_out(
     lines: &LineCodes,
     node: Node,

@@ -39,7 +39,7 @@ plan_without_a_worker is = let some : 1 ≤ 0 = is.some_workers in omega (arith,
 pub plan_of_another_capacity : IsPlanFor shards (record plan { capacity = 8 }) → ⊥
 plan_of_another_capacity is = cc is.alike
 
--- to see more is later
+-- a trail that has seen more is later
 pub a_position_further_on : IsLaterTrail (trail 1) (trail 2)
 a_position_further_on = record { same = refl; later = omega arith }
 
@@ -65,11 +65,11 @@ a_split_is_later = record {
 pub a_join_is_no_later_view : IsLaterView none (record none { joins = 1 ∷ [] }) → ⊥
 a_join_is_no_later_view later = cc (ap (λ (v : View). v.joins) later.same)
 
--- what asks for nothing stays
+-- a condition on the board alone still holds in later views
 pub nothing_stays_ready : StaysReadyInLaterViews (λ (board : PositionWordsValue) (view : View). length board.opening ≡ 2)
 nothing_stays_ready board before now later ready = ready
 
--- what asks for no split at all doesn't
+-- a condition that no pass was split off need not
 pub no_split_does_not_stay : (board : PositionWordsValue) → StaysReadyInLaterViews (λ board (view : View). view.splits ≡ 0) → ⊥
 no_split_does_not_stay board stays = cc (stays board none (after_thread_splits 1 none) a_split_is_later refl)
 
@@ -80,7 +80,7 @@ three_passes_were_split_off = refl
 pub worker_of_no_shard : WorkerThreadHasFed [] 1 none (newcomer_view none) → FeedHasSeenEnds [] (newcomer_view none)
 worker_of_no_shard fed = fed.ends
 
--- a view in which the end of a list wasn't seen is none of a worker at its end
+-- a view in which the end of a list wasn't seen is not that of a worker at its end
 pub worker_that_stops_early : WorkerThreadHasFed shards 1 first first → ⊥
 worker_that_stops_early fed =
     let end : 2 ≤ 0 = fed.ends 0 (record {

@@ -15,7 +15,7 @@ use Rattle.pass_tokens.specs.{Folds, IsFoldOf, IsOddWord, WordStepLoses, folded_
 use Rattle.pass_tokens.specs.{seen_in_view, view_with_trail}
 use Rattle.gate_workers.specs.Feed.{IsFed, Feeds, FeedHasSeenEnd, FeedHasSeenEnds}
 
--- a trail that is left
+-- a trail that stays the same
 feeding_of_same_trail : (opening : List ShardValue) (shard block : ℕ) (trail : Trail) → IsFed opening shard block trail trail
 feeding_of_same_trail opening shard block trail = record {
   folds = [];
@@ -28,7 +28,7 @@ feeding_of_same_trail opening shard block trail = record {
       (sym (append-nil trail.losses));
 }
 
--- a trail with a fold more
+-- a trail with one more fold
 feeding_of_folded_trail : (opening : List ShardValue) (shard block : ℕ) (trail : Trail) (done : Folded)
     → IsFoldOf opening shard block done → trail.seen ≤ done.from
     → IsFed opening shard block trail (folded_once done trail)
@@ -43,7 +43,7 @@ feeding_of_folded_trail opening shard block trail done core seen = record {
       (sym (append-nil trail.losses));
 }
 
--- a trail with a loss more
+-- a trail with one more loss
 feeding_of_lost_trail : (opening : List ShardValue) (shard block : ℕ) (trail : Trail) (word : ℕ) → IsOddWord word
     → trail.seen ≤ word / 2 → IsFed opening shard block trail (view_trail_after_loss word trail)
 feeding_of_lost_trail opening shard block trail word odd seen = record {
@@ -218,7 +218,7 @@ feeding_tests_both_hold true false holds = cc holds
 feeding_tests_both_hold false true holds = cc holds
 feeding_tests_both_hold false false holds = cc holds
 
--- one shard more of a round is at its end
+-- one more shard of a round is at its end
 pub feeding_round_goes_on : (opening : List ShardValue) (shards first turn : ℕ) (view : View)
     → ((earlier : ℕ) → earlier < turn → FeedHasSeenEnd opening ((first + earlier) % shards) view)
     → FeedHasSeenEnd opening ((first + turn) % shards) view → (earlier : ℕ) → earlier < turn + 1
@@ -234,7 +234,7 @@ feeding_shard_before_or_after zero n = inl (omega arith)
 feeding_shard_before_or_after (suc m) zero = inr (omega arith)
 feeding_shard_before_or_after (suc m) (suc n) = ⊎_elim (λ le. inl (omega arith)) (λ lt. inr (omega arith)) (feeding_shard_before_or_after m n)
 
--- a round comes to each shard
+-- a round reaches each shard
 feeding_round_reaches_shard : (shards first shard : ℕ) → first < shards → shard < shards
     → (turn : ℕ) × (turn < shards) × ((first + turn) % shards ≡ shard)
 feeding_round_reaches_shard shards first shard inside below = ⊎_elim later sooner (feeding_shard_before_or_after first shard)

@@ -61,7 +61,7 @@ gathered_callers_have_ended board plan before callers ended many new each place 
       sound = made.sound;
     }
 
--- what holds of each element of one list holds, by a relation place by place, of each of another
+-- what holds for each element of a list carries over to another list, if a relation holds at each index
 gathered_lists_carry_over : {X Y : Type 0} (P : X → Type 0) (R : X → Y → Type 0) (Q : Y → Type 0)
     → ((x : X) (y : Y) → P x → R x y → Q y) → (xs : List X) (ys : List Y) → All P xs → AllZip R xs ys → All Q ys
 gathered_lists_carry_over P R Q one [] [] each related = All-nil Q

@@ -6,7 +6,7 @@ use Rattle.position_words.specs.declared.view.Trail.{Trail}
 use Rattle.position_words.specs.declared.view.View.{View}
 use Rattle.pass_tokens.specs.{IsFoldOf, IsOddWord, seen_in_view}
 
--- what a trail has after folds of blocks and takes that lost, each fold one of the pure core: no look and no read more,
+-- what a trail has after folds of blocks and takes that lost, each fold one of the pure core: no more looks or reads,
 -- and no position seen before the last one
 pub record IsFed (opening : List ShardValue) (shard block : ℕ) (before now : Trail) : Type 0 where
   pub folds : List Folded

@@ -81,7 +81,7 @@ pub record CallerThreadBringsBack (caller : Caller) (called : Called) : Type 0 w
   pub pass : called.pass ≡ caller.pass
   pub reports : caller.reports ≡ Ok called.reports
 
--- within the crate: each element of a list before and the one after at its place
+-- within the crate: each element of a list before is related to the one after at the same index
 abbrev pub EachRelatesAcrossThreads : {X : Type 0} → (X → X → Type 0) → List X → List X → Type 0
 EachRelatesAcrossThreads {X} relates before now = (place : ℕ) (default : X) → place < length before
     → relates (slice_index_or before place default) (slice_index_or now place default)

@@ -11,7 +11,7 @@ use std::sync::atomic::AtomicU64;
 use std::thread;
 use std::time::Duration;
 
-// How long a worker sleeps that met no free shard with remaining records, in microseconds: less than a fold of 1,024
+// How long a worker that met no free shard with remaining records sleeps, in microseconds: less than a fold of 1,024
 // records takes.
 const NAP_MICROS: u64 = 200;
 
@@ -65,7 +65,7 @@ fn nap<R: Wait>(rt: &R) {
     AtomicU64::new(0).park_timeout(rt, 0, Duration::from_micros(NAP_MICROS));
 }
 
-// Feeds each shard in turn. Whether all are at their ends.
+// Feeds each shard in turn. Returns whether all are at their ends.
 fn feed_round<R: Wait, G: Gate>(
     rt: &R,
     board: &Board,
@@ -90,7 +90,7 @@ fn feed_round<R: Wait, G: Gate>(
     ended
 }
 
-// Folds a shard until it is at its end, or another pass holds it. Whether it is at its end.
+// Folds a shard until it is at its end, or another pass holds it. Returns whether it is at its end.
 fn feed_shard<R: Wait, G: Gate>(
     rt: &R,
     board: &Board,

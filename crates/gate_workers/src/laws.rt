@@ -9,8 +9,8 @@ ghost use Rattle.gate_workers.specs.Call.{Calls, IsReportAtCall, cut_at_call};
 
 use shard_state::shards_stand;
 
-/// The cut that a report at its own positions is of represents the shards' lists, if the base of each shard represents
-/// its list.
+/// The cut of a report at its own positions represents the shards' lists, if the base of each shard represents its
+/// list.
 pub fn reported_cuts_represent()
     ensures { (opening : List ShardValue) (phi : ℕ) (report : Report) → AreCoreShards opening → IsReportAtCall opening phi report
         → CoreBasesRepresent opening → CutRepresents (cut_at_call opening report.positions) (core_lists opening) }

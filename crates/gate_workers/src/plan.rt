@@ -5,7 +5,7 @@
 pub struct ThreadPlan {
     /// How many workers feed the shards, at least 1.
     pub workers: u32,
-    /// How many callers report beside the calling thread.
+    /// How many callers report besides the calling thread.
     pub callers: u32,
     /// How often each caller reports.
     pub rounds: u32,

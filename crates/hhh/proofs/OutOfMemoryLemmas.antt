@@ -1,4 +1,4 @@
--- What follows where nothing was written, or a part.
+-- What follows if nothing was written, or a part.
 use Rattle.std.proofs.Common.{◌⊎◌, inl, inr}
 
 pub out_of_memory_widens_part : {Nothing Part Other : Type 0} → (Part → Other) → Nothing ⊎ Part → Nothing ⊎ Other

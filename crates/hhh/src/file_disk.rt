@@ -231,7 +231,7 @@ pub(crate) fn read_on<F: FileExt>(
     Err(Error::from(ErrorKind::Other))
 }
 
-// Reads once through a buffer into the places from `at` on. After them, `into` is unchanged.
+// Reads once through a buffer into `into` from the index `at` on. After the bytes read, `into` is unchanged.
 fn read_by<F: FileExt>(
     file: &F,
     buffer: &mut [u8],

@@ -55,7 +55,7 @@ audit_end_text_is_faulty (Some whole) (Some rest) bytes fault consumed at_end ha
     (sym (consumed ∙ ap (λ r. bytes ++ r) (at_end short) ∙ append-nil bytes)) has)
     (cases_lt longest_session_text_length (length bytes))
 
--- why the inputs of an audit were not taken: the text of a session was refused
+-- why the inputs of an audit were not accepted: the text of a session was refused
 pub audit_ends_at_refused_text : (capture capture_left text text_left store : Option (List ℕ)) (before now : EndingSourceFaults)
     (bytes : List ℕ) (fault : SessionFault) → IsAtEnd capture_left → IfSome capture IsInputCapture
     → Consumes text text_left bytes → length bytes ≤ longest_session_text_length + 1
@@ -96,7 +96,7 @@ EndsAudit settings rules given read_before read_now sink written old new write_b
     (EndsByAuditFinding settings rules given old new) given.capture read_before read_now sink written old new write_before
     write_now status
 
--- an audit whose inputs were not taken
+-- an audit whose inputs were not accepted
 pub audit_ends_without_inputs : {K : Type 0} (settings : Settings) (rules : SessionRules) (given : InputBytes)
     (read_before read_now : EndingSourceFaults) (sink : K) (old : Option (List ℕ)) (faults : ℕ) (status : Status)
     → HasNoAudit given read_before read_now status → ((status ≡ ReadFault → ⊥) → read_now ≡ read_before)
@@ -271,7 +271,7 @@ audit_ends_as_written settings rules given read_before read_now sink written old
     audit_ends_in_written_text settings rules given read_before read_now sink written old new write_before write_now audited.dealt
     audited.session answer.text.items answer.status are says capture_read text_read same appended same_sink
 
--- how an audit ended, as a command beside a disk
+-- how an audit ended, as a command with a disk that is untouched
 pub audit_ends_as : {K : Type 0} (settings : Settings) (rules : SessionRules) (keeping : SessionKeeping) (given : InputBytes)
     (AsBefore : Type 0) (DiskSame : Type 0) (read_before read_now : EndingSourceFaults) (sink written : K)
     (old new : Option (List ℕ)) (write_before write_now : ℕ) (status : Status) → DiskSame → AsBefore

@@ -107,7 +107,7 @@ audit_finding_is_not_earlier one settings lists reports number later verdict oth
     audit_finding_is_not_sound one settings lists reports number verdict first
     (audit_finding_holds_before (IsAuditedAsSound settings lists) reports second.before first.before first.reported early first.is second.sound)
 
--- two that stand at one place have one number and one verdict
+-- two at the same index have the same number and the same verdict
 audit_finding_at_one_place : AuditFindingIsUnique → (settings : Settings) (lists : List (List RecordValue)) (reports : List Reported)
     (number other_number : ℕ) (verdict other : Verdict) (first : IsAuditedAsFirstUnsound settings lists reports number verdict)
     (second : IsAuditedAsFirstUnsound settings lists reports other_number other) → first.before ≡ second.before
@@ -270,7 +270,7 @@ audit_finding_is_first_unsound never_both no_fault one rules keeping settings gi
     not_long first ends =
     inr (inr (inr refl))
 
--- what an audit found that ended so
+-- what an audit that ended so found
 audit_finding_for_command : (rules : SessionRules) (words : List (List ℕ)) (command : Command) (given : InputBytes) (old new : Option (List ℕ))
     (report : ℕ) (verdict : Verdict) → AskForCommand words command → InputsWereRead command given
     → AuditFindsAtEnding command rules given old new (AuditNo report verdict)

@@ -98,7 +98,7 @@ bounded_report_positions_within (position ∷ positions) (list ∷ lists) within
 abbrev pub IsBoundedReportLine : Line → Type 0
 IsBoundedReportLine line = IsPrefix line.prefix × (line.lo < 2 ^ 64) × (line.hi < 2 ^ 64)
 
--- a report over so many shards whose positions and numbers a text can show
+-- a report over this many shards whose positions and numbers a text can show
 pub record IsBoundedReport (shards : ℕ) (report : Report) : Type 0 where
   pub positions : ReportTextShowsPositions report.positions
   pub as_many : length report.positions ≡ shards

@@ -46,7 +46,7 @@ text_of_a_weight = refl
 pub text_of_the_packet : weight_text_for prefix (packet ∷ []) ≡ weight_text 100 100 100
 text_of_the_packet = refl
 
--- a table with room left tells that nothing came from other sources
+-- a table that isn't full shows that nothing came from other sources
 pub text_of_another_source : weight_text_for other_source (packet ∷ []) ≡ weight_text 0 0 100
 text_of_another_source = refl
 

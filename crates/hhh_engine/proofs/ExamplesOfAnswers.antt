@@ -1,4 +1,4 @@
--- Worked examples of what commands write and read, of what comes in its place, and of what each status says.
+-- Worked examples of what commands write and read, of what may happen instead, and of what each status says.
 use Rattle.std.proofs.Common.{◌≡◌, ℕ, List, [], ◌∷◌, ◌++◌, Some, None, inl, inr, ⊎_elim, refl, ap}
 use Rattle.std.proofs.Common.{codes, arith, get_or, length, true}
 use Rattle.std.specs.Prelude.{⊤}
@@ -120,12 +120,12 @@ source_of_a_header = record { file = header; told = refl; frames = []; capture =
 pub silent_source_tells_no_capture : HasKnownInputCapture None → ⊥
 silent_source_tells_no_capture tells = let told = tells.told in cc
 
--- of the disk nothing needs to be known
+-- nothing needs to be known of the disk
 pub report_over_a_header_can_be_answered :
     InputsCanBeAnswered in_turn (report_command settings) (inputs (Some header) (Some []) None None None)
 report_over_a_header_can_be_answered = (source_of_a_header, λ used. absurd (cc used))
 
--- but it does with a store
+-- but with a store its bytes need to be
 pub report_over_an_unknown_store :
     InputsCanBeAnswered in_turn (report_command (record settings { store = true })) (inputs (Some header) (Some []) None None None) → ⊥
 report_over_an_unknown_store can = let store = can.1 refl in cc store.told
@@ -133,11 +133,11 @@ report_over_an_unknown_store can = let store = can.1 refl in cc store.told
 pub header_was_accepted : InputsWereAccepted (report_command settings) (inputs (Some header) (Some []) None None None)
 header_was_accepted = ([], header_is_a_capture)
 
--- a source with a byte left was not read to its end
+-- a source with a remaining byte was not read to its end
 pub one_byte_left : InputsWereRead (report_command settings) (inputs (Some header) (Some (1 ∷ [])) None None None) → ⊥
 one_byte_left read = cc read
 
--- the text stands behind what the sink held
+-- the text follows what the sink held
 pub session_was_written :
     Answers in_turn keeps_nothing words (inputs (Some header) (Some []) None None None) (Some (codes "# "))
     (Some (codes "# " ++ text))
@@ -158,7 +158,7 @@ session_was_written_in_part = record {
   answer = record { text = codes "opened 0 0 0"; is_text = session_in_part; written = refl };
 }
 
--- a text stands behind what the sink held
+-- a text follows what the sink held
 pub two_bytes_were_written : WritesAnswer (λ text. text ≡ codes "no") (Some (codes "no ")) (Some (codes "no no"))
 two_bytes_were_written = record { text = codes "no"; is_text = refl; written = refl }
 
@@ -278,7 +278,7 @@ text_failed_too_early failed =
     (λ capture. omega (arith, capture.rose))
     (λ text. let none : 1 ≡ 0 = ap (λ (bytes : List ℕ). length bytes) text.read_to_end in omega (arith, none)) failed
 
--- the text of a session may fail instead, and its count alone tells
+-- the source of the text of a session may fail instead, as its count alone shows
 pub text_failed : SourceFaultsRoseAtEnding (ending_source_faults 3 0) (ending_source_faults 3 1)
 text_failed = inr (omega arith)
 
@@ -385,7 +385,7 @@ pub source_that_did_not_fail :
 source_that_did_not_fail ended =
     ⊎_elim (λ capture. omega (arith, capture)) (λ text. omega (arith, text)) ended.0
 
--- arguments are told bad before anything is read
+-- bad arguments are reported before anything is read
 pub bad_words_end_no_command :
     ends_with 0 0 [] 0 0 (BadWords NoCommand) → ⊥
 bad_words_end_no_command ended = ended
@@ -415,7 +415,7 @@ pub command_that_found_another_report : ends_with 0 0 (codes "ye") 0 0 (AuditNo 
 command_that_found_another_report ended =
     let same : 1 ≡ 2 = ap report_number ended.1 in omega (arith, same)
 
--- with a text that is none of a session this command ends never so
+-- this command never ends with a text that is not that of a session
 pub command_whose_text_is_refused : ends_with 0 0 [] 0 0 (BadReport TooLong) → ⊥
 command_whose_text_is_refused ended = cc ended.0
 
@@ -426,7 +426,7 @@ audit_that_found_a_report = inr (2, BadTotal, refl)
 pub report_that_found_a_report : EndsAnswered (report_command settings) (AuditNo 2 BadTotal) → ⊥
 report_that_found_a_report answered = cc answered
 
--- of the commands, only those with a store tell of its disk
+-- something can happen to a disk only by a command that may use a store
 pub audit_uses_no_disk : HappenedToDiskAtEnding (Audit settings) ⊤ → ⊥
 audit_uses_no_disk happened = happened
 

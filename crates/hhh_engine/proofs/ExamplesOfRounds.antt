@@ -330,7 +330,7 @@ fault_without_a_count failed = omega (arith, failed.rose)
 pub fault_of_the_disk : IsDealtFeedFault calm disk_rose DiskFault
 fault_of_the_disk = disk_failed
 
--- a fault of the disk isn't told as one of the sink
+-- a fault of the disk isn't reported as one of the sink
 pub fault_of_the_other : IsDealtFeedFault calm disk_rose WriteFault → ⊥
 fault_of_the_other failed = omega (arith, failed.rose)
 
@@ -344,7 +344,7 @@ want_of_memory_counts_no_fault is =
 pub success_is_no_fault : IsDealtFeedFault calm calm Done → ⊥
 success_is_no_fault fault = fault
 
--- saves fail with the disk, or for want of memory
+-- saves fail with the disk, or when out of memory
 pub disk_fails_a_save : IsDealtFeedSaveFault 3 4 DiskFault
 disk_fails_a_save = omega arith
 

@@ -39,7 +39,7 @@ use Rattle.hhh_engine.specs.Session.{session_parts, session_rest}
 use Rattle.hhh_engine.specs.Session.{session_save_line, session_text_of_reports, session_start}
 use Rattle.hhh_engine.proofs.Examples.{header, two_shards}
 
--- `report`, with all that it doesn't say
+-- `report`, with defaults filled in
 abbrev pub settings : Settings
 settings = record {
   shards = 4;
@@ -183,7 +183,7 @@ nothing_is_sound = record {
 pub report_at_the_ends : IsReportAtCall opening 10000 report
 report_at_the_ends = record { as_many = refl; kept = All-replicate IsShard 4 shard empty_shard; is = report_of_nothing }
 
--- with so many rounds and other callers
+-- with this many rounds and other callers
 abbrev with_rounds : ℕ → ℕ → Settings
 with_rounds rounds callers = record settings { rounds = rounds; callers = callers }
 
@@ -231,7 +231,7 @@ pub text_of_two_callers : session_caller_parts ((later ∷ []) ∷ (last ∷ [])
 unfolding digits
 text_of_two_callers = refl
 
--- the reports of two callers stand before the last one
+-- the reports of two callers come before the last one
 pub text_behind_the_rounds : session_rest true ((later ∷ []) ∷ (last ∷ []) ∷ []) last (codes "end\n")
     ≡ session_part false later ++ session_part false last ++ session_part true last ++ codes "end\n"
 unfolding digits

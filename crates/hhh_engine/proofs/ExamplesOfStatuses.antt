@@ -1,4 +1,4 @@
--- Worked examples of statuses, and of the line that tells them.
+-- Worked examples of statuses, and of the line that reports them.
 use Rattle.std.proofs.Common.{◌≡◌, ℕ, List, codes, refl}
 use Rattle.std.specs.Fmt.{digits}
 use Rattle.pcap_frames.specs.declared.fault.CaptureFault.{CaptureFault}
@@ -36,7 +36,7 @@ line_of_a_cut_frame = refl
 pub text_of_too_many_frames : fault_status_text TooManyFrames ≡ codes "too many frames"
 text_of_too_many_frames = refl
 
--- the line doesn't tell which option is bad
+-- the line doesn't say which option is bad
 pub text_of_a_number_outside_its_limits : words_status_text (OutOfLimits Shards) ≡ codes "limits"
 text_of_a_number_outside_its_limits = refl
 
@@ -49,7 +49,7 @@ number_of_bad_words = refl
 pub line_of_small_tables : status_line (BadWords Bound) ≡ codes "hhh: bad words: bound\n"
 line_of_small_tables = refl
 
--- want of memory is told alike, whether the words or the capture were being read
+-- running out of memory is reported alike, whether the arguments or the capture were being read
 pub want_of_memory_for_words : status_number (status_of_words words.OutOfMemory) ≡ 13
 want_of_memory_for_words = refl
 
@@ -86,7 +86,7 @@ pub line_of_a_damaged_store : status_line (Damaged 1) ≡ codes "hhh: store dama
 unfolding digits
 line_of_a_damaged_store = refl
 
--- the lines don't tell the settings or the digests
+-- the lines don't include the settings or the digests
 pub number_of_other_settings : (stored asked : StoreSettings) → status_number (OtherSettings stored asked) ≡ 9
 number_of_other_settings stored asked = refl
 
@@ -104,7 +104,7 @@ text_of_another_capture stored asked = refl
 pub status_of_a_damaged_store : status_of_opening (opening.Damaged 0) ≡ Damaged 0
 status_of_a_damaged_store = refl
 
--- want of memory is told alike, whether a store was being opened or words were being read
+-- running out of memory is reported alike, whether a store was being opened or arguments were being read
 pub want_of_memory_for_a_store : status_of_opening opening.OutOfMemory ≡ status_of_words words.OutOfMemory
 want_of_memory_for_a_store = refl
 
@@ -113,7 +113,7 @@ want_of_memory_for_a_store = refl
 pub number_of_an_unsound_report : status_number (AuditNo 2 BadTotal) ≡ 11
 number_of_an_unsound_report = refl
 
--- the line on standard error doesn't tell the verdict, which was written
+-- the line on standard error doesn't include the verdict, which was written
 pub text_of_an_unsound_report : status_text (AuditNo 2 BadTotal) ≡ codes "audit: no"
 text_of_an_unsound_report = refl
 

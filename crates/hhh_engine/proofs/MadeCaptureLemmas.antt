@@ -108,12 +108,12 @@ made_capture_has_header : (rest : List ℕ) → IsHeader Little (made_capture_he
 unfolding made_capture_header header_magic_order number_in_file_order
 made_capture_has_header rest = record { whole = omega arith; magic = refl; major = refl; minor = refl; link = refl }
 
--- the frames behind the header
+-- the frames follow the header
 made_capture_behind_header : (rest : List ℕ) → drop 24 (made_capture_header ++ rest) ≡ rest
 unfolding made_capture_header
 made_capture_behind_header rest = refl
 
--- as many frames are taken from a made capture as were asked for
+-- a reader takes as many frames from a made capture as were asked for
 pub made_capture_value_count : (seed count : ℕ) → length (made_capture_values seed 0 count) ≡ count
 made_capture_value_count seed count = length-map-range_with_len (made_capture_value seed) 0 count
 

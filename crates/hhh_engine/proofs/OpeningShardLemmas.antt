@@ -27,7 +27,7 @@ pub opening_shards_have_few_records : (most : ℕ) (lists : List (List RecordVal
 opening_shards_have_few_records most lists few k d lt =
     omega (arith, few, get_or-le-sum_by (λ (list : List RecordValue). length list) lists k d lt)
 
--- one shard more
+-- one more shard
 pub opening_shards_grow_by_one : (capacity : ℕ) (lists : List (List RecordValue)) (list : List RecordValue)
     → new_session_shards capacity (lists ++ list ∷ [])
     ≡ new_session_shards capacity lists ++ record { list = list; base = empty_snapshot capacity; position = 0 } ∷ []
@@ -188,14 +188,14 @@ pub opening_shards_represent : (capacity : ℕ) (lists : List (List RecordValue)
 opening_shards_represent capacity lists None begins = λ of_lists. new_opening_shards_represent capacity lists begins
 opening_shards_represent capacity lists (Some cut) begins = λ of_lists. resumed_opening_shards_represent lists cut.shards of_lists.shards
 
--- what a match on the base tells
+-- what a match on the base shows
 pub opening_shards_without_base : (base : Option CutValue) → None ≡ base → IfSome base IsCut
 opening_shards_without_base base is = subst (λ o. IfSome o IsCut) is tt
 
 pub opening_shards_with_base_cut : (base : Option CutValue) (cut : CutValue) → Some cut ≡ base → IsCut cut → IfSome base IsCut
 opening_shards_with_base_cut base cut is kept = subst (λ o. IfSome o IsCut) is kept
 
--- one shard more is resumed
+-- one more shard is resumed
 pub resumed_opening_shards_grow : (states all : List ShardValue) (state : ShardValue) (list : List RecordValue) (base : SnapshotValue)
     (lists : List (List RecordValue)) (bases : List SnapshotValue)
     → state ≡ record { list = list; base = base; position = base.position }

@@ -92,7 +92,7 @@ read_order_in_other_terms Reads ReadsText Other OtherText read before now text t
       accepted = is.accepted;
     })) failed
 
--- how a command ended that reads a capture and no text: whatever the faults of a text's source are, its own rose
+-- how a command that reads a capture and no text ended: whatever the faults of a text's source are, its own rose
 pub read_order_of_capture_alone : {K T : Type 0} (IsText IsPart : List ℕ → Type 0) (ReadToEnd Accepted DiskRose DiskSame AsBefore : Type 0)
     (Refused : OpenFault → Type 0) (Audited : Status → Type 0) (capture : Option (List ℕ)) (before now other : ℕ)
     (sink written : K) (old new : Option (List ℕ)) (write_before write_now : ℕ) (status : Status) (Reads ReadsText : Type 0)

@@ -149,7 +149,7 @@ written_rounds_say_less opening phi rounds before now store Kept old new written
   kept = tt;
 }
 
--- all rounds were made, as the shards that a view names tell
+-- all rounds were made, for the shards that a view names
 pub all_rounds_were_made : (opening shards : List ShardValue) (phi made rounds : ℕ) (before now : View) (store : Bool)
     (Kept : List CutValue → Type 0) (KeptInPart : SessionSaving) (old new : Option (List ℕ))
     (faults_before faults_now : RoundFaults) (stop : Option Status) → shards ≡ opening → stop ≡ None → made ≡ rounds
@@ -318,7 +318,7 @@ round_broken_by_memory (Err status) opening phi before now store Kept old faults
     subst (BreaksRound opening phi before now store Kept old old faults faults) (sym is)
     (inl (record { reads = reads; unwritten = refl; kept = kept }), refl)
 
--- a saver stays, or none does
+-- there is a saver after exactly if there was one before
 pub round_saver_stays_or_none : {A : Type 0} (before after : Option A) (f : A → A) → after ≡ option_map f before
     → is_some after ≡ is_some before
 round_saver_stays_or_none None after f is = ap is_some is

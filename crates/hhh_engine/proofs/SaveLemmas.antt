@@ -139,7 +139,7 @@ save_leaves one moment image_since saver cut old new bytes are store any_moment 
     (one saver.settings bytes alike.0 opened are alike.1 was) alike.2)))
     (λ is_new. inr (inr (subst (λ s. StoreOpensTo saver.settings image (Some s)) same is_new))))
 
--- one save, as its contract tells it
+-- one save, as its contract states it
 pub one_save : StoresOpenToOneThing → {D : Type 0} (reads : D → Option (List ℕ)) (image_now : D → List ℕ → Type 0)
     (moment : D → ℕ) (image_since : D → ℕ → List ℕ → Type 0) (saver : SaverState) (cut : CutValue) (old new : D)
     → AreHeaderSettings saver.settings → DiskMatchesSaver (reads old) (image_now old) saver
@@ -168,7 +168,7 @@ one_save one reads image_now moment image_since saver cut old new are before kno
       };
 }
 
--- an unfinished save, as its contract tells it
+-- an unfinished save, as its contract states it
 unfinished_save : StoresOpenToOneThing → {D : Type 0} (reads : D → Option (List ℕ)) (image_now : D → List ℕ → Type 0)
     (moment : D → ℕ) (image_since : D → ℕ → List ℕ → Type 0) (saver : SaverState) (cut : CutValue) (old new : D)
     → AreHeaderSettings saver.settings → DiskMatchesSaver (reads old) (image_now old) saver

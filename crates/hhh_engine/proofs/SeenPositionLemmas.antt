@@ -193,7 +193,7 @@ seen_position_saved_count : (opening : List ShardValue) (reports : List Reported
     → length (session_saved_cuts true opening reports) ≡ length reports
 seen_position_saved_count opening reports = length-map reports _
 
--- after some rounds the saver may make the saves of those that are left
+-- after some rounds the saver may make the saves of the remaining ones
 pub seen_positions_allow_more_saves : {D : Type 0} (reads : D → Option (List ℕ)) (image_now : D → List ℕ → Type 0) (moment : D → ℕ)
     (image_since : D → ℕ → List ℕ → Type 0) (opening : List ShardValue) (view : View)
     (before saver : Option SaverState) (reports : List Reported) (old new : D) (made count rounds : ℕ)

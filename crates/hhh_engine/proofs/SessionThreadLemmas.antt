@@ -374,7 +374,7 @@ session_threads_gathered_all relates opening settings plan view gathered Kept ol
       whole.kept,
     )
 
--- one report more of a caller, none of whose cuts is saved
+-- one more report of a caller, none of whose cuts is saved
 pub session_thread_adds_report : (reports : List Reported) (index : ℕ) (d : Reported) → index < length reports
     → session_parts false (take (index + 1) reports)
     ≡ session_parts false (take index reports) ++ report_text (get_or reports index d).report
@@ -392,7 +392,7 @@ session_thread_caller_at_index [] index d = refl
 session_thread_caller_at_index (first ∷ rest) zero d = refl
 session_thread_caller_at_index (first ∷ rest) (suc index) d = session_thread_caller_at_index rest index d
 
--- one caller's reports more
+-- one more caller's reports
 pub session_thread_adds_caller : (called : List Called) (index : ℕ) (d : Called) → index < length called
     → session_caller_parts (take (index + 1) (dealt_feed_other_reports called))
     ≡ session_caller_parts (take index (dealt_feed_other_reports called)) ++ session_parts false (get_or called index d).reports

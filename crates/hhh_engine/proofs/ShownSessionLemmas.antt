@@ -144,7 +144,7 @@ shown_session_keeps_property P store reports keeps all =
     (All-map P (shown_session_report false) others (λ k d lt. keeps false _ (called k d lt)))
     (All-cons P (shown_session_report store reports.last) [] (keeps store reports.last last) (All-nil P)))
 
--- so many reports that callers made
+-- how many reports callers made
 shown_session_count_of_callers : (opening : List ShardValue) (settings : Settings) (count : ℕ) (callers : List (List Reported))
     → All (AreSessionReportsOfCaller opening settings count) callers
     → length (flat_map (λ made. made) callers) ≡ length callers * count

@@ -580,7 +580,7 @@ asked_status_is_store_refusal never_both decided rules keeping settings read giv
     (subst (λ c. EndsWithStatus rules keeping c given AsBefore ReadToEnd DiskRose DiskSame read_before read_now sink
     written old new write_before write_now status) same ends)
 
--- how a command ended that uses no disk, beside one
+-- how a command that uses no disk ended, with a disk that is untouched
 pub status_beside_disk : {K : Type 0} (IsText IsPart : List ℕ → Type 0) (ReadToEnd Accepted DiskSame AsBefore : Type 0)
     (Refused : OpenFault → Type 0) (Audited : Status → Type 0) (capture : Option (List ℕ))
     (read_before read_now : EndingSourceFaults) (sink written : K) (old new : Option (List ℕ)) (write_before write_now : ℕ)
@@ -617,7 +617,7 @@ status_beside_disk IsText IsPart ReadToEnd Accepted DiskSame AsBefore Refused Au
     write_before write_now OutOfMemory same before ends =
     (⊎_elim (λ unwritten. inl (unwritten.0, before)) (λ part. inr part) ends.0, ends.1, ends.2)
 
--- how the command ended that this one is
+-- how a command ended, by how the command that it is equal to ended
 pub status_as_named_command : {K : Type 0} (rules : SessionRules) (keeping : SessionKeeping) (command named : Command) (given : InputBytes)
     (AsBefore : Type 0) (DiskRose DiskSame : Type 0) (read_before read_now : EndingSourceFaults)
     (sink written : K) (old new : Option (List ℕ)) (write_before write_now : ℕ) (status : Status) → command ≡ named
@@ -639,7 +639,7 @@ status_tells_disk_happening (Audit settings) Happened none = absurd none
 status_tells_disk_happening (Make seed frames) Happened none = absurd none
 status_tells_disk_happening (Demo seed frames settings) Happened none = absurd none
 
--- arguments that ask for a command are refused only where memory ran out
+-- arguments that ask for a command are refused only if memory ran out
 pub status_is_want_of_memory : (result : Result Command WordsRefusal) (command : Command) (refusal : WordsRefusal) (status : Status)
     → (result ≡ Ok command) ⊎ (result ≡ Err words.OutOfMemory) → result ≡ Err refusal
     → status ≡ status_of_words refusal → status ≡ OutOfMemory

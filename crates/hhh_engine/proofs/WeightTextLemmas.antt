@@ -8,7 +8,7 @@ weight_text_is_grouped : (low-name low high-name high total-name total end : Lis
     ≡ low-name ++ low ++ high-name ++ high ++ total-name ++ total ++ end
 weight_text_is_grouped low-name low high-name high total-name total end = simp append_assoc
 
--- the three lines that tell a weight
+-- the three lines that report a weight
 pub weight_text_of_three_lines : (start first second third all : List ℕ) (low high total : ℕ) → start ≡ []
     → first ≡ start ++ codes "low " ++ decimal low → second ≡ first ++ codes "\nhigh " ++ decimal high
     → third ≡ second ++ codes "\ntotal " ++ decimal total → all ≡ third ++ codes "\n" → all ≡ weight_text low high total

@@ -30,18 +30,18 @@ IsAnswer rules keeping (Audit settings) read text =
 IsAnswer rules keeping (Make seed frames) read text = text ≡ made_capture seed frames
 IsAnswer rules keeping (Demo seed frames settings) read text = IsDemoText settings rules seed frames text
 
--- bytes of a text, not all of them
+-- a strict prefix of a text
 pub record IsUnfinishedAnswer (IsText : List ℕ → Type 0) (front : List ℕ) : Type 0 where
   pub text : List ℕ
   pub is_text : IsText text
   pub begins : IsBeginning front text
   pub cut : length front < length text
 
--- bytes of the text with the weight of a prefix, not all of them
+-- a strict prefix of the text with the weight of a prefix
 abbrev pub IsWeighAnswerInPart : PrefixValue → Weighing → List ℕ → List ℕ → Type 0
 IsWeighAnswerInPart prefix weigh file front = IsUnfinishedAnswer (IsWeightText prefix weigh file) front
 
--- bytes with which the text of a command begins, not all of it
+-- a strict prefix of the text of a command
 abbrev pub IsAnswerInPart : SessionRules → SessionKeeping → Command → InputBytes → List ℕ → Type 0
 IsAnswerInPart rules keeping (Weigh prefix settings) read front =
     IfSome read.capture (λ file. IsWeighAnswerInPart prefix settings.weigh file front)
@@ -67,7 +67,7 @@ pub record Answers (rules : SessionRules) (keeping : SessionKeeping) (words : Li
   pub read_to_end : InputsWereRead command read
   pub answer : WritesAnswer (IsAnswer rules keeping command read) old new
 
--- bytes with which such a text begins, but not all of it, were written, after the inputs were read to their ends
+-- a strict prefix of such a text was written, after the inputs were read to their ends
 pub record AnswersInPart (rules : SessionRules) (keeping : SessionKeeping) (words : List (List ℕ)) (read : InputBytes)
     (old new : Option (List ℕ)) : Type 0 where
   pub command : Command

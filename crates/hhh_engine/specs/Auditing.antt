@@ -22,7 +22,8 @@ AuditingHasNoBytes before now ReadFault = FaultCountRose before now
 AuditingHasNoBytes before now OutOfMemory = ⊤
 AuditingHasNoBytes before now _ = ⊥
 
--- why the inputs of an audit were not taken: a fault of the capture or of the text, or a source failed, or memory ran out
+-- why the inputs of an audit were not accepted: a fault of the capture or of the text, or a source failed, or memory
+-- ran out
 abbrev pub HasNoAudit : InputBytes → (before now : EndingSourceFaults) → Status → Type 0
 HasNoAudit read before now (BadCapture fault) = IfSome read.capture (λ file. IsRefusedCaptureFile file fault)
 HasNoAudit read before now ReadFault = SourceFaultsRoseAtEnding before now

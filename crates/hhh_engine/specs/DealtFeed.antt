@@ -173,7 +173,7 @@ pub record IsDealtFeedRest (board : PositionWordsValue) (settings : Settings) (c
   pub front_is : rest.front.items ≡ session_caller_parts (dealt_feed_other_reports called) ++ report_text last.report
   pub back_is : rest.back.items ≡ session_save_line settings.store last.report.positions ++ tail
 
--- a saver that may save this cut, into the disk as it stands
+-- a saver that may save this cut, into the disk as it is
 pub record DealtFeedCanSaveCut (reads : Option (List ℕ)) (possible : List ℕ → Type 0) (cut : CutValue) (saver : SaverState)
     : Type 0 where
   pub settings : AreHeaderSettings saver.settings
@@ -189,7 +189,8 @@ pub record DealtFeedBreaksOffInRounds (opening : List ShardValue) (settings : Se
   pub breaks_off : SessionBreaksOffInRounds opening settings Kept front
   pub written : Appends old new front
 
--- how the session broke off with a fault: a sink's, a disk's, or want of memory, which leaves the counts as they were
+-- how the session broke off with a fault: the sink or the disk failed, or memory ran out, which leaves the counts as
+-- they were
 abbrev pub IsDealtFeedFault : (before now : RoundFaults) → Status → Type 0
 IsDealtFeedFault before now WriteFault = SinkFailedInRound before now
 IsDealtFeedFault before now DiskFault = DiskFailedInRound before now

@@ -17,8 +17,8 @@ use Rattle.command_words.specs.declared.settings.Settings.{Settings}
 use Rattle.hhh_engine.specs.Saves.{store_settings_for_saves}
 use Rattle.hhh_engine.specs.Session.{AreDealtInSession, SessionRules}
 
--- the bytes of the inputs as a command began, and what is left of them, where they are known: the capture, the text of
--- a session, and the disk of the store
+-- the bytes of the inputs as a command began, where they are known: the capture, the text of a session, and the disk of
+-- the store; and the remaining bytes of the first two
 pub record InputBytes : Type 0 where
   pub capture : Option (List ℕ)
   pub capture_left : Option (List ℕ)
@@ -26,7 +26,7 @@ pub record InputBytes : Type 0 where
   pub text_left : Option (List ℕ)
   pub store : Option (List ℕ)
 
--- the inputs whose capture had these bytes, of which these are left, whose text had these, of which these are left, and
+-- the inputs whose capture had these bytes, of which these remain, whose text had these, of which these remain, and
 -- whose disk had these
 abbrev pub inputs : (capture capture_left text text_left store : Option (List ℕ)) → InputBytes
 inputs capture capture_left text text_left store = record {

@@ -67,7 +67,7 @@ pub record IsNoEarlierSave (settings : StoreSettings) (opened found : Option Sav
   pub sequence : store_sequence opened ≤ store_sequence found
   pub positions : AreCutPositionsNotPast (store_positions settings opened) (store_positions settings found)
 
--- the image is a sound store that opens to nothing earlier than `last`, and to just that where no save is unfinished
+-- the image is a sound store that opens to nothing earlier than `last`, and to exactly that if no save is unfinished
 pub record SavesReopen (settings : StoreSettings) (last : Option SavedValue) (unfinished : List CutValue) (image : List ℕ)
     : Type 0 where
   pub found : Option SavedValue
@@ -110,7 +110,7 @@ pub record IsAsBeforeSaves {D : Type 0} (reads : D → Option (List ℕ)) (image
 abbrev pub after_saves : SaverState → List CutValue → SaverState
 after_saves saver cuts = fold saver_after_save saver cuts
 
--- a saver saved these cuts, one after the other, and the disk stands as the saver then knows it
+-- a saver saved these cuts, one after the other, and the disk matches what the saver then knows
 pub record SavesCuts {D : Type 0} (reads : D → Option (List ℕ)) (image_now : D → List ℕ → Type 0) (moment : D → ℕ)
     (image_since : D → ℕ → List ℕ → Type 0) (saver : SaverState) (cuts : List CutValue) (old new : D) : Type 0 where
   pub known : is_some (reads new) ≡ is_some (reads old)
@@ -149,7 +149,7 @@ pub record SavesFitBoard (opening : List ShardValue) (view : View) (saver : Save
   pub capacity : saver.settings.capacity ≡ core_capacity opening
   pub seen : AreCutPositionsNotPast saver.positions (map (λ trail. trail.seen) view.trails)
 
--- a saver that may make this many saves of such reads, into the disk as it stands
+-- a saver that may make this many saves of such reads, into the disk as it is
 pub record CanMakeSaves (reads : Option (List ℕ)) (possible : List ℕ → Type 0) (opening : List ShardValue) (view : View)
     (count : ℕ) (saver : SaverState) : Type 0 where
   pub fits : SavesFitBoard opening view saver

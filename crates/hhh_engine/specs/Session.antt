@@ -165,7 +165,7 @@ pub record IsSessionOverShards (opening : List ShardValue) (settings : Settings)
   pub spelled : text ≡ session_text_of_reports settings.store (session_start opening) reports tail
   pub kept : Kept (session_saved_cuts settings.store opening (session_reports_of_calling_thread reports))
 
--- bytes with which a text begins, but not all of it
+-- a strict prefix of a text
 abbrev pub IsStrictSessionBeginning : List ℕ → List ℕ → Type 0
 IsStrictSessionBeginning front text = IsBeginning front text × (length front < length text)
 
@@ -237,8 +237,8 @@ BeginsSession opening settings Kept tail front =
 abbrev pub SessionKeeping : Type 1
 SessionKeeping = StoreSettings → List (List RecordValue) → SessionSaving
 
--- the cut that a run goes on from represents its lists, so that each report is sound: where the cut was saved of them, or
--- where there is none
+-- if the cut that a run goes on from represents the lists, or there is none, the bases of the shards represent theirs,
+-- so that each report is sound
 abbrev pub SessionBaseRepresents : List (List RecordValue) → Option CutValue → List ShardValue → Type 0
 SessionBaseRepresents lists base opening = IfSome base (λ cut. CutRepresents cut lists) → CoreBasesRepresent opening
 

@@ -159,8 +159,8 @@ pub fn last_saves_are_at_the_ends()
 /// Where each kind of dealing is a formula and the bytes of the disk were known as `report` began: what a crash leaves of
 /// the store after it, whether its session was whole or broke off, is a sound store. It opens to no earlier cut than the
 /// last one that was saved, or than the one that it opened to before where none was: neither its sequence, which counts
-/// the saves, nor the position of any shard is smaller. Where no save is unfinished, it opens to just that. The settings
-/// of a session that broke off have to be within their limits.
+/// the saves, nor the position of any shard is smaller. If no save is unfinished, it opens to exactly that. The
+/// settings of a session that broke off have to be within their limits.
 pub fn sessions_lose_no_save<D: Disk>()
     ensures whole { (formula : DealKind → ℕ → RecordValue → ℕ → ℕ) (before now : D) (settings : Settings) (file text : List ℕ)
         → IsSession settings (session_rules_by_formula formula) (SavesAreKeptOnDisk D.reads D.image_now D.moment D.image_since before now)

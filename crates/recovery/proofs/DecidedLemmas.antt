@@ -49,7 +49,7 @@ module _ (spell : StoreHeadersSpellOneThing) (hold : StoreSlotsHoldOneThing) (se
         ]
       ]
 
-  -- a fault that is found behind the header
+  -- a fault that is found after the header
   decided_damage_has_header : (slot : ℕ) → IsRefusedAtOpening settings lists image (Damaged slot) → HasOpeningHeader settings image
   decided_damage_has_header slot refused =
       ⊎_elim (λ broken. broken.0) (λ past. decided_bytes_have_header past.1.first past.1.second past.1.holds) refused

@@ -26,7 +26,7 @@ use Rattle.recovery.proofs.OpenSlotLemmas.{store_open_slot_is_sound}
 
 -- however records are weighed and dealt
 module _ (any : StoreSettings) where
-  -- so many shards with tables of two entries
+  -- this many shards with tables of two entries
   abbrev settings : ℕ → StoreSettings
   settings shards = record any { shards = shards; capacity = 2 }
 

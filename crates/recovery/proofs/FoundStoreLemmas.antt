@@ -96,7 +96,7 @@ found_store_opens_to_base settings lists image digest (Some last) base holds of 
   is,
 )
 
--- where nothing is the newest, the next save goes to slot 0
+-- if no slot is the newest, the next save goes to slot 0
 found_store_without_newest : (first second : Option SavedValue) → None ≡ newest_in_store first second → 1 ≡ newest_slot_in_store first second
 found_store_without_newest None second none = refl
 found_store_without_newest (Some one) None none = cc none
@@ -106,7 +106,7 @@ found_store_without_newest (Some one) (Some two) none = by_test (nat_lt one.sequ
     by_test true none = refl
     by_test false none = cc none
 
--- the disk stands as the saver of that store knows it
+-- the disk matches what the saver of that store knows
 pub found_store_saver_stands : (settings : StoreSettings) (slots : KnownSlotsState) (digest : List ℕ) (found : Option Newest)
     (possible : List ℕ → Type 0) (image : List ℕ) → HoldsFoundParts settings found image → IsStoreOfKnownSlots image possible slots
     → IsSafeForSaver (saver_of slots settings digest found) possible image

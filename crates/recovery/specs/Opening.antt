@@ -25,7 +25,7 @@ pub record IsDamagedAtOpening (settings : StoreSettings) (slot : ℕ) (image : L
   pub gate : layout_gate_is_open slot image ≡ true
   pub no_body : (saved : SavedValue) → StoreSlotHolds settings slot image (Some saved) → ⊥
 
--- the slot is the first of two such
+-- the slot is the first of the two with an open gate over no body
 pub record IsFirstDamagedAtOpening (settings : StoreSettings) (slot : ℕ) (image : List ℕ) : Type 0 where
   pub within : slot < 2
   pub damaged : IsDamagedAtOpening settings slot image
@@ -50,8 +50,8 @@ pub record OpeningContinuesFrom (saved : SavedValue) (lists : List (List RecordV
   pub early : saved.sequence ≤ greatest_opened_sequence
   pub continues : OpeningContinuesLists saved.cut lists
 
--- the bytes are refused for this fault over dealt lists and settings. A fault of the disk, and that memory runs out, say
--- nothing of them
+-- the bytes are refused for this fault over dealt lists and settings. A fault of the disk and running out of memory say
+-- nothing about them
 abbrev pub IsRefusedAtOpening : StoreSettings → List (List RecordValue) → List ℕ → OpenFault → Type 0
 IsRefusedAtOpening settings lists image DiskFault = ⊤
 IsRefusedAtOpening settings lists image NotFormatted = (spelled : StoreSettings) → HasOpeningHeader spelled image → ⊥

@@ -9,8 +9,8 @@ use slot_disk::{BeginFault, BodyFault};
 use std::alloc::AllocError;
 use thiserror::Error;
 
-/// Why a store was not opened. They are tested in this order, but for the first and the last, which come at the call
-/// that failed.
+/// Why a store was not opened. These faults are tested in this order, except that the first and the last come at the
+/// call that failed, and that whether the newest cut can be continued from is tested after its digest.
 #[derive(Clone, Copy, Debug, PartialEq, Eq, Error)]
 pub enum OpenFault {
     /// A call of the disk failed.
@@ -27,9 +27,9 @@ pub enum OpenFault {
         /// The settings that were asked for.
         asked: StoreSettings,
     },
-    /// The gate of this slot, the first such, is open over no body of the settings. Or the slot is the newest, and its
-    /// cut can't be continued from over the dealt records: its sequence is above 2^62 - 64, a position is past the end of
-    /// its list, or a total isn't the weight of the records before its position.
+    /// The gate of this slot, the first such, is open over no body of the settings. Or the slot is the newest and has
+    /// the digest of the dealt records, and its cut can't be continued from over them: its sequence is above 2^62 - 64,
+    /// a position is past the end of its list, or a total isn't the weight of the records before its position.
     #[error("store damaged: slot {0}")]
     Damaged(u8),
     /// The newest slot has the digest of other records.

@@ -6,7 +6,7 @@ use checkpoint::{headers_spell_one, stores_hold_one};
 use shard_state::snapshots_hold_weights;
 
 /// The bytes of a store open to one base over dealt records, or are refused for one fault, and never both. So each
-/// answer of `reopen` comes exactly where its condition holds, unless a call of the disk fails or memory runs out.
+/// answer of `reopen` comes exactly if its condition holds, unless a call of the disk fails or memory runs out.
 pub fn openings_are_decided()
     ensures { OpeningsAreDecided }
 {

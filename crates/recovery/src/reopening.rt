@@ -21,9 +21,9 @@ use std::alloc::{AllocError, Global};
 /// Opens the store of these settings, which has saved cuts of the dealt records, with as many shards as the settings
 /// have. The base is the newest saved cut, `None` where no gate is open.
 ///
-/// Each refusal comes exactly where its variant says, and in their order. Whatever is returned, the disk reads as before,
-/// and a crash leaves nothing that it could not have left before. After `Ok` it leaves the disk as it reads, and the saver
-/// may save.
+/// Each refusal comes exactly if its variant says so, in the order that `OpenFault` gives. Whatever is returned, the
+/// disk reads as before, and a crash leaves nothing that it could not have left before. After `Ok` a crash leaves the
+/// disk as it reads, and the saver may save.
 pub fn reopen<D: Disk>(
     alloc: Global,
     disk: &mut D,

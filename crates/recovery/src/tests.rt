@@ -306,7 +306,7 @@ fn cuts_that_cannot_go_on_are_damaged(rt: HostRuntime) -> Result<(), Fail> {
         let found = open(alloc, bytes, 2, PACKET, 1)?;
         assert_eq!(rt; found, Err(OpenFault::Damaged(1)));
     }
-    // Only the newest is asked.
+    // Only the newest slot is checked.
     let bytes = store_of(alloc, [1, 1], &last, &past)?;
     assert_eq!(rt; open(alloc, bytes, 2, PACKET, 1)?, Ok(want));
     Ok(())

@@ -43,7 +43,7 @@ cursor_finds_more_bytes cursor session has is more =
     (session_fault_byte_follows text session (drop cursor.at text) cursor.limit is (cursor_text_and_rest cursor (session_lines session) has)
     (omega (arith, before, ap length has.text)))
 
--- no whole line is left
+-- no whole line remains
 pub cursor_finds_no_end : FirstLineLaws → (cursor : LineCursor) (stage : Stage) → IsStageBeforeEnd stage → HasReadLinesToStage cursor stage
     → LacksCutByte 10 (drop cursor.at cursor.text.now) → HasSessionTextFault cursor.text.now (MissingEnd (cursor.lines + 1))
 cursor_finds_no_end laws cursor stage is_open stands none =
@@ -55,7 +55,7 @@ cursor_finds_no_end laws cursor stage is_open stands none =
     ∙ append-nil (map session_line_text stands.read))
     stands.leads is_open)
 
--- the next line is none of a session
+-- the next line is not a line of a session
 pub cursor_finds_bad_line : FirstLineLaws → (cursor : LineCursor) (at : ℕ) (stage : Stage) → HasReadLinesToStage cursor stage
     → IsByteCut 10 at (drop cursor.at cursor.text.now)
     → ((line : SessionLine) → IsSessionLine line → stage_words_in (take at (drop cursor.at cursor.text.now)) ≡ session_line_words line → ⊥)
@@ -73,7 +73,7 @@ cursor_finds_bad_line laws cursor at stage stands cut refused =
     stands.leads
     (λ on. refused on.line on.is_line (word_list_in_line_text on.line line on.is_line on.text_is)))
 
--- the line that was read last may not come
+-- the line that was read last may not come next
 pub cursor_refuses_line : FirstLineLaws → (old new : LineCursor) (line : SessionLine) (stage : Stage) → HasReadLinesToStage old stage
     → ReadsLine old new line → ((next : Stage) → FollowsStage stage line next → ⊥)
     → HasSessionTextFault new.text.now (BadLine new.lines)
@@ -97,7 +97,7 @@ cursor_refuses_line laws old new line stage stands reads none =
     (subst (λ k. FollowsStage stage k on.next) (first_lines_with_one_text laws on.line line on.is_line reads.is_line on.text_is)
     on.follows)))
 
--- one line more of a text
+-- one more line of a text
 cursor_takes_one_line : (text : List ℕ) (before at : ℕ) → IsByteCut 10 at (drop before text)
     → take (before + (at + 1)) text ≡ take before text ++ (take at (drop before text) ++ 10 ∷ [])
 cursor_takes_one_line text before at cut =

@@ -21,7 +21,7 @@ use Rattle.report_text.specs.declared.session_line.SessionLine.TheVariants.{Line
 use Rattle.report_text.proofs.SessionPartLemmas.{PrecedesInSessionPart, IsOrderedSessionPart}
 use Rattle.report_text.proofs.LineReadingLemmas.{line_reading_one_more}
 
--- a line takes bytes
+-- reading a line moves a cursor by its bytes
 pub listed_line_takes_bytes : (old new : LineCursor) (line : SessionLine) → ReadsLine old new line
     → new.at ≡ old.at + length (session_line_text line)
 listed_line_takes_bytes old new line reads =
@@ -34,12 +34,12 @@ listed_line_takes_bytes old new line reads =
       length-take-le old.at old.text.now old.within,
     )
 
--- at least one
+-- by at least one
 pub listed_line_moves_on : (old new : LineCursor) (line : SessionLine) → ReadsLine old new line → old.at < new.at
 listed_line_moves_on old new line reads =
     omega (arith, listed_line_takes_bytes old new line reads, length-append (join_with_byte 32 (session_line_words line)) (10 ∷ []))
 
--- so fewer bytes are left
+-- so fewer bytes remain
 pub listed_line_leaves_fewer : (old new : LineCursor) (line : SessionLine) → ReadsLine old new line
     → length new.text.now - new.at < length old.text.now - old.at
 listed_line_leaves_fewer old new line reads =
@@ -47,7 +47,7 @@ listed_line_leaves_fewer old new line reads =
     let same : length new.text.now ≡ length old.text.now = ap (λ t. length t.now) reads.same in
     omega (arith, longer, same, new.within)
 
--- the dots and the slash of a side
+-- a side has at least four bytes: its three dots and its slash
 listed_line_dots_and_slash : (a b c d e : List ℕ) → 4 ≤ length ((a ++ 46 ∷ (b ++ 46 ∷ (c ++ 46 ∷ d))) ++ 47 ∷ e)
 listed_line_dots_and_slash a b c d e =
     omega (
@@ -64,7 +64,7 @@ listed_line_side_is_long front =
     listed_line_dots_and_slash (decimal (address / 256 / 256 / 256 % 256)) (decimal (address / 256 / 256 % 256))
     (decimal (address / 256 % 256)) (decimal (address % 256)) (decimal (8 * length front))
 
--- with the first word, the spaces and the line feed
+-- a line with two such sides has at least 17, with its first word, its spaces and its line feed
 listed_line_seventeen_bytes : (source dest lo hi : List ℕ) → 4 ≤ length source → 4 ≤ length dest
     → 17 ≤ length ((codes "line" ++ 32 ∷ (source ++ 32 ∷ (dest ++ 32 ∷ (lo ++ 32 ∷ hi)))) ++ 10 ∷ [])
 listed_line_seventeen_bytes source dest lo hi source_long dest_long =
@@ -76,7 +76,7 @@ listed_line_seventeen_bytes source dest lo hi source_long dest_long =
       length-append lo (32 ∷ hi),
     )
 
--- and the line of a report at least 17
+-- so the line of a report has at least 17
 listed_line_is_long : (line : LineValue) → 17 ≤ length (session_line_text (Line line))
 listed_line_is_long line =
     listed_line_seventeen_bytes (side_text line.prefix.source) (side_text line.prefix.dest) (decimal line.lo) (decimal line.hi)
@@ -96,7 +96,7 @@ pub record AreListedLines (start cursor : LineCursor) (listed : List LineValue) 
   pub after : (prefix : PrefixValue) → ComesAfterLastOfStage last prefix
       → All (λ line. report_order line.prefix prefix ≡ Less) listed
 
--- one line more
+-- one more line
 pub listed_lines_one_more : IsTotalOrder report_order → (start cursor next : LineCursor) (listed : List LineValue)
     (last : Option PrefixValue) (line : LineValue) → AreListedLines start cursor listed last
     → ReadsLine cursor next (Line line) → ComesAfterLastOfStage last line.prefix

@@ -15,7 +15,7 @@ use Rattle.report_text.specs.declared.session_line.SessionLine.{SessionLine}
 use Rattle.report_text.specs.declared.session_line.SessionLine.TheVariants.{Opened, Report, At, Total, Threshold, Line}
 use Rattle.report_text.specs.declared.session_line.SessionLine.TheVariants.{Done, Saved, Frames, Skipped, End}
 
--- texts whose test is false are unlike
+-- texts that are unequal by a test differ
 pub named_line_texts_unlike : (text other : List ℕ) (b : Bool) → b ≡ pointwise eqb text other → b ≡ false → text ≢ other
 named_line_texts_unlike text other b tested is_false same =
     both_ways b is_false ((slice_eq-Decides Decides-eqb text other b tested).1 same)
@@ -29,7 +29,7 @@ abbrev name_of_named_line : List (List ℕ) → List ℕ
 name_of_named_line [] = []
 name_of_named_line (text ∷ texts) = text
 
--- no line has another name and more words
+-- the name is none of those of lines with more words
 pub record IsNoNamedLine (name : List ℕ) : Type 0 where
   pub line : name ≢ codes "line"
   pub at : name ≢ codes "at"
@@ -54,7 +54,7 @@ no_named_line_with_words name words none some (Frames frames) same = none.frames
 no_named_line_with_words name words none some (Skipped skips) same = none.skipped (ap name_of_named_line same)
 no_named_line_with_words name words none some End same = absurd (omega (arith, ap length same))
 
--- words that begin with some numbers, and have one more word, which is a position, since all are
+-- a word that spells a position; so does the next word after some numbers, if all the words spell positions
 pub record IsNamedLinePosition (word : List ℕ) : Type 0 where
   pub position : ℕ
   pub within : position ≤ 16777216

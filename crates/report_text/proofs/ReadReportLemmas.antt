@@ -16,7 +16,7 @@ use Rattle.report_text.specs.declared.session_line.SessionLine.{SessionLine}
 use Rattle.report_text.specs.declared.session_line.SessionLine.TheVariants.{Report, At, Total, Threshold, Line, Done}
 use Rattle.report_text.proofs.LineReadingLemmas.{line_reading_goes_on}
 
--- lines take bytes
+-- reading lines moves a cursor by their bytes
 read_report_takes_bytes : (old new : LineCursor) (lines : List SessionLine) (stage last : Stage) → ReadsLines old new lines stage last
     → new.at ≡ old.at + length (flat_map session_line_text lines)
 read_report_takes_bytes old new lines stage last reads =
@@ -30,7 +30,7 @@ read_report_takes_bytes old new lines stage last reads =
       length-take-le old.at old.text.now old.within,
     )
 
--- and a line at least one
+-- and a line has at least one
 read_report_has_bytes : (line : SessionLine) (lines : List SessionLine) → 1 ≤ length (flat_map session_line_text (line ∷ lines))
 read_report_has_bytes line lines =
     omega (
@@ -39,7 +39,7 @@ read_report_has_bytes line lines =
       length-append (join_with_byte 32 (session_line_words line)) (10 ∷ []),
     )
 
--- so fewer are left after a report
+-- so fewer bytes remain after a report
 pub read_report_leaves_fewer : (old middle new : LineCursor) (report : ReportValue) (others : List SessionLine)
     (stage next last : Stage) → ReadsLines old middle (stage_body_lines report) stage next → ReadsLines middle new others next last
     → length new.text.now - new.at < length old.text.now - old.at
@@ -55,7 +55,7 @@ read_report_groups : (reports head body mark after : List SessionLine)
     → ((reports ++ head) ++ body) ++ (mark ++ after) ≡ (reports ++ (((head ++ body) ++ mark) ++ [])) ++ after
 read_report_groups reports head body mark after = simp (append_assoc, append-nil)
 
--- a report more, and what follows it
+-- one more report, and what follows it
 pub one_more_read_report : (start cursor middle new : LineCursor) (n : ℕ) (reports : List Reported) (report : ReportValue)
     (positions : Option (List ℕ)) (frames : Option ℕ)
     → ReadsLines start cursor (flat_map session_reported_lines reports ++ Report ∷ []) (opened n) (begun n)

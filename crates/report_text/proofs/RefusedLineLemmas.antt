@@ -1,4 +1,4 @@
--- Lines that may not come.
+-- Lines that may not come next.
 use Rattle.std.proofs.Common.{◌≢◌, ℕ, List, Option, Some, None, refl}
 use Rattle.hhh_output.specs.declared.line.Line.{Line as LineValue}
 use Rattle.report_text.specs.Stages.{Stage, nothing, opened, begun, placed, weighed, listing, done, saved, counted}

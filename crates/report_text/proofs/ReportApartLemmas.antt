@@ -1,4 +1,4 @@
--- Telling reports apart by their texts.
+-- What reports say is determined by their texts.
 use Rattle.std.proofs.Common.{◌≡◌, ℕ, List, [], ◌∷◌, ◌++◌, All, drop, codes, decimal, refl, sym, ap, ◌∙◌, arith}
 use Rattle.std.proofs.Common.{append_assoc}
 use Rattle.std.specs.List.{flat_map, AllByRecursion}
@@ -13,18 +13,18 @@ use Rattle.report_text.proofs.TextPartLemmas.{spaced_text_part, spaced_text_part
 use Rattle.report_text.proofs.TextWordLemmas.{text_words_begin_unlike, text_words_told_apart, text_word_numbers_apart}
 use Rattle.report_text.proofs.TextWordLemmas.{side_is_text_word, text_word_positions_apart}
 
--- prefixes have a text each
+-- different prefixes have different texts
 abbrev pub ReportPrefixesAreApart : Type 0
 ReportPrefixesAreApart =
     (prefix other : PrefixValue) → IsPrefix prefix → IsPrefix other → prefix_text prefix ≡ prefix_text other
     → prefix ≡ other
 
--- what holds of all by place holds of each
+-- what holds at each index holds for all elements by recursion
 report_apart_by_recursion : {X : Type 0} (P : X → Type 0) (xs : List X) → All P xs → AllByRecursion P xs
 report_apart_by_recursion P [] all = tt
 report_apart_by_recursion P (x ∷ xs) all = (All-head P x xs all, report_apart_by_recursion P xs (All-tail P x xs all))
 
--- the words of a line, one behind another
+-- the words of a line, one after another
 report_apart_line_groups : (name source space dest lo hi end rest : List ℕ)
     → ((name ++ ((source ++ (space ++ dest)) ++ (space ++ (lo ++ (space ++ hi))))) ++ end) ++ rest
     ≡ name ++ (source ++ (space ++ (dest ++ (space ++ (lo ++ (space ++ (hi ++ (end ++ rest))))))))
@@ -41,7 +41,7 @@ report_apart_line_opens line rest =
     report_apart_line_groups (codes "line ") (side_text line.prefix.source) (codes " ") (side_text line.prefix.dest)
     (decimal line.lo) (decimal line.hi) (codes "\n") rest
 
--- a line and what follows it are told apart
+-- a line, and what follows it, are determined
 report_line_apart : ReportPrefixesAreApart → (line another : Line) (rest other : List ℕ) → ReportTextShowsLine line
     → ReportTextShowsLine another
     → report_line_text line ++ rest ≡ report_line_text another ++ other → (line ≡ another) × (rest ≡ other)
@@ -69,7 +69,7 @@ report_line_apart law line another rest other is another_is same =
     ∙ ap (λ n. record { prefix = another.prefix; lo = another.lo; hi = n }) high.0 in
     (lines, ap (drop 1) high.1)
 
--- lines before `done` are told apart
+-- lines before `done` are determined
 report_lines_apart : ReportPrefixesAreApart → (lines others : List Line) → AllByRecursion ReportTextShowsLine lines
     → AllByRecursion ReportTextShowsLine others
     → report_lines_text lines ++ codes "done\n" ≡ report_lines_text others ++ codes "done\n" → lines ≡ others
@@ -90,7 +90,7 @@ report_lines_apart law (line ∷ lines) (another ∷ others) all others_all same
     let rest = report_lines_apart law lines others all.1 others_all.1 first.1 in
     ap (λ l. l ∷ lines) first.0 ∙ ap (λ l. another ∷ l) rest
 
--- the words of a report, one behind another
+-- the words of a report, one after another
 report_apart_groups : (report at positions end total t threshold h lines done : List ℕ)
     → ((((report ++ ((at ++ positions) ++ end)) ++ ((total ++ t) ++ end)) ++ ((threshold ++ h) ++ end)) ++ lines)
     ++ done
@@ -115,7 +115,7 @@ report_apart_opens report =
     (decimal report.total) (codes "threshold ") (decimal report.threshold) (report_lines_text report.lines)
     (codes "done\n")
 
--- reports that have one text say the same
+-- reports that have the same text say the same
 pub report-apart : ReportPrefixesAreApart → (report other : Report) → ReportTextShows report → ReportTextShows other
     → report_text report ≡ report_text other → IsSameReport report other
 report-apart law report other is other_is same =

@@ -65,7 +65,7 @@ SessionPartRises-pairs order last (line ∷ lines) rises =
     AllPairs-cons PrecedesInSessionPart line lines (SessionPartRises-after order line.prefix lines rises.1)
     (SessionPartRises-pairs order (Some line.prefix) lines rises.1)
 
--- and back
+-- and conversely
 pub session_part_pairs_rise : (last : Option PrefixValue) (lines : List LineValue)
     → ((line : LineValue) (others : List LineValue) → lines ≡ line ∷ others → ComesAfterLastOfStage last line.prefix)
     → AllPairs PrecedesInSessionPart lines → SessionPartRises last lines
@@ -98,7 +98,7 @@ pub record SessionPartAfterDone (n : ℕ) (lines : List SessionLine) : Type 0 wh
   tail : SessionTailPart n rest
   spelled : lines ≡ session_saved_lines saved ++ rest
 
--- the other lines of a report, after so many
+-- the remaining lines of a report, after this many
 pub record ListedSessionPart (n count : ℕ) (last : Option PrefixValue) (lines : List SessionLine) : Type 0 where
   listed : List LineValue
   few : count < member_limit → count + length listed < member_limit
@@ -141,7 +141,7 @@ pub record BegunSessionPart (n : ℕ) (lines : List SessionLine) : Type 0 where
   after : SessionPartAfterDone n rest
   spelled : lines ≡ stage_body_lines report ++ rest
 
--- lines that follow the first line of a report follow it
+-- the first line of a report, and what follows it
 pub record StartedSessionPart (n : ℕ) (lines : List SessionLine) : Type 0 where
   rest : List SessionLine
   begun : BegunSessionPart n rest
@@ -295,7 +295,7 @@ session_of_opened_parts positions lines are started =
       spelled = ap (λ l. Opened positions ∷ l) (started.spelled ∙ tail.spelled);
     }
 
--- one line more in front
+-- one more line in front
 session_part_one_line_more : IsTotalOrder report_order → (stage : Stage) (line : SessionLine) (next : Stage) (lines : List SessionLine)
     → FollowsStage stage line next → IsSessionLine line → SessionPartRest next lines → SessionPartRest stage (line ∷ lines)
 session_part_one_line_more order nothing (Opened positions) next lines follows is rest =

@@ -12,7 +12,7 @@ use Rattle.report_text.specs.ReportText.{ReportTextShowsPositions}
 abbrev IsOrderedInShortList : Line → Type 0
 IsOrderedInShortList line = line.lo ≤ line.hi
 
--- a line stands before another in a report
+-- a line comes before another in a report
 abbrev PrecedesInShortList : Line → Line → Type 0
 PrecedesInShortList line later = report_order line.prefix later.prefix ≡ Less
 
@@ -32,7 +32,7 @@ short_list_of_one_line line ordered = record {
   rising = λ place later other before within. absurd (omega arith);
 }
 
--- two lines of which the first stands before the second are in order
+-- two lines are in order if the first comes before the second
 pub short_list_of_two_lines : (line later : Line) → line.lo ≤ line.hi → later.lo ≤ later.hi
     → report_order line.prefix later.prefix ≡ Less → AreReportLines (line ∷ later ∷ [])
 short_list_of_two_lines line later ordered later_ordered less =
@@ -45,7 +45,7 @@ short_list_of_two_lines line later ordered later_ordered less =
           (All-cons (PrecedesInShortList line) later [] less (λ place other within. absurd (omega arith))) last.rising;
     }
 
--- two places of records are positions
+-- two numbers of at most 16,777,216 are positions
 pub short_list_of_positions : (first second : ℕ) → first ≤ 16777216 → second ≤ 16777216 → ReportTextShowsPositions (first ∷ second ∷ [])
 short_list_of_positions first second first_within second_within = record {
   some = omega arith;

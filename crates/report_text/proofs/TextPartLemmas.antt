@@ -7,7 +7,7 @@ use Rattle.report_text.specs.ReportText.{report_text_line}
 abbrev pub spaced_text_part : ℕ → List ℕ
 spaced_text_part number = 32 ∷ decimal number
 
--- words that are joined are the first one and the others with a space before each
+-- joined words are the first one, and the others with a space before each
 pub spaced_text_parts_join : (name numbers : List ℕ)
     → name ++ flat_map spaced_text_part numbers ≡ join_with_byte 32 (name ∷ map decimal numbers)
 spaced_text_parts_join name [] = append-nil name

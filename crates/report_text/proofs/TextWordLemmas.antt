@@ -6,21 +6,21 @@ use Rattle.std.proofs.lemmas.Fmt.{decimal_by_steps, decimal_injective}
 use Rattle.prefix_lattice.specs.{address_of, AreLeadingBytes, address_text, side_text}
 use Rattle.report_text.proofs.TextPartLemmas.{spaced_text_part}
 
--- every byte is a dot, a slash or a digit, and so behind the space and the line feed
+-- each byte is 46 or more, as are the dot, the slash and the digits, but not the space and the line feed
 abbrev pub IsTextWord : List ℕ → Type 0
 IsTextWord word = AllByRecursion (λ byte. 46 ≤ byte) word
 
--- what stands behind a word begins with no byte of a word
+-- what follows a word begins with no byte of a word
 abbrev pub EndsTextWord : List ℕ → Type 0
 EndsTextWord rest = get_or rest 0 0 < 46
 
--- texts that begin with two bytes differ
+-- texts that begin with different bytes differ
 pub text_words_begin_unlike : (byte another : ℕ) (rest other : List ℕ) → byte < another → byte ∷ rest ≡ another ∷ other → ⊥
 text_words_begin_unlike byte another rest other below same =
     let head : byte ≡ another = ap (λ l. get_or l 0 0) same in
     omega arith
 
--- words before their ends are told apart
+-- a word, and what follows its end, are determined
 pub text_words_told_apart : (word another rest other : List ℕ) → IsTextWord word → IsTextWord another → EndsTextWord rest → EndsTextWord other
     → word ++ rest ≡ another ++ other → (word ≡ another) × (rest ≡ other)
 text_words_told_apart [] [] rest other is another_is ends other_ends same = (refl, same)
@@ -46,7 +46,7 @@ pub decimal_is_text_word : (number : ℕ) → number < 2 ^ 64 → IsTextWord (de
 decimal_is_text_word number small = decimal_by_steps (λ n ds. IsTextWord ds) (λ n below. (omega arith, tt))
     (λ n ds least is. IsTextWord-append ds ((48 + n % 10) ∷ []) is (omega arith, tt)) number small
 
--- a number and its end are told apart
+-- a number, and what follows it, are determined
 pub text_word_numbers_apart : (number another : ℕ) (rest other : List ℕ) → number < 2 ^ 64 → another < 2 ^ 64 → EndsTextWord rest
     → EndsTextWord other
     → decimal number ++ rest ≡ decimal another ++ other → (number ≡ another) × (rest ≡ other)
@@ -81,7 +81,7 @@ positions_end_text_word : (numbers rest : List ℕ) → EndsTextWord (flat_map s
 positions_end_text_word [] rest = omega arith
 positions_end_text_word (number ∷ numbers) rest = omega arith
 
--- positions before a line feed are told apart
+-- positions before a line feed, and what follows it, are determined
 pub text_word_positions_apart : (numbers others rest other : List ℕ) → AllByRecursion (λ n. n < 2 ^ 64) numbers
     → AllByRecursion (λ n. n < 2 ^ 64) others
     → flat_map spaced_text_part numbers ++ 10 ∷ rest ≡ flat_map spaced_text_part others ++ 10 ∷ other → (numbers ≡ others) × (rest ≡ other)

@@ -1,4 +1,4 @@
--- The lines of a session: they lead to its end, and tell what it says.
+-- The lines of a session: they lead to its end, and determine what it says.
 use Rattle.std.proofs.Common.{◌≡◌, ℕ, ◌+◌, ◌<◌, ◌≤◌, List, [], ◌∷◌, ◌++◌, map, length, All, Option}
 use Rattle.std.proofs.Common.{Some, None, IfSome, suc, refl, sym, ap, ◌∙◌, subst, arith, append_assoc}
 use Rattle.std.specs.List.{flat_map, AllZip, AllByRecursion}

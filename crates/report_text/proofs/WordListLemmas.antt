@@ -93,7 +93,7 @@ word_list_of_line (Skipped skips) is = (
 )
 word_list_of_line End is = (search rules, tt)
 
--- the words in joined words, of which there is one at least
+-- the words in joined words, if there is at least one
 word_list_of_some_words : (words : List (List ℕ)) → 1 ≤ length words → AllByRecursion IsTextWord words
     → stage_words_in (join_with_byte 32 words) ≡ words
 word_list_of_some_words [] some all = absurd (omega arith)

@@ -104,8 +104,8 @@ pub record AreSessionTextPositions (shards : ℕ) (positions : List ℕ) : Type 
   pub are_positions : ReportTextShowsPositions positions
   pub as_many : length positions ≡ shards
 
--- a report of a session over so many shards. Of every report it holds that its lines are in the strict order of a
--- report, each with its low at most its high, and fewer than 2^24
+-- a report of a session over this many shards. The lines of every report are in the strict order of a report, each with
+-- its low at most its high, and fewer than 2^24
 pub record IsReportedInSessionText (shards : ℕ) (reported : Reported) : Type 0 where
   pub positions : AreSessionTextPositions shards reported.report.positions
   pub total : reported.report.total < 2 ^ 64
@@ -151,7 +151,7 @@ pub record AreFirstSessionLines (lines : List (List ℕ)) : Type 0 where
   pub others : List (List ℕ)
   pub begun : map session_line_text (session_lines session) ≡ lines ++ others
 
--- the whole lines before line `before + 1` begin a session, this line is whole too, and no session begins with it as well
+-- the whole lines before line `before + 1` begin a session, this line is whole too, and with it they begin none
 pub record SessionTextIsWrongAfter (text : List ℕ) (before : ℕ) : Type 0 where
   pub whole : before < length (whole_lines_of_session text)
   pub begun : AreFirstSessionLines (take before (whole_lines_of_session text))

@@ -13,8 +13,8 @@ use Rattle.report_text.specs.declared.session_line.SessionLine.TheVariants.{Done
 abbrev pub stage_words_in : List ℕ → List (List ℕ)
 stage_words_in text = slice_split (λ byte. byte == prefix_text_space) text
 
--- the last line that was read: nothing yet; the line of a report, of a session over so many shards; its count of lines
--- so far and the prefix of the last one; or one of the last three lines
+-- the last line that was read: none yet; one of a session over this many shards before its last three lines, and among
+-- the lines of a report how many were read and the prefix of the last one; or one of the last three lines
 pub data Stage : Type 0 where
   nothing : Stage
   opened : ℕ → Stage

@@ -23,7 +23,7 @@ const MOST_POSITIONS: usize = 16;
 // The greatest position, the most frames of a capture.
 const GREATEST_POSITION: u64 = 16_777_216;
 
-/// Reads a line without its line feed. `None` exactly where no line of a session has this text.
+/// Reads a line without its line feed. `None` exactly if no line of a session has this text.
 pub(crate) fn read_line(alloc: Global, text: &[u8]) -> Result<Option<SessionLine>, AllocError>
     ensures read { IfOk result (λ read. IfSome read (λ line. IsSessionLine line × (stage_words_in text.now ≡ session_line_words line))) }
     ensures refused { IfOk result (λ read. IfNone read ((line : SessionLine) → IsSessionLine line → stage_words_in text.now ≢ session_line_words line)) }

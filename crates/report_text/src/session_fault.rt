@@ -9,7 +9,7 @@ use thiserror::Error;
 /// What is wrong with the text of a session. A whole line is one with its line feed. Lines are counted from 1.
 #[derive(Clone, Copy, Debug, PartialEq, Eq, Error)]
 pub enum TextFault {
-    /// The lines before this one begin a session. Either this line is whole, and no session begins with it as well, or
+    /// The lines before this one begin a session. Either this line is whole, and no session begins with them and it, or
     /// they are all lines of a session, and at least one byte follows.
     #[error("line {0}")]
     BadLine(u64),

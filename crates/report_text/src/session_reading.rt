@@ -26,7 +26,7 @@ const LONGEST_TEXT: usize = 268_435_456;
 /// Reads the text of a session, of at most 268,435,456 bytes, in one pass. Each line ends by one line feed, its words are
 /// joined by one space, and numbers are decimal, without leading zeros. Only what the session says takes memory.
 ///
-/// A `TextFault` comes exactly where the text is that of no session, or is too long; it names the first wrong line. By
+/// A `TextFault` comes exactly if the text is that of no session, or is too long; it names the first wrong line. By
 /// `session_texts_have_one_reading` a text has one fault or is that of one session, and by `printed_sessions_read_back`
 /// what is printed of a session is read back. `OutOfMemory` means that memory ran out.
 pub fn read_session(alloc: Global, bytes: &[u8]) -> Result<Session, SessionFault>

@@ -1,4 +1,4 @@
--- What a sink took, where a text is written in parts.
+-- What a sink took, if a text is written in parts.
 use Rattle.std.proofs.Common.{◌≡◌, ℕ, List, [], ◌++◌, Option, Ok, Err, Result, length, length-append, ap, sym, ◌∙◌}
 use Rattle.std.proofs.Common.{append_assoc, arith}
 use Rattle.std.specs.Io.KnownBytes.{Appends}

@@ -2,7 +2,7 @@
 use Rattle.std.specs.Prelude.{ℕ, ◌*◌}
 use Rattle.traffic_maker.specs.MadeFrame.{made_frame_length}
 
--- the most frames of a piece: many enough that a call of the sink costs little beside making its frames
+-- the most frames of a piece: enough that a call of the sink costs little compared with making its frames
 abbrev pub piece_size_in_frames : ℕ
 piece_size_in_frames = 640
 

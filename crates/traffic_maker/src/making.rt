@@ -17,8 +17,9 @@ const HEADER: [u8; 24] = [
     0xd4, 0xc3, 0xb2, 0xa1, 2, 0, 4, 0, 0, 0, 0, 0, 0, 0, 0, 0, 0, 0, 4, 0, 1, 0, 0, 0,
 ];
 
-/// Writes the capture of `frames` frames, 1 to 1,000,000, that `seed` makes, in pieces of up to 640 frames. It takes no
-/// memory. `Failed` is returned only if a call of the sink failed; the sink then took a strict prefix of the capture.
+/// Writes the capture of `frames` frames, 1 to 1,000,000, that `seed` makes, in pieces of up to 640 frames. It
+/// allocates no memory. `Failed` is returned only if a call of the sink failed; the sink then took a strict prefix of
+/// the capture.
 pub fn make<K: Sink>(seed: u64, frames: u32, sink: &mut K) -> Result<(), Failed>
     requires { (1 ≤ frames) × (frames ≤ most_made_capture_frames) }
     ensures whole { OnOk result (Appends (K.taken sink.old) (K.taken sink.new) (made_capture seed frames)) }
@@ -38,7 +39,7 @@ pub fn make<K: Sink>(seed: u64, frames: u32, sink: &mut K) -> Result<(), Failed>
     Ok(())
 }
 
-/// The capture of `frames` frames, 1 to 1,000,000, that `seed` makes. Memory is taken once, for all of it.
+/// The capture of `frames` frames, 1 to 1,000,000, that `seed` makes. Memory is allocated once, for all of it.
 pub fn make_bytes(alloc: Global, seed: u64, frames: u32) -> Result<Vec<u8>, OutOfMemory>
     requires { (1 ≤ frames) × (frames ≤ most_made_capture_frames) }
     ensures { IfOk result (λ bytes. bytes.items ≡ made_capture seed frames) }

@@ -13,7 +13,8 @@ use std::marker::Model;
 /// The most frames of a piece.
 pub(crate) const MOST_FRAMES: u32 = 640;
 
-/// A piece of a capture: at most 640 frames, one after the other. The bytes are part of the value, so it takes no memory.
+/// A piece of a capture: at most 640 frames, one after the other. The bytes are part of the value, so it allocates no
+/// memory.
 #[derive(Drop)]
 pub(crate) struct Piece {
     bytes: [u8; 32_000],

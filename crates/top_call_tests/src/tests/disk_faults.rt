@@ -142,7 +142,7 @@ fn breaks_off<R: Abort + Threads + Wait + Sync>(
     Ok(())
 }
 
-// After each crash the next report ends well, from the position that is left on.
+// After each crash the next report ends well, and goes on from the position that the crash left.
 fn goes_on<R: Abort + Threads + Wait + Sync>(
     rt: &R,
     alloc: Global,

@@ -106,7 +106,7 @@ impl Gate for Turnstile {
     }
 }
 
-// Waits until a number is at least this. Whether it was.
+// Waits until a number is at least this. Returns whether it was.
 fn reaches(number: &AtomicU64, least: u64) -> bool {
     for _ in 0..TURNS {
         if number.load(Ordering::SeqCst) >= least {

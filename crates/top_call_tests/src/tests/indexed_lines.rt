@@ -1,4 +1,4 @@
-//! An index of the lines of a whole report, beside the plain list of them.
+//! An index of the lines of a whole report, compared with the plain list of them.
 
 ghost use Rattle.std.specs.Prelude.{◌≡◌, OnOk};
 ghost use Rattle.std.specs.List.{list_any};

@@ -6,7 +6,7 @@ use Rattle.command_words.proofs.ParserLemmas.{parser_found_tells_arguments, simp
 use Rattle.command_words.proofs.ParserLemmas.{parser_takes_well_formed}
 use Rattle.command_words.proofs.parsing.parse.Goals as goal
 
--- the parser takes well-formed words, so that it fails for want of memory alone
+-- the parser accepts well-formed words, so it fails only when out of memory
 pub unreachable-requires : goal.unreachable-requires
 unreachable-requires c =
     let words = argument_texts c.args.behind.now in
@@ -16,7 +16,7 @@ unreachable-requires c =
     let kind : c.kind.result ≡ OutOfMemory = c.kind.ensures ∙ c.in-Err.ensures.passes taken in
     true≢false (sym (rw kind at c.eq.ensures) ∙ c.if-eq.false)
 
--- what it finds are the rows of the arguments
+-- it finds the rows of the arguments
 pub returns-in-Ok : goal.returns-in-Ok
 returns-in-Ok c arguments well_formed =
     let words = argument_texts c.args.behind.now in

@@ -1,4 +1,4 @@
--- What `clap` found for the paths is what the words name.
+-- The paths that `clap` found are those that the words name.
 use Rattle.std.proofs.Common.{[], arith, codes, subst, sym}
 use Rattle.command_words.specs.Forms.{form_of}
 use Rattle.command_words.specs.NamedPaths.{NamesPath}

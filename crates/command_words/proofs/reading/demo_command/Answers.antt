@@ -1,4 +1,4 @@
--- What `clap` found for SEED and FRAMES is the traffic of the words.
+-- What `clap` found for SEED and FRAMES is the traffic that the words ask for.
 use Rattle.std.proofs.Common.{subst, sym}
 use Rattle.std.proofs.lemmas.Result.{err_from_is_err_and, IfErr-weaker, IfOk-weaker}
 use Rattle.command_words.specs.Matches.{values_in_matches, store_in_matches}

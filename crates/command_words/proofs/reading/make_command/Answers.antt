@@ -1,4 +1,4 @@
--- What `clap` found for SEED and FRAMES is the traffic of the words.
+-- What `clap` found for SEED and FRAMES is the traffic that the words ask for.
 use Rattle.std.proofs.lemmas.Result.{err_from_is_err_and}
 use Rattle.command_words.specs.declared.command_word.CommandWord.TheVariants.{Make}
 use Rattle.command_words.proofs.MatchLemmas.{matches_tell_fault, matches_tell_make}

@@ -1,4 +1,4 @@
--- What `clap` found behind the first word tells the words.
+-- What `clap` found after the first word is what the words say.
 use Rattle.std.proofs.Common.{sym, ◌∙◌}
 use Rattle.std.proofs.lemmas.Bool.{false≢true}
 use Rattle.command_words.specs.Arguments.{argument_texts}

@@ -1,4 +1,4 @@
--- What `clap` found for SRC and DST are the two sides of the words.
+-- What `clap` found for SRC and DST are the two sides that the words give.
 use Rattle.std.proofs.Common.{refl}
 use Rattle.std.proofs.lemmas.Result.{err_from_is_err_and}
 use Rattle.command_words.specs.AskedCommand.{CommandHasSides}

@@ -4,7 +4,7 @@ use Rattle.command_words.specs.Arguments.{argument_texts}
 use Rattle.command_words.proofs.ArgumentTailLemmas.{ArgumentTailKeepsName}
 use Rattle.command_words.proofs.scanning.stands.Given as goal
 
--- whatever arguments the words spell, the name stands among them just where it stands among those left
+-- whatever arguments the words spell, the name is present among them exactly if it is among the remaining ones
 abbrev pub invariant-fronts : goal.invariant-fronts
 invariant-fronts l =
     (l.from ≤ length l.words)

@@ -3,7 +3,7 @@ use Rattle.std.specs.Vec.Iter.{into_iter_items}
 use Rattle.pass_tokens.specs.{IsPassOfBoard, view_after_join, view}
 use Rattle.gate_workers.proofs.workers.join_workers.Given as goal
 
--- what is left to be joined completes the fold
+-- joining the remaining passes completes the fold
 abbrev pub invariant-loop-worker : goal.invariant-loop-worker
 invariant-loop-worker l =
     IsPassOfBoard l.board l.pass

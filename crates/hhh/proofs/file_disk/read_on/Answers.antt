@@ -3,7 +3,7 @@ use Rattle.std.proofs.lemmas.List.{drop-drop}
 use Rattle.hhh.proofs.file_disk.read_on.Goals as goal
 use Rattle.hhh.proofs.file_disk.read_on.Goals.{in-Ok, in-Err}
 
--- lists that agree from a place on agree from a later place on
+-- lists that agree from an index on agree from a later index on
 later : {X : Type 0} (at count : ℕ) (new old : List X) → drop at new ≡ drop at old
     → drop (at + count) new ≡ drop (at + count) old
 later at count new old same = sym (drop-drop count at new) ∙ ap (drop count) same ∙ drop-drop count at old
