@@ -65,14 +65,14 @@ read_fault_of_no_source keeping words ends = ⊎_elim
     (λ text. let rose : 1 ≤ 0 = text.rose in omega (arith, rose)) (ends.read_fault refl).failed
 
 -- nor with Done, after a fault of a source or of the disk
-pub read_fault_told_as_done : (keeping : SessionKeeping) (words : List (List ℕ))
+pub read_fault_reported_as_done : (keeping : SessionKeeping) (words : List (List ℕ))
     → idle_run keeping words (ending_source_faults 1 0) 0 Done → ⊥
-read_fault_told_as_done keeping words ends =
-    let same : 1 ≡ 0 = ap (λ faults. faults.capture) (ends.read_fault_told (λ is. cc is)) in
+read_fault_reported_as_done keeping words ends =
+    let same : 1 ≡ 0 = ap (λ faults. faults.capture) (ends.read_fault_reported (λ is. cc is)) in
     omega (arith, same)
 
-pub disk_fault_told_as_done : (keeping : SessionKeeping) (words : List (List ℕ))
+pub disk_fault_reported_as_done : (keeping : SessionKeeping) (words : List (List ℕ))
     → idle_run keeping words (ending_source_faults 0 0) 1 Done → ⊥
-disk_fault_told_as_done keeping words ends =
-    let same : 1 ≡ 0 = ends.disk_fault_told (λ is. cc is) in
+disk_fault_reported_as_done keeping words ends =
+    let same : 1 ≡ 0 = ends.disk_fault_reported (λ is. cc is) in
     omega (arith, same)

@@ -1,21 +1,14 @@
 -- How a run of the program ends: what the top call says of each status, with the three formulas as the rules of dealing.
-use Rattle.std.specs.Prelude.{ℕ, ◌≡◌, ◌⊎◌, ◌≤◌, true, List, length, All, Option, Some}
-use Rattle.outside_io.specs.{FaultCountRose}
-use Rattle.prefix_lattice.specs.{RecordValue}
-use Rattle.hhh_engine.specs.{AskForCommand, HasWordsFault, Command, Settings, WordsKind, Verdict, FrameValue}
-use Rattle.hhh_engine.specs.{CaptureFault, CaptureFileHasFrames, IsRefusedCaptureFile, Records, IsRefusedAtOpening}
-use Rattle.hhh_engine.specs.{IsShownByOpening, OpenFault}
-use Rattle.hhh_engine.specs.{HasSessionTextFault, IsSessionText, longest_session_text_length, TextFault, Answers}
-use Rattle.hhh_engine.specs.{AreAudited}
-use Rattle.hhh_engine.specs.{IsAuditedAsFirstUnsound, IsAuditedAsSound, EndsWithFailedDisk, EndsFailingToRead}
-use Rattle.hhh_engine.specs.{EndsFailingToWrite, FormatEnds, EndsFindingUnsound, EndsUntouched}
-use Rattle.hhh_engine.specs.{SourceFaultsRoseAtEnding}
+use Rattle.std.specs.Prelude.{ℕ, ◌≡◌, List, Option}
+use Rattle.hhh_engine.specs.{Answers, AskForCommand, AskedCommandAvoidsInput, CaptureFault, Command}
+use Rattle.hhh_engine.specs.{EndingSourceFaults, EndsFailingToRead, EndsFailingToWrite, EndsFindingUnsound}
 use Rattle.hhh_engine.specs.{EndsRefusingCapture, EndsRefusingStore, EndsRefusingText, EndsRefusingWords}
-use Rattle.hhh_engine.specs.{EndingSourceFaults, EndsAnswered, EndsWritingInPart}
-use Rattle.hhh_engine.specs.{AskedCommandAvoidsInput, AskedCommandUsesInput, InputsCanBeAnswered, InputBytes}
-use Rattle.hhh_engine.specs.{UsesInputCapture, UsesInputSession}
-use Rattle.hhh_engine.specs.{UsesInputStore, SessionKeeping, store_settings_for_saves}
-use Rattle.hhh_engine.specs.{AreDealtInSession, session_rules_by_formula, status_of_opening}
+use Rattle.hhh_engine.specs.{EndsWithFailedDisk, EndsWritingInPart, FormatEnds, InputBytes, IsShownByOpening}
+use Rattle.hhh_engine.specs.{MustEndAnswered, MustEndFindingSound, MustEndFindingUnsound, MustEndRefusingCapture}
+use Rattle.hhh_engine.specs.{MustEndRefusingStore, MustEndRefusingText, MustEndRefusingWords, OpenFault}
+use Rattle.hhh_engine.specs.{SessionKeeping, Settings, TextFault, UsesInputCapture, UsesInputSession, UsesInputStore}
+use Rattle.hhh_engine.specs.{Verdict, WordsKind, session_rules_by_formula, status_of_opening}
+use Rattle.hhh_engine.specs.{store_settings_for_saves}
 use Rattle.hhh_engine.specs.declared.status.Status.{Status}
 use Rattle.hhh_engine.specs.declared.status.Status.TheVariants.{Done, BadWords, BadCapture, ReadFault, WriteFault}
 use Rattle.hhh_engine.specs.declared.status.Status.TheVariants.{DiskFault, AuditNo, BadReport, OutOfMemory}
@@ -34,55 +27,35 @@ pub record ProgramRunEnds {S T K D : Type 0} (keeping : SessionKeeping) (AsBefor
   -- arguments are refused for their first fault, unless memory runs out, and nothing is read or written
   pub bad_words : (kind : WordsKind) → status ≡ BadWords kind
       → EndsRefusingWords words kind capture capture_read text text_read sink written disk stands
-  pub refuses_words : (kind : WordsKind) → HasWordsFault words kind → (status ≡ BadWords kind)
-      ⊎ ((status ≡ OutOfMemory) × EndsUntouched capture capture_read text text_read sink written disk stands)
+  pub refuses_words : MustEndRefusingWords words capture capture_read text text_read sink written disk stands status
   -- a capture is refused for its first fault, unless the source fails or memory runs out first, and nothing is written
   pub bad_capture : (fault : CaptureFault) → status ≡ BadCapture fault
       → EndsRefusingCapture words read.capture fault text text_read sink written disk stands
-  pub refuses : (file : List ℕ) (fault : CaptureFault) → AskedCommandUsesInput UsesInputCapture words → read.capture ≡ Some file
-      → IsRefusedCaptureFile file fault → (status ≡ BadCapture fault) ⊎ ((status ≡ ReadFault) ⊎ (status ≡ OutOfMemory))
+  pub refuses : MustEndRefusingCapture words read status
   -- a store is refused for its first fault, unless the source or the disk fails or memory runs out first; nothing is written,
   -- and the disk is as before (AsBefore)
   pub refused_store : (fault : OpenFault) → IsShownByOpening fault → status ≡ status_of_opening fault
       → EndsRefusingStore (session_rules_by_formula program_rule_shard) words read fault sink written AsBefore
-  pub refuses_store : (settings : Settings) (file image : List ℕ) (frames : List FrameValue) (fault : OpenFault)
-      → AskForCommand words (Command.Report settings) → settings.store ≡ true → read.capture ≡ Some file → CaptureFileHasFrames file frames
-      → read.store ≡ Some image → IsShownByOpening fault
-      → ((records : Records) (lists : List (List RecordValue)) → AreDealtInSession settings (session_rules_by_formula program_rule_shard) file records lists
-      → IsRefusedAtOpening (store_settings_for_saves settings) lists image fault)
-      → (status ≡ status_of_opening fault) ⊎ ((status ≡ ReadFault) ⊎ ((status ≡ DiskFault) ⊎ (status ≡ OutOfMemory)))
+  pub refuses_store : MustEndRefusingStore (session_rules_by_formula program_rule_shard) words read status
   -- the text of a session is refused for its first fault, unless a source fails or memory runs out first
   pub bad_report : (fault : TextFault) → status ≡ BadReport fault
       → EndsRefusingText words read fault sink written disk stands
-  pub refuses_report : (settings : Settings) (file bytes : List ℕ) (frames : List FrameValue) (fault : TextFault)
-      → AskForCommand words (Command.Audit settings) → read.capture ≡ Some file → CaptureFileHasFrames file frames → read.text ≡ Some bytes
-      → HasSessionTextFault bytes fault → (status ≡ BadReport fault) ⊎ ((status ≡ ReadFault) ⊎ (status ≡ OutOfMemory))
+  pub refuses_report : MustEndRefusingText words read status
   -- an audit finds the first report that isn't sound, or that all are, unless a source or the sink fails or memory runs out
   pub audit_no : (report : ℕ) (verdict : Verdict) → status ≡ AuditNo report verdict
       → EndsFindingUnsound (session_rules_by_formula program_rule_shard) words read report verdict old new
-  pub finds_unsound : (settings : Settings) (file bytes : List ℕ) (frames : List FrameValue) (known : _)
-      (report : ℕ) (verdict : Verdict) → AskForCommand words (Command.Audit settings) → read.capture ≡ Some file
-      → CaptureFileHasFrames file frames → read.text ≡ Some bytes → IsSessionText bytes known → length bytes ≤ longest_session_text_length
-      → ((lists : List (List RecordValue)) (session : _)
-      → AreAudited settings (session_rules_by_formula program_rule_shard) file bytes lists session
-      → IsAuditedAsFirstUnsound settings lists session.reports report verdict)
-      → (status ≡ AuditNo report verdict) ⊎ ((status ≡ ReadFault) ⊎ ((status ≡ WriteFault) ⊎ (status ≡ OutOfMemory)))
-  pub finds_sound : (settings : Settings) (file bytes : List ℕ) (frames : List FrameValue) (known : _)
-      → AskForCommand words (Command.Audit settings) → read.capture ≡ Some file → CaptureFileHasFrames file frames → read.text ≡ Some bytes
-      → IsSessionText bytes known → length bytes ≤ longest_session_text_length
-      → ((lists : List (List RecordValue)) (session : _)
-      → AreAudited settings (session_rules_by_formula program_rule_shard) file bytes lists session → All (IsAuditedAsSound settings lists) session.reports)
-      → (status ≡ Done) ⊎ ((status ≡ ReadFault) ⊎ ((status ≡ WriteFault) ⊎ (status ≡ OutOfMemory)))
+  pub finds_unsound : MustEndFindingUnsound (session_rules_by_formula program_rule_shard) words read status
+  pub finds_sound : MustEndFindingSound (session_rules_by_formula program_rule_shard) words read status
   -- a fault of a source, the sink or the disk is returned only where it had one in this run, and always then
   pub read_fault : status ≡ ReadFault
       → EndsFailingToRead words read read_before read_now text text_read sink written disk stands
-  pub read_fault_told : (status ≡ ReadFault → ⊥) → read_now ≡ read_before
+  pub read_fault_reported : (status ≡ ReadFault → ⊥) → read_now ≡ read_before
   pub write_fault : status ≡ WriteFault
       → EndsFailingToWrite (session_rules_by_formula program_rule_shard) keeping words read old new write_before write_now
-  pub write_fault_told : (status ≡ WriteFault → ⊥) → write_now ≡ write_before
+  pub write_fault_reported : (status ≡ WriteFault → ⊥) → write_now ≡ write_before
   pub disk_fault : status ≡ DiskFault
       → EndsWithFailedDisk (session_rules_by_formula program_rule_shard) keeping words read AsBefore sink written old new disk_before disk_now
-  pub disk_fault_told : (status ≡ DiskFault → ⊥) → disk_now ≡ disk_before
+  pub disk_fault_reported : (status ≡ DiskFault → ⊥) → disk_now ≡ disk_before
   -- `format` leaves an empty store where it ends with Done or a write fault: then the disk reads `stored`, and a crash may
   -- leave what is `possible`. What the command doesn't use is untouched
   pub formats : (settings : Settings) → AskForCommand words (Command.Format settings)
@@ -95,6 +68,5 @@ pub record ProgramRunEnds {S T K D : Type 0} (keeping : SessionKeeping) (AsBefor
       → EndsWritingInPart (session_rules_by_formula program_rule_shard) keeping words read AsBefore sink written old new
   -- with arguments that ask for a command, inputs that are known and in their formats, and no fault, the command is answered,
   -- or memory ran out
-  pub complete : (command : Command) → AskForCommand words command → InputsCanBeAnswered (session_rules_by_formula program_rule_shard) command read
-      → (SourceFaultsRoseAtEnding read_before read_now → ⊥) → (FaultCountRose write_before write_now → ⊥) → (FaultCountRose disk_before disk_now → ⊥)
-      → EndsAnswered command status ⊎ (status ≡ OutOfMemory)
+  pub complete : MustEndAnswered (session_rules_by_formula program_rule_shard) words read read_before read_now write_before write_now
+      disk_before disk_now status

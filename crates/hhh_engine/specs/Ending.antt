@@ -1,18 +1,20 @@
 -- What each status says of the arguments, of the source, of the sink and of the disk.
-use Rattle.std.specs.Prelude.{⊤, ℕ, ◌≡◌, ◌⊎◌, true, List, Option, None, IfSome}
+use Rattle.std.specs.Prelude.{⊤, ℕ, ◌≡◌, ◌⊎◌, ◌≤◌, true, List, length, All, Option, None, Some, IfSome}
 use Rattle.std.specs.Io.KnownBytes.{Appends, IsAtEnd}
 use Rattle.outside_io.specs.{FaultCountRose}
 use Rattle.prefix_lattice.specs.{RecordValue}
-use Rattle.frame_records.specs.{IsRefusedCaptureFile}
+use Rattle.frame_records.specs.{CaptureFileHasFrames, IsRefusedCaptureFile}
 use Rattle.frame_records.specs.declared.records.Records.{Records}
+use Rattle.pcap_frames.specs.{FrameValue}
 use Rattle.pcap_frames.specs.declared.fault.CaptureFault.{CaptureFault}
 use Rattle.slot_disk.specs.{IfImageKnown}
 use Rattle.checkpoint.specs.{StoreOpensTo}
 use Rattle.checkpoint.specs.declared.settings.StoreSettings.{StoreSettings}
-use Rattle.recovery.specs.{IsRefusedAtOpening}
+use Rattle.recovery.specs.{IsRefusedAtOpening, IsShownByOpening}
 use Rattle.recovery.specs.declared.fault.OpenFault.{OpenFault}
 use Rattle.recovery.specs.declared.fault.OpenFault.TheVariants as opening
-use Rattle.report_text.specs.{HasSessionTextFault}
+use Rattle.report_text.specs.{HasSessionTextFault, IsSessionText, longest_session_text_length}
+use Rattle.report_text.specs.declared.session.Session.{Session}
 use Rattle.report_text.specs.declared.session_fault.TextFault.{TextFault}
 use Rattle.exact_audit.specs.declared.verdict.Verdict.{Verdict}
 use Rattle.command_words.specs.{AskForCommand, HasWordsFault}
@@ -21,11 +23,13 @@ use Rattle.command_words.specs.declared.command.Command.TheVariants as command
 use Rattle.command_words.specs.declared.settings.Settings.{Settings}
 use Rattle.command_words.specs.declared.words_kind.WordsKind.{WordsKind}
 use Rattle.hhh_engine.specs.Answer.{AnswersInPart, WritesAnswer}
+use Rattle.hhh_engine.specs.Audit.{AreAudited, IsAuditedAsFirstUnsound, IsAuditedAsSound}
 use Rattle.hhh_engine.specs.Audit.{IsUnsoundAudit, AuditReadOnFault, unsound_audit_text}
 use Rattle.hhh_engine.specs.Inputs.{AskedCommandUsesInput, InputBytes, IsInputCapture, MayUseInputStore}
-use Rattle.hhh_engine.specs.Inputs.{HoldsOfAuditInputs, UsesInputCapture, UsesInputSession, InputsWereRead}
+use Rattle.hhh_engine.specs.Inputs.{HoldsOfAuditInputs, InputsCanBeAnswered, UsesInputCapture, UsesInputSession, InputsWereRead}
 use Rattle.hhh_engine.specs.Saves.{store_settings_for_saves}
 use Rattle.hhh_engine.specs.Session.{AreDealtInSession, SessionKeeping, SessionRules}
+use Rattle.hhh_engine.specs.Status.{status_of_opening}
 use Rattle.hhh_engine.specs.declared.status.Status.{Status}
 use Rattle.hhh_engine.specs.declared.status.Status.TheVariants.{Done, BadWords, BadCapture, ReadFault, WriteFault}
 use Rattle.hhh_engine.specs.declared.status.Status.TheVariants.{DiskFault, NotFormatted, Damaged, OtherSettings}
@@ -45,6 +49,13 @@ pub record EndsRefusingWords {S T K D : Type 0} (words : List (List ℕ)) (kind 
   pub first_fault : HasWordsFault words kind
   pub nothing : EndsUntouched capture read text text_read sink written disk left
 
+-- arguments with a fault are refused for it, unless memory runs out, and nothing is read or written
+abbrev pub MustEndRefusingWords : {S T K D : Type 0} → List (List ℕ) → (capture read : S) → (text text_read : T)
+    → (sink written : K) → (disk left : D) → Status → Type 0
+MustEndRefusingWords words capture read text text_read sink written disk left status =
+    (kind : WordsKind) → HasWordsFault words kind → (status ≡ BadWords kind)
+    ⊎ ((status ≡ OutOfMemory) × EndsUntouched capture read text text_read sink written disk left)
+
 -- BadCapture: the command reads a capture; this is the first fault of the file, where its bytes are known; no text of a
 -- session was read before, and nothing was written
 pub record EndsRefusingCapture {T K D : Type 0} (words : List (List ℕ)) (left : Option (List ℕ)) (fault : CaptureFault)
@@ -54,6 +65,12 @@ pub record EndsRefusingCapture {T K D : Type 0} (words : List (List ℕ)) (left 
   pub text_unread : text_read ≡ text
   pub unwritten : written ≡ sink
   pub untouched : stands ≡ disk
+
+-- a capture with a fault is refused for it, unless the source fails or memory runs out first
+abbrev pub MustEndRefusingCapture : List (List ℕ) → InputBytes → Status → Type 0
+MustEndRefusingCapture words read status =
+    (file : List ℕ) (fault : CaptureFault) → AskedCommandUsesInput UsesInputCapture words → read.capture ≡ Some file
+    → IsRefusedCaptureFile file fault → (status ≡ BadCapture fault) ⊎ ((status ≡ ReadFault) ⊎ (status ≡ OutOfMemory))
 
 -- the counts of faults of the two sources: that of the capture, and that of the text of a session
 pub record EndingSourceFaults : Type 0 where
@@ -147,6 +164,17 @@ pub record EndsRefusingStore {K : Type 0} (rules : SessionRules) (words : List (
   pub unwritten : written ≡ sink
   pub as_before : AsBefore
 
+-- a store that is refused for a fault however the records of the capture are dealt is refused for it, unless the source or
+-- the disk fails or memory runs out first
+abbrev pub MustEndRefusingStore : SessionRules → List (List ℕ) → InputBytes → Status → Type 0
+MustEndRefusingStore rules words read status =
+    (settings : Settings) (file image : List ℕ) (frames : List FrameValue) (fault : OpenFault)
+    → AskForCommand words (command.Report settings) → settings.store ≡ true → read.capture ≡ Some file
+    → CaptureFileHasFrames file frames → read.store ≡ Some image → IsShownByOpening fault
+    → ((records : Records) (lists : List (List RecordValue)) → AreDealtInSession settings rules file records lists
+    → IsRefusedAtOpening (store_settings_for_saves settings) lists image fault)
+    → (status ≡ status_of_opening fault) ⊎ ((status ≡ ReadFault) ⊎ ((status ≡ DiskFault) ⊎ (status ≡ OutOfMemory)))
+
 -- AuditNo: an audit was asked for, and the inputs were read to their ends; this report is the first of the session that
 -- is not sound, by this verdict, and the line that says so was written in full
 pub record EndsFindingUnsound (rules : SessionRules) (words : List (List ℕ)) (read : InputBytes) (report : ℕ) (verdict : Verdict)
@@ -156,6 +184,28 @@ pub record EndsFindingUnsound (rules : SessionRules) (words : List (List ℕ)) (
   pub read_to_end : InputsWereRead (command.Audit settings) read
   pub found : HoldsOfAuditInputs read (λ file text. IsUnsoundAudit settings rules file text report verdict)
   pub written : Appends old new (unsound_audit_text report verdict)
+
+-- a session is found unsound at the report that is the first that is not sound however the records are dealt, unless a
+-- source or the sink fails or memory runs out first
+abbrev pub MustEndFindingUnsound : SessionRules → List (List ℕ) → InputBytes → Status → Type 0
+MustEndFindingUnsound rules words read status =
+    (settings : Settings) (file bytes : List ℕ) (frames : List FrameValue) (known : Session) (report : ℕ) (verdict : Verdict)
+    → AskForCommand words (command.Audit settings) → read.capture ≡ Some file → CaptureFileHasFrames file frames
+    → read.text ≡ Some bytes → IsSessionText bytes known → length bytes ≤ longest_session_text_length
+    → ((lists : List (List RecordValue)) (session : Session) → AreAudited settings rules file bytes lists session
+    → IsAuditedAsFirstUnsound settings lists session.reports report verdict)
+    → (status ≡ AuditNo report verdict) ⊎ ((status ≡ ReadFault) ⊎ ((status ≡ WriteFault) ⊎ (status ≡ OutOfMemory)))
+
+-- a session whose reports are all sound however the records are dealt is found so, unless a source or the sink fails or
+-- memory runs out
+abbrev pub MustEndFindingSound : SessionRules → List (List ℕ) → InputBytes → Status → Type 0
+MustEndFindingSound rules words read status =
+    (settings : Settings) (file bytes : List ℕ) (frames : List FrameValue) (known : Session)
+    → AskForCommand words (command.Audit settings) → read.capture ≡ Some file → CaptureFileHasFrames file frames
+    → read.text ≡ Some bytes → IsSessionText bytes known → length bytes ≤ longest_session_text_length
+    → ((lists : List (List RecordValue)) (session : Session) → AreAudited settings rules file bytes lists session
+    → All (IsAuditedAsSound settings lists) session.reports)
+    → (status ≡ Done) ⊎ ((status ≡ ReadFault) ⊎ ((status ≡ WriteFault) ⊎ (status ≡ OutOfMemory)))
 
 -- the text of a session was refused: the capture is one and was read to its end; this is the first fault of the text, where
 -- its bytes are known, which was read to its end, or to one byte past the longest one
@@ -174,6 +224,15 @@ pub record EndsRefusingText {K D : Type 0} (words : List (List ℕ)) (read : Inp
   pub unwritten : written ≡ sink
   pub untouched : stands ≡ disk
 
+-- the text of a session with a fault is refused for it, once the capture was accepted, unless a source fails or memory
+-- runs out first
+abbrev pub MustEndRefusingText : List (List ℕ) → InputBytes → Status → Type 0
+MustEndRefusingText words read status =
+    (settings : Settings) (file bytes : List ℕ) (frames : List FrameValue) (fault : TextFault)
+    → AskForCommand words (command.Audit settings) → read.capture ≡ Some file → CaptureFileHasFrames file frames
+    → read.text ≡ Some bytes → HasSessionTextFault bytes fault
+    → (status ≡ BadReport fault) ⊎ ((status ≡ ReadFault) ⊎ (status ≡ OutOfMemory))
+
 -- the command was answered: its text was written, or an audit found a report that is not sound
 abbrev pub EndsAnswered : Command → Status → Type 0
 EndsAnswered (command.Audit settings) status =
@@ -183,6 +242,15 @@ EndsAnswered (command.Report settings) status = status ≡ Done
 EndsAnswered (command.Format settings) status = status ≡ Done
 EndsAnswered (command.Make seed frames) status = status ≡ Done
 EndsAnswered (command.Demo seed frames settings) status = status ≡ Done
+
+-- with arguments that ask for a command, inputs that are known and in their formats, and no fault of a source, the sink or
+-- the disk, the command is answered, unless memory runs out
+abbrev pub MustEndAnswered : SessionRules → List (List ℕ) → InputBytes → (read_before read_now : EndingSourceFaults)
+    → (write_before write_now disk_before disk_now : ℕ) → Status → Type 0
+MustEndAnswered rules words read read_before read_now write_before write_now disk_before disk_now status =
+    (command : Command) → AskForCommand words command → InputsCanBeAnswered rules command read
+    → (SourceFaultsRoseAtEnding read_before read_now → ⊥) → (FaultCountRose write_before write_now → ⊥)
+    → (FaultCountRose disk_before disk_now → ⊥) → EndsAnswered command status ⊎ (status ≡ OutOfMemory)
 
 -- the disk holds a store with no gate open, whatever a crash now leaves, where its bytes are known
 abbrev pub EndsWithEmptyStore : Option (List ℕ) → (List ℕ → Type 0) → StoreSettings → Type 0

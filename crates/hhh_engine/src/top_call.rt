@@ -1,37 +1,31 @@
 //! The top call: from arguments, a capture and the disk of a store to an output text and a status.
 
-ghost use Rattle.std.specs.Prelude.{◌≡◌, ◌⊎◌, ◌≤◌, ℕ, List, length, All, Some, true};
+ghost use Rattle.std.specs.Prelude.{◌≡◌, ℕ};
 ghost use Rattle.outside_io.specs.{FaultCountRose};
-ghost use Rattle.prefix_lattice.specs.{RecordValue};
-ghost use Rattle.pcap_frames.specs.{FrameValue};
-ghost use Rattle.frame_records.specs.{CaptureFileHasFrames, IsRefusedCaptureFile};
-ghost use Rattle.frame_records.specs.declared.records.Records.{Records};
 ghost use Rattle.pcap_frames.specs.declared.fault.CaptureFault.{CaptureFault};
 ghost use Rattle.deal_rules.specs.{dealer_of};
-ghost use Rattle.recovery.specs.{IsRefusedAtOpening, IsShownByOpening};
+ghost use Rattle.recovery.specs.{IsShownByOpening};
 ghost use Rattle.recovery.specs.declared.fault.OpenFault.{OpenFault};
-ghost use Rattle.report_text.specs.{HasSessionTextFault, IsSessionText, longest_session_text_length};
-ghost use Rattle.report_text.specs.declared.session.Session.{Session};
 ghost use Rattle.report_text.specs.declared.session_fault.TextFault.{TextFault};
 ghost use Rattle.exact_audit.specs.declared.verdict.Verdict.{Verdict};
-ghost use Rattle.command_words.specs.{argument_texts, AskForCommand, HasWordsFault, IsLimitedCommand};
+ghost use Rattle.command_words.specs.{argument_texts, AskForCommand, IsLimitedCommand};
 ghost use Rattle.command_words.specs.declared.command.Command.{Command};
 ghost use Rattle.command_words.specs.declared.command.Command.TheVariants.{Report, Format, Audit};
 ghost use Rattle.command_words.specs.declared.settings.Settings.{Settings};
 ghost use Rattle.command_words.specs.declared.words_kind.WordsKind.{WordsKind};
-ghost use Rattle.hhh_engine.specs.Answer.{Answers, AnswersInPart, IsAnswer, IsAnswerInPart};
+ghost use Rattle.hhh_engine.specs.Answer.{Answers, IsAnswer, IsAnswerInPart};
 ghost use Rattle.hhh_engine.specs.Ending.{Ends, EndsWithFailedDisk, EndsFailingToRead, EndsFailingToWrite};
-ghost use Rattle.hhh_engine.specs.Ending.{AuditFindsAtEnding, FormatEnds, EndsFindingUnsound, EndsUntouched};
-ghost use Rattle.hhh_engine.specs.Ending.{HappenedToDiskAtEnding, SourceFaultsRoseAtEnding, EndsRefusingCapture};
+ghost use Rattle.hhh_engine.specs.Ending.{AuditFindsAtEnding, FormatEnds, EndsFindingUnsound};
+ghost use Rattle.hhh_engine.specs.Ending.{HappenedToDiskAtEnding, EndsRefusingCapture};
 ghost use Rattle.hhh_engine.specs.Ending.{EndsRefusingStore, EndsRefusingText, EndsRefusingWords, RefusesAtEnding};
-ghost use Rattle.hhh_engine.specs.Ending.{EndsInOrder, EndsAsBeforeUnlessFormat, EndsAnswered, EndsWritingInPart};
-ghost use Rattle.hhh_engine.specs.Ending.{ending_source_faults};
-ghost use Rattle.hhh_engine.specs.Audit.{AreAudited, IsAuditedAsFirstUnsound, IsAuditedAsSound};
-ghost use Rattle.hhh_engine.specs.Inputs.{AskedCommandAvoidsInput, AskedCommandUsesInput, InputsCanBeAnswered};
+ghost use Rattle.hhh_engine.specs.Ending.{EndsInOrder, EndsAsBeforeUnlessFormat, EndsWritingInPart};
+ghost use Rattle.hhh_engine.specs.Ending.{ending_source_faults, MustEndAnswered, MustEndFindingSound};
+ghost use Rattle.hhh_engine.specs.Ending.{MustEndFindingUnsound, MustEndRefusingCapture, MustEndRefusingStore};
+ghost use Rattle.hhh_engine.specs.Ending.{MustEndRefusingText, MustEndRefusingWords};
+ghost use Rattle.hhh_engine.specs.Inputs.{AskedCommandAvoidsInput};
 ghost use Rattle.hhh_engine.specs.Inputs.{UsesInputCapture, UsesInputSession, UsesInputStore, InputsWereAccepted};
 ghost use Rattle.hhh_engine.specs.Inputs.{InputsWereRead, inputs};
 ghost use Rattle.hhh_engine.specs.Saves.{IsAsBeforeSaves, SavesAreKeptOnDisk, store_settings_for_saves};
-ghost use Rattle.hhh_engine.specs.Session.{AreDealtInSession};
 ghost use Rattle.hhh_engine.specs.Status.{status_of_opening};
 ghost use Rattle.hhh_engine.specs.declared.status.Status.TheVariants.{Done, BadWords, BadCapture, ReadFault};
 ghost use Rattle.hhh_engine.specs.declared.status.Status.TheVariants.{WriteFault, DiskFault, AuditNo, BadReport};
@@ -102,15 +96,14 @@ pub fn run<R: Threads + Wait + Sync, S: Source, T: Source, K: Sink, D: Disk, G: 
     ensures bad_words { (kind : WordsKind) → result ≡ BadWords kind
         → EndsRefusingWords (argument_texts words.now) kind capture.old capture.new text.old text.new sink.old sink.new
         disk.old disk.new }
-    ensures refuses_words { (kind : WordsKind) → HasWordsFault (argument_texts words.now) kind → (result ≡ BadWords kind) ⊎ ((result ≡ OutOfMemory)
-        × EndsUntouched capture.old capture.new text.old text.new sink.old sink.new disk.old disk.new) }
+    ensures refuses_words { MustEndRefusingWords (argument_texts words.now) capture.old capture.new text.old text.new sink.old sink.new
+        disk.old disk.new result }
 
     // A capture with a fault is refused for it, unless the source fails or memory runs out first.
     ensures bad_capture { (fault : CaptureFault) → result ≡ BadCapture fault → EndsRefusingCapture (argument_texts words.now) (S.left capture.old) fault
         text.old text.new sink.old sink.new disk.old disk.new }
-    ensures refuses { (file : List ℕ) (fault : CaptureFault) → AskedCommandUsesInput UsesInputCapture (argument_texts words.now)
-        → S.left capture.old ≡ Some file → IsRefusedCaptureFile file fault
-        → (result ≡ BadCapture fault) ⊎ ((result ≡ ReadFault) ⊎ (result ≡ OutOfMemory)) }
+    ensures refuses { MustEndRefusingCapture (argument_texts words.now)
+        (inputs (S.left capture.old) (S.left capture.new) (T.left text.old) (T.left text.new) (D.reads disk.old)) result }
 
     // A store that is refused over the dealt records is refused for its first fault, unless the source or the disk fails or
     // memory runs out first.
@@ -118,22 +111,15 @@ pub fn run<R: Threads + Wait + Sync, S: Source, T: Source, K: Sink, D: Disk, G: 
         → EndsRefusingStore (λ kind. ⟦<Dealer as Deals>⟧.may_answer (dealer_of kind dealers.now)) (argument_texts words.now)
         (inputs (S.left capture.old) (S.left capture.new) (T.left text.old) (T.left text.new) (D.reads disk.old))
         fault sink.old sink.new (IsAsBeforeSaves D.reads D.image_now D.moment D.image_since disk.old disk.new) }
-    ensures refuses_store { (settings : Settings) (file image : List ℕ) (frames : List FrameValue) (fault : OpenFault)
-        → AskForCommand (argument_texts words.now) (Report settings) → settings.store ≡ true → S.left capture.old ≡ Some file → CaptureFileHasFrames file frames
-        → D.reads disk.old ≡ Some image → IsShownByOpening fault
-        → ((records : Records) (lists : List (List RecordValue))
-        → AreDealtInSession settings (λ kind. ⟦<Dealer as Deals>⟧.may_answer (dealer_of kind dealers.now)) file records lists
-        → IsRefusedAtOpening (store_settings_for_saves settings) lists image fault)
-        → (result ≡ status_of_opening fault) ⊎ ((result ≡ ReadFault) ⊎ ((result ≡ DiskFault) ⊎ (result ≡ OutOfMemory))) }
+    ensures refuses_store { MustEndRefusingStore (λ kind. ⟦<Dealer as Deals>⟧.may_answer (dealer_of kind dealers.now)) (argument_texts words.now)
+        (inputs (S.left capture.old) (S.left capture.new) (T.left text.old) (T.left text.new) (D.reads disk.old)) result }
 
     // A text that is not that of a session is refused for its first fault, after the capture was read, and before anything is
     // audited, unless a source fails or memory runs out first.
     ensures bad_report { (fault : TextFault) → result ≡ BadReport fault → EndsRefusingText (argument_texts words.now)
         (inputs (S.left capture.old) (S.left capture.new) (T.left text.old) (T.left text.new) (D.reads disk.old)) fault sink.old sink.new disk.old disk.new }
-    ensures refuses_report { (settings : Settings) (file bytes : List ℕ) (frames : List FrameValue) (fault : TextFault)
-        → AskForCommand (argument_texts words.now) (Audit settings) → S.left capture.old ≡ Some file → CaptureFileHasFrames file frames
-        → T.left text.old ≡ Some bytes
-        → HasSessionTextFault bytes fault → (result ≡ BadReport fault) ⊎ ((result ≡ ReadFault) ⊎ (result ≡ OutOfMemory)) }
+    ensures refuses_report { MustEndRefusingText (argument_texts words.now)
+        (inputs (S.left capture.old) (S.left capture.new) (T.left text.old) (T.left text.new) (D.reads disk.old)) result }
 
     // A session with a report that is not sound is found so at the first one, unless a source or the sink fails or memory
     // runs out first.
@@ -141,24 +127,12 @@ pub fn run<R: Threads + Wait + Sync, S: Source, T: Source, K: Sink, D: Disk, G: 
         → EndsFindingUnsound (λ kind. ⟦<Dealer as Deals>⟧.may_answer (dealer_of kind dealers.now)) (argument_texts words.now)
         (inputs (S.left capture.old) (S.left capture.new) (T.left text.old) (T.left text.new) (D.reads disk.old)) report verdict
         (K.taken sink.old) (K.taken sink.new) }
-    ensures finds_unsound { (settings : Settings) (file bytes : List ℕ) (frames : List FrameValue) (known : Session) (report : ℕ) (verdict : Verdict)
-        → AskForCommand (argument_texts words.now) (Audit settings) → S.left capture.old ≡ Some file → CaptureFileHasFrames file frames
-        → T.left text.old ≡ Some bytes
-        → IsSessionText bytes known → length bytes ≤ longest_session_text_length
-        → ((lists : List (List RecordValue)) (session : Session)
-        → AreAudited settings (λ kind. ⟦<Dealer as Deals>⟧.may_answer (dealer_of kind dealers.now)) file bytes lists session
-        → IsAuditedAsFirstUnsound settings lists session.reports report verdict)
-        → (result ≡ AuditNo report verdict) ⊎ ((result ≡ ReadFault) ⊎ ((result ≡ WriteFault) ⊎ (result ≡ OutOfMemory))) }
+    ensures finds_unsound { MustEndFindingUnsound (λ kind. ⟦<Dealer as Deals>⟧.may_answer (dealer_of kind dealers.now)) (argument_texts words.now)
+        (inputs (S.left capture.old) (S.left capture.new) (T.left text.old) (T.left text.new) (D.reads disk.old)) result }
 
     // A session whose reports are all sound is found so, unless a source or the sink fails or memory runs out.
-    ensures finds_sound { (settings : Settings) (file bytes : List ℕ) (frames : List FrameValue) (known : Session)
-        → AskForCommand (argument_texts words.now) (Audit settings) → S.left capture.old ≡ Some file → CaptureFileHasFrames file frames
-        → T.left text.old ≡ Some bytes
-        → IsSessionText bytes known → length bytes ≤ longest_session_text_length
-        → ((lists : List (List RecordValue)) (session : Session)
-        → AreAudited settings (λ kind. ⟦<Dealer as Deals>⟧.may_answer (dealer_of kind dealers.now)) file bytes lists session
-        → All (IsAuditedAsSound settings lists) session.reports)
-        → (result ≡ Done) ⊎ ((result ≡ ReadFault) ⊎ ((result ≡ WriteFault) ⊎ (result ≡ OutOfMemory))) }
+    ensures finds_sound { MustEndFindingSound (λ kind. ⟦<Dealer as Deals>⟧.may_answer (dealer_of kind dealers.now)) (argument_texts words.now)
+        (inputs (S.left capture.old) (S.left capture.new) (T.left text.old) (T.left text.new) (D.reads disk.old)) result }
 
     // A fault of a source, the sink or the disk is reported only where it had one in this call. It is never ignored, nor
     // reported as anything else. Where the capture's source failed, the text of a session is untouched; where the text's
@@ -168,19 +142,19 @@ pub fn run<R: Threads + Wait + Sync, S: Source, T: Source, K: Sink, D: Disk, G: 
         (inputs (S.left capture.old) (S.left capture.new) (T.left text.old) (T.left text.new) (D.reads disk.old))
         (ending_source_faults (S.faults capture.old) (T.faults text.old))
         (ending_source_faults (S.faults capture.new) (T.faults text.new)) text.old text.new sink.old sink.new disk.old disk.new }
-    ensures read_fault_told { (result ≡ ReadFault → ⊥)
+    ensures read_fault_reported { (result ≡ ReadFault → ⊥)
         → ending_source_faults (S.faults capture.new) (T.faults text.new) ≡ ending_source_faults (S.faults capture.old) (T.faults text.old) }
     ensures write_fault { result ≡ WriteFault → EndsFailingToWrite (λ kind. ⟦<Dealer as Deals>⟧.may_answer (dealer_of kind dealers.now))
         (SavesAreKeptOnDisk D.reads D.image_now D.moment D.image_since disk.old disk.new) (argument_texts words.now)
         (inputs (S.left capture.old) (S.left capture.new) (T.left text.old) (T.left text.new) (D.reads disk.old)) (K.taken sink.old)
         (K.taken sink.new) (K.faults sink.old) (K.faults sink.new) }
-    ensures write_fault_told { (result ≡ WriteFault → ⊥) → K.faults sink.new ≡ K.faults sink.old }
+    ensures write_fault_reported { (result ≡ WriteFault → ⊥) → K.faults sink.new ≡ K.faults sink.old }
     ensures disk_fault { result ≡ DiskFault → EndsWithFailedDisk (λ kind. ⟦<Dealer as Deals>⟧.may_answer (dealer_of kind dealers.now))
         (SavesAreKeptOnDisk D.reads D.image_now D.moment D.image_since disk.old disk.new) (argument_texts words.now)
         (inputs (S.left capture.old) (S.left capture.new) (T.left text.old) (T.left text.new) (D.reads disk.old))
         (IsAsBeforeSaves D.reads D.image_now D.moment D.image_since disk.old disk.new) sink.old sink.new (K.taken sink.old) (K.taken sink.new)
         (D.faults disk.old) (D.faults disk.new) }
-    ensures disk_fault_told { (result ≡ DiskFault → ⊥) → D.faults disk.new ≡ D.faults disk.old }
+    ensures disk_fault_reported { (result ≡ DiskFault → ⊥) → D.faults disk.new ≡ D.faults disk.old }
 
     // A store is formatted where its line was written, or began to be. A source or disk that the command doesn't use is
     // untouched.
@@ -199,13 +173,10 @@ pub fn run<R: Threads + Wait + Sync, S: Source, T: Source, K: Sink, D: Disk, G: 
 
     // With arguments that ask for a command, inputs in their formats and no fault of source, sink or disk, the command is
     // answered unless memory runs out.
-    ensures complete { (command : Command) → AskForCommand (argument_texts words.now) command
-        → InputsCanBeAnswered (λ kind. ⟦<Dealer as Deals>⟧.may_answer (dealer_of kind dealers.now)) command
+    ensures complete { MustEndAnswered (λ kind. ⟦<Dealer as Deals>⟧.may_answer (dealer_of kind dealers.now)) (argument_texts words.now)
         (inputs (S.left capture.old) (S.left capture.new) (T.left text.old) (T.left text.new) (D.reads disk.old))
-        → (SourceFaultsRoseAtEnding (ending_source_faults (S.faults capture.old) (T.faults text.old))
-        (ending_source_faults (S.faults capture.new) (T.faults text.new)) → ⊥)
-        → (FaultCountRose (K.faults sink.old) (K.faults sink.new) → ⊥) → (FaultCountRose (D.faults disk.old) (D.faults disk.new) → ⊥)
-        → EndsAnswered command result ⊎ (result ≡ OutOfMemory) }
+        (ending_source_faults (S.faults capture.old) (T.faults text.old)) (ending_source_faults (S.faults capture.new) (T.faults text.new))
+        (K.faults sink.old) (K.faults sink.new) (D.faults disk.old) (D.faults disk.new) result }
 {
     files_are_read_or_refused();
     openings_are_decided();

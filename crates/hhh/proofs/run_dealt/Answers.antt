@@ -31,12 +31,12 @@ returns g c =
             (λ lists session audited. sound lists session
             (law.audited program_rule_shard settings file bytes lists session follow audited));
         read_fault = run.read_fault;
-        read_fault_told = run.read_fault_told;
+        read_fault_reported = run.read_fault_reported;
         write_fault = λ failed. record {
           rose = (run.write_fault failed).rose;
           in_part = law.part program_rule_shard _ _ _ _ _ _ follow (run.write_fault failed).in_part;
         };
-        write_fault_told = run.write_fault_told;
+        write_fault_reported = run.write_fault_reported;
         disk_fault = λ failed.
             let fault = run.disk_fault failed in
             record {
@@ -46,7 +46,7 @@ returns g c =
               rose = fault.rose;
               in_part = out_of_memory_widens_part (law.part program_rule_shard _ _ _ _ _ _ follow) fault.in_part;
             };
-        disk_fault_told = run.disk_fault_told;
+        disk_fault_reported = run.disk_fault_reported;
         formats = run.formats;
         unused_disk = run.unused_disk;
         unused_capture = run.unused_capture;
