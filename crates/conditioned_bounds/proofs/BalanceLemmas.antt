@@ -22,7 +22,7 @@ BalanceCoveringGoesUp =
 abbrev pub BalanceMeetsAreUnder : Type 0
 BalanceMeetsAreUnder = (first second m : PrefixValue) → meet first second ≡ Some m → under m first ≡ true
 
--- some pass a test
+-- at least one passes a test
 pub balance_count-some : (p : PrefixValue → Bool) (qs : List PrefixValue) → list_any p qs ≡ true → 1 ≤ count_by p qs
 balance_count-some p [] any = absurd (false≢true any)
 balance_count-some p (q ∷ qs) any =

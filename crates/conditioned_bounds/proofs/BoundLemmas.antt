@@ -14,13 +14,13 @@ use Rattle.conditioned_bounds.proofs.IntervalSumLemmas.{interval_sum-mono, inter
 use Rattle.conditioned_bounds.proofs.IntervalSumLemmas.{interval_sum_high-slack}
 use Rattle.conditioned_bounds.proofs.IntervalSumLemmas.{interval_sum_low-slack, interval_sum-difference}
 
--- the weight of a prefix and its meets is that of its closest lines and what is left
+-- the weights of a prefix and of its meets add up to those of its closest lines and its conditioned weight
 abbrev pub BoundIsBalanced : PrefixValue → List PrefixValue → List RecordValue → Type 0
 BoundIsBalanced p lines rs =
     prefix_weight p rs + joint_weights (kept_pairs (closest p lines)) rs
     ≡ joint_weights (closest p lines) rs + conditioned_weight p lines rs
 
--- what is so of a list is so of its front and of the rest
+-- what holds of a list holds of its front and of the rest
 bound_all-front : (P : PrefixValue → Type 0) (xs ys : List PrefixValue) → All P (xs ++ ys) → All P xs
 bound_all-front P [] ys all = All-nil P
 bound_all-front P (x ∷ xs) ys all =
@@ -30,7 +30,7 @@ bound_all-rest : (P : PrefixValue → Type 0) (xs ys : List PrefixValue) → All
 bound_all-rest P [] ys all = all
 bound_all-rest P (x ∷ xs) ys all = bound_all-rest P xs ys (All-tail P x (xs ++ ys) all)
 
--- what is so of all that is asked is so of the prefix, of its closest lines and of their meets
+-- what holds of all prefixes asked for holds of the prefix, of its closest lines and of their meets
 pub record EachBoundPart (P : PrefixValue → Type 0) (p : PrefixValue) (near shared : List PrefixValue) : Type 0 where
   pub top : P p
   pub lines : All P near
@@ -50,7 +50,7 @@ each_bound_part P p near meets all =
 abbrev HoldsInBound : (PrefixValue → ℕ) → (PrefixValue → ℕ) → List RecordValue → PrefixValue → Type 0
 HoldsInBound low high rs q = IntervalHoldsWeight (low q) (high q) (prefix_weight q rs)
 
--- the bound is at least what is left
+-- the bound is at least the conditioned weight
 pub bound_of-least : (low high : PrefixValue → ℕ) (p : PrefixValue) (lines : List PrefixValue) (rs : List RecordValue)
     → BoundIsBalanced p lines rs → BoundsHoldWeights low high rs (prefixes_asked_for_bound p lines)
     → pos (conditioned_weight p lines rs) ≤ℤ bound_of low high p lines
@@ -67,7 +67,7 @@ bound_of-least low high p lines rs balance holds =
     (All-weaker (HoldsInBound low high rs) (λ q. low q ≤ prefix_weight q rs) (λ q h. h.low) near held.lines) in
     omega (arith, ints)
 
--- the bound over exact intervals is what is left
+-- the bound over exact intervals is the conditioned weight
 pub bound_of-exact : (low high : PrefixValue → ℕ) (p : PrefixValue) (lines : List PrefixValue) (rs : List RecordValue)
     → BoundIsBalanced p lines rs → BoundsAreWeights low high rs (prefixes_asked_for_bound p lines)
     → bound_of low high p lines ≡ pos (conditioned_weight p lines rs)
@@ -95,7 +95,7 @@ bound_all-both P Q (x ∷ xs) ps qs =
     All-cons (λ q. P q × Q q) x xs (All-head P x xs ps, All-head Q x xs qs)
     (bound_all-both P Q xs (All-tail P x xs ps) (All-tail Q x xs qs))
 
--- the bound over narrow intervals is not far above what is left
+-- the bound over narrow intervals is not far above the conditioned weight
 pub bound_of-most : (low high : PrefixValue → ℕ) (p : PrefixValue) (lines : List PrefixValue)
     (rs : List RecordValue) (times whole : ℕ)
     → BoundIsBalanced p lines rs → BoundsHoldWeights low high rs (prefixes_asked_for_bound p lines)

@@ -28,7 +28,7 @@ pub record CodeOrderHolds : Type 0 where
 pub code_above-under : (lower upper : PrefixValue) → strictly_under lower upper ≡ true → under lower upper ≡ true
 code_above-under lower upper is = (and_parts (under lower upper) (not (same_in_lattice lower upper)) is).0
 
--- and is under it where the nodes differ
+-- and a prefix that is under one of another node is strictly under it
 pub code_above-by_node : CodeOrderHolds → (lower upper : PrefixValue) → under lower upper ≡ true
     → node_of_prefix lower ≢ node_of_prefix upper → strictly_under lower upper ≡ true
 code_above-by_node order lower upper is differ =
@@ -45,7 +45,7 @@ no_code_above_own_node order lower upper same =
     let level : node_level (node_of_prefix lower) ≡ node_level (node_of_prefix upper) = ap node_level same in
     omega (arith, order.level lower upper is, level))
 
--- a relation of each pair, and of each element with one that is appended
+-- a relation of each pair, and of each element with an appended one, holds of each pair after the append
 pub AllPairs-push_code : {X : Type 0} (R : X → X → Type 0) (xs : List X) (y : X) → AllPairs R xs → All (λ x. R x y) xs
     → AllPairs R (xs ++ y ∷ [])
 AllPairs-push_code {X} R xs y pairs all = λ i j d before within.
@@ -61,7 +61,7 @@ AllPairs-push_code {X} R xs y pairs all = λ i j d before within.
     subst (R (get_or xs i d)) (sym (get_or_push xs y d j end)) (all i d (omega (arith, before, end))))
     (cases_lt j (length xs)))
 
--- the codes of those above at the nodes before a place
+-- the codes of the prefixes above at the nodes before an index
 pub record CodesBefore (prefix : PrefixValue) (place : ℕ) (codes : List ℕ) : Type 0 where
   pub small : All (λ code. code < place * 2 ^ 64) codes
   pub distinct : AllPairs (λ code other. code ≢ other) codes

@@ -61,7 +61,7 @@ pub intervals_up_to_8_do_not_hold_a_weight_of_9 : ¬ BoundsHoldWeights (where_co
 intervals_up_to_8_do_not_hold_a_weight_of_9 held =
     let most : 9 ≤ 8 = (held 0 root (omega arith)).high in omega (arith, most)
 
--- four wide, twice, is at most nine
+-- a width of 4, times 2, is at most 9
 pub wide_intervals_are_narrow_for_two_entries : BoundsAreNarrow (where_covered 7) (where_covered 11) 2 9 (root ∷ stairs)
 wide_intervals_are_narrow_for_two_entries =
     let narrow : 8 ≤ 9 = omega arith in

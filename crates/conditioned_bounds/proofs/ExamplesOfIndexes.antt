@@ -20,7 +20,7 @@ use Rattle.conditioned_bounds.specs.LineIndex.{indexed_root_line, indexed_line, 
 abbrev net : PrefixValue
 net = record { source = 10 ∷ 1 ∷ []; dest = 20 ∷ [] }
 
--- a node that keeps so many bytes of each address
+-- a node that keeps this many bytes of each address
 abbrev node : ℕ → ℕ → NodeValue
 node sources dests = record { source_bytes = sources; dest_bytes = dests }
 
@@ -44,7 +44,7 @@ net_is_under_none_of_a_node_that_keeps_more = refl
 pub code_of_the_net : prefix_code net ≡ 11 * 2 ^ 64 + 0x0a01000014000000
 code_of_the_net = refl
 
--- 10.0.0.0/8 and 10.0.0.0/16 have one address, and differ in their nodes
+-- 10.0.0.0/8 and 10.0.0.0/16 have the same address, and differ in their nodes
 pub nets_of_one_address_have_two_codes : prefix_code (record { source = 10 ∷ []; dest = [] })
     ≢ prefix_code (record { source = 10 ∷ 0 ∷ []; dest = [] })
 nets_of_one_address_have_two_codes same = omega (arith, same)

@@ -28,7 +28,7 @@ index-same lines kept others same are = record {
   under = λ prefix is. ap (map (indexed_line lines)) (same (prefix_code prefix)) ∙ are.under prefix is;
 }
 
--- the lines of numbers stay where one is appended
+-- the lines of numbers stay when a line is appended
 index_lines-stay : (lines : List PrefixValue) (line : PrefixValue) (numbers : List ℕ)
     → All (λ number. number < length lines) numbers
     → map (indexed_line (lines ++ line ∷ [])) numbers ≡ map (indexed_line lines) numbers

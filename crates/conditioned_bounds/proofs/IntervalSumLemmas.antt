@@ -23,7 +23,7 @@ interval_sum-same f g (q ∷ qs) all =
     let first : f q ≡ g q = All-head (λ p. f p ≡ g p) q qs all in
     omega (arith, sum_by-cons f q qs, sum_by-cons g q qs, interval_sum-same f g qs (All-tail (λ p. f p ≡ g p) q qs all))
 
--- a sum of numbers that are greater by at most the whole divided by so many
+-- a sum of numbers, each of which exceeds another by at most the whole divided by `times`
 pub interval_sum-slack : (f g : PrefixValue → ℕ) (times whole : ℕ) (qs : List PrefixValue)
     → All (λ q. f q * times ≤ g q * times + whole) qs
     → sum_by f qs * times ≤ sum_by g qs * times + length qs * whole
@@ -39,7 +39,7 @@ interval_sum-slack f g times whole (q ∷ qs) all =
     ap (λ n. n * whole) one ∙ add-mul 1 (length qs) whole ∙ (omega arith) in
     omega (arith, interval_sum-slack f g times whole qs (All-tail (λ p. f p * times ≤ g p * times + whole) q qs all))
 
--- the high is at most the whole divided by so many above the weight
+-- the high exceeds the weight by at most the whole divided by `times`
 pub interval_sum_high-slack : (low high weight times whole : ℕ) → low ≤ weight → weight ≤ high → (high - low) * times ≤ whole
     → high * times ≤ weight * times + whole
 interval_sum_high-slack low high weight times whole least most narrow =
@@ -48,7 +48,7 @@ interval_sum_high-slack low high weight times whole least most narrow =
     ap (λ n. n * times) parts ∙ add-mul (high - low) low times in
     omega (arith, mul-le low times weight times least (omega arith))
 
--- the weight is at most the whole divided by so many above the low
+-- the weight exceeds the low by at most the whole divided by `times`
 pub interval_sum_low-slack : (low high weight times whole : ℕ) → low ≤ weight → weight ≤ high → (high - low) * times ≤ whole
     → weight * times ≤ low * times + whole
 interval_sum_low-slack low high weight times whole least most narrow =
@@ -57,7 +57,7 @@ interval_sum_low-slack low high weight times whole least most narrow =
     ap (λ n. n * times) parts ∙ add-mul (high - low) low times in
     omega (arith, mul-le weight times high times most (omega arith))
 
--- a difference, taken so many times
+-- a difference, multiplied by `times`
 pub interval_sum-difference : (times ups downs most : ℕ) → downs ≤ ups → ups * times ≤ downs * times + most
     → (pos times *ℤ (pos ups -ℤ pos downs)) ≤ℤ pos most
 interval_sum-difference times ups downs most above within =
@@ -69,7 +69,7 @@ interval_sum-difference times ups downs most above within =
     let few : times * (ups - downs) ≤ most = omega arith in
     rw same (omega (arith, ints))
 
--- a number that is reached, taken so many times
+-- a lower bound of a number, multiplied by `times`
 pub interval_sum-reached : (times most least : ℕ) (top : ℤ) → pos least ≤ℤ top → (pos times *ℤ top) ≤ℤ pos most
     → times * least ≤ most
 interval_sum-reached times most least (pos n) reached within =

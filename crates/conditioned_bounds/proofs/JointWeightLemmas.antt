@@ -7,11 +7,11 @@ use Rattle.std.proofs.Math.Nat.{add-mul}
 use Rattle.prefix_lattice.specs.{RecordValue, PrefixValue, covers, prefix_weight, lines_under, one_line_covers}
 use Rattle.prefix_lattice.specs.{conditioned_weight, covering_line_count}
 
--- 1 for what passes
+-- 1 if a test passes, else 0
 abbrev pub joint_weight_mark : Bool → ℕ
 joint_weight_mark b = cond b 1 0
 
--- what the records weigh that pass a test
+-- the weight of the records that pass a test
 pub joint_weight-passing : (p : RecordValue → Bool) (r : RecordValue) (rs : List RecordValue)
     → sum_by (λ (x : RecordValue). x.weight) (filter p (r ∷ rs))
     ≡ joint_weight_mark (p r) * r.weight + sum_by (λ (x : RecordValue). x.weight) (filter p rs)
@@ -22,7 +22,7 @@ joint_weight-passing p r rs =
       | false ↦ omega arith
     ]
 
--- what some prefixes weigh together
+-- the weights of some prefixes, added up
 abbrev pub joint_weights : List PrefixValue → List RecordValue → ℕ
 joint_weights qs rs = sum_by (λ q. prefix_weight q rs) qs
 
@@ -44,11 +44,12 @@ joint_weights-cons (q ∷ qs) r rs =
     ∙ add-mul (joint_weight_mark (covers q r)) (covering_line_count r qs) r.weight in
     omega (arith, joint_weights-cons qs r rs)
 
--- whether a record that the prefix covers is left by the lines under it
+-- whether the prefix covers a record that no line under it covers
 abbrev pub is_left_in_joint_weight : PrefixValue → List PrefixValue → RecordValue → Bool
 is_left_in_joint_weight p lines r = covers p r && not (one_line_covers (lines_under p lines) r)
 
--- the prefix and the meets cover a record as often as the closest lines do, and once more where it is left
+-- the prefix and the meets cover a record as often as the closest lines do, and once more if no line under the
+-- prefix covers it
 abbrev pub JointWeightBalances : PrefixValue → List PrefixValue → List PrefixValue → List PrefixValue → RecordValue → Type 0
 JointWeightBalances p lines near meets r =
     joint_weight_mark (covers p r) + covering_line_count r meets ≡ covering_line_count r near + joint_weight_mark (is_left_in_joint_weight p lines r)

@@ -6,7 +6,7 @@ use Rattle.std.proofs.lemmas.Bool.{eqb-true, ne_eqb}
 use Rattle.std.proofs.lemmas.List.{take_more, get_or-take, get_or_default, length-take}
 use Rattle.std.proofs.lemmas.List.Folds.{list_any-append, list_any_none}
 
--- of distinct codes, none before a place is the one at the place
+-- of distinct codes, none before an index is the one at the index
 pub noted_number-none_before : (codes : List ℕ) (i : ℕ) → AllPairs (λ code other. code ≢ other) codes → i < length codes
     → list_any (λ other. eqb other (get_or codes i 0)) (take i codes) ≡ false
 noted_number-none_before codes i distinct within =

@@ -21,7 +21,7 @@ SearchFoundNone members test nodes count =
     (member : PrefixValue) → Contains members member → Contains (take count nodes) (node_of_prefix member)
     → test member ≡ false
 
--- no node has none
+-- at first no node is searched
 pub search_starts_with_none : (members : List PrefixValue) (test : PrefixValue → Bool) (nodes : List NodeValue)
     → SearchFoundNone members test nodes 0
 search_starts_with_none members test nodes member there among = absurd (omega (arith, among.1))
@@ -38,7 +38,7 @@ search-one_more_node members test nodes count node before within is here member 
     (Contains-push_cases (take count nodes) (get_or nodes count node) (node_of_prefix member)
     (subst (λ ns. Contains ns (node_of_prefix member)) (take_more nodes count node within) among))
 
--- after all nodes none is left
+-- after all nodes no member passes the test
 pub search_ends_with_none : (members : List PrefixValue) (test : PrefixValue → Bool) (nodes : List NodeValue) (count : ℕ)
     → All (λ member. Contains nodes (node_of_prefix member)) members → SearchFoundNone members test nodes count
     → length nodes ≤ count → list_any test members ≡ false

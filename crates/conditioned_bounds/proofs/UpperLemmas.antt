@@ -140,7 +140,7 @@ is_upper_node-upper_parts node prefix keeps =
     true-le : (a b : ℕ) → nat_le a b ≡ true → a ≤ b
     true-le a b is = grind (arith, nat_tests)
 
--- a prefix has an upper one at a node where the node keeps no more, and there alone
+-- a prefix has an upper one at a node exactly where the node keeps no more
 pub upper-some : (prefix : PrefixValue) (node : NodeValue) → node.source_bytes ≤ length prefix.source
     → node.dest_bytes ≤ length prefix.dest → upper_at prefix node ≡ Some (shortened_to_upper prefix node)
 upper-some prefix node sources dests =
@@ -237,7 +237,7 @@ upper_key_is_small prefix is =
 pub upper_node_is_valid : (prefix : PrefixValue) → IsPrefix prefix → IsNode (node_of_prefix prefix)
 upper_node_is_valid prefix is = record { source = is.source.few; dest = is.dest.few }
 
--- so no two prefixes have one code
+-- so no two prefixes have the same code
 pub same_upper_code : UpperKeysAreApart → (prefix other : PrefixValue) → IsPrefix prefix → IsPrefix other
     → prefix_code prefix ≡ prefix_code other → prefix ≡ other
 same_upper_code apart prefix other is other_is same =

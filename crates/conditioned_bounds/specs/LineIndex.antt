@@ -14,8 +14,8 @@ indexed_root_line = record { source = []; dest = [] }
 abbrev pub indexed_line : List PrefixValue → ℕ → PrefixValue
 indexed_line lines number = slice_index_or lines number indexed_root_line
 
--- there are fewer than 2^24 lines, all distinct, each number that is kept is that of a line, and those kept under a prefix's code are
--- the numbers of the lines that are strictly under it, in the order of the lines
+-- there are fewer than 2^24 lines, all distinct, each number that is kept is that of a line, and those kept under a
+-- prefix's code are the numbers of the lines that are strictly under it, in the order of the lines
 pub record LinesAreIndexed (lines : List PrefixValue) (kept : BTreeMap ℕ (Vec ℕ Global)) : Type 0 where
   pub few : length lines < member_limit
   pub distinct : AllPairs (λ line other. line ≢ other) lines

@@ -54,8 +54,8 @@ impl LineIndex {
         }
     }
 
-    /// Appends a line, whose prefix no line has yet. There are fewer than 2^24 - 1 lines before. All memory is taken
-    /// first, so after an `Err` the lines are as before.
+    /// Appends a line, whose prefix no line has yet. There are fewer than 2^24 - 1 lines before. All memory is
+    /// allocated first, so after an `Err` the lines are as before.
     pub fn push(&mut self, prefix: &Prefix) -> Result<(), AllocError>
         requires new { ¬ Contains self.old prefix.now }
         requires few { length self.old + 1 < member_limit }

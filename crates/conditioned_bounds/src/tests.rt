@@ -173,8 +173,8 @@ fn lines_of_an_index(rt: HostRuntime) -> Result<(), Fail> {
     Ok(())
 }
 
-/// The sides of a small world: a tree of six nets and the net above all. Two of them begin one another, are apart, or
-/// are equal, so in the 49 pairs of them every shape of a meet occurs.
+/// The sides of a small world: a tree of six nets and the net above all. Of two of them, one begins the other, they are
+/// apart, or they are equal, so in the 49 pairs of them every shape of a meet occurs.
 const SIDES: [(u32, u8); 7] = [
     (0, 0),
     (0x0a00_0000, 1),

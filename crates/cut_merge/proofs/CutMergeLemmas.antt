@@ -20,14 +20,14 @@ use Rattle.cut_merge.proofs.TableMergeLemmas.{TableMergeIsBounded, table_merge_c
 use Rattle.cut_merge.proofs.TableMergeLemmas.{table_merge_represents_more, interval_of_table_merge}
 use Rattle.cut_merge.proofs.CutTableLemmas.{CutTablesAreBounded, cut_tables_count_total}
 
--- the table of a shard stands at its place among the tables of the node
+-- the table of a shard is at the shard's index among the tables of the node
 cut_merge_stands_at_place : (node : NodeValue) (cut : CutValue) (shard : ℕ) (snapshot : SnapshotValue)
     → slice_get cut.shards shard ≡ Some snapshot
     → slice_get (cut_tables_at node cut) shard ≡ Some (snapshot_table_at node snapshot)
 cut_merge_stands_at_place node cut shard snapshot at =
     slice_get-map (snapshot_table_at node) cut.shards shard ∙ ap (option_map (snapshot_table_at node)) at
 
--- merged tables of some shards say no more than the total of the cut
+-- the intervals of the merged tables of some shards are within the total of the cut
 pub cut_merge_within_total : (node : NodeValue) (cut : CutValue) (shards key : ℕ) (merge : NodeMergeValue) → CutTablesAreBounded
     → IsNode node → IsCut cut
     → MergedNodeRepresentsTables merge (take shards (cut_tables_at node cut))
@@ -69,7 +69,7 @@ cut_merge_of_more_shards node cut shard snapshot old new at stands adds =
     take_more tables shard table within ∙ ap (λ t. take shard tables ++ t ∷ []) read in
     subst (MergedNodeRepresentsTables new) (sym more) (table_merge_represents_more old new (take shard tables) table stands adds)
 
--- an interval of merged tables at a place
+-- an interval of the merged tables at an index is within the total
 pub cut_merge_place_within_total : (merged : MergedValue) (place key : ℕ) (merge : NodeMergeValue) → IsMerged merged
     → place < length merged.nodes
     → merge ≡ slice_index_or merged.nodes place merge → IsTableIntervalWithinTotal merged.total (merged_interval_for_key merge key)
@@ -77,7 +77,7 @@ cut_merge_place_within_total merged place key merge kept within read =
     subst (λ m. IsTableIntervalWithinTotal merged.total (merged_interval_for_key m key))
     (sym (read ∙ get_or_default merged.nodes place merge nothing_merged within)) (kept.intervals place key)
 
--- the nodes before a place are merged
+-- the nodes before an index are merged
 pub record CutMergesNodes (cut : CutValue) (nodes : List NodeMergeValue) (place : ℕ) : Type 0 where
   pub count : length nodes ≡ place
   pub stands : (k : ℕ) → k < place
@@ -85,7 +85,7 @@ pub record CutMergesNodes (cut : CutValue) (nodes : List NodeMergeValue) (place 
   pub within : (k key : ℕ) → k < place
       → IsTableIntervalWithinTotal (total_of_cut cut) (merged_interval_for_key (slice_index_or nodes k nothing_merged) key)
 
--- none is merged before the first place
+-- none is merged before the first index
 pub cut_merges_none : (cut : CutValue) → CutMergesNodes cut [] 0
 cut_merges_none cut = record {
   count = refl;
@@ -125,7 +125,7 @@ cut_merges_more_nodes cut nodes place merge merges stands within =
           (subst (P place) (sym (get_or_push nodes merge nothing_merged place merges.count)) here)
     ]
 
--- all 25 merged keep what merged tables keep
+-- once all 25 nodes are merged, what always holds of merged tables holds
 pub cut_merge_is_merged : (cut : CutValue) (nodes : List NodeMergeValue) (capacity : ℕ) → total_of_cut cut < 2 ^ 60
     → CutMergesNodes cut nodes 25
     → IsMerged (record { capacity = capacity; total = total_of_cut cut; nodes = nodes })
@@ -141,7 +141,7 @@ cut_merge_is_merged cut nodes capacity bounded merges = record {
   ];
 }
 
--- and stand for the cut
+-- and the merged tables represent the cut
 pub cut_merge_stands_for_cut : (cut : CutValue) (nodes : List NodeMergeValue) → CutMergesNodes cut nodes 25
     → MergedRepresentsCut (record { capacity = cut.capacity; total = total_of_cut cut; nodes = nodes }) cut
 cut_merge_stands_for_cut cut nodes merges =

@@ -16,11 +16,11 @@ use Rattle.cut_merge.specs.NodeMerge.{NodeMergeValue}
 use Rattle.cut_merge.specs.Merged.{MergedValue, nothing_merged, merged_interval_for_key, merge_at, merged_interval_for}
 use Rattle.cut_merge.specs.Merged.{merged_candidates_at, MergedRepresentsCut, IsMerged}
 
--- each key stands where it is seen first
+-- each key is where it is seen first
 pub keys_are_seen_once : table_keys_first_seen (3 ∷ 1 ∷ 3 ∷ 2 ∷ 1 ∷ []) ≡ 3 ∷ 1 ∷ 2 ∷ []
 keys_are_seen_once = refl
 
--- of no keys none is seen
+-- in an empty list no key is seen
 pub no_key_is_seen : table_keys_first_seen [] ≡ []
 no_key_is_seen = refl
 
@@ -36,11 +36,11 @@ tables =
     ∷ record { capacity = 2; entries = [] }
     ∷ []
 
--- lows add up, and highs do
+-- lows add up, and so do highs
 pub key_in_two_tables : interval_over_tables tables 5 ≡ record { low = 9; high = 11 }
 key_in_two_tables = refl
 
--- a key that is missing where room is left adds nothing
+-- a key that is missing in a table with free room adds nothing
 pub key_in_the_full_table : interval_over_tables tables 8 ≡ record { low = 2; high = 3 }
 key_in_the_full_table = refl
 
@@ -63,19 +63,19 @@ packet host = record { src = 0x0a000000 + host; dst = 0x14000001; weight = 1 }
 abbrev shard : ℕ → List RecordValue → SnapshotValue
 shard position packets = record { capacity = 2; position = position; tables = fold_snapshot_from 0 2 (replicate 25 []) packets }
 
--- hosts 1, 1 and 2 in one shard, and 1, 3 and 4 in another, whose table keeps 3 and then 4 in place of 1
+-- hosts 1, 1 and 2 in one shard, and 1, 3 and 4 in another, whose table keeps 3, and replaces 1 by 4
 abbrev cut : CutValue
 cut = record {
   capacity = 2;
   shards = shard 3 (packet 1 ∷ packet 1 ∷ packet 2 ∷ []) ∷ shard 3 (packet 1 ∷ packet 3 ∷ packet 4 ∷ []) ∷ [];
 }
 
--- the key of a host and the one destination, at the node that keeps so much of it
+-- the key of a host and the only destination, at the node that keeps this much of it
 abbrev host_key : ℕ → ℕ → ℕ
 host_key host dest = (0x0a000000 + host) * 2 ^ 32 + dest
 
--- at the node that keeps whole sources alone, each shard counts the hosts; the last of them carries the count that
--- it took over as its error
+-- at the node that keeps only whole sources, each shard counts the hosts; the error of the last of them is the count
+-- that it took over
 pub tables_of_the_sources : cut_tables_at (record { source_bytes = 4; dest_bytes = 0 }) cut
     ≡ record { capacity = 2; entries = entry (host_key 2 0) 1 0 ∷ entry (host_key 1 0) 2 0 ∷ [] }
     ∷ record { capacity = 2; entries = entry (host_key 3 0) 1 0 ∷ entry (host_key 4 0) 2 1 ∷ [] }
@@ -86,7 +86,7 @@ tables_of_the_sources = refl
 abbrev host_prefix : ℕ → PrefixValue
 host_prefix host = record { source = 10 ∷ 0 ∷ 0 ∷ host ∷ []; dest = 20 ∷ 0 ∷ 0 ∷ 1 ∷ [] }
 
--- host 1 has 3 packets: two that the first shard counts for sure, and one that may stand in the second shard's
+-- host 1 has 3 packets: two that the first shard counts for sure, and one that may be part of the second shard's
 -- least count
 pub interval_of_a_host : interval_in_cut cut (host_prefix 1) ≡ record { low = 2; high = 3 }
 interval_of_a_host = refl
@@ -129,7 +129,7 @@ hosts = record {
       host_key 2 0x14000001 ∷ host_key 1 0x14000001 ∷ host_key 3 0x14000001 ∷ host_key 4 0x14000001 ∷ [];
 }
 
--- they stand at the last of the 25 nodes
+-- they are at the last of the 25 nodes
 abbrev merged : MergedValue
 merged = record { capacity = 2; total = 6; nodes = replicate 24 nothing_merged ++ hosts ∷ [] }
 
@@ -164,11 +164,11 @@ merged_of_one_node_does_not_stand_for_the_cut stands =
 abbrev nothing_counted : CutValue
 nothing_counted = record { capacity = 2; shards = shard 0 [] ∷ [] }
 
--- what is merged of it
+-- its merged tables
 abbrev nothing : MergedValue
 nothing = record { capacity = 2; total = 0; nodes = replicate 25 nothing_merged }
 
--- the one value of a list of one value
+-- in a list of equal elements the element at each index is that element, which is also the default
 alike : {X : Type 0} (x : X) (length place : ℕ) → slice_index_or (replicate length x) place x ≡ x
 alike x zero place = refl
 alike x (suc length) zero = refl

@@ -7,7 +7,7 @@ use Rattle.cut_merge.specs.HighBounds.{high_bound_cell, high_bound, HighBoundsNo
 use Rattle.cut_merge.specs.HighBounds.{HighBoundsAddMissing, counted_in_high_bound, HighBoundsNoteEntries}
 use Rattle.cut_merge.specs.HighBounds.{AreHighBoundsOfRuns}
 
--- the highest twelve bits of nothing, and of the multiplier
+-- the highest twelve bits of 0, and of the multiplier
 pub home_of_key_0 : high_bound_home 0 ≡ 0
 unfolding high_bound_home
 home_of_key_0 = refl
@@ -29,7 +29,7 @@ full = record {
   entries = record { key = 8; count = 3; error = 1 } ∷ record { key = 5; count = 7; error = 0 } ∷ [];
 }
 
--- 7 is 4 more than a missing key has, and there is one entry
+-- 7 exceeds the high of a missing key by 4, and the entry itself counts 1
 pub counted_by_an_entry : counted_in_high_bound full (Some (record { key = 5; count = 7; error = 0 })) ≡ 5
 counted_by_an_entry = refl
 
@@ -48,7 +48,7 @@ pub bound_of_key_0 : high_bound bounds 0 ≡ 8
 unfolding high_bound_home
 bound_of_key_0 = refl
 
--- an entry of key 0 whose high is 3 above that of a missing key, and the missing key's high of one more table
+-- once an entry of key 7 is counted, the home of the key isn't empty
 pub an_entry_of_key_0 : HighBoundsNoteKey bounds bounds 7 0 → 1 ≤ high_bound_cell bounds 7
 an_entry_of_key_0 notes = omega (arith, notes.noted)
 

@@ -52,7 +52,7 @@ missing_in_a_full_table = refl
 pub missing_where_room_is_left : missing_run_high roomy ≡ 0
 missing_where_room_is_left = refl
 
--- what is in a list of one key
+-- the only interval of a list of one
 only : (interval : KeyInterval) → Contains (weighing 5 2 4 ∷ []) interval → weighing 5 2 4 ≡ interval
 only interval there =
     ⊎_elim (λ is. is) (λ later. absurd (Contains-empty_list interval later))
@@ -109,7 +109,7 @@ a_seen_key_stays = refl
 pub bounded_in_the_full_table : IsBoundedToBeMerged 8 full
 bounded_in_the_full_table = record { ordered = omega arith; within_total = omega arith; above_missing = omega arith }
 
--- with its greatest count at the head, a table would take a missing key for heavier than one that it has
+-- with its greatest count at the head, a table would give a missing key a greater high than a key that it has
 pub unbounded_where_counts_fall : ¬ IsBoundedToBeMerged 8 (record { capacity = 2; entries = entry 5 7 0 ∷ entry 8 3 1 ∷ [] })
 unbounded_where_counts_fall bounded = let above : 7 ≤ 3 = bounded.above_missing in omega (arith, above)
 

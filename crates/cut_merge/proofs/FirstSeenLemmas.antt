@@ -1,4 +1,4 @@
--- Keys in first-seen order: one more, many more, and what stands among them.
+-- Keys in first-seen order: one more, many more, and which keys are among them.
 use Rattle.std.proofs.Common.{◌≡◌, ◌≢◌, ℕ, ◌≤◌, ◌⊎◌, inl, inr, length, All, AllPairs, Contains, arith, eqb, not}
 use Rattle.std.proofs.Common.{cond, ◌||◌, Bool, true, false, List, [], ◌∷◌, ◌++◌, filter, fold, refl, sym, ap, ◌∙◌}
 use Rattle.std.proofs.Common.{subst, if◌then◌else◌}
@@ -20,7 +20,7 @@ use Rattle.cut_merge.specs.Merged.{merged_keys_seen}
 abbrev first_seen_others : ℕ → List ℕ → List ℕ
 first_seen_others first keys = filter (λ other. not (eqb first other)) keys
 
--- one more key than the first, among those that differ from the first
+-- one more key that is the first one leaves the keys that differ from the first
 first_seen_others-same_key : (first key : ℕ) (keys : List ℕ) → eqb key first ≡ true
     → first_seen_others first (merged_keys_seen keys key) ≡ first_seen_others first keys
 first_seen_others-same_key first key keys same =
@@ -33,7 +33,7 @@ first_seen_others-same_key first key keys same =
           ∙ append-nil (first_seen_others first keys)
     ])
 
--- and another key, which stays among them
+-- and a key that differs from the first is added among them
 first_seen_others-other_key : (first key : ℕ) (keys : List ℕ) → eqb key first ≡ false
     → first_seen_others first (merged_keys_seen keys key) ≡ merged_keys_seen (first_seen_others first keys) key
 first_seen_others-other_key first key keys differs =
@@ -79,14 +79,14 @@ table_keys_first_seen-push (first ∷ keys) key =
         ∷ first_seen_others first (table_keys_first_seen keys) else first ∷ first_seen_others first (table_keys_first_seen keys) ++ key ∷ [])
         (sym differs)
 
--- and so of many
+-- and many more keys are seen one after another
 pub table_keys_first_seen-append : (keys more : List ℕ) → table_keys_first_seen (keys ++ more) ≡ fold merged_keys_seen (table_keys_first_seen keys) more
 table_keys_first_seen-append keys [] = ap table_keys_first_seen (append-nil keys)
 table_keys_first_seen-append keys (key ∷ more) =
     ap table_keys_first_seen (sym (append_assoc keys (key ∷ []) more)) ∙ table_keys_first_seen-append (keys ++ key ∷ []) more
     ∙ ap (λ start. fold merged_keys_seen start more) (table_keys_first_seen-push keys key)
 
--- a key that differs from the first stands among the others
+-- a key that differs from the first is among the others
 first_seen_others-contains : (first key : ℕ) (keys : List ℕ) → eqb first key ≡ false → Contains keys key
     → Contains (first_seen_others first keys) key
 first_seen_others-contains first key [] differs there = absurd (Contains-empty_list key there)
@@ -129,7 +129,7 @@ first_seen_differs_either_way first key differs =
     by true same = absurd (false≢true (sym differs ∙ eq-eqb key first (sym (eqb-true first key same))))
     by false is = is
 
--- a key is seen where it is in the list
+-- a key is seen exactly where it is in the list
 pub table_keys_first_seen-any : (key : ℕ) (keys : List ℕ)
     → list_any (λ other. eqb key other) (table_keys_first_seen keys) ≡ list_any (λ other. eqb key other) keys
 table_keys_first_seen-any key [] = refl
@@ -147,7 +147,7 @@ table_keys_first_seen-any key (first ∷ keys) =
         (ap not (first_seen_differs_either_way first key differs))) (table_keys_first_seen keys)
         ∙ rest
 
--- one more key leaves whether another is seen
+-- one more key doesn't change whether another is seen
 table_keys_first_seen-any_after_key : (key other : ℕ) (keys : List ℕ) → eqb key other ≡ false
     → list_any (λ k. eqb key k) (merged_keys_seen keys other) ≡ list_any (λ k. eqb key k) keys
 table_keys_first_seen-any_after_key key other keys differs =
@@ -164,7 +164,7 @@ table_keys_first_seen-any_after_key key other keys differs =
         ∙ ap (λ b. list_any (λ k. eqb key k) keys || (b || false)) differs
         ∙ last (list_any (λ k. eqb key k) keys)
 
--- and so do many that are not the key
+-- nor do many that are not the key
 pub table_keys_first_seen-any_after_others : (key : ℕ) (keys more : List ℕ) → list_any (λ k. eqb key k) more ≡ false
     → list_any (λ k. eqb key k) (fold merged_keys_seen keys more) ≡ list_any (λ k. eqb key k) keys
 table_keys_first_seen-any_after_others key keys [] none = refl

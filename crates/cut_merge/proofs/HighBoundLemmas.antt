@@ -44,7 +44,7 @@ high_bound_other_entry_pushed key (f ∷ fs) entry differs =
 pub high_bound_notes_none : (table : TableValue) (bounds : HighBoundsValue) → HighBoundsNoteEntries table bounds bounds 0
 high_bound_notes_none table bounds = record { missing = refl; raises = λ key. omega arith; noted = λ key. omega arith }
 
--- and one more at the next place
+-- and one more entry at the next index
 pub high_bound_notes_more : (table : TableValue) (old now new : HighBoundsValue) (place : ℕ) (entry : Entry)
     → HighBoundsNoteEntries table old now place → slice_get table.entries place ≡ Some entry
     → table_entry entry.key (take place table.entries) ≡ None

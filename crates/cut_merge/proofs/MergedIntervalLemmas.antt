@@ -106,7 +106,7 @@ merged_interval_over_shards law capacity prefix some is_prefix (shard ∷ shards
           ));
     }
 
--- where a cut stands for lists, the merged interval of each prefix holds its weight
+-- if a cut represents lists, the merged interval of each prefix holds its weight
 pub merged_interval_holds : MergedIntervalSnapshotsHold → (cut : CutValue) (lists : List (List RecordValue)) (prefix : PrefixValue)
     → IsCut cut → CutRepresents cut lists → All MergedIntervalIsWeighed lists → IsPrefix prefix
     → NarrowIntervalHoldsWeight (interval_in_cut cut prefix) cut.capacity

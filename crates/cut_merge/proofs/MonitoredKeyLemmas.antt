@@ -10,7 +10,7 @@ use Rattle.cut_merge.specs.CutTables.{keys_of_table}
 use Rattle.cut_merge.specs.CutTables.{cut_tables_at, keys_monitored_in_cut}
 use Rattle.cut_merge.proofs.FirstSeenLemmas.{table_keys_first_seen-all, table_keys_first_seen-length}
 
--- the keys of all entries at a node, over shards and places
+-- the keys of all entries at a node, over shards and indices
 abbrev pub all_monitored_keys : CutValue → NodeValue → List ℕ
 all_monitored_keys cut node = flat_map keys_of_table (cut_tables_at node cut)
 

@@ -155,7 +155,7 @@ pub record TableMergeIsBounded (tables : List TableValue) (key : ℕ) : Type 0 w
   pub ordered : (interval_over_tables tables key).low ≤ (interval_over_tables tables key).high
   pub within_total : (interval_over_tables tables key).high ≤ table_merge_count tables
 
--- where it is so of each table
+-- if it holds of each table
 pub table_merge_is_bounded : (tables : List TableValue) (key : ℕ) → All (IsBoundedToBeMerged key) tables → TableMergeIsBounded tables key
 table_merge_is_bounded [] key all = record { ordered = omega arith; within_total = omega arith }
 table_merge_is_bounded (table ∷ tables) key all =

@@ -10,12 +10,13 @@ use std::marker::Model;
 /// How many cells there are. Four tables of 512 entries fill half of them.
 const CELLS: usize = 4096;
 
-/// Spreads keys over the cells. Any odd number is right; that of the golden ratio separates keys that follow each other.
+/// Spreads keys over the cells. Any odd number is right; that of the golden ratio separates successive keys.
 const MULTIPLIER: u64 = 0x9e37_79b9_7f4a_7c15;
 
 /// Upper bounds on the highs of keys. A key has its home in one of some cells. A cell sums up what entries add to the
 /// highs of the keys whose home it is, beyond the highs of missing keys, and counts one more for each entry. Keys
-/// that share a home share a bound, which is too high for each of them: that may cost a search, and changes no interval.
+/// that share a home share a bound, which is too high for each of them: that may cost a search, but changes no
+/// interval.
 #[derive(Debug, Drop)]
 pub(crate) struct HighBounds {
     cells: Vec<u64>,

@@ -82,8 +82,8 @@ impl Merged {
     }
 
     /// A bound on the greatest weight that the prefix can have had over all shards, in bytes or packets: at least the
-    /// high of its interval. It takes no search, so a caller that asks for heavy prefixes can pass over most of the
-    /// others by it.
+    /// high of its interval. It needs no search, so a caller that looks for heavy prefixes can skip most of the others
+    /// by it.
     pub fn at_most(&self, prefix: &Prefix) -> u64
         ensures { (merged_interval_for self.now prefix.now).high ≤ result }
     {

@@ -16,8 +16,8 @@ use space_saving::Flat;
 use std::alloc::{AllocError, Global};
 use std::marker::Model;
 
-/// The tables of one node, merged: the run of each shard's table, the keys that some table monitors, and upper bounds on
-/// the highs of keys.
+/// The tables of one node, merged: the run of each shard's table, the keys that some table monitors, and upper bounds
+/// on the highs of keys.
 #[derive(Debug, Drop)]
 pub(crate) struct NodeMerge {
     runs: Vec<Run>,

@@ -32,7 +32,7 @@ plain = frame (addresses ++ 8 ∷ 0 ∷ packet 0x45)
 abbrev pub arp : FrameValue
 arp = frame (addresses ++ 8 ∷ 6 ∷ [])
 
--- one behind a VLAN tag, and one behind two
+-- a packet after one VLAN tag, and one after two
 abbrev pub tagged : FrameValue
 tagged = frame (addresses ++ 0x81 ∷ 0 ∷ 0 ∷ 7 ∷ 8 ∷ 0 ∷ packet 0x45)
 
@@ -80,11 +80,11 @@ plain_is_not_skipped = refl
 pub arp_is_not_ipv4 : frame_skip_of arp ≡ Some NotIpv4
 arp_is_not_ipv4 = refl
 
--- the type is looked at before the length behind it
+-- a frame that ends inside its type is short, whatever follows
 pub short_before_its_type : frame_skip_of (frame (take 13 arp.head)) ≡ Some Short
 short_before_its_type = refl
 
--- a tag is one where the type is looked for behind it, and another type where it isn't
+-- if the network layer is taken to begin at offset 14, a tag counts as the type
 pub tag_taken_for_the_type : frame_skip_at 14 tagged ≡ Some NotIpv4
 tag_taken_for_the_type = refl
 
@@ -112,7 +112,7 @@ weight_of_a_packet = refl
 pub record_behind_a_tag : frame_record_at 18 Bytes tagged ≡ weighing 100
 record_behind_a_tag = refl
 
--- what stands where no packet begins is no record of the frame
+-- at an offset where no packet begins, other bytes are read as the record
 pub record_at_another_place : frame_record_at 14 Bytes tagged ≡ record { src = 0x40110000; dst = 0x0a010203; weight = 100 }
 record_at_another_place = refl
 

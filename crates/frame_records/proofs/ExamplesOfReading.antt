@@ -16,7 +16,7 @@ use Rattle.frame_records.proofs.Examples.{plain, arp, weighing}
 abbrev frames : List FrameValue
 frames = plain ∷ arp ∷ plain ∷ []
 
--- what is kept of them by packets
+-- what is kept of them, weighed by packets
 abbrev records : Records
 records = record { list = weighing 1 ∷ weighing 1 ∷ []; frames = 3; not_ipv4 = 1; short = 0; bad_header = 0 }
 
@@ -30,7 +30,7 @@ skipped_frame_is_a_frame are = omega (arith, are.frames)
 pub records_of_a_capture : (file : List ℕ) → CaptureFileHasFrames file frames → HasRecords Packets (Some file) records
 records_of_a_capture file is = record { frames = frames; few = omega arith; told = is; are = records_and_counts }
 
--- a source that doesn't tell its bytes had some frames
+-- a source whose bytes are unknown had some frames
 pub records_of_an_untold_capture : HasRecords Packets None records
 records_of_an_untold_capture = record { frames = frames; few = omega arith; told = tt; are = records_and_counts }
 

@@ -23,7 +23,7 @@ record_visitor_counts_another : {X : Type 0} (p : X → Bool) (xs : List X) (x :
     → count_by p (xs ++ x ∷ []) ≡ count_by p xs + cond (p x) 1 0
 record_visitor_counts_another p xs x = omega (arith, sum_by-append (λ y. cond (p y) 1 0) xs (x ∷ []))
 
--- how many are skipped for a reason, with one more frame
+-- the number of frames skipped for a reason, with one more frame
 visitor_skips_another : (skip : Skip) (all : List FrameValue) (frame : FrameValue) (why : Option Skip) → frame_skip_of frame ≡ why
     → skipped_frame_count skip (all ++ frame ∷ []) ≡ skipped_frame_count skip all + cond (is_skipped_frame skip why) 1 0
 visitor_skips_another skip all frame why is_why =
@@ -114,7 +114,7 @@ visitor_keeps_next_record weigh all frame old new kept is_new =
     subst (VisitorKeepsRecordsOf weigh (all ++ frame ∷ [])) (sym is_new)
     (visitor_keeps_by_skip weigh all frame old (frame_skip_of frame) refl kept)
 
--- what follows where a call is Ok
+-- what follows from the result of a call that is Ok
 pub OnOk-record_visitor_implies : {T E : Type 0} (result : Result T E) (P Q : Type 0) → (P → Q) → OnOk result P → OnOk result Q
 OnOk-record_visitor_implies (Ok x) P Q follows holds = follows holds
 OnOk-record_visitor_implies (Err e) P Q follows holds = tt

@@ -11,7 +11,7 @@ use Rattle.hhh_output.specs.declared.line.Line.{Line}
 use Rattle.hhh_output.specs.ReportLines.{prefixes_of_lines}
 use Rattle.hhh_output.specs.Selecting.{selecting_nodes_down, most_candidates_to_select}
 
--- no prefix before a place is the one at the place
+-- no prefix before an index is the one at the index
 pub appended_line_has_new_prefix : (old : List PrefixValue) (found : List Line) (at : ℕ) (line : Line)
     → AllPairs (λ prefix other. prefix ≢ other) (old ++ prefixes_of_lines found) → at < length found
     → line ≡ get_or found at line → ¬ Contains (old ++ prefixes_of_lines (take at found)) line.prefix

@@ -29,14 +29,14 @@ two_of_101_are_a_hundredth = record { some = omega arith; share = omega arith }
 pub one_of_101_is_not : ¬ IsHeavy 10000 101 1
 one_of_101_is_not heavy = omega (arith, heavy.share)
 
--- a hundredth of 101 is heavy from 2 on
+-- for a share of a hundredth and a total of 101 the threshold is 2
 pub threshold_of_a_hundredth : IsThreshold 10000 101 2
 threshold_of_a_hundredth = record {
   heavy = record { some = omega arith; share = omega arith };
   least = λ weight heavy. omega (arith, heavy.some, heavy.share);
 }
 
--- of nothing, a weight of 1 is heavy
+-- for a total of 0 the threshold is 1
 pub threshold_of_nothing : IsThreshold 10000 0 1
 threshold_of_nothing = record {
   heavy = record { some = omega arith; share = omega arith };
@@ -54,7 +54,7 @@ tables_for_a_hundredth = omega arith
 pub tables_too_small_for_a_hundredth : IsWideShare 10000 199 → ⊥
 tables_too_small_for_a_hundredth wide = omega (arith, wide)
 
--- all of the weight
+-- for a share of the whole the threshold is the total
 pub threshold_of_the_whole : IsThreshold 1000000 7 7
 threshold_of_the_whole = record {
   heavy = record { some = omega arith; share = omega arith };
@@ -75,7 +75,7 @@ line = record { prefix = prefix; lo = 100; hi = 100 }
 pub prefixes_of_a_line : prefixes_of_lines (line ∷ []) ≡ prefix ∷ []
 prefixes_of_a_line = refl
 
--- the line holds what its prefix weighs, and is as narrow as can be
+-- the interval of the line holds the weight of its prefix, and its width is 0
 pub weight_that_is_held : HoldsWeightInSoundReport (packet ∷ []) line
 weight_that_is_held =
     let weight : prefix_weight prefix (packet ∷ []) ≡ 100 = refl in
@@ -84,7 +84,7 @@ weight_that_is_held =
 pub narrow_line : IsNarrowInSoundReport 512 100 line
 narrow_line = omega arith
 
--- what the line explains is no longer told of its ancestors
+-- what the line explains no longer counts for the prefixes above it
 pub explained_weight : conditioned_weight (record { source = []; dest = [] }) (prefix ∷ []) (packet ∷ []) ≡ 0
 explained_weight = refl
 
@@ -138,7 +138,7 @@ own = record { prefix = whole; lo = 100; hi = 100 }
 abbrev pub of_all : Line
 of_all = record { prefix = root; lo = 100; hi = 100 }
 
--- a line stands before another in a report
+-- a line comes before another in a report
 abbrev Precedes : Line → Line → Type 0
 Precedes line later = report_order line.prefix later.prefix ≡ Less
 
@@ -178,7 +178,7 @@ lines_of_lower_level_do_not lines = false≢true (ap is_less (lines.rising 0 1 o
 pub no_prefix_has_two_lines : ¬ AreReportLines (own ∷ own ∷ [])
 no_prefix_has_two_lines lines = false≢true (ap is_less (lines.rising 0 1 own (omega arith) (omega arith)))
 
--- the packet's own prefix is a line, whether or not it stands among the lines already
+-- the packet's own prefix is a line, whether or not it is among the lines already
 pub own_line_of_the_cut : IsLineOfReport cut 1 [] own
 unfolding no_snapshot_entries
 own_line_of_the_cut =
@@ -213,7 +213,7 @@ another_network_is_not monitored = other monitored.0 monitored.1 monitored.2
     other zero within is = omega (arith, is)
     other (suc place) within is = omega arith
 
--- 100, of which the line below takes 100
+-- the bound is 100, less the 100 of the line below
 pub root_is_explained_by_the_line : ¬ IsUnexplainedInReport cut 1 (whole ∷ []) root
 unfolding no_snapshot_entries
 root_is_explained_by_the_line unexplained = let most : pos 1 ≤ℤ pos 0 = unexplained in omega (arith, ints, most)
@@ -246,7 +246,7 @@ nothing_counted = record { capacity = 4; shards = empty_snapshot 4 ∷ [] }
 abbrev nothing_told : Report
 nothing_told = record { positions = 0 ∷ []; total = 0; threshold = 1; lines = []; are_lines = no_lines }
 
--- the one value of a list of one value
+-- in a list of equal elements the element at each index is that element, which is also the default
 pub alike : {X : Type 0} (x : X) (length place : ℕ) → slice_index_or (replicate length x) place x ≡ x
 alike x zero place = refl
 alike x (suc length) zero = refl
@@ -268,7 +268,7 @@ nothing_is_told_of_nothing = record {
   );
 }
 
--- two lists that begin one another are one
+-- two lists that begin each other are the same
 both_begin : (bytes other : List ℕ) → kept_bytes_begin_with bytes other ≡ true → kept_bytes_begin_with other bytes ≡ true → bytes ≡ other
 both_begin [] [] begins begun = refl
 both_begin [] (first ∷ rest) begins begun = absurd (false≢true begins)
@@ -279,7 +279,7 @@ both_begin (byte ∷ bytes) (first ∷ rest) begins begun =
     ap (λ head. head ∷ bytes) (eqb-true byte first parts.0)
     ∙ ap (λ tail. first ∷ tail) (both_begin bytes rest parts.1 other.1)
 
--- a prefix that covers the packet and isn't its own stands above it, so the line explains the packet
+-- a prefix that covers the packet and isn't its own is above its own, so the line explains the packet
 explained : (prefix : PrefixValue) → ¬ Contains (whole ∷ []) prefix
     → conditioned_weight prefix (whole ∷ []) (packet ∷ []) < 1
 explained prefix missing = by_cover (covers prefix packet) refl (under prefix whole) refl
@@ -301,7 +301,7 @@ explained prefix missing = by_cover (covers prefix packet) refl (under prefix wh
 pub justified_by_its_weight : IsJustifiedInSoundReport 4 1 (whole ∷ []) (packet ∷ []) own
 justified_by_its_weight = let enough : 4 ≤ 500 = omega arith in enough
 
--- nothing is left to the root, and two intervals of at most 100 don't make up for a threshold of 1, 512 times
+-- the root's conditioned weight is 0, and two intervals of width at most 100/512 don't reach a threshold of 1
 pub not_justified_beside_the_line : ¬ IsJustifiedInSoundReport 512 1 (whole ∷ root ∷ []) (packet ∷ []) of_all
 not_justified_beside_the_line justified = let most : 512 ≤ 200 = justified in omega (arith, most)
 
@@ -328,6 +328,6 @@ silence_is_unsound sound =
     let left : 100 < 1 = sound.complete whole whole_is_prefix (λ inside. omega (arith, inside.1)) in
     omega (arith, left)
 
--- a second packet that the positions leave out is not told of
+-- a report with one position is not sound over two lists
 pub told_of_one_packet_alone : ¬ IsSound told ((packet ∷ []) ∷ (packet ∷ []) ∷ []) 4 10000
 told_of_one_packet_alone sound = sound.positions.1

@@ -96,7 +96,7 @@ nothing_has_no_candidates = record {
       subst (λ (keys : List ℕ). length keys ≤ most_candidates_to_select) (sym (no_candidates node)) (omega arith);
 }
 
--- the root keeps no bit, so it has the one key 0
+-- the root keeps no bit, so its only key is 0
 pub root_has_no_key_1 : ¬ AreCandidatesToSelect
     (record nothing { nodes = record { runs = []; keys = 1 ∷ [] } ∷ [] })
 root_has_no_key_1 candidates =

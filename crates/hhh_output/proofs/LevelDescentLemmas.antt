@@ -18,7 +18,7 @@ use Rattle.hhh_output.specs.Selecting.{selecting_nodes_down}
 use Rattle.hhh_output.proofs.OneReportLemmas.{BeforeInOneReport}
 use Rattle.hhh_output.proofs.NearLineLemmas.{near_line_level, NearLineLevelsFall, near_lines-append}
 
--- whether merged tables ask for a line depends on its closest lines alone
+-- whether merged tables give a line depends only on its closest lines
 level_descent_asks_by_closest : (merged : MergedValue) (threshold : ℕ) (lines other : List PrefixValue) (line : Line)
     → closest line.prefix lines ≡ closest line.prefix other
     → IsSelected merged threshold lines line → IsSelected merged threshold other line
@@ -37,7 +37,7 @@ level_descent_asks_by_closest merged threshold lines other line same is = record
   };
 }
 
--- lines of a greater level stand first
+-- lines of a greater level come first
 level_descent_puts_greater_first : (line later : Line) → near_line_level later.prefix < near_line_level line.prefix → BeforeInOneReport line later
 level_descent_puts_greater_first line later falls =
     let p = line.prefix in
@@ -48,7 +48,7 @@ level_descent_puts_greater_first line later falls =
     (ordering_then (nat_cmp (length p.source) (length q.source))
     (nat_cmp (address_of p.dest) (address_of q.dest))))) less
 
--- two lists in order, where each of the first stands before each of the second
+-- two lists in order, where each element of the first comes before each of the second
 level_descent_pairs-append : {X : Type 0} (R : X → X → Type 0) (xs ys : List X) → AllPairs R xs → AllPairs R ys
     → ((x y : X) → Contains xs x → Contains ys y → R x y) → AllPairs R (xs ++ ys)
 level_descent_pairs-append {X} R xs ys first second across = λ i j d before below.
@@ -74,7 +74,7 @@ level_descent_pairs-append {X} R xs ys first second across = λ i j d before bel
           ]
     ]
 
--- no level is looked at first
+-- at first no level is searched
 pub level_descent_starts_empty : (merged : MergedValue) (threshold : ℕ) → AreSelectedDownTo merged threshold 0 []
 level_descent_starts_empty merged threshold = record {
   above = λ line there. absurd (no_line line there);
@@ -99,7 +99,7 @@ module _ (merged : MergedValue) (threshold levels : ℕ) (lines found : List Lin
   level_descent_reaches_level : (line : Line) → Contains found line → near_line_level line.prefix ≡ 8 - levels
   level_descent_reaches_level line there = ((of_level.members line).0 there).0
 
-  -- the new lines leave the closest lines of those of no smaller level
+  -- the new lines don't change which lines are closest to one of no smaller level
   level_descent_keeps_closest : (line : Line) → 8 < near_line_level line.prefix + (levels + 1)
       → closest line.prefix (prefixes_of_lines (lines ++ found)) ≡ closest line.prefix (prefixes_of_lines lines)
   level_descent_keeps_closest line high =

@@ -1,4 +1,4 @@
--- Finding the lines of a level, node by node, and putting them in order.
+-- Finding the lines of a level, node by node, and sorting them.
 use Rattle.std.proofs.Common.{◌≡◌, ◌≢◌, ℕ, ◌+◌, ◌*◌, ◌<◌, ◌≤◌, ◌↔◌, ◌⊎◌, inl, inr, eqb, ◌&&◌, Bool, true, false}
 use Rattle.std.proofs.Common.{List, [], length, get_or, All, Contains, refl, sym, ap, ◌∙◌, subst, add-one}
 use Rattle.std.proofs.Common.{if◌then◌else◌, arith}
@@ -24,7 +24,7 @@ use Rattle.hhh_output.specs.Selecting.{IsSelected, SelectedAreDistinct, AreSelec
 use Rattle.hhh_output.specs.Selecting.{most_candidates_to_select}
 use Rattle.hhh_output.proofs.OneReportLemmas.{BeforeInOneReport}
 
--- the nodes before a place are looked through
+-- the nodes before an index are searched
 pub record IsLevelSearch (merged : MergedValue) (threshold : ℕ) (reported : List PrefixValue) (level : ℕ)
     (found : List Line) (place : ℕ) : Type 0 where
   pub members : (line : Line)
@@ -49,7 +49,7 @@ level_search_starts_empty merged threshold reported level = record {
     no_line : (line : Line) → Contains {X = Line} [] line → ⊥
     no_line line (k, below, at) = omega arith
 
--- a prefix at this place is of this node
+-- a prefix whose node has this index is of this node
 level_search_is_at_node : (prefix : PrefixValue) (node : NodeValue) (place : ℕ) → IsPrefix prefix → node ≡ node_at place
     → node_index (node_of_prefix prefix) ≡ place → node_of_prefix prefix ≡ node
 level_search_is_at_node prefix node place is_prefix is same =
@@ -151,11 +151,11 @@ pub record LevelSearchIsOrdered : Type 0 where
   pub antisymmetric : (prefix other : PrefixValue) → under prefix other ≡ true → under other prefix ≡ true
       → prefix ≡ other
 
--- whether two lines have one prefix
+-- whether two lines have the same prefix
 abbrev level_search_same_line : Line → Line → Bool
 level_search_same_line line other = same_in_lattice line.prefix other.prefix
 
--- lines that are apart stay so in another order
+-- lines of distinct prefixes stay so in another order
 level_search_stays_distinct : LevelSearchIsOrdered → (lines moved : List Line) → IsPermutation lines moved → SelectedAreDistinct lines
     → SelectedAreDistinct moved
 level_search_stays_distinct order lines moved moves distinct =
@@ -179,7 +179,7 @@ level_search_stays_distinct order lines moved moves distinct =
         absurd (apart (order.antisymmetric line.prefix other.prefix both.0 both.1))
     by line other apart false is = is
 
--- one line stands before another where it isn't after it and they have two prefixes
+-- a line comes before another if it doesn't come after it and their prefixes differ
 level_search_line_stands_before : LevelSearchIsOrdered → (line other : Line) → IsPrefix line.prefix → IsPrefix other.prefix
     → line.prefix ≢ other.prefix
     → is_lt (report_order other.prefix line.prefix) ≡ false → BeforeInOneReport line other

@@ -50,7 +50,7 @@ near_lines-append prefix lines more law low =
 abbrev pub near_lines_above : ℕ → List Line → List Line
 near_lines_above least lines = filter (λ line. ltb least (near_line_level line.prefix)) lines
 
--- they alone can be closest to a prefix of that level
+-- only they can be under a prefix of that level
 near_lines_above-under : (prefix : PrefixValue) (lines : List Line) → NearLineLevelsFall
     → lines_under prefix (prefixes_of_lines (near_lines_above (near_line_level prefix) lines)) ≡ lines_under prefix (prefixes_of_lines lines)
 near_lines_above-under prefix [] law = refl
@@ -82,7 +82,7 @@ pub near_lines_above_suffice : (prefix : PrefixValue) (lines : List Line) → Ne
     → closest prefix (prefixes_of_lines (near_lines_above (near_line_level prefix) lines)) ≡ closest prefix (prefixes_of_lines lines)
 near_lines_above_suffice prefix lines law = ap greatest_lines (near_lines_above-under prefix lines law)
 
--- whether a prefix has a line depends on its closest lines alone
+-- whether a prefix has a line depends only on its closest lines
 pub near_lines_decide_line : (cut : CutValue) (threshold : ℕ) (lines other : List PrefixValue) (line : Line)
     → closest line.prefix lines ≡ closest line.prefix other
     → IsLineOfReport cut threshold lines line → IsLineOfReport cut threshold other line

@@ -11,14 +11,14 @@ use Rattle.cut_merge.specs.{MergedValue, merged_candidates_at}
 use Rattle.hhh_output.specs.declared.line.Line.{Line}
 use Rattle.hhh_output.specs.Selecting.{CanSelectLine, IsSelected, SelectedAreDistinct}
 
--- the line of a prefix of this node that has one of these keys, if merged tables ask for it
+-- the line of a prefix of this node that has one of these keys, if merged tables give it
 pub record IsNodeLineAmong (merged : MergedValue) (threshold : ℕ) (reported : List PrefixValue) (node : NodeValue)
     (keys : List ℕ) (line : Line) : Type 0 where
   pub has_key : HasPrefixKey node (prefix_key line.prefix) line.prefix
   pub key : Contains keys (prefix_key line.prefix)
   pub asked : CanSelectLine merged threshold reported line
 
--- the candidates before a place are judged
+-- the candidates before an index are judged
 pub record HasJudgedNodeLines (merged : MergedValue) (threshold : ℕ) (reported : List PrefixValue) (node : NodeValue)
     (keys : List ℕ) (old now : List Line) (place : ℕ) : Type 0 where
   pub members : (line : Line)
@@ -114,7 +114,7 @@ module _ (merged : MergedValue) (threshold : ℕ) (reported : List PrefixValue) 
     few = omega (arith, judged.few);
   }
 
-  -- where it has one, that line goes behind the others
+  -- where it has one, that line is appended
   pub node_line_found_is_judged : (new : Line) → found ≡ Some new
       → HasJudgedNodeLines merged threshold reported node keys old (now ++ new ∷ []) (place + 1)
   node_line_found_is_judged new is =

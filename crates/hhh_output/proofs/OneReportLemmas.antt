@@ -18,16 +18,16 @@ use Rattle.hhh_output.proofs.StrictOrderLemmas.{same_in_strict_order}
 use Rattle.hhh_output.proofs.NearLineLemmas.{near_line_level, near_lines_above, NearLineLevelsFall}
 use Rattle.hhh_output.proofs.NearLineLemmas.{near_lines_above_suffice, near_lines_decide_line}
 
--- a line that stands before another in a report
+-- a line that comes before another in a report
 abbrev pub BeforeInOneReport : Line → Line → Type 0
 BeforeInOneReport line later = report_order line.prefix later.prefix ≡ Less
 
--- no line stands before one that stands before it
+-- no line comes before one that comes before it
 pub BeforeInOneReport-strict : IsTotalOrder report_order → (line other : Line) → BeforeInOneReport line other → BeforeInOneReport other line → ⊥
 BeforeInOneReport-strict order line other first second =
     let turned : Less ≡ Greater = sym first ∙ order.antisymm line.prefix other.prefix ∙ ap ordering_reverse second in cc
 
--- what stands in a filtered list stands in the list and passes
+-- an element of a filtered list is an element of the list, and passes
 one_report_filter-there : {X : Type 0} (test : X → Bool) (xs : List X) (x : X) → Contains (filter test xs) x
     → Contains xs x × (test x ≡ true)
 one_report_filter-there test [] x there = absurd (Contains-empty_list x there)
@@ -56,11 +56,11 @@ one_report_filter-back {X} test (y ∷ ys) x there passes = by (test y) refl (on
     by false fails rest (inl same) = absurd (true≢false (sym passes ∙ ap test (sym same) ∙ fails))
     by false _ rest (inr later) = rest later passes
 
--- the lines of one list stand in another, from some level on
+-- the lines of one list are in another, from some level on
 abbrev StandInOneReport : ℕ → List Line → List Line → Type 0
 StandInOneReport least lines other = (line : Line) → least ≤ near_line_level line.prefix → Contains lines line → Contains other line
 
--- where two lists have the same lines from above a level on, they have the same list of those
+-- two lists that have the same lines above a level have them in the same order
 one_report_same_above : IsTotalOrder report_order → (least : ℕ) (lines other : List Line) → AreReportLines lines → AreReportLines other
     → StandInOneReport (suc least) lines other → StandInOneReport (suc least) other lines
     → near_lines_above least lines ≡ near_lines_above least other

@@ -1,4 +1,4 @@
--- What is selected from merged tables that stand for a cut is the report of the cut.
+-- What is selected from merged tables that represent a cut is the report of the cut.
 use Rattle.std.proofs.Common.{◌≡◌, ℕ, ◌+◌, ◌*◌, ◌≤◌, ◌↔◌, ◌≢◌, List, [], ◌∷◌, ◌++◌, length, sum_by, All, AllPairs}
 use Rattle.std.proofs.Common.{Contains, pos, ◌-ℤ◌, ◌≤ℤ◌, refl, sym, ap, ◌∙◌, subst, length-append, arith}
 use Rattle.std.proofs.lemmas.List.{get_or_append_left, get_or-append-add}
@@ -24,7 +24,7 @@ pub record SelectionHasFewCandidates (cut : CutValue) : Type 0 where
   pub distinct : (node : NodeValue) → AllPairs (λ key other. key ≢ other) (keys_monitored_in_cut cut node)
   pub few : (node : NodeValue) → IsNode node → length (keys_monitored_in_cut cut node) ≤ length cut.shards * cut.capacity
 
--- so are the candidates of merged tables that stand for a cut
+-- so are the candidates of merged tables that represent a cut
 pub selection_has_candidates : (merged : MergedValue) (cut : CutValue) → IsCut cut → MergedRepresentsCut merged cut
     → SelectionHasFewCandidates cut → AreCandidatesToSelect merged
 selection_has_candidates merged cut kept stands law = record {
@@ -82,7 +82,7 @@ module _ (merged : MergedValue) (cut : CutValue) (stands : MergedRepresentsCut m
       ∙ ap (λ n. pos (report_high_in cut prefix + n) -ℤ pos (sum_by (selecting_low merged) near)) highs
       ∙ ap (λ n. pos (report_high_in cut prefix + sum_by (report_high_in cut) (kept_pairs near)) -ℤ pos n) lows
 
-  -- what merged tables select over lines is what the cut asks for
+  -- a line that merged tables select over others is a line of the cut's report over them
   selection_gives_line : (threshold : ℕ) (lines : List PrefixValue) (line : Line) → All IsPrefix lines
       → IsSelected merged threshold lines line → IsLineOfReport cut threshold lines line
   selection_gives_line threshold lines line are_prefixes is = record {
@@ -117,7 +117,7 @@ module _ (merged : MergedValue) (cut : CutValue) (stands : MergedRepresentsCut m
     };
   }
 
-  -- the lines down to level 0 are those that the cut asks for
+  -- the lines down to level 0 are those of the cut's report
   module _ (threshold : ℕ) (lines : List Line) (down : AreSelectedDownTo merged threshold 9 lines) where
     selection_has_prefixes : All IsPrefix (prefixes_of_lines lines)
     selection_has_prefixes =

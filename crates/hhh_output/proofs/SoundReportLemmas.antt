@@ -1,4 +1,4 @@
--- The report of a cut that stands for lists is sound over them.
+-- The report of a cut that represents lists is sound over them.
 use Rattle.std.proofs.Common.{◌≡◌, ◌≢◌, ℕ, ◌+◌, ◌-◌, ◌*◌, ◌<◌, ◌≤◌, eqb, cond, ◌&&◌, not, Bool, true, false, List}
 use Rattle.std.proofs.Common.{[], ◌∷◌, length, map, filter, sum_by, All, AllPairs, Contains, ◌⊎◌, inl, inr, pos}
 use Rattle.std.proofs.Common.{◌≤ℤ◌, refl, sym, ap, ◌∙◌, subst, arith}
@@ -30,7 +30,7 @@ use Rattle.prefix_lattice.proofs.ListLemmas.{Contains-list_tail}
 use Rattle.prefix_lattice.proofs.ListLemmas.{Contains-list_cons, Contains-empty_list}
 use Rattle.hhh_output.proofs.OneReportLemmas.{BeforeInOneReport, BeforeInOneReport-strict}
 
--- the laws that soundness stands on, over one cut and its lists
+-- the laws that soundness rests on, over one cut and its lists
 pub record SoundReportLawsHold (cut : CutValue) (lists : List (List RecordValue)) : Type 0 where
   pub order : IsTotalOrder report_order
   pub stands : CutRepresents cut lists
@@ -55,7 +55,7 @@ pub record SoundReportLawsHold (cut : CutValue) (lists : List (List RecordValue)
       ≤ times * conditioned_weight prefix lines records
       + (1 + length (closest prefix lines) + length (kept_pairs (closest prefix lines))) * whole
 
--- positions of a cut that stands for lists are within them
+-- positions of a cut that represents lists are within them
 sound_report_within_lists : (shards : List SnapshotValue) (lists : List (List RecordValue)) → AllZip SnapshotRepresents shards lists
     → AllZip (λ position list. position ≤ length list) (map (λ (s : SnapshotValue). s.position) shards) lists
 sound_report_within_lists [] [] stand = tt
@@ -63,7 +63,7 @@ sound_report_within_lists [] (list ∷ lists) stand = stand
 sound_report_within_lists (shard ∷ shards) [] stand = stand
 sound_report_within_lists (shard ∷ shards) (list ∷ lists) stand = (stand.0.within, sound_report_within_lists shards lists stand.1)
 
--- no two lines of a report have one prefix
+-- no two lines of a report have the same prefix
 pub sound_report_prefixes_differ : IsTotalOrder report_order → (lines : List Line) → AllPairs BeforeInOneReport lines
     → AllPairs (λ prefix other. prefix ≢ other) (prefixes_of_lines lines)
 sound_report_prefixes_differ order [] rising = λ i j d before below. absurd (omega arith)
@@ -83,7 +83,7 @@ sound_report_prefixes_differ order (line ∷ lines) rising =
 each_sound_report_line : (P : Line → Type 0) (lines : List Line) → ((line : Line) → Contains lines line → P line) → All P lines
 each_sound_report_line P lines shown = All-weaker (Contains lines) P shown lines (All-contains_itself lines)
 
--- what is left of a weight is no more than the weight
+-- the conditioned weight of a prefix is at most its weight
 sound_report_leaves_no_more : (prefix : PrefixValue) (lines : List PrefixValue) (records : List RecordValue)
     → conditioned_weight prefix lines records ≤ prefix_weight prefix records
 sound_report_leaves_no_more prefix lines [] = omega arith
@@ -140,7 +140,7 @@ sound_report_key_or_not key (first ∷ keys) = by (eqb first key) refl (sound_re
       | inr later ↦ missing later
     ])
 
--- the intervals that a bound asks hold the weights, and are narrow
+-- the intervals that a bound is made of hold the weights, and are narrow
 sound_report_intervals_hold : (cut : CutValue) (lists : List (List RecordValue)) → SoundReportLawsHold cut lists
     → (prefix : PrefixValue) (lines : List PrefixValue) → IsPrefix prefix → All IsPrefix lines
     → BoundsHoldWeights (report_low_in cut) (report_high_in cut) (records_before_cut lists (cut_positions cut)) (prefixes_asked_for_bound prefix lines)
@@ -160,7 +160,7 @@ sound_report_intervals_are_narrow cut lists holds prefix lines is_prefix are_pre
     (λ p is. subst (IsNarrowInterval (report_low_in cut p) (report_high_in cut p) cut.capacity) holds.total (holds.intervals p is).narrow)
     (prefixes_asked_for_bound prefix lines) (holds.asked prefix lines is_prefix are_prefixes)
 
--- the report of a cut, the lists that it stands for, and what holds of both
+-- the report of a cut, the lists that it represents, and what holds of both
 pub record CanBeSoundReport (cut : CutValue) (lists : List (List RecordValue)) (phi : ℕ) (report : Report) : Type 0 where
   pub holds : SoundReportLawsHold cut lists
   pub kept : AreReportLines report.lines

@@ -5,7 +5,7 @@ use Rattle.prefix_lattice.proofs.ListLemmas.{Contains-list_head, Contains-list_t
 use Rattle.prefix_lattice.proofs.ListLemmas.{Contains-empty_list}
 use Rattle.prefix_lattice.proofs.ListLemmas.{AllPairs-list_head, AllPairs-list_tail}
 
--- where nothing is before itself, nor before what is before it, two lists in order with the same elements are one
+-- where no two elements are each before the other, two lists in order with the same elements are the same
 pub same_in_strict_order : {X : Type 0} (R : X → X → Type 0) → ((x y : X) → R x y → R y x → ⊥) → (xs ys : List X)
     → AllPairs R xs → AllPairs R ys
     → ((x : X) → Contains xs x → Contains ys x) → ((x : X) → Contains ys x → Contains xs x) → xs ≡ ys

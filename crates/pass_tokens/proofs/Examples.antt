@@ -34,7 +34,7 @@ shards = pair ∷ single ∷ []
 abbrev pub first : View
 first = first_view shards
 
--- what a pass knows that has seen nothing but this position of the first shard
+-- what a pass knows of a shard of which it has seen only this position
 abbrev pub trail : ℕ → Trail
 trail position = record { seen = position; looks = []; reads = []; folds = []; losses = [] }
 
@@ -67,11 +67,11 @@ fold_to_the_end = record { state = pair; is = refl; core = refl; forward = omega
 pub fold_at_the_end : IsFoldOf shards 0 8 (block 2 2)
 fold_at_the_end = record { state = pair; is = refl; core = refl; forward = omega arith }
 
--- no fold goes back: from past the end of the list, as at 5
+-- no fold goes back, as from 5, which is past the end of the list
 pub fold_from_past_the_end : IsFoldOf shards 0 8 (block 5 2) → ⊥
 fold_from_past_the_end fold = omega (arith, fold.forward)
 
--- a block of one record brings the shard from 0 to 1
+-- a block of one record brings the shard from 0 to 1, not to 2
 pub fold_of_a_record_too_many : IsFoldOf shards 0 1 (block 0 2) → ⊥
 fold_of_a_record_too_many fold =
     let same : fold.state ≡ pair = sym (same_Some pair fold.state fold.is) in
@@ -80,7 +80,7 @@ fold_of_a_record_too_many fold =
     let position : 2 ≡ 1 = ap (λ (s : ShardValue). s.position) core in
     omega (arith, position)
 
--- after that fold
+-- the view after a fold from 0 to 1
 abbrev pub after_one : View
 after_one = record first { trails = record (trail 1) { folds = block 0 1 ∷ [] } ∷ trail 0 ∷ [] }
 
@@ -148,7 +148,7 @@ looks_stay [] trail = refl
 looks_stay (word ∷ words) trail =
     looks_stay words (record trail { seen = word / 2; losses = trail.losses ++ word ∷ [] })
 
--- a look is no wait
+-- a look is not part of a wait
 pub waits_with_a_look : WaitsToFold 0 first (view_after_look 0 1 first) → ⊥
 waits_with_a_look waits =
     let count : 1 ≡ 0 = ap looks_of waits.view ∙ ap length (looks_stay waits.losses (trail 0)) in

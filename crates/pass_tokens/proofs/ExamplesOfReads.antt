@@ -169,7 +169,7 @@ reads_one_so_far kept = record {
     seen_before (suc zero) read is = omega arith
     seen_before (suc (suc shard)) read is = omega arith
 
--- no read leaves the view as it was
+-- without reads the view is as it was
 pub reads_none_so_far : (changed : CutValue) → ReadsSoFar shards 0 first cut after_a_loss changed → ⊥
 reads_none_so_far changed far = none far.reads far.as_many far.view
   where

@@ -30,7 +30,7 @@ next_trail_of_pass_cut [] reads read = refl
 next_trail_of_pass_cut (trail ∷ rest) [] read = ap (λ ts. after_read read trail ∷ ts) (sym (pass_cut_without_reads rest))
 next_trail_of_pass_cut (trail ∷ rest) (first ∷ reads) read = ap (λ ts. after_read first trail ∷ ts) (next_trail_of_pass_cut rest reads read)
 
--- and leaves what was seen of the shards behind
+-- and leaves what was seen of the later shards
 pass_cut_keeps_later_seen : (trails : List Trail) (reads : List ShardRead) (shard : ℕ) → length reads ≤ shard
     → slice_index (map (λ trail. trail.seen) (after_reads trails reads)) shard
     ≡ slice_index (map (λ trail. trail.seen) trails) shard
@@ -56,7 +56,7 @@ length-pass_cut_states [] (read ∷ reads) few = absurd (omega arith)
 length-pass_cut_states (shard ∷ rest) [] few = refl
 length-pass_cut_states (shard ∷ rest) (read ∷ reads) few = ap suc (length-pass_cut_states rest reads (omega arith))
 
--- the element behind the first ones is written
+-- the element after the first ones is written
 pass_cut_next_element_set : {X : Type 0} (done all : List X) (x : X) → length done < length all
     → set (done ++ drop (length done) all) (length done) x ≡ (done ++ x ∷ []) ++ drop (suc (length done)) all
 pass_cut_next_element_set done [] x inside = absurd (omega arith)

@@ -85,7 +85,7 @@ impl Board {
         self.words.split(pass)
     }
 
-    /// Joins another pass to this one, which has then seen what both had, and keeps its own steps alone.
+    /// Joins another pass to this one, which has then seen what both had, and keeps only its own steps.
     pub fn join(&self, pass: &mut Pass, other: Pass)
         requires pass { IsPassOfBoard self.now pass.old }
         requires other { IsPassOfBoard self.now other }
@@ -95,7 +95,7 @@ impl Board {
         self.words.join(pass, other);
     }
 
-    /// The position of a shard, at least the one that the pass had seen. It is met whether or not a pass holds the shard.
+    /// The position of a shard, at least the one that the pass had seen, whether or not a pass holds the shard.
     pub fn position(&self, shard: u32, pass: &mut Pass) -> u64
         requires within { shard < length self.now.opening }
         requires pass { IsPassOfBoard self.now pass.old }
@@ -167,8 +167,8 @@ impl Board {
         unreachable!()
     }
 
-    /// Reads each shard once, in order, into a cut of the board's shape. It tries each until no other pass holds it, and
-    /// lets other threads run between two tries. It allocates no memory.
+    /// Reads each shard once, in order, into a cut of the board's shape. It tries each until no other pass holds it,
+    /// and lets other threads run between two tries. It allocates no memory.
     pub fn read_cut<R: Wait>(&self, rt: &R, pass: &mut Pass, cut: &mut Cut)
         requires pass { IsPassOfBoard self.now pass.old }
         requires shape { HasCoreShape (length self.now.opening) (core_capacity self.now.opening) cut.old }

@@ -1,5 +1,5 @@
--- Each kind of step may be made: whatever the table is then, the rule still holds after it, and the step tells what
--- it should.
+-- Each kind of step may be made: whatever the state of the table, the rule still holds after it, and the step does
+-- what it should.
 use Rattle.std.proofs.Common.{◌≡◌, ℕ, zero, suc, ◌+◌, ◌*◌, ◌/◌, ◌≤◌, ◌<◌, ⊎_elim, true, false, List, [], ◌∷◌, ◌++◌}
 use Rattle.std.proofs.Common.{length, set, slice_get, Option, None, Some, refl, sym, ap, ◌∙◌, arith, subst}
 use Rattle.std.specs.Prelude.{slice_index}
@@ -56,7 +56,7 @@ view_fits_after_allowed_step shards words change position place view sees within
   reached = changed_trails_stay_below change position place view.trails (λ k. slice_index words k / 2) sees within fits.reached;
 }
 
--- a step that leaves the words and the slots
+-- a step that leaves the words and the slots unchanged
 allowed_step_keeps_words : (shards : List ShardValue) (state : State (Option ShardValue) View) (seat place word : ℕ)
     (before now : View) → RuleIsKept shards state → word ≡ slice_index state.words place
     → get_elem? state.views seat ≡ some before → now.held ≡ before.held
@@ -112,7 +112,7 @@ allowed_step_finds_shard [] place inside = absurd (omega arith)
 allowed_step_finds_shard (s ∷ rest) zero inside = (s, refl)
 allowed_step_finds_shard (s ∷ rest) (suc place) inside = allowed_step_finds_shard rest place (omega arith)
 
--- a take may find the word odd, which it leaves
+-- a take may find the word odd, and leaves it unchanged
 step_loses_as_allowed : (shards : List ShardValue) (slots seat place : ℕ) (aim : Aim) (me : Me (Option ShardValue) View)
     → me.0.spent ≡ false → (state : State (Option ShardValue) View) → RuleIsKept shards state
     → get_elem? state.views seat ≡ some me.0 → IsOddWord (slice_index state.words place)
@@ -248,7 +248,7 @@ give_step_is_allowed shards slots seat place position me held shard live holds a
     (λ _. WordStepGives (step slots k (2 * position) 0 none) me (2 * position))) at_place
     (give_held_step_is_allowed shards slots seat position me held shard live holds forward ends)
 
--- a new seat has seen as much
+-- a new seat has seen the same positions
 newcomer_fits_allowed_step : (shards : List ShardValue) (words : List ℕ) (view : View) → FitsRule shards words view
     → FitsRule shards words (newcomer_view view)
 newcomer_fits_allowed_step shards words view fits = record {

@@ -89,7 +89,7 @@ pub fold_is_kept : view_trail_after_giving Fold 1 2 (view_trail_from 1)
     ≡ record (view_trail_from 2) { folds = record { from = 1; to = 2 } ∷ [] }
 fold_is_kept = refl
 
--- a take to read is kept as it is made, not as the shard is given back
+-- a take to read is recorded when it is made, not when the shard is given back
 pub give_after_a_read : view_trail_after_giving Read 1 1 (view_trail_after_win Read 1 (view_trail_from 0))
     ≡ record (view_trail_from 1) { reads = 1 ∷ [] }
 give_after_a_read = refl
@@ -109,7 +109,7 @@ pub newcomer_has_seen : newcomer_view (view_after_split (view_after_loss 0 3 fir
     ≡ record first { trails = view_trail_from 1 ∷ view_trail_from 0 ∷ []; generation = 1 }
 newcomer_has_seen = refl
 
--- a seat that was split off a new seat is no new seat of the first
+-- a seat that was split off a new seat is two generations after the first
 pub newcomer_of_a_newcomer : (newcomer_view (newcomer_view first)).generation ≡ 2
 newcomer_of_a_newcomer = refl
 

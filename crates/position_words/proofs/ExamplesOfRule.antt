@@ -44,7 +44,7 @@ first_seat_holds = record { view = holding; held = held_first; at = refl; holds 
 held_is : (held : Held) → holding.held ≡ Some held → held_first ≡ held
 held_is held holds = same_Some (held_first) held holds
 
--- it is the only one
+-- it is the only seat that holds a shard
 only_holder : (seat place : ℕ) → IsHoldingSeat views seat place → (seat ≡ 0) × (place ≡ 0)
 only_holder zero place holder =
     let view : holding ≡ holder.view = some-injective holding holder.view holder.at in
@@ -61,7 +61,7 @@ second_seat_holds_nothing holder = let only = only_holder 1 0 holder in omega (a
 abbrev words : List ℕ
 words = 3 ∷ 0 ∷ []
 
--- its view has seen no more
+-- its view has seen no later positions
 reached_by_words : (shard : ℕ) → slice_index (1 ∷ 0 ∷ []) shard ≤ slice_index words shard / 2
 reached_by_words zero = omega arith
 reached_by_words (suc zero) = omega arith

@@ -130,6 +130,6 @@ answer_of_a_take = (record { start = 0; is = refl }, meets_a_later_position, ref
 pub answer_of_a_loss : WordStepAnswers shards 0 Fold first (view_after_loss 0 3 first) Busy
 answer_of_a_loss = loses_to_another
 
--- no answer is Busy without a loss
+-- Busy is not returned without a loss
 pub busy_without_a_loss : WordStepAnswers shards 0 Fold first first Busy → ⊥
 busy_without_a_loss = loss_without_a_word

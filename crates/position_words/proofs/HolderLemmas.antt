@@ -44,7 +44,7 @@ holder_here views seat place before now at has =
       is = has.is;
     }
 
--- a holder's view is the one that stands at its seat
+-- a holder's view is the view of its seat
 pub holder_has_its_view : (views : List View) (seat place : ℕ) (view : View) → get_elem? views seat ≡ some view
     → IsHoldingSeat views seat place → IsHolderView view place
 holder_has_its_view views seat place view at holder =
@@ -64,7 +64,7 @@ holder_after views seat other place now holder =
     ))
     (at_set views seat other now holder.view holder.at)
 
--- a view that holds what it held leaves all holders
+-- if a view changes and holds what it held, all holders stay
 pub holder_kept : (views : List View) (seat other place : ℕ) (before now : View)
     → get_elem? views seat ≡ some before → now.held ≡ before.held
     → IsHoldingSeat views other place → IsHoldingSeat (set views seat now) other place

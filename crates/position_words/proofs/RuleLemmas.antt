@@ -31,7 +31,7 @@ rule_parity_is_never_both word even odd = omega (arith, even, odd)
 rule_none_is_not_held : (view : View) (held : Held) → view.held ≡ None → view.held ≡ Some held → ⊥
 rule_none_is_not_held view held free holds = cc (sym free ∙ holds)
 
--- a view that fits, fits when halves of words rise
+-- a view that fits still fits when halves of words rise
 pub rule_fit_survives_rise : (shards : List ShardValue) (words later : List ℕ) (view : View)
     → ((shard : ℕ) → slice_index words shard / 2 ≤ slice_index later shard / 2)
     → FitsRule shards words view → FitsRule shards later view

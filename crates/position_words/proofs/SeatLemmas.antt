@@ -41,7 +41,7 @@ is_seat words seat now slots id me opening trails live slot = record {
   slot = ap (λ m. m.1) me ∙ slot ∙ ap (λ m. slots_out_with_seat m.0.held) (sym me);
 }
 
--- after a step at one shard which leaves what is held
+-- a seat stays one of its words after a step at one shard that leaves what it holds
 pub seat_stays_after_change : (words : PositionWordsValue) (before after : SeatValue) (change : Trail → Trail) (place : ℕ)
     → IsSeatOf words before → IsSameSeatInWordStep before after
     → after.me ≡ (view_with_trail change place (view before), before.me.1) → IsSeatOf words after
@@ -71,7 +71,7 @@ pub seat_shard_is_inside : (shards : List ShardValue) (place : ℕ) (state : Sha
     → place < length shards
 seat_shard_is_inside shards place state of = slice_get_within shards place (shard_state_at of.start state) of.is
 
--- a give: the seat's one slot is empty, then it has the state, and at last it is out no more
+-- a give: the slot that is out with the seat is empty, then has the state, and is at last no longer out
 module _ (words : PositionWordsValue) (before filled after : SeatValue) (shard position : ℕ) (state : ShardValue) where
   pub seat_slot_is_empty : IsSeatOf words before → MayGiveAtPosition shard position (view before) → before.me.1 ≡ (shard, None) ∷ []
   seat_slot_is_empty of gives = of.slot ∙ ap slots_out_with_seat gives.holds ∙ ap (λ k. (k, None) ∷ []) gives.is
@@ -96,7 +96,7 @@ module _ (words : PositionWordsValue) (before filled after : SeatValue) (shard p
       → view after ≡ view_after_giving state.position (view before)
   seat_view_after_giving at full me = ap (λ m. m.0) me ∙ ap (λ m. view_after_giving position m.0) full ∙ ap (λ p. view_after_giving p (view before)) at
 
-  -- what the seat is left with
+  -- what the seat has afterwards
   seat_remains_after_giving : MayGiveAtPosition shard state.position (view before) → position ≡ state.position
       → filled.me ≡ (view before, (shard, Some state) ∷ []) → after.me ≡ (view_after_giving position (view filled), [])
       → (held : Held)
@@ -137,9 +137,9 @@ pub seat_stays_after_losing : (words : PositionWordsValue) (before after : SeatV
 seat_stays_after_losing words before after aim shard word marks odd same of =
     seat_stays_after_change words before after (view_trail_after_loss word) shard of same (marks.loses odd)
 
--- a take that met an even one: the slot that came out with the seat has a state, and then none
+-- a take that met an even word: the slot that came out with the seat has a state, and then none
 module _ (words : PositionWordsValue) (before marked after : SeatValue) (aim : Aim) (shard word : ℕ) where
-  -- what a seat has that won
+  -- what a seat that won has
   seat_has_won : IsSeatOf words before → (view before).held ≡ None → WordStepMarks aim shard before.me word marked.me → (IsOddWord word → ⊥)
       → (state : ShardValue) × (slice_get words.opening shard ≡ Some state)
       × (marked.me ≡ (view_after_win aim shard (word / 2) (view before), (shard, Some (shard_state_at (word / 2) state)) ∷ []))

@@ -21,7 +21,7 @@ length_of_joined_trails (trail ∷ rest) (other ∷ others) = ap suc (length_of_
 abbrev pub trail_positions : List Trail → List ℕ
 trail_positions trails = map (λ trail. trail.seen) trails
 
--- a step that sees a position below a bound leaves all that was seen below the bounds
+-- after a step that sees a position within its bound, all positions that were seen are still within their bounds
 pub changed_trails_stay_below : (change : Trail → Trail) (position place : ℕ) (trails : List Trail) (bound : ℕ → ℕ)
     → ((trail : Trail) → (change trail).seen ≡ position)
     → position ≤ bound place → ((shard : ℕ) → slice_index (trail_positions trails) shard ≤ bound shard)
@@ -38,7 +38,7 @@ pub trail_positions-newcomer : (trails : List Trail) → trail_positions (map (�
 trail_positions-newcomer [] = refl
 trail_positions-newcomer (trail ∷ rest) = ap (λ seen. trail.seen ∷ seen) (trail_positions-newcomer rest)
 
--- what both have seen is below the bounds if what each has is
+-- what both have seen is within the bounds if what each has seen is
 pub joined_trails_stay_below : (trails others : List Trail) (bound : ℕ → ℕ)
     → ((shard : ℕ) → slice_index (trail_positions trails) shard ≤ bound shard)
     → ((shard : ℕ) → slice_index (trail_positions others) shard ≤ bound shard) → (shard : ℕ)

@@ -96,7 +96,7 @@ joined_view_trails (trail ∷ rest) [] = trail ∷ rest
 joined_view_trails (trail ∷ rest) (other ∷ others) =
     record trail { seen = max trail.seen other.seen } ∷ joined_view_trails rest others
 
--- a view after another seat was joined: it has seen what both have, and keeps its own steps alone
+-- a view after another seat was joined: it has seen what both have, and keeps only its own steps
 abbrev pub view_after_join : View → View → View
 view_after_join view other = record view {
   trails = joined_view_trails view.trails other.trails;

@@ -1,4 +1,4 @@
-//! What a seat knows, as plain data. Only proofs speak of it: of these types a program makes values of `Aim` alone.
+//! What a seat knows, as plain data. Only proofs use it: of these types a program makes only values of `Aim`.
 
 use shard_state::{Folded, ShardState};
 use std::collections::LinkedList;

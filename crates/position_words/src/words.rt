@@ -141,7 +141,7 @@ impl Words {
         self.table.shared.split_seat::<SplittingOff>(seat)
     }
 
-    /// Joins another seat to this one, which has then seen what both had, and keeps its own steps alone. Neither holds a
+    /// Joins another seat to this one, which has then seen what both had, and keeps only its own steps. Neither holds a
     /// shard.
     pub fn join(&self, seat: &mut Seat, other: Seat)
         requires seat { IsSeatOf self.now seat.old }

@@ -1,4 +1,4 @@
--- A list with the element at one place changed.
+-- A list with the element at one index changed.
 use Rattle.std.proofs.Common.{◌≡◌, ℕ, ◌<◌, zero, suc, List, [], ◌∷◌, length, get_or, slice_get, slice_set, Some, All}
 use Rattle.std.proofs.Common.{refl, ap, arith}
 use Rattle.std.proofs.lemmas.List.Elements.{All-cons, All-head, All-tail}
@@ -9,14 +9,14 @@ changed_in_core-element_keeps_length change place [] = refl
 changed_in_core-element_keeps_length change zero (x ∷ xs) = refl
 changed_in_core-element_keeps_length change (suc place) (x ∷ xs) = ap suc (changed_in_core-element_keeps_length change place xs)
 
--- the place that is changed
+-- the changed element is at the index
 pub changed_in_core-element_holds_change : {X : Type 0} → (change : X → X) (place : ℕ) (xs : List X) (x : X) → slice_get xs place ≡ Some x
     → slice_get (changed_in_core change place xs) place ≡ Some (change x)
 changed_in_core-element_holds_change change place [] x is = cc is
 changed_in_core-element_holds_change change zero (y ∷ xs) x is = let same : y ≡ x = cc is in ap (λ v. Some (change v)) same
 changed_in_core-element_holds_change change (suc place) (y ∷ xs) x is = changed_in_core-element_holds_change change place xs x is
 
--- the others stay
+-- the other elements stay
 pub changed_in_core-other_elements_stay : {X : Type 0} → (change : X → X) (place other : ℕ) (xs : List X) → (place ≡ other → ⊥)
     → slice_get (changed_in_core change place xs) other ≡ slice_get xs other
 changed_in_core-other_elements_stay change place other [] apart = refl
@@ -26,7 +26,7 @@ changed_in_core-other_elements_stay change (suc place) zero (y ∷ xs) apart = r
 changed_in_core-other_elements_stay change (suc place) (suc other) (y ∷ xs) apart = changed_in_core-other_elements_stay change place other xs
     (λ same. apart (ap suc same))
 
--- a change is a write
+-- a change at an index is a write there
 pub changed_in_core-element_is_set : {X : Type 0} → (change : X → X) (place : ℕ) (xs : List X) (d : X) → place < length xs
     → changed_in_core change place xs ≡ slice_set xs place (change (get_or xs place d))
 changed_in_core-element_is_set change place [] d within = absurd (omega arith)
@@ -41,7 +41,7 @@ All-changed_element P change zero (x ∷ xs) keeps all = All-cons P (change x) x
 All-changed_element P change (suc place) (x ∷ xs) keeps all =
     All-cons P x (changed_in_core change place xs) (All-head P x xs all) (All-changed_element P change place xs keeps (All-tail P x xs all))
 
--- a write at a place, and the others
+-- a write at an index, and the other elements
 pub set_element_is_changed : {X : Type 0} → (place : ℕ) (xs : List X) (v x : X) → slice_get xs place ≡ Some x → slice_get (slice_set xs place v) place ≡ Some v
 set_element_is_changed place [] v x is = cc is
 set_element_is_changed zero (y ∷ xs) v x is = refl

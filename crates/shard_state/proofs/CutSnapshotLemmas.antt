@@ -1,11 +1,11 @@
--- A cut with another snapshot in one place.
+-- A cut with one snapshot replaced.
 use Rattle.std.proofs.Common.{◌≡◌, ℕ, ◌-◌, ◌<◌, ◌≤◌, ◌^◌, length, slice_set, All, arith, length-set}
 use Rattle.std.proofs.lemmas.List.Sums.{sum_by-le}
 use Rattle.std.proofs.lemmas.List.Elements.{All-set, All-weaker}
 use Rattle.shard_state.specs.Snapshot.{SnapshotValue, IsSnapshot, snapshot_total}
 use Rattle.shard_state.specs.Cut.{CutValue, IsCut, total_of_cut}
 
--- a snapshot of its capacity leaves a cut
+-- a cut stays one when a snapshot is replaced by one of the same capacity
 pub IsCut-set_snapshot : (cut : CutValue) (shard : ℕ) (snapshot : SnapshotValue) → IsCut cut → IsSnapshot snapshot → snapshot.capacity ≡ cut.capacity
     → IsCut (record cut { shards = slice_set cut.shards shard snapshot })
 IsCut-set_snapshot cut shard snapshot is is_snapshot same = record {

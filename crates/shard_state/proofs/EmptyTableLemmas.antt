@@ -24,7 +24,7 @@ empty_table_in_row zero k = refl
 empty_table_in_row (suc n) zero = refl
 empty_table_in_row (suc n) (suc k) = empty_table_in_row n k
 
--- none of the tables with no entry has one
+-- each of the empty tables has no entry
 pub empty_table_at_place : (k : ℕ) → get_or no_snapshot_entries k [] ≡ []
 unfolding no_snapshot_entries
 empty_table_at_place k = empty_table_in_row 25 k
@@ -33,7 +33,7 @@ pub number_of_empty_tables : length no_snapshot_entries ≡ 25
 unfolding no_snapshot_entries
 number_of_empty_tables = refl
 
--- no entries are those of a table
+-- an empty list has the entries of a table
 empty_table_is_valid : (capacity : ℕ) → AreTableEntries capacity []
 empty_table_is_valid capacity = record {
   is_table = record { fits = omega arith; ascending = tt; distinct = tt; small_errors = All-nil (HasSmallTableError capacity 0) };
@@ -48,7 +48,7 @@ IsSnapshotTableAt-empty_table capacity node = record {
       (λ (e : Entry). IsPrefixKey node e.key);
 }
 
--- the snapshot of no record is one
+-- the snapshot of no record is a snapshot
 pub IsSnapshot-empty_tables : (capacity : ℕ) → 2 ≤ capacity → capacity ≤ 4096 → IsSnapshot (empty_snapshot capacity)
 IsSnapshot-empty_tables capacity least most = record {
   least = least;
@@ -81,7 +81,7 @@ empty_tables_are_made capacity tables are least most =
           (IsSnapshot-empty_tables capacity least most);
     }
 
--- the cut of no record is one
+-- the cut of no record is a cut
 pub empty_tables_make_shard_cut : (shards capacity : ℕ) → 1 ≤ shards → shards ≤ 128 → 2 ≤ capacity → capacity ≤ 4096 → IsCut (empty_cut shards capacity)
 empty_tables_make_shard_cut shards capacity some few least most =
     let many : length (replicate shards (empty_snapshot capacity)) ≡ shards = length-replicate shards (empty_snapshot capacity) in

@@ -66,7 +66,7 @@ event_leaves_other_shards : (at shard : ℕ) (o : Option ShardValue) (cut : CutV
 event_leaves_other_shards at shard None cut apart = refl
 event_leaves_other_shards at shard (Some state) cut apart = changed_element_keeps_others at shard cut.shards (snapshot_of_shard state) apart
 
--- what a read leaves in a cut: the snapshot that it met, or what was there
+-- what a read leaves in a cut: the snapshot that it met, or the earlier one
 shard_after_read_event : (core : CoreValue) (by at caller shard : ℕ) (state : ShardValue) (before : SnapshotValue) → slice_get core.shards shard ≡ Some state
     → snapshot_in_core caller shard core.cuts ≡ Some before
     → snapshot_in_core caller shard (core_after core (Read by at)).cuts

@@ -29,7 +29,7 @@ latest_core_snapshot-parts_of_event_run state before (position ∷ earlier) late
     (snapshot_of_shard (record state { position = position }))
     earlier later
 
--- where the shard stands doesn't matter
+-- the position of the shard doesn't matter
 latest_core_snapshot-moved_in_event_run : (state : ShardValue) (position : ℕ) (before : SnapshotValue) (reads : List ℕ)
     → latest_core_snapshot (record state { position = position }) before reads ≡ latest_core_snapshot state before reads
 latest_core_snapshot-moved_in_event_run state position before [] = refl
@@ -54,7 +54,7 @@ latest_core_snapshot-after_event_run (event ∷ rest) core caller shard state be
     ∙ ap Some (latest_core_snapshot-moved_in_event_run state moved.position (latest_core_snapshot state before read) later
     ∙ sym (latest_core_snapshot-parts_of_event_run state before read later))
 
--- what an event meets is the position of the shard
+-- an event meets nothing or the position of the shard
 event_in_run_meets_shard : (P : List ℕ → Type 0) (caller shard : ℕ) (shards : List ShardValue) (event : Event) (state : ShardValue)
     → slice_get shards shard ≡ Some state
     → P [] → P (state.position ∷ []) → P (position_met_in_core caller shard shards event)
@@ -106,7 +106,7 @@ latest_core_snapshot-last_of_event_run state before (only ∷ []) position last 
 latest_core_snapshot-last_of_event_run state before (first ∷ next ∷ later) position last =
     latest_core_snapshot-last_of_event_run state (snapshot_of_shard (record state { position = first })) (next ∷ later) position last
 
--- a snapshot that was read stands for the shard's list
+-- a snapshot that was read represents the shard's list
 latest_core_snapshot-stands_in_event_run : (state : ShardValue) (before : SnapshotValue) (reads : List ℕ) (least : ℕ)
     → SnapshotRepresents state.base state.list → state.base.position ≤ least → CorePositionsNeverFall least reads
     → All (λ p. p ≤ length state.list) reads → SnapshotRepresents before state.list → SnapshotRepresents (latest_core_snapshot state before reads) state.list
@@ -162,7 +162,7 @@ pub event_run_keeps_capacity : (events : List Event) (core : CoreValue) → core
 event_run_keeps_capacity [] core = refl
 event_run_keeps_capacity (event ∷ rest) core = event_run_keeps_capacity rest (core_after core event) ∙ capacity_after_event core event
 
--- two lists that agree at each place
+-- two lists that agree at each index
 event_run_agrees_by_place : {A B : Type 0} → (R : A → B → Type 0) (xs : List A) (ys : List B) → length xs ≡ length ys
     → ((k : ℕ) (x : A) (y : B) → slice_get xs k ≡ Some x → slice_get ys k ≡ Some y → R x y) → AllZip R xs ys
 event_run_agrees_by_place R [] [] many each = tt
@@ -229,7 +229,7 @@ left_by_event_run events core caller shard cut kept shapes is_cut in_shards =
           had.holds;
     }
 
--- a cut in which each shard was read stands for the shards' lists, where their bases do
+-- a cut in which each shard was read represents the shards' lists, if their bases do
 pub event_run_cut_stands : (events : List Event) (core : CoreValue) (caller : ℕ) (cut : CutValue) → IsCore core.shards
     → All (HasCoreShape (length core.shards) (core_capacity core.shards)) core.cuts → CoreBasesRepresent core.shards
     → slice_get (core_after_run core events).cuts caller ≡ Some cut
@@ -280,7 +280,7 @@ event_run_cut_stands events core caller cut is_core shapes bases is_cut reads =
           subst (λ s. SnapshotRepresents s list) same_snapshot (subst (SnapshotRepresents (latest_core_snapshot state here.before met_here)) same_list stands));
     }
 
--- its position of a shard is that of the last read
+-- the position of a shard in the cut is that of the last read
 pub event_run_tells_last_read : (events : List Event) (core : CoreValue) (caller shard position : ℕ) (cut : CutValue) → All IsShard core.shards
     → All (HasCoreShape (length core.shards) (core_capacity core.shards)) core.cuts → shard < length core.shards
     → slice_get (core_after_run core events).cuts caller ≡ Some cut

@@ -31,15 +31,15 @@ pub adds_of_whole_addresses : snapshot_adds (node_at 24) (x ∷ u ∷ [])
     ≡ record { key = 0x0100000165000001; weight = 1 } ∷ record { key = 0x0200000166000001; weight = 1 } ∷ []
 adds_of_whole_addresses = refl
 
--- the table of whole addresses: U stands at the head, since its count is the least
+-- the table of whole addresses: U is at the head, since its count is the least
 pub table_of_the_first : snapshot_records_table 4 (node_at 24) first ≡ entry 0x0200000166000001 1 0 ∷ entry 0x0100000165000001 5 0 ∷ []
 table_of_the_first = refl
 
--- in the table of the root each packet has the one key
+-- in the table of the root all packets have the same key
 pub table_at_the_root : snapshot_records_table 4 (node_at 0) first ≡ entry 0 6 0 ∷ []
 table_at_the_root = refl
 
--- a table goes on from where it stood
+-- a table continues from the entries that it has
 pub goes_on : fold_snapshot_at 4 (node_at 0) (entry 0 4 0 ∷ []) (x ∷ u ∷ []) ≡ entry 0 6 0 ∷ []
 goes_on = refl
 

@@ -36,16 +36,16 @@ read_puts_its_snapshot = refl
 pub read_of_no_shard : core_cut_with_shard 1 None (empty_cut 1 4) ≡ empty_cut 1 4
 read_of_no_shard = refl
 
--- a fold moves its shard and no cut
+-- a fold moves its shard, and changes no cut
 pub fold_moves : core_after core (Fold 0 4) ≡ record core { shards = folded_shard 4 shard ∷ [] }
 fold_moves = refl
 
--- a read changes its caller's cut alone
+-- a read changes only its caller's cut
 pub read_leaves : core_after (record core { shards = folded_shard 4 shard ∷ [] }) (Read 1 0)
     ≡ record { shards = folded_shard 4 shard ∷ []; cuts = empty_cut 1 4 ∷ record { capacity = 4; shards = snapshot_of_shard (folded_shard 4 shard) ∷ [] } ∷ [] }
 read_leaves = refl
 
--- the first caller reads between two folds and behind them, the other behind them
+-- the first caller reads between two folds and after them, the other only after them
 abbrev events : List Event
 events = Fold 0 4 ∷ Read 0 0 ∷ Fold 0 4 ∷ Read 1 0 ∷ Read 0 0 ∷ []
 
@@ -84,7 +84,7 @@ cut_of_two_shards shape = omega (arith, shape.as_many)
 pub fold_for_the_core : IsCoreEvent 1 2 (Fold 0 4)
 fold_for_the_core = (omega arith, omega arith)
 
--- a block has a record at least
+-- a block has at least one record
 pub fold_of_no_record : IsCoreEvent 1 2 (Fold 0 0) → ⊥
 fold_of_no_record event = omega (arith, event.1)
 
@@ -124,7 +124,7 @@ reads_never_fall = (omega arith, (omega arith, tt))
 pub reads_that_fall : CorePositionsNeverFall 0 (6 ∷ 4 ∷ []) → ⊥
 reads_that_fall never = omega (arith, never.1.0)
 
--- the snapshot at the last read, or what was there before
+-- the snapshot at the last read, or the earlier one
 pub latest_of_two_reads : latest_core_snapshot shard (empty_snapshot 4) (4 ∷ 6 ∷ []) ≡ snapshot_of_shard (folded_shard 9 shard)
 latest_of_two_reads = refl
 

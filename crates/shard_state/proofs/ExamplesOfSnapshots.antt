@@ -58,7 +58,7 @@ position_and_tables_copied = refl
 pub empty_table_is_like : IsLikeSnapshotTable 4 0 (node_at 7) (empty_table 4)
 empty_table_is_like = record { same_capacity = refl; same_total = refl; keyed = All-nil (λ (e : Entry). IsPrefixKey (node_at 7) e.key) }
 
--- the table counted one packet, and the others none
+-- the table counted one packet, so its total is not 0
 pub table_of_another_total : IsLikeSnapshotTable 4 0 (node_at 0) root_table → ⊥
 table_of_another_total like = omega (arith, like.same_total)
 
@@ -116,7 +116,7 @@ positions_of_no_record = refl
 pub stands_for_the_first : SnapshotRepresents at_the_end first
 stands_for_the_first = representation_of_shard (folded_shard 9 shard) (representation_when_empty 4 first) (omega arith) (omega arith)
 
--- it counts more than the one record there is
+-- it counts more records than the list has
 pub stands_for_no_shorter_list : SnapshotRepresents at_the_end (x ∷ []) → ⊥
 stands_for_no_shorter_list stands = omega (arith, stands.within)
 
@@ -133,7 +133,7 @@ stands_for_two_lists = record {
 pub stands_for_no_other_capacity : CutRepresents (record { capacity = 8; shards = at_the_end ∷ [] }) (first ∷ []) → ⊥
 stands_for_no_other_capacity stands = let same : 4 ≡ 8 = All-head (λ (s : SnapshotValue). s.capacity ≡ 8) at_the_end [] stands.alike in omega (arith, same)
 
--- a cut of two shards stands for two lists
+-- a cut of two shards represents two lists
 pub stands_for_no_single_list : CutRepresents cut (first ∷ []) → ⊥
 stands_for_no_single_list stands = stands.shards.1
 

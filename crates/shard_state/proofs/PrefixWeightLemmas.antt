@@ -20,11 +20,11 @@ prefix_weight_filtered_sum weight test x xs = by_test (test x)
     by_test true = sum_by-cons weight x (filter test xs)
     by_test false = omega arith
 
--- the keys of a node tell what a prefix covers
+-- the keys of a node show which records a prefix covers
 pub record PrefixWeightIsTold (prefix : PrefixValue) : Type 0 where
   pub tell : (rec : RecordValue) → covers prefix rec ≡ eqb (prefix_key (prefix_at (node_of_prefix prefix) rec)) (prefix_key prefix)
 
--- what records add for the key of a prefix is what it weighs
+-- the weight that records add for the key of a prefix is its weight over them
 prefix_weight_is_added : (prefix : PrefixValue) (records : List RecordValue) → PrefixWeightIsTold prefix
     → table_weight_of_key (prefix_key prefix) (snapshot_adds (node_of_prefix prefix) records) ≡ prefix_weight prefix records
 prefix_weight_is_added prefix [] keys = refl
@@ -35,7 +35,7 @@ prefix_weight_is_added prefix (rec ∷ records) keys =
     ∙ ap (λ n. cond (covers prefix rec) rec.weight 0 + n) (prefix_weight_is_added prefix records keys)
     ∙ sym (prefix_weight_filtered_sum (λ (r : RecordValue). r.weight) (covers prefix) rec records)
 
--- what records add together is what they weigh
+-- the weight that records add together is their total weight
 pub prefix_weight_totals_agree : (node : NodeValue) (records : List RecordValue) → total_added_to_table (snapshot_adds node records) ≡ total_weight records
 prefix_weight_totals_agree node [] = refl
 prefix_weight_totals_agree node (rec ∷ records) =
@@ -52,7 +52,7 @@ pub record IntervalsHoldPrefixWeight : Type 0 where
   pub width : (capacity : ℕ) (adds : List TableAdd) (key : ℕ) → 1 ≤ capacity → AreWeighedForTable adds
       → ((table_interval_after capacity adds key).high - (table_interval_after capacity adds key).low) * capacity ≤ total_added_to_table adds
 
--- the interval of a prefix holds what it weighs
+-- the interval of a prefix holds its weight
 pub prefix_weight_is_held : (capacity : ℕ) (prefix : PrefixValue) (records : List RecordValue) → PrefixWeightIsTold prefix → IntervalsHoldPrefixWeight
     → 1 ≤ capacity
     → All (λ (r : RecordValue). 1 ≤ r.weight) records → NarrowIntervalHoldsWeightOver capacity prefix records

@@ -1,4 +1,4 @@
--- What snapshots and cuts stand for.
+-- What snapshots and cuts represent.
 use Rattle.std.proofs.Common.{◌≡◌, ℕ, ◌+◌, ◌<◌, ◌≤◌, List, [], ◌∷◌, length, take, get_or, map, sum_by, All, refl, sym}
 use Rattle.std.proofs.Common.{ap, ◌∙◌, arith, subst}
 use Rattle.std.specs.List.{slice_range, AllZip}
@@ -21,7 +21,7 @@ use Rattle.shard_state.proofs.TableFoldLemmas.{fold_snapshot_at-append_in_table,
 use Rattle.shard_state.proofs.TableFoldLemmas.{fold_snapshot_from-as_many_tables}
 use Rattle.shard_state.proofs.ShardStateLemmas.{shard_state_take_further}
 
--- empty tables stand for every list
+-- empty tables represent every list
 pub representation_when_empty : (capacity : ℕ) (list : List RecordValue) → SnapshotRepresents (empty_snapshot capacity) list
 representation_when_empty capacity list = record {
   within = omega arith;
@@ -30,7 +30,7 @@ representation_when_empty capacity list = record {
       (node_index node);
 }
 
--- a shard whose base stands for its list stands for it at each position
+-- a shard whose base represents its list represents it at each position
 pub representation_of_shard : (shard : ShardValue) → SnapshotRepresents shard.base shard.list → shard.base.position ≤ shard.position
     → shard.position ≤ length shard.list
     → SnapshotRepresents (snapshot_of_shard shard) shard.list
@@ -77,7 +77,7 @@ representation_keeps_weight snapshot list prefix hold stands some valid weighed 
     (subst (NarrowIntervalHoldsWeight (interval (snapshot_records_table capacity (node_of_prefix prefix) records)) capacity (prefix_weight prefix records))
     (sym (representation_keeps_total snapshot list hold stands some)) over)
 
--- the totals of snapshots that stand for lists
+-- the totals of snapshots that represent lists
 representation_sums_totals : (snapshots : List SnapshotValue) (lists : List (List RecordValue)) → RepresentationLaws
     → AllZip SnapshotRepresents snapshots lists → All IsSnapshot snapshots
     → sum_by snapshot_total snapshots ≡ total_weight (records_before_cut lists (map (λ (s : SnapshotValue). s.position) snapshots))
@@ -98,7 +98,7 @@ pub representation_of_cut_total : (cut : CutValue) (lists : List (List RecordVal
     → total_of_cut cut ≡ total_weight (records_before_cut lists (cut_positions cut))
 representation_of_cut_total cut lists hold is stands = representation_sums_totals cut.shards lists hold stands.shards is.kept
 
--- snapshots of one capacity at one position that stand for one list are equal
+-- snapshots of the same capacity at the same position that represent the same list are equal
 shard_representation_is_one : (snapshot other : SnapshotValue) (list : List RecordValue) → snapshot.capacity ≡ other.capacity
     → snapshot.position ≡ other.position
     → SnapshotRepresents snapshot list → SnapshotRepresents other list → snapshot ≡ other
@@ -139,7 +139,7 @@ representation_is_one_row (snapshot ∷ snapshots) (other ∷ others) (list ∷ 
     (All-tail IsAlike other others other_alike) later_positions stand.1 other_stand.1 in
     λ i. first i ∷ rest i
 
--- cuts of one capacity at the same positions that stand for the same lists are equal
+-- cuts of the same capacity at the same positions that represent the same lists are equal
 pub representation_is_one_cut : (cut other : CutValue) (lists : List (List RecordValue)) → cut.capacity ≡ other.capacity
     → cut_positions cut ≡ cut_positions other
     → CutRepresents cut lists → CutRepresents other lists → cut ≡ other

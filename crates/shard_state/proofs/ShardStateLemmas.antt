@@ -18,7 +18,7 @@ use Rattle.shard_state.proofs.TableFoldLemmas.{TableFoldKeeps, TableFoldAdvances
 use Rattle.shard_state.proofs.TableFoldLemmas.{fold_snapshot_from-append_in_tables, fold_snapshot_from-none_in_tables}
 use Rattle.shard_state.proofs.TableFoldLemmas.{snapshot_tables_after-entries}
 
--- what stands at a place, where the rest from there is the same
+-- two lists with the same rest from an index on have the same element there
 pub shard_state_place_in_rest : {X : Type 0} → (xs ys : List X) (n : ℕ) (d : X) → drop n xs ≡ drop n ys → get_or xs n d ≡ get_or ys n d
 shard_state_place_in_rest xs ys n d same =
     let at : n + 0 ≡ n = omega arith in
@@ -39,7 +39,7 @@ shard_state_take_further list middle to late =
     let whole : to ≡ middle + (to - middle) = omega arith in
     ap (λ n. take n list) whole ∙ take-add middle (to - middle) list
 
--- so many records weigh less than 2^56
+-- at most 2^24 records weigh less than 2^56 together
 pub shard_state_is_light : (list : List RecordValue) (to : ℕ) → length list ≤ 2 ^ 24 → to ≤ length list → All (λ (r : RecordValue). r.weight < 2 ^ 32) list
     → total_weight (take to list) < 2 ^ 56
 shard_state_is_light list to few within bounded =

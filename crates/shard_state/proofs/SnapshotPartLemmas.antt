@@ -29,7 +29,7 @@ snapshot_parts_from_entries capacity (first ∷ rest) alike =
     ap (λ t. t ∷ map (snapshot_part_with_entries capacity) (map snapshot_part_entries rest)) (ap with_capacity (sym same))
     ∙ ap (λ ts. first ∷ ts) (snapshot_parts_from_entries capacity rest (All-tail (λ (t : TableValue). t.capacity ≡ capacity) first rest alike))
 
--- what holds of the tables before a place, and of the one there
+-- what holds of the tables before an index and of the one there holds of one more table
 pub more_snapshot_parts : (P : ℕ → TableValue → Type 0) (tables : List TableValue) (n : ℕ) (here : TableValue)
     → n < length tables → here ≡ get_or tables n here → P n here
     → ((k : ℕ) (t : TableValue) → k < n → slice_get tables k ≡ Some t → P k t) → (k : ℕ) (t : TableValue) → k < n + 1 → slice_get tables k ≡ Some t → P k t
@@ -37,7 +37,7 @@ more_snapshot_parts P tables n here within is_here holds below k t small is_t =
     below_more (λ m. (u : TableValue) → slice_get tables m ≡ Some u → P m u) n (λ m m_small u. below m u m_small)
     (λ u is_u. subst (P n) (same_Some here u (sym (slice_get_read tables (length tables) n here refl within is_here) ∙ is_u)) holds) k small t is_t
 
--- what each table of a snapshot keeps, by its place
+-- what each table of a snapshot keeps, by its index
 abbrev pub AreKeptSnapshotParts : List TableValue → Type 0
 AreKeptSnapshotParts tables = (place : ℕ) (table : TableValue) → slice_get tables place ≡ Some table → AreTableEntries table.capacity table.entries
 

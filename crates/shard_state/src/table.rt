@@ -1,4 +1,4 @@
-//! The body of a shard's tables, named here alone.
+//! The body of a shard's tables, named only here.
 
 use rank_table::RankTable;
 
