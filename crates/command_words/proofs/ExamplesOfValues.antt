@@ -36,14 +36,14 @@ name_of_the_share = refl
 pub share_is_looked_at_behind_the_capacity : option_place_of Capacity < option_place_of Phi
 share_is_looked_at_behind_the_capacity = omega arith
 
--- a number from 2 to 4096
+-- a number from 2 to 4096, and 512 by default
 abbrev from_2_to_4096 : OptionKind
-from_2_to_4096 = number 2 4096
+from_2_to_4096 = number 2 4096 512
 
 pub limits_of_the_capacity : option_kind_of Capacity ≡ from_2_to_4096
 limits_of_the_capacity = refl
 
-pub words_for_weighing : option_kind_of Weigh ≡ choice (weigh_setting_word Bytes ∷ weigh_setting_word Packets ∷ [])
+pub words_for_weighing : option_kind_of Weigh ≡ choice (weigh_setting_word Bytes) (weigh_setting_word Packets ∷ [])
 words_for_weighing = refl
 
 pub word_for_free_dealing : deal_setting_word Free ≡ codes "free"
@@ -206,10 +206,10 @@ no_store_by_default = refl
 pub store_by_its_path : SetsStoreSetting (Some (codes "S")) true
 store_by_its_path = refl
 
-pub capacity_by_default : SetsNumberSetting Capacity 512 (setting_values_in command.Weigh arguments Capacity) 512
+pub capacity_by_default : SetsNumberSetting Capacity (setting_values_in command.Weigh arguments Capacity) 512
 capacity_by_default = refl
 
-pub sixteen_shards_by_their_number : SetsNumberSetting Shards 4 (Some (codes "16")) 16
+pub sixteen_shards_by_their_number : SetsNumberSetting Shards (Some (codes "16")) 16
 unfolding digits
 sixteen_shards_by_their_number = (record { spelled = refl; bounded = omega arith }, (omega arith, omega arith))
 

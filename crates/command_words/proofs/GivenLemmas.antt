@@ -10,7 +10,7 @@ use Rattle.command_words.specs.Arguments.{names_in_arguments, argument_value_of,
 use Rattle.command_words.specs.Forms.{form_of}
 use Rattle.command_words.specs.GivenValues.{SetsGiven}
 use Rattle.command_words.specs.Options.{OptionKind, number, option_name_of, option_kind_of, IsAllowedByOption}
-use Rattle.command_words.specs.Options.{IsGoodOption, IsGoodOptionText}
+use Rattle.command_words.specs.Options.{IsDefaultOfOption, IsGoodOption, IsGoodOptionText}
 use Rattle.command_words.specs.Options.{seed_option_limit, frames_option_limit}
 use Rattle.command_words.specs.Settings.{SettingValues, SetsNumberSetting, SetsWeighSetting, SetsDealSetting}
 use Rattle.command_words.specs.Settings.{SetsStoreSetting, SetsSettings}
@@ -71,8 +71,9 @@ not_given_outside_form word arguments at of_form apart lacks =
     (text_search_finds_none (form_of word).options (option_name_of at) lacks))
 
 -- what is missing sets the default
-not_given_sets_default : (at : Opt) (default : ℕ) (told : Option ArgumentText) → told ≡ None → SetsNumberSetting at default told default
-not_given_sets_default at default told none = subst (λ t. SetsNumberSetting at default t default) (sym none) refl
+not_given_sets_default : (at : Opt) (default : ℕ) (told : Option ArgumentText) → IsDefaultOfOption (option_kind_of at) default → told ≡ None
+    → SetsNumberSetting at told default
+not_given_sets_default at default told is_default none = subst (λ t. SetsNumberSetting at t default) (sym none) is_default
 
 -- a command without made traffic
 pub record IsGivenNoTraffic (word : CommandWord) : Type 0 where
@@ -91,9 +92,9 @@ pub settings_given : (word : CommandWord) (arguments : List Argument) (settings 
     → SetsSettings (setting_values_in word arguments) (store_setting_in arguments) settings
     → SetsGiven (setting_values_in word arguments) (store_setting_in arguments) (given_settings_alone settings)
 settings_given word arguments settings lacks of_form set = record {
-  seed_set = not_given_sets_default opt.Seed 0 _ (not_given_outside_form word arguments opt.Seed of_form lacks.no_seed lacks.seed_unknown);
+  seed_set = not_given_sets_default opt.Seed 0 _ refl (not_given_outside_form word arguments opt.Seed of_form lacks.no_seed lacks.seed_unknown);
   frames_set =
-      not_given_sets_default opt.Frames 1 _ (not_given_outside_form word arguments opt.Frames of_form lacks.no_frames lacks.frames_unknown);
+      not_given_sets_default opt.Frames 1 _ refl (not_given_outside_form word arguments opt.Frames of_form lacks.no_frames lacks.frames_unknown);
   settings_set = set;
 }
 
@@ -117,14 +118,14 @@ pub make_is_given_no_settings : (arguments : List Argument) → AreArgumentsOfFo
     → SetsSettings (setting_values_in Make arguments) (store_setting_in arguments) default_given_settings
 make_is_given_no_settings arguments of_form = record {
   weigh = subst (λ told. SetsWeighSetting told Bytes) (sym (no opt.Weigh refl)) refl;
-  shards = not_given_sets_default opt.Shards 4 _ (no opt.Shards refl);
-  capacity = not_given_sets_default opt.Capacity 512 _ (no opt.Capacity refl);
-  phi = not_given_sets_default opt.Phi 10000 _ (no opt.Phi refl);
+  shards = not_given_sets_default opt.Shards 4 _ refl (no opt.Shards refl);
+  capacity = not_given_sets_default opt.Capacity 512 _ refl (no opt.Capacity refl);
+  phi = not_given_sets_default opt.Phi 10000 _ refl (no opt.Phi refl);
   deal = subst (λ told. SetsDealSetting told RoundRobin) (sym (no opt.Deal refl)) refl;
-  block = not_given_sets_default opt.Block 1024 _ (no opt.Block refl);
-  workers = not_given_sets_default opt.Workers 4 _ (no opt.Workers refl);
-  callers = not_given_sets_default opt.Callers 0 _ (no opt.Callers refl);
-  rounds = not_given_sets_default opt.Rounds 0 _ (no opt.Rounds refl);
+  block = not_given_sets_default opt.Block 1024 _ refl (no opt.Block refl);
+  workers = not_given_sets_default opt.Workers 4 _ refl (no opt.Workers refl);
+  callers = not_given_sets_default opt.Callers 0 _ refl (no opt.Callers refl);
+  rounds = not_given_sets_default opt.Rounds 0 _ refl (no opt.Rounds refl);
   store = subst (λ path. SetsStoreSetting path false) (sym no_store) refl;
 }
   where
@@ -138,25 +139,25 @@ make_is_given_no_settings arguments of_form = record {
         (unknown_name_is_not_given [] (names_in_arguments arguments) (codes "store") of_form.known (λ has. omega (arith, has.1)))
 
 -- a number that is given is set
-given_sets : (at : Opt) (default : ℕ) (told : Option ArgumentText) (value : ℕ) → GivesNumberSetting at told value
-    → SetsNumberSetting at default told value
-given_sets at default None value gives = absurd gives
-given_sets at default (Some text) value gives = gives
+given_sets : (at : Opt) (told : Option ArgumentText) (value : ℕ) → GivesNumberSetting at told value → SetsNumberSetting at told value
+given_sets at None value gives = absurd gives
+given_sets at (Some text) value gives = gives
 
 -- traffic that is given, with settings that are set
 pub traffic_given : (values : SettingValues) (path : Option ArgumentText) (seed frames : ℕ) (settings : Settings)
     → GivesTrafficSettings values seed frames → SetsSettings values path settings
     → SetsGiven values path (record { seed = seed; frames = frames; settings = settings })
 traffic_given values path seed frames settings gives set = record {
-  seed_set = given_sets opt.Seed 0 _ seed gives.seed_given;
-  frames_set = given_sets opt.Frames 1 _ frames gives.frames_given;
+  seed_set = given_sets opt.Seed _ seed gives.seed_given;
+  frames_set = given_sets opt.Frames _ frames gives.frames_given;
   settings_set = set;
 }
 
 -- a good number sets something
-good_number_is_given : (at : Opt) (least greatest default : ℕ) (told : Option ArgumentText) → option_kind_of at ≡ number least greatest
-    → IsGoodOption at told → (value : ℕ) × SetsNumberSetting at default told value
-good_number_is_given at least greatest default None kind good = (default, refl)
+good_number_is_given : (at : Opt) (least greatest default : ℕ) (told : Option ArgumentText)
+    → option_kind_of at ≡ number least greatest default → IsGoodOption at told → (value : ℕ) × SetsNumberSetting at told value
+good_number_is_given at least greatest default None kind good =
+    (default, subst (λ (k : OptionKind). IsDefaultOfOption k default) (sym kind) refl)
 good_number_is_given at least greatest default (Some text) kind good =
     let within = subst (λ (k : OptionKind). IsGoodOptionText k text) kind good in
     (within.0, (within.1, subst (λ (k : OptionKind). IsAllowedByOption k within.0) (sym kind) within.2))

@@ -2,6 +2,7 @@
 use Rattle.std.proofs.Common.{◌≡◌, ◌<◌, ◌≤◌, ◌^◌, ℕ, List, Option, Some, None, refl, sym, subst, arith}
 use Rattle.command_words.specs.Arguments.{ArgumentText}
 use Rattle.command_words.specs.Options.{OptionKind, number, option_kind_of, IsAllowedByOption, frames_option_limit}
+use Rattle.command_words.specs.Options.{IsDefaultOfOption}
 use Rattle.command_words.specs.Settings.{SettingValues, SetsNumberSetting, SetsSettings, GivesNumberSetting}
 use Rattle.command_words.specs.Settings.{GivesTrafficSettings, AreLimitedSettings}
 use Rattle.command_words.specs.Settings.{AreTrafficSettings}
@@ -15,10 +16,11 @@ use Rattle.command_words.specs.declared.settings.Settings.{Settings}
 
 -- a number that an option sets is within its limits, if the default is
 set_number_is_in_limits : (opt : Opt) (default least greatest : ℕ) (text : Option ArgumentText) (value : ℕ)
-    → option_kind_of opt ≡ number least greatest → least ≤ default → default ≤ greatest
-    → SetsNumberSetting opt default text value → (least ≤ value) × (value ≤ greatest)
+    → option_kind_of opt ≡ number least greatest default → least ≤ default → default ≤ greatest
+    → SetsNumberSetting opt text value → (least ≤ value) × (value ≤ greatest)
 set_number_is_in_limits opt default least greatest None value kind low high set =
-    (subst (λ n. least ≤ n) (sym set) low, subst (λ n. n ≤ greatest) (sym set) high)
+    let same : value ≡ default = subst (λ (k : OptionKind). IsDefaultOfOption k value) kind set in
+    (subst (λ n. least ≤ n) (sym same) low, subst (λ n. n ≤ greatest) (sym same) high)
 set_number_is_in_limits opt default least greatest (Some text) value kind low high set =
     subst (λ (k : OptionKind). IsAllowedByOption k value) kind set.1
 
@@ -59,15 +61,15 @@ given_number_has_limit : (opt : Opt) (text : Option ArgumentText) (value : ℕ) 
 given_number_has_limit opt None value gives = absurd gives
 given_number_has_limit opt (Some text) value gives = gives.0.bounded
 
-given_number_is_in_limits : (opt : Opt) (least greatest : ℕ) (text : Option ArgumentText) (value : ℕ) → option_kind_of opt ≡ number least greatest
-    → GivesNumberSetting opt text value → (least ≤ value) × (value ≤ greatest)
-given_number_is_in_limits opt least greatest None value kind gives = absurd gives
-given_number_is_in_limits opt least greatest (Some text) value kind gives = subst (λ (k : OptionKind). IsAllowedByOption k value) kind gives.1
+given_number_is_in_limits : (opt : Opt) (least greatest default : ℕ) (text : Option ArgumentText) (value : ℕ)
+    → option_kind_of opt ≡ number least greatest default → GivesNumberSetting opt text value → (least ≤ value) × (value ≤ greatest)
+given_number_is_in_limits opt least greatest default None value kind gives = absurd gives
+given_number_is_in_limits opt least greatest default (Some text) value kind gives = subst (λ (k : OptionKind). IsAllowedByOption k value) kind gives.1
 
 -- traffic that values give can be made
 given_traffic_is_in_limits : (values : SettingValues) (seed frames : ℕ) → GivesTrafficSettings values seed frames → AreTrafficSettings seed frames
 given_traffic_is_in_limits values seed frames gives =
-    let within = given_number_is_in_limits Frames 1 frames_option_limit (values Frames) frames refl gives.frames_given in
+    let within = given_number_is_in_limits Frames 1 frames_option_limit 1 (values Frames) frames refl gives.frames_given in
     record {
       is_seed = given_number_has_limit Seed (values Seed) seed gives.seed_given;
       some_frames = within.0;

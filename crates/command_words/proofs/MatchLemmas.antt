@@ -177,10 +177,10 @@ matches_tell_sides arguments matches two told =
     matches_tell_two_positionals (form_of Weigh) arguments matches (codes "SRC") (codes "DST") refl two told
 
 -- a number that is set by a text is given
-match_sets_given_number : (at : Opt) (default : ℕ) (told : Option ArgumentText) (text : ArgumentText) (value : ℕ) → told ≡ Some text
-    → SetsNumberSetting at default told value → GivesNumberSetting at told value
-match_sets_given_number at default None text value is set = cc
-match_sets_given_number at default (Some other) text value is set = set
+match_sets_given_number : (at : Opt) (told : Option ArgumentText) (text : ArgumentText) (value : ℕ) → told ≡ Some text
+    → SetsNumberSetting at told value → GivesNumberSetting at told value
+match_sets_given_number at None text value is set = cc
+match_sets_given_number at (Some other) text value is set = set
 
 -- the traffic that is read from matches is what the arguments give
 matches_tell_traffic : (word : CommandWord) (arguments : List Argument) (matches : ArgMatches) (given : Given)
@@ -191,8 +191,8 @@ matches_tell_traffic : (word : CommandWord) (arguments : List Argument) (matches
 matches_tell_traffic word arguments matches given has many told sets =
     let two = matches_tell_two_positionals (form_of word) arguments matches (codes "SEED") (codes "FRAMES") has many told in
     subst (λ values. GivesTrafficSettings values given.seed given.frames) (matches_tell_values word arguments matches told) record {
-      seed_given = match_sets_given_number opt.Seed 0 _ two.first given.seed two.first_told sets.seed_set;
-      frames_given = match_sets_given_number opt.Frames 1 _ two.second given.frames two.second_told sets.frames_set;
+      seed_given = match_sets_given_number opt.Seed _ two.first given.seed two.first_told sets.seed_set;
+      frames_given = match_sets_given_number opt.Frames _ two.second given.frames two.second_told sets.frames_set;
     }
 
 -- so the words of `make` ask for it

@@ -7,7 +7,7 @@ use Rattle.frame_records.specs.declared.weigh.Weigh.{Weigh}
 use Rattle.deal_rules.specs.declared.deal_kind.DealKind.{DealKind}
 use Rattle.command_words.specs.Arguments.{ArgumentText}
 use Rattle.command_words.specs.Options.{OptionKind, number, choice, option_kind_of, option_place_of, IsOptionNumber}
-use Rattle.command_words.specs.Options.{IsGoodOptionText, IsGoodOption}
+use Rattle.command_words.specs.Options.{IsDefaultOfOption, IsGoodOptionText, IsGoodOption}
 use Rattle.command_words.specs.Options.{IsNoOptionNumber, IsNoOptionChoice, IsOutsideOptionLimits}
 use Rattle.command_words.specs.Settings.{SettingValues, SetsNumberSetting, SetsWeighSetting, SetsDealSetting}
 use Rattle.command_words.specs.Settings.{SetsStoreSetting, SetsSettings}
@@ -36,22 +36,22 @@ IsValueFault IsBad = (kind : OptionKind) (text : ArgumentText) → IsGoodOptionT
 
 -- a text that is no number is not good
 no_number_is_value_fault : IsValueFault IsNoOptionNumber
-no_number_is_value_fault (number least greatest) text good bad = bad good.0 good.1
-no_number_is_value_fault (choice words) text good bad = bad
+no_number_is_value_fault (number least greatest default) text good bad = bad good.0 good.1
+no_number_is_value_fault (choice default others) text good bad = bad
 
 -- a number outside the limits is not good
 outside_is_value_fault : IsValueFault IsOutsideOptionLimits
-outside_is_value_fault (number least greatest) text good bad = go (one_value_per_number_text text good.0 bad.0 good.1 bad.1) bad.2
+outside_is_value_fault (number least greatest default) text good bad = go (one_value_per_number_text text good.0 bad.0 good.1 bad.1) bad.2
   where
     go : good.0 ≡ bad.0 → (bad.0 < least) ⊎ (greatest < bad.0) → ⊥
     go same (inl below) = omega (arith, good.2)
     go same (inr above) = omega (arith, good.2)
-outside_is_value_fault (choice words) text good bad = bad
+outside_is_value_fault (choice default others) text good bad = bad
 
 -- a text that is none of the choices is not good
 no_choice_is_value_fault : IsValueFault IsNoOptionChoice
-no_choice_is_value_fault (number least greatest) text good bad = bad
-no_choice_is_value_fault (choice words) text good bad = bad good
+no_choice_is_value_fault (number least greatest default) text good bad = bad
+no_choice_is_value_fault (choice default others) text good bad = bad good
 
 -- no value is bad in both of these ways
 abbrev AreApartValueFaults : (OptionKind → ArgumentText → Type 0) → (OptionKind → ArgumentText → Type 0) → Type 0
@@ -59,17 +59,17 @@ AreApartValueFaults IsBad IsWorse = (kind : OptionKind) (text : ArgumentText) �
 
 -- a text that is no number is not a number outside the limits
 value_fault_number_or_outside : AreApartValueFaults IsNoOptionNumber IsOutsideOptionLimits
-value_fault_number_or_outside (number least greatest) text bad worse = bad worse.0 worse.1
-value_fault_number_or_outside (choice words) text bad worse = bad
+value_fault_number_or_outside (number least greatest default) text bad worse = bad worse.0 worse.1
+value_fault_number_or_outside (choice default others) text bad worse = bad
 
 -- no option takes both numbers and choices
 value_fault_number_or_choice : AreApartValueFaults IsNoOptionNumber IsNoOptionChoice
-value_fault_number_or_choice (number least greatest) text bad worse = worse
-value_fault_number_or_choice (choice words) text bad worse = bad
+value_fault_number_or_choice (number least greatest default) text bad worse = worse
+value_fault_number_or_choice (choice default others) text bad worse = bad
 
 value_fault_outside_or_choice : AreApartValueFaults IsOutsideOptionLimits IsNoOptionChoice
-value_fault_outside_or_choice (number least greatest) text bad worse = worse
-value_fault_outside_or_choice (choice words) text bad worse = bad
+value_fault_outside_or_choice (number least greatest default) text bad worse = worse
+value_fault_outside_or_choice (choice default others) text bad worse = bad
 
 -- an option with a bad value has no good one
 value_fault_is_not_good : (IsBad : OptionKind → ArgumentText → Type 0) (values : SettingValues) (opt : Opt) → IsValueFault IsBad
@@ -156,17 +156,17 @@ given_values_have_no_fault values path given gives = go gives.settings_set
     settings = given.settings
 
     go : SetsSettings values path settings → AreGoodValues values
-    go set opt.Seed = numeric_value_is_good opt.Seed 0 (values opt.Seed) given.seed gives.seed_set
-    go set opt.Frames = numeric_value_is_good opt.Frames 1 (values opt.Frames) given.frames gives.frames_set
+    go set opt.Seed = numeric_value_is_good opt.Seed (values opt.Seed) given.seed gives.seed_set
+    go set opt.Frames = numeric_value_is_good opt.Frames (values opt.Frames) given.frames gives.frames_set
     go set opt.Weigh = weigh_value_is_good (values opt.Weigh) settings.weigh set.weigh
-    go set opt.Shards = numeric_value_is_good opt.Shards 4 (values opt.Shards) settings.shards set.shards
-    go set opt.Capacity = numeric_value_is_good opt.Capacity 512 (values opt.Capacity) settings.capacity set.capacity
-    go set opt.Phi = numeric_value_is_good opt.Phi 10000 (values opt.Phi) settings.phi set.phi
+    go set opt.Shards = numeric_value_is_good opt.Shards (values opt.Shards) settings.shards set.shards
+    go set opt.Capacity = numeric_value_is_good opt.Capacity (values opt.Capacity) settings.capacity set.capacity
+    go set opt.Phi = numeric_value_is_good opt.Phi (values opt.Phi) settings.phi set.phi
     go set opt.Deal = deal_value_is_good (values opt.Deal) settings.deal set.deal
-    go set opt.Block = numeric_value_is_good opt.Block 1024 (values opt.Block) settings.block set.block
-    go set opt.Workers = numeric_value_is_good opt.Workers 4 (values opt.Workers) settings.workers set.workers
-    go set opt.Callers = numeric_value_is_good opt.Callers 0 (values opt.Callers) settings.callers set.callers
-    go set opt.Rounds = numeric_value_is_good opt.Rounds 0 (values opt.Rounds) settings.rounds set.rounds
+    go set opt.Block = numeric_value_is_good opt.Block (values opt.Block) settings.block set.block
+    go set opt.Workers = numeric_value_is_good opt.Workers (values opt.Workers) settings.workers set.workers
+    go set opt.Callers = numeric_value_is_good opt.Callers (values opt.Callers) settings.callers set.callers
+    go set opt.Rounds = numeric_value_is_good opt.Rounds (values opt.Rounds) settings.rounds set.rounds
 
 -- values that are all good have no fault
 pub no_value_fault : (values : SettingValues) (kind : WordsKind) → AreGoodValues values → HasValueFault values kind → ⊥
@@ -175,11 +175,16 @@ no_value_fault values (OutOfLimits at) good has = value_fault_is_not_good IsOuts
 no_value_fault values (BadChoice at) good has = value_fault_is_not_good IsNoOptionChoice values at no_choice_is_value_fault has (good at)
 no_value_fault values _ good has = has
 
--- a value sets at most one number
-one_value_sets_one_number : (at : Opt) (default : ℕ) (told : Option ArgumentText) (value other : ℕ) → SetsNumberSetting at default told value
-    → SetsNumberSetting at default told other → value ≡ other
-one_value_sets_one_number at default None value other one two = one ∙ sym two
-one_value_sets_one_number at default (Some text) value other one two = one_value_per_number_text text value other one.0 two.0
+-- a missing value sets one number at most
+one_value_by_default : (kind : OptionKind) (value other : ℕ) → IsDefaultOfOption kind value → IsDefaultOfOption kind other → value ≡ other
+one_value_by_default (number least greatest default) value other one two = one ∙ sym two
+one_value_by_default (choice default others) value other one two = absurd one
+
+-- a value sets one number at most
+one_value_sets_one_number : (at : Opt) (told : Option ArgumentText) (value other : ℕ) → SetsNumberSetting at told value
+    → SetsNumberSetting at told other → value ≡ other
+one_value_sets_one_number at None value other one two = one_value_by_default (option_kind_of at) value other one two
+one_value_sets_one_number at (Some text) value other one two = one_value_per_number_text text value other one.0 two.0
 
 one_value_per_weigh_word : (weigh other : Weigh) → weigh_setting_word weigh ≡ weigh_setting_word other → weigh ≡ other
 one_value_per_weigh_word weighing.Bytes weighing.Bytes same = refl
@@ -188,7 +193,7 @@ one_value_per_weigh_word weighing.Packets weighing.Bytes same = cc
 one_value_per_weigh_word weighing.Packets weighing.Packets same = refl
 
 one_value_sets_one_weigh : (told : Option ArgumentText) (weigh other : Weigh) → SetsWeighSetting told weigh → SetsWeighSetting told other → weigh ≡ other
-one_value_sets_one_weigh None weigh other one two = one ∙ sym two
+one_value_sets_one_weigh None weigh other one two = one_value_per_weigh_word weigh other (one ∙ sym two)
 one_value_sets_one_weigh (Some text) weigh other one two = one_value_per_weigh_word weigh other (sym one ∙ two)
 
 one_value_per_deal_word : (deal other : DealKind) → deal_setting_word deal ≡ deal_setting_word other → deal ≡ other
@@ -198,7 +203,7 @@ one_value_per_deal_word dealing.Free dealing.Free same = refl
 one_value_per_deal_word _ _ same = cc
 
 one_value_sets_one_deal : (told : Option ArgumentText) (deal other : DealKind) → SetsDealSetting told deal → SetsDealSetting told other → deal ≡ other
-one_value_sets_one_deal None deal other one two = one ∙ sym two
+one_value_sets_one_deal None deal other one two = one_value_per_deal_word deal other (one ∙ sym two)
 one_value_sets_one_deal (Some text) deal other one two = one_value_per_deal_word deal other (sym one ∙ two)
 
 one_value_sets_one_store : (path : Option ArgumentText) (store other : Bool) → SetsStoreSetting path store → SetsStoreSetting path other → store ≡ other
@@ -210,17 +215,17 @@ pub values_set_one_settings : (values : SettingValues) (path : Option ArgumentTe
     → SetsSettings values path other → settings ≡ other
 values_set_one_settings values path settings other one two =
     λ i. record {
-      shards = one_value_sets_one_number opt.Shards 4 (values opt.Shards) settings.shards other.shards one.shards two.shards i;
+      shards = one_value_sets_one_number opt.Shards (values opt.Shards) settings.shards other.shards one.shards two.shards i;
       capacity =
-          one_value_sets_one_number opt.Capacity 512 (values opt.Capacity) settings.capacity other.capacity one.capacity
+          one_value_sets_one_number opt.Capacity (values opt.Capacity) settings.capacity other.capacity one.capacity
           two.capacity i;
-      phi = one_value_sets_one_number opt.Phi 10000 (values opt.Phi) settings.phi other.phi one.phi two.phi i;
-      block = one_value_sets_one_number opt.Block 1024 (values opt.Block) settings.block other.block one.block two.block i;
+      phi = one_value_sets_one_number opt.Phi (values opt.Phi) settings.phi other.phi one.phi two.phi i;
+      block = one_value_sets_one_number opt.Block (values opt.Block) settings.block other.block one.block two.block i;
       workers =
-          one_value_sets_one_number opt.Workers 4 (values opt.Workers) settings.workers other.workers one.workers two.workers i;
+          one_value_sets_one_number opt.Workers (values opt.Workers) settings.workers other.workers one.workers two.workers i;
       callers =
-          one_value_sets_one_number opt.Callers 0 (values opt.Callers) settings.callers other.callers one.callers two.callers i;
-      rounds = one_value_sets_one_number opt.Rounds 0 (values opt.Rounds) settings.rounds other.rounds one.rounds two.rounds i;
+          one_value_sets_one_number opt.Callers (values opt.Callers) settings.callers other.callers one.callers two.callers i;
+      rounds = one_value_sets_one_number opt.Rounds (values opt.Rounds) settings.rounds other.rounds one.rounds two.rounds i;
       weigh = one_value_sets_one_weigh (values opt.Weigh) settings.weigh other.weigh one.weigh two.weigh i;
       deal = one_value_sets_one_deal (values opt.Deal) settings.deal other.deal one.deal two.deal i;
       store = one_value_sets_one_store path settings.store other.store one.store two.store i;
@@ -231,8 +236,8 @@ pub values_give_one_thing : (values : SettingValues) (path : Option ArgumentText
     → SetsGiven values path other → given ≡ other
 values_give_one_thing values path given other one two =
     λ i. record {
-      seed = one_value_sets_one_number opt.Seed 0 (values opt.Seed) given.seed other.seed one.seed_set two.seed_set i;
+      seed = one_value_sets_one_number opt.Seed (values opt.Seed) given.seed other.seed one.seed_set two.seed_set i;
       frames =
-          one_value_sets_one_number opt.Frames 1 (values opt.Frames) given.frames other.frames one.frames_set two.frames_set i;
+          one_value_sets_one_number opt.Frames (values opt.Frames) given.frames other.frames one.frames_set two.frames_set i;
       settings = values_set_one_settings values path given.settings other.settings one.settings_set two.settings_set i;
     }

@@ -63,14 +63,14 @@ values_before_next_are_good values opt told same before good other below = go (c
 -- a number that an option may have is good
 allowed_value_is_good : (kind : OptionKind) (text : ArgumentText) (value : ℕ) → IsOptionNumber text value → IsAllowedByOption kind value
     → IsGoodOptionText kind text
-allowed_value_is_good (number least greatest) text value is_number allowed = (value, is_number, allowed)
-allowed_value_is_good (choice words) text value is_number allowed = absurd allowed
+allowed_value_is_good (number least greatest default) text value is_number allowed = (value, is_number, allowed)
+allowed_value_is_good (choice default others) text value is_number allowed = absurd allowed
 
 -- a number that is set is good
-pub numeric_value_is_good : (opt : Opt) (default : ℕ) (told : Option ArgumentText) (value : ℕ) → SetsNumberSetting opt default told value
+pub numeric_value_is_good : (opt : Opt) (told : Option ArgumentText) (value : ℕ) → SetsNumberSetting opt told value
     → IsGoodOption opt told
-numeric_value_is_good opt default None value sets = tt
-numeric_value_is_good opt default (Some text) value sets = allowed_value_is_good (option_kind_of opt) text value sets.0 sets.1
+numeric_value_is_good opt None value sets = tt
+numeric_value_is_good opt (Some text) value sets = allowed_value_is_good (option_kind_of opt) text value sets.0 sets.1
 
 -- a way to weigh that is set is good
 pub weigh_value_is_good : (told : Option ArgumentText) (weigh : Weigh) → SetsWeighSetting told weigh → IsGoodOption opt.Weigh told

@@ -30,13 +30,13 @@ AreGoodGivenValuesBefore values place = (other : Opt) → option_place_of other 
 
 -- what threads do while records are folded, as the values of options give it, with defaults filled in
 pub record SetsGivenRunning (values : SettingValues) (running : Running) : Type 0 where
-  pub block : SetsNumberSetting Block 1024 (values Block) running.block
-  pub workers : SetsNumberSetting Workers 4 (values Workers) running.workers
-  pub callers : SetsNumberSetting Callers 0 (values Callers) running.callers
-  pub rounds : SetsNumberSetting Rounds 0 (values Rounds) running.rounds
+  pub block : SetsNumberSetting Block (values Block) running.block
+  pub workers : SetsNumberSetting Workers (values Workers) running.workers
+  pub callers : SetsNumberSetting Callers (values Callers) running.callers
+  pub rounds : SetsNumberSetting Rounds (values Rounds) running.rounds
 
 -- what values and the path of a store give, with defaults filled in
 pub record SetsGiven (values : SettingValues) (path : Option ArgumentText) (given : Given) : Type 0 where
-  pub seed_set : SetsNumberSetting Seed 0 (values Seed) given.seed
-  pub frames_set : SetsNumberSetting Frames 1 (values Frames) given.frames
+  pub seed_set : SetsNumberSetting Seed (values Seed) given.seed
+  pub frames_set : SetsNumberSetting Frames (values Frames) given.frames
   pub settings_set : SetsSettings values path given.settings

@@ -7,6 +7,7 @@ use Rattle.deal_rules.specs.declared.deal_kind.DealKind.TheVariants as dealing
 use Rattle.command_words.specs.Arguments.{ArgumentText, Argument, argument_value_of, named_arguments}
 use Rattle.command_words.specs.Forms.{form_of}
 use Rattle.command_words.specs.Options.{option_name_of, option_kind_of, IsOptionNumber, IsAllowedByOption}
+use Rattle.command_words.specs.Options.{IsDefaultOfOption, IsDefaultChoiceOfOption}
 use Rattle.command_words.specs.Options.{capacity_option_limit, phi_option_limit}
 use Rattle.command_words.specs.Options.{frames_option_limit}
 use Rattle.command_words.specs.Options.{block_option_limit, workers_option_limit, callers_option_limit}
@@ -32,9 +33,9 @@ abbrev pub store_setting_in : List Argument → Option ArgumentText
 store_setting_in arguments = argument_value_of (codes "store") arguments
 
 -- the number that an option sets: the default if the option is missing, else its value, within its limits
-abbrev pub SetsNumberSetting : Opt → ℕ → Option ArgumentText → ℕ → Type 0
-SetsNumberSetting opt default None value = value ≡ default
-SetsNumberSetting opt default (Some text) value = IsOptionNumber text value × IsAllowedByOption (option_kind_of opt) value
+abbrev pub SetsNumberSetting : Opt → Option ArgumentText → ℕ → Type 0
+SetsNumberSetting opt None value = IsDefaultOfOption (option_kind_of opt) value
+SetsNumberSetting opt (Some text) value = IsOptionNumber text value × IsAllowedByOption (option_kind_of opt) value
 
 -- the value of `--weigh` for each way to weigh traffic
 abbrev pub weigh_setting_word : Weigh → ArgumentText
@@ -47,14 +48,14 @@ deal_setting_word dealing.RoundRobin = codes "round"
 deal_setting_word dealing.BySource = codes "source"
 deal_setting_word dealing.Free = codes "free"
 
--- how traffic is weighed: by bytes if the option is missing
+-- how traffic is weighed: by the default if the option is missing
 abbrev pub SetsWeighSetting : Option ArgumentText → Weigh → Type 0
-SetsWeighSetting None weigh = weigh ≡ weighing.Bytes
+SetsWeighSetting None weigh = IsDefaultChoiceOfOption (option_kind_of ByWeigh) (weigh_setting_word weigh)
 SetsWeighSetting (Some text) weigh = text ≡ weigh_setting_word weigh
 
--- how records are dealt: in turn if the option is missing
+-- how records are dealt: by the default if the option is missing
 abbrev pub SetsDealSetting : Option ArgumentText → DealKind → Type 0
-SetsDealSetting None deal = deal ≡ dealing.RoundRobin
+SetsDealSetting None deal = IsDefaultChoiceOfOption (option_kind_of Deal) (deal_setting_word deal)
 SetsDealSetting (Some text) deal = text ≡ deal_setting_word deal
 
 -- whether cuts are saved: exactly if a store is named
@@ -65,14 +66,14 @@ SetsStoreSetting (Some path) store = store ≡ true
 -- the settings that the values of options and the path of a store give, with defaults filled in
 pub record SetsSettings (values : SettingValues) (path : Option ArgumentText) (settings : Settings) : Type 0 where
   pub weigh : SetsWeighSetting (values ByWeigh) settings.weigh
-  pub shards : SetsNumberSetting Shards 4 (values Shards) settings.shards
-  pub capacity : SetsNumberSetting Capacity 512 (values Capacity) settings.capacity
-  pub phi : SetsNumberSetting Phi 10000 (values Phi) settings.phi
+  pub shards : SetsNumberSetting Shards (values Shards) settings.shards
+  pub capacity : SetsNumberSetting Capacity (values Capacity) settings.capacity
+  pub phi : SetsNumberSetting Phi (values Phi) settings.phi
   pub deal : SetsDealSetting (values Deal) settings.deal
-  pub block : SetsNumberSetting Block 1024 (values Block) settings.block
-  pub workers : SetsNumberSetting Workers 4 (values Workers) settings.workers
-  pub callers : SetsNumberSetting Callers 0 (values Callers) settings.callers
-  pub rounds : SetsNumberSetting Rounds 0 (values Rounds) settings.rounds
+  pub block : SetsNumberSetting Block (values Block) settings.block
+  pub workers : SetsNumberSetting Workers (values Workers) settings.workers
+  pub callers : SetsNumberSetting Callers (values Callers) settings.callers
+  pub rounds : SetsNumberSetting Rounds (values Rounds) settings.rounds
   pub store : SetsStoreSetting path settings.store
 
 -- the number that a positional gives: its value, within its limits

@@ -13,7 +13,6 @@ use Rattle.command_words.specs.declared.words_kind.WordsKind.TheVariants.{NoComm
 use Rattle.command_words.specs.declared.words_kind.WordsKind.TheVariants.{BadNumber, OutOfLimits, BadChoice, Bound}
 use Rattle.command_words.specs.AskedCommand.{CommandHasSides, CommandHasGoodPositionals, IsBoundedCommand}
 use Rattle.command_words.specs.Values.{AreGoodValues, HasValueFault}
-use Rattle.command_words.specs.declared.command.Command.TheVariants as command
 
 -- the positionals of `weigh` have this fault
 pub record WordsHaveBadPrefix (words : List ArgumentText) (fault : PrefixFault) : Type 0 where

@@ -209,8 +209,8 @@ fn text_of<'a>(matches: &ArgMatches<'a>, opt: Opt) -> Option<&'a str>
 impl Numeric {
     // The number that the option sets: its value if it is present, else the default.
     fn read(&self, text: Option<&str>) -> Result<u32, WordsKind>
-        requires { option_kind_of self.now.opt ≡ number self.now.least self.now.greatest }
-        ensures ok { IfOk result (SetsNumberSetting self.now.opt self.now.default (scanned_text_at text.entry)) }
+        requires { option_kind_of self.now.opt ≡ number self.now.least self.now.greatest self.now.default }
+        ensures ok { IfOk result (SetsNumberSetting self.now.opt (scanned_text_at text.entry)) }
         ensures err { IfErr result (IsBadGivenNumber self.now.opt (scanned_text_at text.entry)) }
     {
         let Some(text) = text else {
@@ -228,7 +228,7 @@ impl Numeric {
 
 // The seed, which may be any number. It is never missing where a command has it.
 fn seed_of(text: Option<&str>) -> Result<u64, WordsKind>
-    ensures ok { IfOk result (SetsNumberSetting Seed 0 (scanned_text_at text.entry)) }
+    ensures ok { IfOk result (SetsNumberSetting Seed (scanned_text_at text.entry)) }
     ensures err { IfErr result (IsBadGivenNumber Seed (scanned_text_at text.entry)) }
 {
     let Some(text) = text else {

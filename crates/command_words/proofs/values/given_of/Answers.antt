@@ -19,7 +19,7 @@ returns-in_err-frames-clause-err c =
     let values = values_in_matches c.args.matches.now in
     let before_frames =
     values_before_next_are_good values Seed _ (sym c.text_of.ensures) (values_before_first_are_good values)
-    (numeric_value_is_good Seed 0 _ _ c.in_ok-seed.ensures.ok) in
+    (numeric_value_is_good Seed _ _ c.in_ok-seed.ensures.ok) in
     let p = err_from_is_err_and c.from_residual-in_err-frames.result c.from_residual-in_err-frames.ensures.1 in
     rw (p.1, p.2)
     (bad_numeric_value_is_first values Frames _ _ (sym c.text_of-2.ensures) before_frames c.in_err-frames.ensures.err)

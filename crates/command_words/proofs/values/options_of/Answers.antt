@@ -34,7 +34,7 @@ returns-in_err-capacity-clause-err c =
     (weigh_value_is_good _ _ c.in_ok-weigh.ensures.ok) in
     let before_capacity =
     values_before_next_are_good values Shards _ (sym c.text_of-2.ensures) before_shards
-    (numeric_value_is_good Shards 4 _ _ c.in_ok-shards.ensures.ok) in
+    (numeric_value_is_good Shards _ _ c.in_ok-shards.ensures.ok) in
     let p = err_from_is_err_and c.from_residual-in_err-capacity.result c.from_residual-in_err-capacity.ensures.1 in
     rw (p.1, p.2)
     (bad_numeric_value_is_first values Capacity _ _ (sym c.text_of-3.ensures) before_capacity c.in_err-capacity.ensures.err)
@@ -47,10 +47,10 @@ returns-in_err-phi-clause-err c =
     (weigh_value_is_good _ _ c.in_ok-weigh.ensures.ok) in
     let before_capacity =
     values_before_next_are_good values Shards _ (sym c.text_of-2.ensures) before_shards
-    (numeric_value_is_good Shards 4 _ _ c.in_ok-shards.ensures.ok) in
+    (numeric_value_is_good Shards _ _ c.in_ok-shards.ensures.ok) in
     let before_phi =
     values_before_next_are_good values Capacity _ (sym c.text_of-3.ensures) before_capacity
-    (numeric_value_is_good Capacity 512 _ _ c.in_ok-capacity.ensures.ok) in
+    (numeric_value_is_good Capacity _ _ c.in_ok-capacity.ensures.ok) in
     let p = err_from_is_err_and c.from_residual-in_err-phi.result c.from_residual-in_err-phi.ensures.1 in
     rw (p.1, p.2) (bad_numeric_value_is_first values Phi _ _ (sym c.text_of-4.ensures) before_phi c.in_err-phi.ensures.err)
 
@@ -62,13 +62,13 @@ returns-in_err-deal-clause-err c =
     (weigh_value_is_good _ _ c.in_ok-weigh.ensures.ok) in
     let before_capacity =
     values_before_next_are_good values Shards _ (sym c.text_of-2.ensures) before_shards
-    (numeric_value_is_good Shards 4 _ _ c.in_ok-shards.ensures.ok) in
+    (numeric_value_is_good Shards _ _ c.in_ok-shards.ensures.ok) in
     let before_phi =
     values_before_next_are_good values Capacity _ (sym c.text_of-3.ensures) before_capacity
-    (numeric_value_is_good Capacity 512 _ _ c.in_ok-capacity.ensures.ok) in
+    (numeric_value_is_good Capacity _ _ c.in_ok-capacity.ensures.ok) in
     let before_deal =
     values_before_next_are_good values Phi _ (sym c.text_of-4.ensures) before_phi
-    (numeric_value_is_good Phi 10000 _ _ c.in_ok-phi.ensures.ok) in
+    (numeric_value_is_good Phi _ _ c.in_ok-phi.ensures.ok) in
     let p = err_from_is_err_and c.from_residual-in_err-deal.result c.from_residual-in_err-deal.ensures.1 in
     rw (p.1, p.2) (bad_choice_value_is_first values Deal _ _ (sym c.text_of-5.ensures) before_deal c.in_err-deal.ensures.err)
 
@@ -80,11 +80,11 @@ running_of-requires c =
     (weigh_value_is_good _ _ c.in_ok-weigh.ensures.ok) in
     let before_capacity =
     values_before_next_are_good values Shards _ (sym c.text_of-2.ensures) before_shards
-    (numeric_value_is_good Shards 4 _ _ c.in_ok-shards.ensures.ok) in
+    (numeric_value_is_good Shards _ _ c.in_ok-shards.ensures.ok) in
     let before_phi =
     values_before_next_are_good values Capacity _ (sym c.text_of-3.ensures) before_capacity
-    (numeric_value_is_good Capacity 512 _ _ c.in_ok-capacity.ensures.ok) in
+    (numeric_value_is_good Capacity _ _ c.in_ok-capacity.ensures.ok) in
     let before_deal =
     values_before_next_are_good values Phi _ (sym c.text_of-4.ensures) before_phi
-    (numeric_value_is_good Phi 10000 _ _ c.in_ok-phi.ensures.ok) in
+    (numeric_value_is_good Phi _ _ c.in_ok-phi.ensures.ok) in
     values_before_next_are_good values Deal _ (sym c.text_of-5.ensures) before_deal (deal_value_is_good _ _ c.in_ok-deal.ensures.ok)

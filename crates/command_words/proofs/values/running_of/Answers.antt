@@ -19,7 +19,7 @@ returns-in_err-workers-clause-err c =
     let values = values_in_matches c.args.matches.now in
     let before_workers =
     values_before_next_are_good values Block _ (sym c.text_of.ensures) c.requires
-    (numeric_value_is_good Block 1024 _ _ c.in_ok-block.ensures.ok) in
+    (numeric_value_is_good Block _ _ c.in_ok-block.ensures.ok) in
     let p = err_from_is_err_and c.from_residual-in_err-workers.result c.from_residual-in_err-workers.ensures.1 in
     rw (p.1, p.2)
     (bad_numeric_value_is_first values Workers _ _ (sym c.text_of-2.ensures) before_workers c.in_err-workers.ensures.err)
@@ -29,10 +29,10 @@ returns-in_err-callers-clause-err c =
     let values = values_in_matches c.args.matches.now in
     let before_workers =
     values_before_next_are_good values Block _ (sym c.text_of.ensures) c.requires
-    (numeric_value_is_good Block 1024 _ _ c.in_ok-block.ensures.ok) in
+    (numeric_value_is_good Block _ _ c.in_ok-block.ensures.ok) in
     let before_callers =
     values_before_next_are_good values Workers _ (sym c.text_of-2.ensures) before_workers
-    (numeric_value_is_good Workers 4 _ _ c.in_ok-workers.ensures.ok) in
+    (numeric_value_is_good Workers _ _ c.in_ok-workers.ensures.ok) in
     let p = err_from_is_err_and c.from_residual-in_err-callers.result c.from_residual-in_err-callers.ensures.1 in
     rw (p.1, p.2)
     (bad_numeric_value_is_first values Callers _ _ (sym c.text_of-3.ensures) before_callers c.in_err-callers.ensures.err)
@@ -42,13 +42,13 @@ returns-in_err-rounds-clause-err c =
     let values = values_in_matches c.args.matches.now in
     let before_workers =
     values_before_next_are_good values Block _ (sym c.text_of.ensures) c.requires
-    (numeric_value_is_good Block 1024 _ _ c.in_ok-block.ensures.ok) in
+    (numeric_value_is_good Block _ _ c.in_ok-block.ensures.ok) in
     let before_callers =
     values_before_next_are_good values Workers _ (sym c.text_of-2.ensures) before_workers
-    (numeric_value_is_good Workers 4 _ _ c.in_ok-workers.ensures.ok) in
+    (numeric_value_is_good Workers _ _ c.in_ok-workers.ensures.ok) in
     let before_rounds =
     values_before_next_are_good values Callers _ (sym c.text_of-3.ensures) before_callers
-    (numeric_value_is_good Callers 0 _ _ c.in_ok-callers.ensures.ok) in
+    (numeric_value_is_good Callers _ _ c.in_ok-callers.ensures.ok) in
     let p = err_from_is_err_and c.from_residual-in_err-rounds.result c.from_residual-in_err-rounds.ensures.1 in
     rw (p.1, p.2)
     (bad_numeric_value_is_first values Rounds _ _ (sym c.text_of-4.ensures) before_rounds c.in_err-rounds.ensures.err)
