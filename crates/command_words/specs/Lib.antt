@@ -15,4 +15,5 @@ pub mod Parser
 pub use Rattle.command_words.specs.Settings.{AreLimitedSettings, AreWideSettings}
 pub use Rattle.command_words.specs.AskedCommand.{AskForCommand, IsLimitedCommand}
 pub use Rattle.command_words.specs.WordsFault.{HasWordsFault}
+pub use Rattle.command_words.specs.NamedPaths.{NamesPaths}
 pub use Rattle.command_words.specs.Arguments.{argument_texts}

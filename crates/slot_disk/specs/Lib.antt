@@ -12,8 +12,10 @@ pub mod MemoryDisk
 pub mod OverLaws
 pub mod RecordedLaws
 -- the face: what contracts of other crates cite
-pub use Rattle.slot_disk.specs.Images.{IfImageKnown, IsOnlyImage}
-pub use Rattle.slot_disk.specs.Moments.{CrashLeavesAtAnyMoment, IsUnchangedAtMoment, CrashLeavesAtAnyMoment-none}
+pub use Rattle.slot_disk.specs.Images.{IfImageKnown, IfBothImagesKnown, GivesImageRange, IsTornImage, IsWrittenImage}
+pub use Rattle.slot_disk.specs.Images.{IsTornFromImage, IsOnlyImage}
+pub use Rattle.slot_disk.specs.Moments.{MomentsGoOn, CrashLeavesAtAnyMoment, IsUnchangedAtMoment}
+pub use Rattle.slot_disk.specs.Moments.{CrashLeavesAtAnyMoment-none}
 pub use Rattle.slot_disk.specs.Moments.{CrashLeavesAtAnyMoment-trans, CrashLeavesAtAnyMoment-weaker}
 pub use Rattle.slot_disk.specs.StoreLayout.{layout_front_bytes, layout_gate_is_open, layout_header, layout_body}
 pub use Rattle.slot_disk.specs.StoreLayout.{Closed, Whole, shown_in_layout, layout_slot_content}
