@@ -1,10 +1,12 @@
+ghost use Rattle.std.specs.Prelude.{◌≤◌, IfOk};
+
 use super::file_disk::{read_on, write_on};
 use super::{FileDisk, Input, LateFile, StdSink, StdSource};
 use outside_io::{Failed, PathText, Sink, Source};
 use slot_disk::Disk;
 use std::cell::Cell;
 use std::fs;
-use std::io::{Error, ErrorKind, Result as IoResult, Write};
+use std::io::{Error, ErrorKind, Read, Result as IoResult, Write};
 use std::os::unix::fs::FileExt;
 use std::test::Fail;
 
@@ -87,6 +89,52 @@ fn writes_to_a_stream_until_it_takes_nothing(rt: HostRuntime) -> Result<(), Fail
     Ok(())
 }
 
+// A stream whose first call fails. Each later call takes or gives as many bytes as the stream had calls.
+#[derive(Drop)]
+struct FailsOnce {
+    calls: usize,
+}
+
+impl FailsOnce {
+    fn count_call(&mut self, room: usize) -> IoResult<usize>
+        ensures { IfOk result (λ count. count ≤ room) }
+    {
+        self.calls = self.calls.saturating_add(1);
+        if self.calls == 1 {
+            return Err(Error::from(ErrorKind::Other));
+        }
+        Ok(self.calls.min(room))
+    }
+}
+
+impl Write for FailsOnce {
+    fn write(&mut self, bytes: &[u8]) -> IoResult<usize> {
+        self.count_call(bytes.len())
+    }
+
+    fn flush(&mut self) -> IoResult<()> {
+        Ok(())
+    }
+}
+
+impl Read for FailsOnce {
+    fn read(&mut self, into: &mut [u8]) -> IoResult<usize> {
+        self.count_call(into.len())
+    }
+}
+
+// The call after the fault is the second one that the stream had.
+#[test]
+fn a_fault_of_a_stream_is_reported_after_one_call(rt: HostRuntime) -> Result<(), Fail> {
+    let mut sink = StdSink::new(FailsOnce { calls: 0 });
+    assert_eq!(rt; sink.write(b"abcde"), Err(Failed));
+    assert_eq!(rt; sink.write(b"abcde"), Ok(2));
+    let mut source = StdSource::new(rt.alloc(), FailsOnce { calls: 0 })?;
+    assert_eq!(rt; source.read(&mut [0; 5]), Err(Failed));
+    assert_eq!(rt; source.read(&mut [0; 5]), Ok(2));
+    Ok(())
+}
+
 // A file of four bytes that takes and gives one byte a call. Each second call is interrupted by a signal.
 #[derive(Drop)]
 struct ByteByByte {
@@ -147,6 +195,48 @@ fn reads_and_writes_on_after_short_and_interrupted_calls(rt: HostRuntime) -> Res
     assert_eq!(rt; write_on(&file, 1, b"xyz")?, 3);
     assert_eq!(rt; file.bytes.get(), *b"axyz");
     assert!(rt; write_on(&file, 3, b"xy").is_err());
+    Ok(())
+}
+
+// A file that takes and gives one byte a call. Its second call fails.
+#[derive(Drop)]
+struct FailsSecond {
+    calls: Cell<u64>,
+}
+
+impl FailsSecond {
+    fn count_call(&self, room: usize) -> IoResult<usize>
+        ensures { IfOk result (λ count. count ≤ room) }
+    {
+        let calls = self.calls.get().saturating_add(1);
+        self.calls.set(calls);
+        if calls == 2 {
+            return Err(Error::from(ErrorKind::Other));
+        }
+        Ok(room.min(1))
+    }
+}
+
+impl FileExt for FailsSecond {
+    fn read_at(&self, into: &mut [u8], _place: u64) -> IoResult<usize> {
+        self.count_call(into.len())
+    }
+
+    fn write_at(&self, from: &[u8], _place: u64) -> IoResult<usize> {
+        self.count_call(from.len())
+    }
+}
+
+#[test]
+fn a_fault_of_a_file_is_reported_after_the_bytes_before_it(rt: HostRuntime) -> Result<(), Fail> {
+    let file = FailsSecond {
+        calls: Cell::new(0),
+    };
+    assert!(rt; read_on(&file, &mut [0; 4], 0, &mut [0; 3]).is_err());
+    assert_eq!(rt; file.calls.get(), 2);
+    file.calls.set(0);
+    assert!(rt; write_on(&file, 0, b"abc").is_err());
+    assert_eq!(rt; file.calls.get(), 2);
     Ok(())
 }
 
