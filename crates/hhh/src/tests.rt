@@ -1,7 +1,7 @@
 ghost use Rattle.std.specs.Prelude.{◌≤◌, IfOk};
 
 use super::file_disk::{read_on, write_on};
-use super::{FileDisk, Input, LateFile, StdSink, StdSource};
+use super::{FileDisk, LateFile, NamedInput, StdSink, StdSource};
 use outside_io::{Failed, PathText, Sink, Source};
 use slot_disk::Disk;
 use std::cell::Cell;
@@ -41,7 +41,7 @@ fn reads_a_stream_to_its_end(rt: HostRuntime) -> Result<(), Fail> {
 fn reads_on_in_a_file(rt: HostRuntime) -> Result<(), Fail> {
     let alloc = rt.alloc();
     let version = LateFile::new(&rt, PathText::of(alloc, "/proc/version")?);
-    let mut source = StdSource::new(alloc, Input::File(version))?;
+    let mut source = StdSource::new(alloc, NamedInput::File(version))?;
     let mut into = [0; 5];
     assert_eq!(rt; source.read(&mut into), Ok(5));
     assert_eq!(rt; into, *b"Linux");
@@ -55,22 +55,22 @@ fn reads_on_in_a_file(rt: HostRuntime) -> Result<(), Fail> {
 fn opens_a_file_at_the_first_read(rt: HostRuntime) -> Result<(), Fail> {
     let alloc = rt.alloc();
     let zeros = LateFile::new(&rt, PathText::of(alloc, "/dev/zero")?);
-    let mut source = StdSource::new(alloc, Input::File(zeros))?;
+    let mut source = StdSource::new(alloc, NamedInput::File(zeros))?;
     let mut into = [1; 3];
     assert_eq!(rt; source.read(&mut into), Ok(3));
     assert_eq!(rt; into, [0; 3]);
     assert_eq!(rt; source.read(&mut into), Ok(3));
     let empty = LateFile::new(&rt, PathText::of(alloc, "/dev/null")?);
     assert_eq!(rt;
-        StdSource::new(alloc, Input::File(empty))?.read(&mut into),
+        StdSource::new(alloc, NamedInput::File(empty))?.read(&mut into),
         Ok(0)
     );
     let missing = LateFile::new(&rt, PathText::of(alloc, "/no such file")?);
-    let mut source = StdSource::new(alloc, Input::File(missing))?;
+    let mut source = StdSource::new(alloc, NamedInput::File(missing))?;
     assert_eq!(rt; source.read(&mut into), Err(Failed));
     assert_eq!(rt; source.read(&mut into), Err(Failed));
     assert_eq!(rt;
-        StdSource::new(alloc, Input::Nothing)?.read(&mut into),
+        StdSource::new(alloc, NamedInput::Nothing)?.read(&mut into),
         Ok(0)
     );
     Ok(())
