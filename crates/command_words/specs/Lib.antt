@@ -17,3 +17,4 @@ pub use Rattle.command_words.specs.AskedCommand.{AskForCommand, IsLimitedCommand
 pub use Rattle.command_words.specs.WordsFault.{HasWordsFault}
 pub use Rattle.command_words.specs.NamedPaths.{NamesPaths}
 pub use Rattle.command_words.specs.Arguments.{argument_texts}
+pub use Rattle.command_words.specs.NamedPaths.{NamesPaths}

@@ -3,6 +3,7 @@ use Rattle.std.proofs.Common.{◌≡◌, ◌≤◌, ℕ, List, [], None, ⊎_eli
 use Rattle.std.specs.Prelude.{⊤}
 use Rattle.std.proofs.lemmas.Bool.{false≢true}
 use Rattle.std.specs.Str.{bytes_eq}
+use Rattle.hhh.specs.declared.input.Input.{Input}
 use Rattle.hhh.specs.declared.input.Input.TheVariants.{Nothing, Standard, File}
 use Rattle.hhh.specs.declared.input.LateFile.{LateFile}
 use Rattle.hhh.specs.ProgramInputs.{IsProgramInput}
@@ -18,11 +19,15 @@ use Rattle.hhh_engine.specs.declared.status.Status.TheVariants.{Done, ReadFault}
 abbrev name : List ℕ
 name = codes "a.pcap"
 
+-- a stream and an opener that are numbers
+abbrev numbered_input : Type 0
+numbered_input = Input ℕ (LateFile ℕ ℕ)
+
 -- a command without a capture reads nothing
-pub nothing_is_read_without_a_name : IsProgramInput [] Nothing
+pub nothing_is_read_without_a_name : let none : numbered_input = Nothing in IsProgramInput [] none
 nothing_is_read_without_a_name = refl
 
-pub name_is_that_of_a_file : (file : LateFile) → file.path ≡ name → file.opened ≡ None → IsProgramInput name (File file)
+pub name_is_that_of_a_file : (file : LateFile ℕ ℕ) → file.path ≡ name → file.opened ≡ None → IsProgramInput {S = ℕ} name (File file)
 name_is_that_of_a_file file same unopened = (
   λ is. false≢true (ap (λ text. bytes_eq text (codes "-")) is),
   λ is. false≢true (ap (λ text. bytes_eq text []) is),
@@ -30,10 +35,10 @@ name_is_that_of_a_file file same unopened = (
   unopened,
 )
 
-pub hyphen_is_the_standard_input : (stdin : _) → IsProgramInput (codes "-") (Standard stdin)
+pub hyphen_is_the_standard_input : (stdin : ℕ) → let input : numbered_input = Standard stdin in IsProgramInput (codes "-") input
 hyphen_is_the_standard_input stdin = refl
 
-pub hyphen_is_no_file : (file : LateFile) → IsProgramInput (codes "-") (File file) → ⊥
+pub hyphen_is_no_file : (file : LateFile ℕ ℕ) → IsProgramInput {S = ℕ} (codes "-") (File file) → ⊥
 hyphen_is_no_file file is_file = is_file.0 refl
 
 -- 100 bytes from 10.1.2.3 to 20.1.2.2

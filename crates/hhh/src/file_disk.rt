@@ -1,8 +1,10 @@
 //! A file of the system as a disk.
 
 ghost use Rattle.std.specs.Prelude.{◌≡◌, ◌<◌, ◌≤◌, ◌+◌, length, vec_len, drop, ⊤, false, true, is_err, None, IfOk};
-ghost use Rattle.std.specs.Prelude.{OnOk, OnErr};
+ghost use Rattle.std.specs.Prelude.{ℕ, List, Option, OnOk, OnErr, is_some};
 ghost use Rattle.outside_io.specs.{FailsByFaultCount};
+ghost use Rattle.slot_disk.specs.{IfImageKnown, IfBothImagesKnown, GivesImageRange, IsTornImage, IsWrittenImage};
+ghost use Rattle.slot_disk.specs.{IsTornFromImage, IsOnlyImage, MomentsGoOn, IsUnchangedAtMoment};
 
 use outside_io::{Failed, PathText};
 use slot_disk::Disk;
@@ -130,28 +132,69 @@ impl Disk for FileDisk<'_> {
 
     ghost only_now = { λ _ _ _. tt };
 
-    fn len(&mut self) -> Result<u64, Failed> {
+    fn len(&mut self) -> Result<u64, Failed>
+        ensures length { IfOk result (λ count. IfImageKnown None (λ bytes. count ≡ length bytes)) }
+        ensures unchanged { IsUnchangedAtMoment (λ _. None) (λ _ _. ⊤) self.old self.new }
+        ensures images { (image : List ℕ) → ⊤ → ⊤ }
+        ensures time { MomentsGoOn (λ _. 0) (λ _ _ _. ⊤) self.old self.new }
+        ensures cause { FailsByFaultCount self.old.faults self.new.faults result }
+
+        // The mark of a failed sync is kept.
+        ensures same_syncs { self.new.sync_failed ≡ self.old.sync_failed }
+    {
         match self.try_len() {
             Ok(count) => Ok(count),
             Err(_) => self.fail(),
         }
     }
 
-    fn read_at(&mut self, place: u64, into: &mut [u8]) -> Result<usize, Failed> {
+    fn read_at(&mut self, place: u64, into: &mut [u8]) -> Result<usize, Failed>
+        ensures fits { IfOk result (λ count. count ≤ length into.old) }
+        ensures later_places { IfOk result (λ count. drop count into.new ≡ drop count into.old) }
+        ensures given { IfOk result (λ count. IfImageKnown None (λ bytes. GivesImageRange place (length into.old) bytes into.new count)) }
+        ensures unchanged { IsUnchangedAtMoment (λ _. None) (λ _ _. ⊤) self.old self.new }
+        ensures images { (image : List ℕ) → ⊤ → ⊤ }
+        ensures time { MomentsGoOn (λ _. 0) (λ _ _ _. ⊤) self.old self.new }
+        ensures cause { FailsByFaultCount self.old.faults self.new.faults result }
+
+        // The mark of a failed sync is kept.
+        ensures same_syncs { self.new.sync_failed ≡ self.old.sync_failed }
+    {
         match self.try_read(place, into) {
             Ok(count) => Ok(count),
             Err(_) => self.fail(),
         }
     }
 
-    fn write_at(&mut self, place: u64, bytes: &[u8]) -> Result<(), Failed> {
+    fn write_at(&mut self, place: u64, bytes: &[u8]) -> Result<(), Failed>
+        ensures known { let unknown : Option (List ℕ) = None in is_some unknown ≡ is_some unknown }
+        ensures torn { IfBothImagesKnown None None (IsTornImage place (length bytes.now)) }
+        ensures written { OnOk result (IfBothImagesKnown None None (IsWrittenImage place bytes.now)) }
+        ensures images { (image : List ℕ) → ⊤ → IsTornFromImage (λ _. ⊤) place (length bytes.now) image }
+        ensures time { MomentsGoOn (λ _. 0) (λ _ _ _. ⊤) self.old self.new }
+        ensures cause { FailsByFaultCount self.old.faults self.new.faults result }
+
+        // The mark of a failed sync is kept.
+        ensures same_syncs { self.new.sync_failed ≡ self.old.sync_failed }
+    {
         match self.try_write(place, bytes) {
             Ok(_) => Ok(()),
             Err(_) => self.fail(),
         }
     }
 
-    fn sync(&mut self) -> Result<(), Failed> {
+    fn sync(&mut self) -> Result<(), Failed>
+        ensures reads { let unknown : Option (List ℕ) = None in unknown ≡ unknown }
+        ensures images { (image : List ℕ) → ⊤ → ⊤ }
+        ensures safe { OnOk result (IfImageKnown None (λ bytes. IsOnlyImage bytes (λ _. ⊤))) }
+        ensures time { MomentsGoOn (λ _. 0) (λ _ _ _. ⊤) self.old self.new }
+        ensures cause { FailsByFaultCount self.old.faults self.new.faults result }
+
+        // After a sync that failed each sync fails. One that succeeds has synced the file's name.
+        ensures after_failed { self.old.sync_failed ≡ true → is_err result ≡ true }
+        ensures failed { is_err result ≡ self.new.sync_failed }
+        ensures named { OnOk result (self.new.name_synced ≡ true) }
+    {
         match self.try_sync() {
             Ok(()) => Ok(()),
             Err(_) => self.fail(),

@@ -1,8 +1,8 @@
 //! A stream of the system as a sink.
 
-ghost use Rattle.std.specs.Prelude.{◌≡◌, ◌<◌, ◌≤◌, length, take, None, IfOk};
+ghost use Rattle.std.specs.Prelude.{◌≡◌, ◌<◌, ◌≤◌, ℕ, List, length, take, None, IfOk, OnErr};
 ghost use Rattle.std.specs.Io.KnownBytes.{Appends, WriteAppends};
-ghost use Rattle.outside_io.specs.{FailsByFaultCount};
+ghost use Rattle.outside_io.specs.{FailsByFaultCount, IsBeginning, next_fault_count};
 
 use outside_io::{Failed, Sink};
 use std::io::{ErrorKind, Write};
@@ -36,6 +36,11 @@ impl<W: Write + Drop> Sink for StdSink<W> {
 
         // Where the contents of the stream are known, these bytes are appended to them.
         ensures of_stream { IfOk result (λ count. Appends (W.contents self.old.writer) (W.contents self.new.writer) (take count bytes.now)) }
+
+        // After a fault a beginning of them may be, which was taken and not flushed, and no other byte.
+        ensures of_failed_stream { OnErr result ((front : List ℕ) × IsBeginning front bytes.now
+            × Appends (W.contents self.old.writer) (W.contents self.new.writer) front) }
+        ensures counted { OnErr result (self.new.faults ≡ next_fault_count self.old.faults) }
     {
         let count = written(&mut self.writer, bytes);
         if count.is_err() {
@@ -45,11 +50,14 @@ impl<W: Write + Drop> Sink for StdSink<W> {
     }
 }
 
-// The number of bytes that the writer took and flushed: at least one, unless there are none.
+// The number of bytes that the writer took and flushed: at least one, unless there are none. After a fault it may have
+// taken a beginning of them.
 fn written<W: Write>(writer: &mut W, bytes: &[u8]) -> Result<usize, Failed>
     ensures fits { IfOk result (λ count. count ≤ length bytes.now) }
     ensures takes_some { IfOk result (λ count. 0 < length bytes.now → 0 < count) }
     ensures appended { IfOk result (λ count. Appends (W.contents writer.old) (W.contents writer.new) (take count bytes.now)) }
+    ensures failed { OnErr result ((front : List ℕ) × IsBeginning front bytes.now
+        × Appends (W.contents writer.old) (W.contents writer.new) front) }
 {
     let count = taken(writer, bytes)?;
     match writer.flush() {

@@ -1,8 +1,8 @@
 //! A stream of the system as a source.
 
-ghost use Rattle.std.specs.Prelude.{◌≡◌, ◌≤◌, ◌<◌, length, vec_len, drop, None, IfOk};
+ghost use Rattle.std.specs.Prelude.{◌≡◌, ◌≤◌, ◌<◌, length, vec_len, drop, None, IfOk, OnErr};
 ghost use Rattle.std.specs.Io.KnownBytes.{ReadConsumes};
-ghost use Rattle.outside_io.specs.{FailsByFaultCount};
+ghost use Rattle.outside_io.specs.{FailsByFaultCount, next_fault_count};
 
 use outside_io::{Failed, Source};
 use std::alloc::{AllocError, Global};
@@ -46,6 +46,7 @@ impl<R: Read + Drop> Source for StdSource<R> {
 
         // Where the remaining bytes of the stream are known, these are the next of them.
         ensures of_stream { ReadConsumes (R.remaining self.old.reader) (R.remaining self.new.reader) result into.new }
+        ensures counted { OnErr result (self.new.faults ≡ next_fault_count self.old.faults) }
     {
         let count = read_by(&mut self.reader, &mut self.buffer, into);
         if count.is_err() {

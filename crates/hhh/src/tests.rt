@@ -1,10 +1,12 @@
+ghost use Rattle.std.specs.Prelude.{◌≤◌, IfOk};
+
 use super::file_disk::{read_on, write_on};
-use super::{FileDisk, Input, LateFile, StdSink, StdSource};
+use super::{FileDisk, LateFile, NamedInput, StdSink, StdSource};
 use outside_io::{Failed, PathText, Sink, Source};
 use slot_disk::Disk;
 use std::cell::Cell;
 use std::fs;
-use std::io::{Error, ErrorKind, Result as IoResult, Write};
+use std::io::{Error, ErrorKind, Read, Result as IoResult, Write};
 use std::os::unix::fs::FileExt;
 use std::test::Fail;
 
@@ -39,7 +41,7 @@ fn reads_a_stream_to_its_end(rt: HostRuntime) -> Result<(), Fail> {
 fn reads_on_in_a_file(rt: HostRuntime) -> Result<(), Fail> {
     let alloc = rt.alloc();
     let version = LateFile::new(&rt, PathText::of(alloc, "/proc/version")?);
-    let mut source = StdSource::new(alloc, Input::File(version))?;
+    let mut source = StdSource::new(alloc, NamedInput::File(version))?;
     let mut into = [0; 5];
     assert_eq!(rt; source.read(&mut into), Ok(5));
     assert_eq!(rt; into, *b"Linux");
@@ -53,22 +55,22 @@ fn reads_on_in_a_file(rt: HostRuntime) -> Result<(), Fail> {
 fn opens_a_file_at_the_first_read(rt: HostRuntime) -> Result<(), Fail> {
     let alloc = rt.alloc();
     let zeros = LateFile::new(&rt, PathText::of(alloc, "/dev/zero")?);
-    let mut source = StdSource::new(alloc, Input::File(zeros))?;
+    let mut source = StdSource::new(alloc, NamedInput::File(zeros))?;
     let mut into = [1; 3];
     assert_eq!(rt; source.read(&mut into), Ok(3));
     assert_eq!(rt; into, [0; 3]);
     assert_eq!(rt; source.read(&mut into), Ok(3));
     let empty = LateFile::new(&rt, PathText::of(alloc, "/dev/null")?);
     assert_eq!(rt;
-        StdSource::new(alloc, Input::File(empty))?.read(&mut into),
+        StdSource::new(alloc, NamedInput::File(empty))?.read(&mut into),
         Ok(0)
     );
     let missing = LateFile::new(&rt, PathText::of(alloc, "/no such file")?);
-    let mut source = StdSource::new(alloc, Input::File(missing))?;
+    let mut source = StdSource::new(alloc, NamedInput::File(missing))?;
     assert_eq!(rt; source.read(&mut into), Err(Failed));
     assert_eq!(rt; source.read(&mut into), Err(Failed));
     assert_eq!(rt;
-        StdSource::new(alloc, Input::Nothing)?.read(&mut into),
+        StdSource::new(alloc, NamedInput::Nothing)?.read(&mut into),
         Ok(0)
     );
     Ok(())
@@ -84,6 +86,52 @@ fn writes_to_a_stream_until_it_takes_nothing(rt: HostRuntime) -> Result<(), Fail
     assert_eq!(rt; sink.write(b"e"), Err(Failed));
     let mut stuck = StdSink::new(Stuck);
     assert_eq!(rt; stuck.write(b"abc"), Err(Failed));
+    Ok(())
+}
+
+// A stream whose first call fails. Each later call takes or gives as many bytes as the stream had calls.
+#[derive(Drop)]
+struct FailsOnce {
+    calls: usize,
+}
+
+impl FailsOnce {
+    fn count_call(&mut self, room: usize) -> IoResult<usize>
+        ensures { IfOk result (λ count. count ≤ room) }
+    {
+        self.calls = self.calls.saturating_add(1);
+        if self.calls == 1 {
+            return Err(Error::from(ErrorKind::Other));
+        }
+        Ok(self.calls.min(room))
+    }
+}
+
+impl Write for FailsOnce {
+    fn write(&mut self, bytes: &[u8]) -> IoResult<usize> {
+        self.count_call(bytes.len())
+    }
+
+    fn flush(&mut self) -> IoResult<()> {
+        Ok(())
+    }
+}
+
+impl Read for FailsOnce {
+    fn read(&mut self, into: &mut [u8]) -> IoResult<usize> {
+        self.count_call(into.len())
+    }
+}
+
+// The call after the fault is the second one that the stream had.
+#[test]
+fn a_fault_of_a_stream_is_reported_after_one_call(rt: HostRuntime) -> Result<(), Fail> {
+    let mut sink = StdSink::new(FailsOnce { calls: 0 });
+    assert_eq!(rt; sink.write(b"abcde"), Err(Failed));
+    assert_eq!(rt; sink.write(b"abcde"), Ok(2));
+    let mut source = StdSource::new(rt.alloc(), FailsOnce { calls: 0 })?;
+    assert_eq!(rt; source.read(&mut [0; 5]), Err(Failed));
+    assert_eq!(rt; source.read(&mut [0; 5]), Ok(2));
     Ok(())
 }
 
@@ -147,6 +195,48 @@ fn reads_and_writes_on_after_short_and_interrupted_calls(rt: HostRuntime) -> Res
     assert_eq!(rt; write_on(&file, 1, b"xyz")?, 3);
     assert_eq!(rt; file.bytes.get(), *b"axyz");
     assert!(rt; write_on(&file, 3, b"xy").is_err());
+    Ok(())
+}
+
+// A file that takes and gives one byte a call. Its second call fails.
+#[derive(Drop)]
+struct FailsSecond {
+    calls: Cell<u64>,
+}
+
+impl FailsSecond {
+    fn count_call(&self, room: usize) -> IoResult<usize>
+        ensures { IfOk result (λ count. count ≤ room) }
+    {
+        let calls = self.calls.get().saturating_add(1);
+        self.calls.set(calls);
+        if calls == 2 {
+            return Err(Error::from(ErrorKind::Other));
+        }
+        Ok(room.min(1))
+    }
+}
+
+impl FileExt for FailsSecond {
+    fn read_at(&self, into: &mut [u8], _place: u64) -> IoResult<usize> {
+        self.count_call(into.len())
+    }
+
+    fn write_at(&self, from: &[u8], _place: u64) -> IoResult<usize> {
+        self.count_call(from.len())
+    }
+}
+
+#[test]
+fn a_fault_of_a_file_is_reported_after_the_bytes_before_it(rt: HostRuntime) -> Result<(), Fail> {
+    let file = FailsSecond {
+        calls: Cell::new(0),
+    };
+    assert!(rt; read_on(&file, &mut [0; 4], 0, &mut [0; 3]).is_err());
+    assert_eq!(rt; file.calls.get(), 2);
+    file.calls.set(0);
+    assert!(rt; write_on(&file, 0, b"abc").is_err());
+    assert_eq!(rt; file.calls.get(), 2);
     Ok(())
 }
 
