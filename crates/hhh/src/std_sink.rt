@@ -37,7 +37,7 @@ impl<W: Write + Drop> Sink for StdSink<W> {
         // Where the contents of the stream are known, these bytes are appended to them.
         ensures of_stream { IfOk result (λ count. Appends (W.contents self.old.writer) (W.contents self.new.writer) (take count bytes.now)) }
 
-        // After a fault a beginning of them may be, which was taken and not flushed, and no other byte.
+        // After a fault, a beginning of them may have been appended, taken but not flushed, and no other byte.
         ensures of_failed_stream { OnErr result ((front : List ℕ) × IsBeginning front bytes.now
             × Appends (W.contents self.old.writer) (W.contents self.new.writer) front) }
         ensures counted { OnErr result (self.new.faults ≡ next_fault_count self.old.faults) }

@@ -15,8 +15,8 @@ use shard_state::{Cut, Positions};
 use slot_disk::Disk;
 use std::alloc::{AllocError, Global};
 
-/// Saves a cut, if there is a saver. Where memory runs out the disk is untouched and the saver stays; after a fault of the
-/// disk there is none.
+/// Saves a cut, if there is a saver. Where memory runs out, the disk and the saver are as before; after a fault of the disk
+/// there is no saver.
 pub(crate) fn save_cut<D: Disk>(
     alloc: Global,
     saver: &mut Option<Saver>,
@@ -27,6 +27,8 @@ pub(crate) fn save_cut<D: Disk>(
     ensures saved { OnOk result (SavesInTurn D.reads D.image_now D.moment D.image_since saver.old saver.new disk.old disk.new (cut.now ∷ [])) }
     ensures in_part { OnErr result (SavesInPart D.reads D.image_now D.moment D.image_since saver.old disk.old disk.new [] (cut.now ∷ [])) }
     ensures ran_out { IfErr result (λ status. status ≡ OutOfMemory → disk.new ≡ disk.old) }
+    ensures saver_stays { IfErr result (λ status. status ≡ OutOfMemory → saver.new ≡ saver.old) }
+    ensures saver_goes { IfErr result (λ status. status ≡ DiskFault → saver.new ≡ None) }
     ensures used { OnErr result (is_some saver.old ≡ true) }
     ensures fault { IfErr result (IsDealtFeedSaveFault (D.faults disk.old) (D.faults disk.new)) }
     ensures no_fault { OnOk result (D.faults disk.new ≡ D.faults disk.old) }
