@@ -1,0 +1,31 @@
+# Proves the crates of the program, each once those that it stands on are proved, and as many side by side as processors
+# and memory allow; then builds the program, crates/hhh/out/hhh. `./hhh` calls this where the program is missing or a
+# source was changed. How a crate is proved is in build/prove.py, which passes over one whose sources are as they were.
+
+export KIT := $(patsubst %/,%,$(dir $(shell rt doc)))
+ifeq ($(KIT),)
+$(error this needs the toolchain's `rt` on the path)
+endif
+# A crate takes up to 2.5 GB of memory.
+export JOBS := $(shell awk -v processors="$$(nproc)" \
+    '/^MemAvailable/ { most = int($$2 / 2500000); print most < 1 ? 1 : most < processors ? most : processors }' /proc/meminfo)
+MAKEFLAGS += --silent --jobs=$(JOBS)
+
+program: hhh
+	build/prove.py --link
+
+# crates.txt has a rule for each crate: what it stands on. The libraries of the toolchain are proved already.
+comma := ,
+rules := $(shell sed -n 's/^\([a-z][a-z_0-9]*\)[^:]*: */\1:/p' crates.txt | tr ' ' ,)
+$(foreach rule,$(rules),$(eval $(subst $(comma), ,$(rule))))
+crates := $(foreach rule,$(rules),$(firstword $(subst :, ,$(rule))))
+proved := $(basename $(notdir $(wildcard $(KIT)/rlibs/*.rlib)))
+
+$(crates): begun
+	build/prove.py $@
+
+begun:
+	build/prove.py --begin
+
+$(proved): ;
+.PHONY: program begun $(crates) $(proved)

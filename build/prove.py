@@ -1,0 +1,165 @@
+#!/usr/bin/env python3
+"""Proves the crates of the program for the Makefile, builds the program, and says on standard error how far it is.
+
+usage: prove.py --begin    finds the crates that have to be proved: those of which a source, a definition or a crate
+                           below has changed since. Other proofs don't change what was proved
+       prove.py CRATE      proves a crate if it has to be
+       prove.py --link     makes the program of what was proved
+
+Nothing is made of a crate unless it is proved: then a library, which holds what other crates may cite and no proofs, or
+of `hhh` an object file. What the prover says goes to crates/hhh/out/logs/CRATE.log. The file `seconds` there gets a line
+for each crate that is proved: its name, the seconds that it took by the clock and of processors, and the memory of its
+largest process in kilobytes. build/seconds has these lines of a build that was measured; the minutes that are left are
+reckoned by it. The environment has KIT, the folder of the toolchain, and JOBS, how many crates are proved at a time.
+"""
+
+import hashlib
+import os
+import resource
+import shutil
+import signal
+import subprocess
+import sys
+import time
+from pathlib import Path
+
+kit, jobs = Path(os.environ["KIT"]), int(os.environ["JOBS"])
+top = Path(__file__).resolve().parent.parent
+out = top / "crates/hhh/out"
+logs = out / "logs"
+# The one folder of out/ in which `rt` lets stand what it didn't make.
+libraries = out / "rlib"
+
+# With these two nothing is left to be proved beside them.
+LAST = ["hhh_engine", "hhh"]
+
+
+def crates_of_the_program():
+    """The crates of the program, lowest first, each with what it stands on."""
+    lines = [line.split(":") for line in (top / "crates.txt").read_text().splitlines() if not line.startswith("#")]
+    needed, found = {"hhh"}, {}
+    for head, below in reversed(lines):
+        crate = head.split()[0]
+        if crate in needed:
+            found[crate] = below.split()
+            needed.update(below.split())
+    return dict(reversed(found.items()))
+
+
+def sums_of(crates):
+    """The sum of all that a crate's library is made of, for each crate."""
+    sums = {}
+    for crate, below in crates.items():
+        made_of = hashlib.sha256((kit / "KIT-ID").read_bytes() + Path(__file__).read_bytes())
+        made_of.update(repr([(name, sums.get(name)) for name in below]).encode())
+        for folder in ("src", "specs"):
+            for path in sorted((top / "crates" / crate / folder).glob("**/*.*")):
+                made_of.update(repr((str(path.relative_to(top)), path.read_bytes())).encode())
+        sums[crate] = made_of.hexdigest()
+    return sums
+
+
+def begin():
+    crates = crates_of_the_program()
+    stale = {crate: sum for crate, sum in sums_of(crates).items() if text_of(libraries / f"{crate}.sum") != sum}
+    libraries.mkdir(parents=True, exist_ok=True)
+    logs.mkdir(exist_ok=True)
+    for log in logs.iterdir():
+        log.unlink()
+    (logs / "seconds").touch()
+    (logs / "stale").write_text("".join(f"{crate} {sum}\n" for crate, sum in stale.items()))
+    if stale:
+        number = f"{len(stale)} crate{'s' if len(stale) > 1 else ''}"
+        say(f"proving {number} and building the program, {about(minutes_left())} with {jobs} at a time; logs: {shown(logs)}")
+
+
+def prove(crate):
+    stale = words_by_crate(logs / "stale")
+    if crate not in stale:
+        return
+    # What an interrupted build left of it would not be replaced.
+    (libraries / f"{crate}.sum").unlink(missing_ok=True)
+    shutil.rmtree(libraries / f"{crate}.rlib", ignore_errors=True)
+    begun = time.monotonic()
+    run_in(crate, [kit / "bin/rattle", "build", *words_of(crate)])
+    clock, used = time.monotonic() - begun, resource.getrusage(resource.RUSAGE_CHILDREN)
+    (libraries / f"{crate}.sum").write_text(stale[crate][0])
+    with open(logs / "seconds", "a") as seconds:
+        seconds.write(f"{crate} {clock:.1f} {used.ru_utime + used.ru_stime:.1f} {used.ru_maxrss}\n")
+    proved = len(words_by_crate(logs / "seconds"))
+    left = f"; {about(minutes_left())} left" if proved < len(stale) else ""
+    say(f"proved {proved} of {len(stale)}: {crate}{left}")
+
+
+def words_of(crate):
+    """What the prover is called with."""
+    crates = crates_of_the_program()
+    words = ["--crate-name", crate]
+    for name in ["std", *crates[crate]]:
+        words += ["--extern", f"{name}={(libraries if name in crates else kit / 'rlibs') / name}.rlib"]
+    words += ["-L", f"dependency={kit}/rlibs", "-L", f"dependency={libraries}"]
+    words += ["--antt-project", f"{kit}/rattle/logic/antt-project.json", "--logic-built", f"{kit}/logic_built"]
+    words += ["--jobs", str(jobs if crate in LAST else 1)]
+    if crate == "hhh":
+        return [*words, "--backend", "llvm", "--toolchain", f"{kit}/toolchain", "-o", libraries / "hhh.o", "src/main.rt"]
+    return [*words, "--statements", "-o", libraries / f"{crate}.rlib", "src/lib.rt"]
+
+
+def link():
+    words = ["--target", "x86_64-unknown-linux-gnu", "--toolchain", kit / "toolchain", "-o", out / "hhh.new"]
+    run_in("hhh", [kit / "bin/rattle-link", *words, libraries / "hhh.o", kit / "c/libos_c.a", kit / "c/liblibc_c.a"])
+    (out / "hhh.new").replace(out / "hhh")
+
+
+def run_in(crate, command):
+    """Runs a command in a crate's folder."""
+    log = logs / f"{crate}.log"
+    with open(log, "a") as said:
+        ran = subprocess.run(command, cwd=top / "crates" / crate, stdin=subprocess.DEVNULL, stdout=said, stderr=said)
+    if ran.returncode:
+        say(f"{crate} can't be proved or built, as {shown(log)} says")
+        sys.exit(1)
+
+
+def minutes_left():
+    """About how many minutes the crates take that aren't proved yet: as many as the longest chain of them, or as all of
+    them side by side, if that is more, at the pace of those that are proved."""
+    stale, seconds = words_by_crate(logs / "stale"), words_by_crate(logs / "seconds")
+    measured = {crate: float(words[0]) for crate, words in words_by_crate(top / "build/seconds").items()}
+    proved = {crate: float(words[0]) for crate, words in seconds.items() if crate in measured}
+    pace = sum(proved.values()) / sum(measured[crate] for crate in proved) if proved else 1
+    chain, left = {}, 0
+    for crate, below in crates_of_the_program().items():
+        needs = measured.get(crate, 60) if crate in stale and crate not in seconds else 0
+        chain[crate] = needs + max((chain.get(name, 0) for name in below), default=0)
+        left += needs
+    return pace * max(left / jobs, *chain.values()) / 60
+
+
+def about(minutes):
+    whole = max(1, round(minutes))
+    return f"about {whole} minute{'s' if whole > 1 else ''}"
+
+
+def words_by_crate(path):
+    """The lines of a file, each as the words after its first one, which is a crate."""
+    return {line.split()[0]: line.split()[1:] for line in (text_of(path) or "").splitlines()}
+
+
+def text_of(path):
+    return path.read_text() if path.exists() else None
+
+
+def shown(path):
+    return path.relative_to(top)
+
+
+def say(text):
+    print(f"hhh: {text}", file=sys.stderr, flush=True)
+
+
+if __name__ == "__main__":
+    # Ends the prover too.
+    for number in (signal.SIGINT, signal.SIGTERM):
+        signal.signal(number, lambda *_: sys.exit(1))
+    {"--begin": begin, "--link": link}.get(sys.argv[1], lambda: prove(sys.argv[1]))()
