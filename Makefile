@@ -1,14 +1,14 @@
-# Proves the crates of the program, each once those that it stands on are proved, and as many side by side as processors
-# and memory allow; then builds the program, crates/hhh/out/hhh. `./hhh` calls this where the program is missing or a
-# source was changed. How a crate is proved is in build/prove.py, which passes over one whose sources are as they were.
+# Proves the crates of the program, each once those that it stands on are proved, and as many side by side as memory
+# holds; then builds the program, crates/hhh/out/hhh. `./hhh` calls this where the program is missing or a source was
+# changed. How a crate is proved is in build/prove.py, which passes over one whose sources are as they were.
 
 export KIT := $(patsubst %/,%,$(dir $(shell rt doc)))
 ifeq ($(KIT),)
 $(error this needs the toolchain's `rt` on the path)
 endif
-# A crate takes up to 2.5 GB of memory.
-export JOBS := $(shell awk -v processors="$$(nproc)" \
-    '/^MemAvailable/ { most = int($$2 / 2500000); print most < 1 ? 1 : most < processors ? most : processors }' /proc/meminfo)
+# A crate takes up to 2.5 GB. More of them than there are processors let the longest chain go on at any time.
+export JOBS := $(shell awk -v most="$$(($$(nproc) * 2))" \
+    '/^MemAvailable/ { fit = int($$2 / 2500000); print fit < 1 ? 1 : fit < most ? fit : most }' /proc/meminfo)
 MAKEFLAGS += --silent --jobs=$(JOBS)
 
 program: hhh

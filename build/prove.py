@@ -9,8 +9,9 @@ usage: prove.py --begin    finds the crates that have to be proved: those of whi
 Nothing is made of a crate unless it is proved: then a library, which holds what other crates may cite and no proofs, or
 of `hhh` an object file. What the prover says goes to crates/hhh/out/logs/CRATE.log. The file `seconds` there gets a line
 for each crate that is proved: its name, the seconds that it took by the clock and of processors, and the memory of its
-largest process in kilobytes. build/seconds has these lines of a build that was measured; the minutes that are left are
-reckoned by it. The environment has KIT, the folder of the toolchain, and JOBS, how many crates are proved at a time.
+largest process in kilobytes. build/seconds has these lines of a build that was measured: by it the minutes that are
+left are reckoned, and the crates found that go first. The environment has KIT, the folder of the toolchain, and JOBS, how
+many crates are proved at a time.
 """
 
 import hashlib
@@ -24,14 +25,15 @@ import time
 from pathlib import Path
 
 kit, jobs = Path(os.environ["KIT"]), int(os.environ["JOBS"])
+processors = min(jobs, len(os.sched_getaffinity(0)))
 top = Path(__file__).resolve().parent.parent
 out = top / "crates/hhh/out"
 logs = out / "logs"
 # The one folder of out/ in which `rt` lets stand what it didn't make.
 libraries = out / "rlib"
 
-# With these two nothing is left to be proved beside them.
-LAST = ["hhh_engine", "hhh"]
+# Little or nothing is left to be proved beside these, so they get more processors than one.
+JOBS_OF = {"gate_workers": 2, "hhh_engine": processors, "hhh": processors}
 
 
 def crates_of_the_program():
@@ -50,7 +52,7 @@ def sums_of(crates):
     """The sum of all that a crate's library is made of, for each crate."""
     sums = {}
     for crate, below in crates.items():
-        made_of = hashlib.sha256((kit / "KIT-ID").read_bytes() + Path(__file__).read_bytes())
+        made_of = hashlib.sha256((kit / "KIT-ID").read_bytes())
         made_of.update(repr([(name, sums.get(name)) for name in below]).encode())
         for folder in ("src", "specs"):
             for path in sorted((top / "crates" / crate / folder).glob("**/*.*")):
@@ -70,7 +72,7 @@ def begin():
     (logs / "stale").write_text("".join(f"{crate} {sum}\n" for crate, sum in stale.items()))
     if stale:
         number = f"{len(stale)} crate{'s' if len(stale) > 1 else ''}"
-        say(f"proving {number} and building the program, {about(minutes_left())} with {jobs} at a time; logs: {shown(logs)}")
+        say(f"proving {number} and building the program, {about(minutes_left())} on {processors} processors; logs: {shown(logs)}")
 
 
 def prove(crate):
@@ -81,7 +83,8 @@ def prove(crate):
     (libraries / f"{crate}.sum").unlink(missing_ok=True)
     shutil.rmtree(libraries / f"{crate}.rlib", ignore_errors=True)
     begun = time.monotonic()
-    run_in(crate, [kit / "bin/rattle", "build", *words_of(crate)])
+    nicely = [] if crate in longest_chain() else ["nice"]
+    run_in(crate, [*nicely, kit / "bin/rattle", "build", *words_of(crate)])
     clock, used = time.monotonic() - begun, resource.getrusage(resource.RUSAGE_CHILDREN)
     (libraries / f"{crate}.sum").write_text(stale[crate][0])
     with open(logs / "seconds", "a") as seconds:
@@ -99,7 +102,7 @@ def words_of(crate):
         words += ["--extern", f"{name}={(libraries if name in crates else kit / 'rlibs') / name}.rlib"]
     words += ["-L", f"dependency={kit}/rlibs", "-L", f"dependency={libraries}"]
     words += ["--antt-project", f"{kit}/rattle/logic/antt-project.json", "--logic-built", f"{kit}/logic_built"]
-    words += ["--jobs", str(jobs if crate in LAST else 1)]
+    words += ["--jobs", str(min(processors, JOBS_OF.get(crate, 1)))]
     if crate == "hhh":
         return [*words, "--backend", "llvm", "--toolchain", f"{kit}/toolchain", "-o", libraries / "hhh.o", "src/main.rt"]
     return [*words, "--statements", "-o", libraries / f"{crate}.rlib", "src/lib.rt"]
@@ -125,15 +128,34 @@ def minutes_left():
     """About how many minutes the crates take that aren't proved yet: as many as the longest chain of them, or as all of
     them side by side, if that is more, at the pace of those that are proved."""
     stale, seconds = words_by_crate(logs / "stale"), words_by_crate(logs / "seconds")
-    measured = {crate: float(words[0]) for crate, words in words_by_crate(top / "build/seconds").items()}
-    proved = {crate: float(words[0]) for crate, words in seconds.items() if crate in measured}
+    measured = measured_seconds()
+    proved = {crate: float(words[0]) for crate, words in seconds.items()}
     pace = sum(proved.values()) / sum(measured[crate] for crate in proved) if proved else 1
-    chain, left = {}, 0
+    left = {crate: measured[crate] if crate in stale and crate not in proved else 0 for crate in measured}
+    return pace * max(sum(left.values()) / processors, *chains(left).values()) / 60
+
+
+def measured_seconds():
+    """How long each crate took in the measured build; one that is newer counts as a common one."""
+    measured = words_by_crate(top / "build/seconds")
+    return {crate: float(measured.get(crate, ["60"])[0]) for crate in crates_of_the_program()}
+
+
+def chains(seconds):
+    """How long the longest chain of crates takes that ends with a crate, for each crate."""
+    found = {}
     for crate, below in crates_of_the_program().items():
-        needs = measured.get(crate, 60) if crate in stale and crate not in seconds else 0
-        chain[crate] = needs + max((chain.get(name, 0) for name in below), default=0)
-        left += needs
-    return pace * max(left / jobs, *chain.values()) / 60
+        found[crate] = seconds[crate] + max((found.get(name, 0) for name in below), default=0)
+    return found
+
+
+def longest_chain():
+    """The crates for which the program waits longest, each of which waits for the next."""
+    crates, lengths = crates_of_the_program(), chains(measured_seconds())
+    chain = ["hhh"]
+    while below := [name for name in crates[chain[-1]] if name in crates]:
+        chain.append(max(below, key=lengths.get))
+    return chain
 
 
 def about(minutes):
