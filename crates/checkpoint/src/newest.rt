@@ -3,7 +3,7 @@
 use crate::Saved;
 
 /// The newest open slot of a store, and what its body spells.
-#[derive(Debug, Drop)]
+#[derive(Drop)]
 pub struct Newest {
     /// Its number, 0 or 1.
     pub slot: u8,

@@ -3,7 +3,7 @@
 use shard_state::Cut;
 
 /// A saved cut, with its sequence among the saves of a store, and the digest of its records.
-#[derive(Debug, Drop)]
+#[derive(Drop)]
 pub struct Saved {
     /// Which save of the store it is, from 1 to 2^62.
     pub sequence: u64,

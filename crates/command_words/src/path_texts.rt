@@ -18,7 +18,7 @@ use prefix_lattice::prefix_texts_have_one_reading;
 use std::alloc::Global;
 
 /// The paths that options name.
-#[derive(Debug, Drop)]
+#[derive(Drop)]
 pub struct PathTexts {
     /// The path of the capture: a file, or `-` for standard input, which is the default.
     pub capture: PathText,

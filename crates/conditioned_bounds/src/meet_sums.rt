@@ -11,7 +11,7 @@ use crate::uppers::upper;
 use prefix_lattice::{Prefix, prefixes_are_ordered};
 
 /// The sum of the highs of some meets, and how many there are.
-#[derive(Clone, Copy, Debug, PartialEq, Eq)]
+#[derive(Clone, Copy, PartialEq, Eq)]
 pub(crate) struct MeetSum {
     pub(crate) highs: u128,
     pub(crate) pairs: u64,

@@ -17,7 +17,7 @@ const MULTIPLIER: u64 = 0x9e37_79b9_7f4a_7c15;
 /// highs of the keys whose home it is, beyond the highs of missing keys, and counts one more for each entry. Keys
 /// that share a home share a bound, which is too high for each of them: that may cost a search, but changes no
 /// interval.
-#[derive(Debug, Drop)]
+#[derive(Drop)]
 pub(crate) struct HighBounds {
     cells: Vec<u64>,
     missing: u64,

@@ -1,7 +1,7 @@
 //! The interval of a key in one table.
 
 /// A key that a table monitors, and the least and the greatest weight that it can have there.
-#[derive(Clone, Copy, Debug, PartialEq, Eq)]
+#[derive(Clone, Copy, PartialEq, Eq)]
 pub(crate) struct KeyInterval {
     /// The key that is monitored.
     pub(crate) key: u64,

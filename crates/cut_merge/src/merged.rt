@@ -17,7 +17,7 @@ use std::marker::Model;
 
 /// The tables of all shards of a cut, read as one: the keys of each node in the order in which they are first
 /// seen, each with its interval. It is made in one pass over the entries of the cut.
-#[derive(Debug, Drop)]
+#[derive(Drop)]
 pub struct Merged {
     capacity: u32,
     total: u64,

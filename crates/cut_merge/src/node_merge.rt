@@ -18,7 +18,7 @@ use std::marker::Model;
 
 /// The tables of one node, merged: the run of each shard's table, the keys that some table monitors, and upper bounds
 /// on the highs of keys.
-#[derive(Debug, Drop)]
+#[derive(Drop)]
 pub(crate) struct NodeMerge {
     runs: Vec<Run>,
     keys: Vec<u64>,

@@ -14,7 +14,7 @@ use std::marker::Model;
 
 /// The intervals of one table in the order of their keys, and the high of a key that the table lacks. A key is found
 /// by binary search, so no choice of keys makes a search slow.
-#[derive(Debug, Drop)]
+#[derive(Drop)]
 pub(crate) struct Run {
     intervals: Vec<KeyInterval>,
     missing: u64,

@@ -9,7 +9,7 @@ use std::alloc::{AllocError, Global};
 use std::marker::Model;
 
 /// The records of 1 to 16 shards, a list each, with at most 16,777,216 records in all.
-#[derive(Debug, Drop)]
+#[derive(Drop)]
 pub struct Dealt {
     lists: Vec<RecordList>,
 }

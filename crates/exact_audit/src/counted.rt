@@ -16,7 +16,7 @@ use shard_state::Positions;
 use std::alloc::{AllocError, Global};
 
 /// A record that is counted, with the depths that the lines that cover it reach.
-#[derive(Clone, Copy, Debug, PartialEq, Eq)]
+#[derive(Clone, Copy, PartialEq, Eq)]
 pub(crate) struct Counted {
     pub(crate) rec: Record,
     pub(crate) depths: Depths,

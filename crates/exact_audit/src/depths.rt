@@ -11,7 +11,7 @@ use prefix_lattice::{Node, Prefix, Record, keys_are_of_their_node};
 /// For each number of source bytes, how far down the lines that cover a record and keep at least that many reach: one
 /// more than the most destination bytes that one of them keeps, and 0 if there is none. These five numbers decide at
 /// each node whether a line strictly under the record's prefix there covers the record.
-#[derive(Clone, Copy, Debug, PartialEq, Eq)]
+#[derive(Clone, Copy, PartialEq, Eq)]
 pub(crate) struct Depths {
     zero: u8,
     one: u8,

@@ -17,7 +17,7 @@ use prefix_lattice::Node;
 use std::alloc::{AllocError, Global};
 
 /// The sums of each line's prefix, and the first prefix that is left out.
-#[derive(Debug, Drop)]
+#[derive(Drop)]
 pub(crate) struct Findings {
     pub(crate) sums: Vec<Sums>,
     pub(crate) left_out: Option<LeftOut>,

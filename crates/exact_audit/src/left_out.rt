@@ -14,7 +14,7 @@ use prefix_lattice::{Node, Prefix, keys_are_of_their_node, report_order_is_total
 use std::cmp::Ordering;
 
 /// A prefix that is left out, and its conditioned weight, in bytes or packets.
-#[derive(Clone, Copy, Debug, PartialEq, Eq)]
+#[derive(Clone, Copy, PartialEq, Eq)]
 pub(crate) struct LeftOut {
     pub(crate) prefix: Prefix,
     pub(crate) weight: u64,

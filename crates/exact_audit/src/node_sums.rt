@@ -13,7 +13,7 @@ use prefix_lattice::{Node, Prefix, Record, keys_are_of_their_node, keys_tell_cov
 use std::alloc::{AllocError, Global};
 
 /// The weight of a prefix, and its conditioned weight, in bytes or packets.
-#[derive(Clone, Copy, Debug, PartialEq, Eq)]
+#[derive(Clone, Copy, PartialEq, Eq)]
 pub(crate) struct Sums {
     pub(crate) weight: u64,
     pub(crate) left: u64,

@@ -10,7 +10,7 @@ use prefix_lattice::RecordList;
 use std::alloc::{AllocError, Global};
 
 /// Keeps the records of frames, weighed by packets or by bytes, and counts the frames.
-#[derive(Debug, Drop)]
+#[derive(Drop)]
 pub(crate) struct RecordVisitor<const PACKETS: bool> {
     pub(crate) records: Records,
 }

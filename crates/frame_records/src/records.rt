@@ -5,7 +5,7 @@ use prefix_lattice::{Record, RecordList};
 use std::alloc::AllocError;
 
 /// The records of a capture in their order, and the numbers of all frames and of those skipped.
-#[derive(Debug, Drop)]
+#[derive(Drop)]
 pub struct Records {
     /// The records of the frames that were not skipped.
     pub list: RecordList,

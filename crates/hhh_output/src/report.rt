@@ -6,7 +6,7 @@ use crate::Lines;
 use shard_state::Positions;
 
 /// What is reported of the records before some positions.
-#[derive(Debug, Drop)]
+#[derive(Drop)]
 pub struct Report {
     /// How many records of each shard are counted, in the order of the shards.
     pub positions: Positions,

@@ -8,7 +8,7 @@ use std::alloc::{AllocError, Global};
 use std::marker::Model;
 
 /// A report of a session.
-#[derive(Debug, Drop)]
+#[derive(Drop)]
 pub struct Reported {
     /// The report.
     pub report: Report,
@@ -17,7 +17,7 @@ pub struct Reported {
 }
 
 /// A list of reports, in the order in which they were pushed.
-#[derive(Debug, Drop)]
+#[derive(Drop)]
 pub struct Reports {
     reports: Vec<Reported>,
 }

@@ -17,7 +17,7 @@ const FILLS_A_KEY: usize = 2;
 const BEHIND: usize = 17;
 
 /// Marks in a row, one for each cell: 0 if it is free, else a place among the keys plus 1.
-#[derive(Debug, Drop)]
+#[derive(Drop)]
 pub(crate) struct KeyCells {
     room: usize,
     fills: usize,

@@ -9,7 +9,7 @@ use std::alloc::{AllocError, Global};
 use std::marker::Model;
 
 /// A list of keys, in which the place of a key is found in a few steps.
-#[derive(Debug, Drop)]
+#[derive(Drop)]
 pub struct KeyIndex {
     room: usize,
     keys: Vec<u64>,

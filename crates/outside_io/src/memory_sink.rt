@@ -13,7 +13,7 @@ use std::marker::Model;
 /// A sink in memory with room for a number of bytes. Call number k, from 0, fails exactly where k is one of the
 /// numbers that fail, or where the piece has bytes and no room remains. Any other call takes the bytes that fit. The
 /// counts of calls and of faults stay at the greatest `u64`.
-#[derive(Debug, Drop)]
+#[derive(Drop)]
 pub struct MemorySink {
     taken: Vec<u8>,
     room: usize,

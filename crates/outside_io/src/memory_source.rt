@@ -12,7 +12,7 @@ use std::marker::Model;
 /// A source of bytes in memory. Call number k, from 0, fails exactly where k is one of the numbers that fail, and
 /// leaves the buffer unchanged. Any other call gives the least of the step, the room in the buffer and the number of
 /// remaining bytes. The counts of calls and of faults stay at the greatest `u64`.
-#[derive(Debug, Drop)]
+#[derive(Drop)]
 pub struct MemorySource {
     bytes: Vec<u8>,
     place: usize,

@@ -6,7 +6,7 @@ ghost use Rattle.pcap_frames.specs.FileOrder.{number_in_file_order};
 use byteorder::{BigEndian, ByteOrder, LittleEndian};
 
 /// The byte order of all numbers in a file, as its magic shows.
-#[derive(Clone, Copy, Debug, PartialEq, Eq)]
+#[derive(Clone, Copy, PartialEq, Eq)]
 pub(crate) enum FileOrder {
     Big,
     Little,

@@ -22,7 +22,7 @@ mod steps;
 pub type Seat = atomic_table::Seat<Option<ShardState>, View>;
 
 /// The result of a take.
-#[derive(Debug, Drop)]
+#[derive(Drop)]
 pub enum Take {
     /// The state of the shard, which the seat holds until it gives it back.
     Taken(ShardState),

@@ -8,7 +8,7 @@ use std::alloc::{AllocError, Global};
 use std::marker::Model;
 
 /// A list of records, in the order in which they were pushed.
-#[derive(Debug, Drop)]
+#[derive(Drop)]
 pub struct RecordList {
     records: Vec<Record>,
 }

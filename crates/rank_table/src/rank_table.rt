@@ -16,7 +16,7 @@ use std::marker::Model;
 /// A table whose adds take nearly constant time. A key that has an entry costs one look-up and a write to its
 /// slot; a new key in a full table also costs a few comparisons for each level of a tree over the slots. Only
 /// reading goes over all slots.
-#[derive(Debug, Drop)]
+#[derive(Drop)]
 pub struct RankTable {
     capacity: u32,
     index: KeyIndex,

@@ -15,7 +15,7 @@ use winner_tree::WinnerTree;
 
 /// Slots at fixed places. The leaves of the tree are lower bounds of the slots' words, so the tree need not change
 /// when the rank of a slot rises.
-#[derive(Debug, Drop)]
+#[derive(Drop)]
 pub(crate) struct RankedSlots {
     capacity: usize,
     slots: Vec<Slot>,

@@ -3,7 +3,7 @@
 use space_saving::Entry;
 
 /// An entry, and when it was changed last.
-#[derive(Clone, Copy, Debug, PartialEq, Eq)]
+#[derive(Clone, Copy, PartialEq, Eq)]
 pub(crate) struct Slot {
     /// The entry of the key that has the slot.
     pub entry: Entry,

@@ -4,7 +4,7 @@ use checkpoint::Saver;
 use shard_state::{Cut, Positions};
 
 /// A store that was opened.
-#[derive(Debug, Drop)]
+#[derive(Drop)]
 pub struct Opened {
     /// The newest saved cut, `None` where no gate is open.
     pub base: Option<Cut>,

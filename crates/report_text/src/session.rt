@@ -4,7 +4,7 @@ use hhh_output::Reports;
 use shard_state::Positions;
 
 /// What the text of a session says.
-#[derive(Debug, Drop)]
+#[derive(Drop)]
 pub struct Session {
     /// The positions at its start, one for each shard.
     pub opened: Positions,

@@ -4,7 +4,7 @@ use hhh_output::Line;
 use shard_state::Positions;
 
 /// How many frames were skipped, by the reason.
-#[derive(Clone, Copy, Debug, PartialEq, Eq)]
+#[derive(Clone, Copy, PartialEq, Eq)]
 pub(crate) struct Skips {
     pub(crate) not_ipv4: u64,
     pub(crate) short: u64,
@@ -12,7 +12,7 @@ pub(crate) struct Skips {
 }
 
 /// A line of a session, read by itself.
-#[derive(Debug, Drop)]
+#[derive(Drop)]
 pub(crate) enum SessionLine {
     /// The positions at the start of the session.
     Opened(Positions),

@@ -12,7 +12,7 @@ use std::alloc::{AllocError, Global};
 use std::marker::Model;
 
 /// One snapshot for each of 1 to 128 shards, all of one capacity.
-#[derive(Debug, Drop)]
+#[derive(Drop)]
 pub struct Cut {
     capacity: u32,
     shards: Vec<Snapshot>,

@@ -14,7 +14,7 @@ use crate::{Cut, Event, ShardState};
 use std::marker::Model;
 
 /// The states of 1 to 16 shards of one capacity, on which events act one after the other.
-#[derive(Debug, Drop)]
+#[derive(Drop)]
 pub struct Core {
     states: Vec<ShardState>,
 }

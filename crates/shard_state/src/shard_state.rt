@@ -26,7 +26,7 @@ pub struct Folded {
 
 /// The records of a shard, and 25 tables that count them up to a position: the tables of the snapshot that the
 /// state started from, and each record since, added at each node for the key of its prefix there.
-#[derive(Debug, Drop)]
+#[derive(Drop)]
 pub struct ShardState {
     list: RecordList,
     base: Snapshot,

@@ -17,7 +17,7 @@ use std::marker::Model;
 pub(crate) const MOST_RECORDS: u64 = 1 << 24;
 
 /// The 25 tables of a shard, one for each node of the lattice, and how many of its records they count.
-#[derive(Debug, Drop)]
+#[derive(Drop)]
 pub struct Snapshot {
     capacity: u32,
     position: u64,

@@ -33,7 +33,7 @@ const MOST_STEPS: usize = 1024;
 /// the fuse, where it is a write past the room, or where it is a write or sync for which the record has no room. A
 /// write at the fuse counts as begun where it fits the room and the record. Any other write that fails writes nothing.
 /// The counts of calls and of faults stay at the greatest `u64`.
-#[derive(Debug, Drop)]
+#[derive(Drop)]
 pub struct MemoryDisk {
     room: usize,
     log: usize,

@@ -5,7 +5,7 @@ ghost use Rattle.std.specs.Prelude.{IfSome};
 ghost use Rattle.slot_disk.specs.StepEntries.{steps_of_entries_newest_last, entry_step};
 
 /// What was done.
-#[derive(Clone, Copy, Debug, PartialEq, Eq)]
+#[derive(Clone, Copy, PartialEq, Eq)]
 pub(crate) enum StepKind {
     /// A whole write.
     Wrote,
@@ -16,7 +16,7 @@ pub(crate) enum StepKind {
 }
 
 /// One write or sync. The bytes of all writes are in one list, each write's from its start on.
-#[derive(Clone, Copy, Debug, PartialEq, Eq)]
+#[derive(Clone, Copy, PartialEq, Eq)]
 pub(crate) struct StepEntry {
     /// What was done.
     pub kind: StepKind,

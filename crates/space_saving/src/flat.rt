@@ -22,7 +22,7 @@ const BLANK: Entry = Entry {
 
 /// A Space-Saving table as plain entries, counts ascending, with memory reserved for as many entries as its
 /// capacity.
-#[derive(Debug, Drop)]
+#[derive(Drop)]
 pub struct Flat {
     capacity: u32,
     entries: Vec<Entry>,

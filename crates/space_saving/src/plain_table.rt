@@ -6,7 +6,7 @@ use std::marker::Model;
 
 /// A table that keeps its entries in one list, counts ascending. An add or a query scans the list once, and an entry
 /// that moves up moves those that it passes down by one.
-#[derive(Debug, Drop)]
+#[derive(Drop)]
 pub struct PlainTable {
     flat: Flat,
 }

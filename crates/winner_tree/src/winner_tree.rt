@@ -9,7 +9,7 @@ use std::marker::Model;
 
 /// A list of words, its leaves, of which the least is known at once. All nodes are in one vector of
 /// twice as many words as there are leaves, and each inner node is the lesser of its children.
-#[derive(Debug, Drop)]
+#[derive(Drop)]
 pub struct WinnerTree {
     leaves: usize,
     nodes: Vec<u64>,
