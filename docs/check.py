@@ -5,17 +5,18 @@ usage: check.py            prints a line for each fault, and ends with 1 where t
        check.py --write    first writes the rows of definitions of GUARANTEES.md anew
 
 In the promises of GUARANTEES.md and the README's table of crates each clause is on the function that is named before
-it, each wrong body in must-fail/ of its crate, and each wrong body in must-fail/ in the documents. The rows of
-definitions are the comments of specs/: of what a crate's face passes on, and of what the promises cite. What the README
-says is proved of a crate is a sentence of GUARANTEES.md. No line of GUARANTEES.md is longer than 300 characters. A file
-takes definitions of another crate from its face alone, `Rattle.NAME.specs.{..}`, and its lemmas from two files; so do
-the programs of bench/, which nothing else reads; and a face passes on nothing that nobody takes from it. No two crates
-define one name. The old text of a wrong body stands once in its file. What a file of lemmas holds has in its name a
-word of the file's noun, and no two crates have such files, or files of definitions, of the same noun. A file of specs/
-that a document names is there; where it names the definition before it, the file has that one. No line of specs/,
-proofs/ or a contract is longer than 160 characters. The manual page hhh.1 shows what each command takes as
-`command_words` has it, and explains each command and option. A command line in OPERATORS.md has options of its command
-alone. Neither document names a command or an option that isn't there.
+it, each wrong body in must-fail/ or more-wrong-bodies/ of its crate, and each wrong body in these in the documents. The
+rows of definitions are the comments of specs/: of what a crate's face passes on, and of what the promises cite. What
+the README says is proved of a crate is a sentence of GUARANTEES.md. No line of GUARANTEES.md is longer than 300
+characters. A file takes definitions of another crate from its face alone, `Rattle.NAME.specs.{..}`, and its lemmas from
+two files; so do the programs of bench/, which nothing else reads; and a face passes on nothing that nobody takes from
+it. No two crates define one name. The old text of a wrong body stands once in its file, no wrong body is in both
+folders, and at most ten of a crate are in must-fail/. What a file of lemmas holds has in its name a word of the file's
+noun, and no two crates have such files, or files of definitions, of the same noun. A file of specs/ that a document
+names is there; where it names the definition before it, the file has that one. No line of specs/, proofs/ or a contract
+is longer than 160 characters. The manual page hhh.1 shows what each command takes as `command_words` has it, and
+explains each command and option. A command line in OPERATORS.md has options of its command alone. Neither document
+names a command or an option that isn't there.
 """
 
 import re
@@ -29,6 +30,10 @@ faults = []
 # The longest line of a document, and of definitions, proofs and contracts, that is read in one go.
 LONGEST_LINE = 300
 LONGEST_STATEMENT = 160
+
+# Where a crate's wrong bodies are: those that the gate tries, and the others. The gate takes most of its time for them.
+EDIT_FOLDERS = ("must-fail", "more-wrong-bodies")
+MOST_TRIED_BY_GATE = 10
 
 # Lemmas on lists and on places of nodes, which the standard library lacks.
 SHARED_LEMMAS = {("prefix_lattice", "ListLemmas"), ("prefix_lattice", "NodePlaceLemmas")}
@@ -75,8 +80,12 @@ def clauses(crate):
     return found
 
 
+def edits(crate, folder):
+    return sorted((top / "crates" / crate / folder).glob("*.edit"))
+
+
 def wrong_bodies(crate):
-    return {path.stem for path in (top / "crates" / crate / "must-fail").glob("*.edit")}
+    return {path.stem for folder in EDIT_FOLDERS for path in edits(crate, folder)}
 
 
 def names(cell):
@@ -209,8 +218,13 @@ def check_face(crate, taken):
 
 
 def check_edits(crate):
-    """Each text that a wrong body replaces stands once in its file, once the pairs before it are applied."""
-    for path in sorted((top / "crates" / crate / "must-fail").glob("*.edit")):
+    """The gate tries few wrong bodies, and none is in both folders. Each text that one replaces stands once in its file,
+    once the pairs before it are applied."""
+    tried, others = (edits(crate, folder) for folder in EDIT_FOLDERS)
+    check(len(tried) <= MOST_TRIED_BY_GATE, f"{crate} has {len(tried)} wrong bodies in must-fail/, more than {MOST_TRIED_BY_GATE}")
+    for name in sorted({path.stem for path in tried} & {path.stem for path in others}):
+        faults.append(f"{crate} has the wrong body {name} in both folders")
+    for path in tried + others:
         file, old, text = None, None, ""
         for line in path.read_text().splitlines():
             kind, _, rest = line.partition(": ")
