@@ -33,8 +33,12 @@ pub enum Take {
 }
 
 /// What threads share: the words and slots of shards, a table under `SlotRule`.
-pub type Shared =
-    atomic_table::Shared<Option<ShardState>, View, Snapshot<Vec<ShardState>>, SlotRule>;
+pub type Shared = atomic_table::Shared<
+    Option<ShardState>,
+    View,
+    Snapshot<Vec<ShardState>>,
+    SlotRule,
+>;
 
 type Table = atomic_table::Table<
     Option<ShardState>,
