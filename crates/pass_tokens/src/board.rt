@@ -3,15 +3,16 @@
 ghost use Rattle.std.specs.Prelude.{◌≡◌, ◌≤◌, ◌<◌, length, IfOk};
 ghost use Rattle.shard_state.specs.{AreCoreShards, HasCoreShape, core_capacity};
 ghost use Rattle.position_words.specs.{WordStepMeets, first_view, view_after_join, view_after_look, newcomer_view};
-ghost use Rattle.position_words.specs.{view_after_split, view};
+ghost use Rattle.position_words.specs.{view_after_split, view, IsUnderRule};
 ghost use Rattle.pass_tokens.specs.Board.{IsPassOfBoard};
 ghost use Rattle.pass_tokens.specs.Fold.{FoldsAtLast, TriesToFold};
 ghost use Rattle.pass_tokens.specs.Read.{ReadsAtLast, ReadsCut, TriesToReadShard};
 
-use position_words::{Aim, Seat, Take, Words};
+use position_words::{Aim, Seat, Shared, SlotRule, TableRule, Take, View, Words};
 use shard_state::{Cut, Folded, ShardState};
 use std::alloc::{AllocError, Global};
 use std::marker::Model;
+use std::snapshot::Snapshot;
 use std::sync::Wait;
 use std::thread;
 
@@ -72,6 +73,15 @@ impl Board {
         ensures kept { AreCoreShards self.now.opening }
     {
         self.words.shards()
+    }
+
+    /// What threads share. The states that its rule allows, and so each in which it is between any two steps, keep the
+    /// rule of words and slots over the shards as they were at the start.
+    pub fn shared(&self) -> &Shared
+        ensures id { result.now.table_id ≡ self.now.id }
+        ensures rule { IsUnderRule self.now.opening (⟦<SlotRule as TableRule<Option<ShardState>, View, Snapshot<Vec<ShardState>>>>⟧.holds result.now.key) }
+    {
+        self.words.shared()
     }
 
     /// A new pass, which has seen the same positions as this one.

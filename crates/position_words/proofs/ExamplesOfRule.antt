@@ -16,7 +16,7 @@ use Rattle.position_words.specs.PositionWords.{PositionWordsValue, IsShardAtSome
 use Rattle.position_words.specs.PositionWords.{MayGiveAtPosition}
 use Rattle.position_words.specs.PositionWords.{IsEvenWord, IsOddWord}
 use Rattle.position_words.specs.Seat.{IsHoldingSeat}
-use Rattle.position_words.specs.Rule.{FitsRule, RuleIsKept}
+use Rattle.position_words.specs.Rule.{FitsRule, IsUnderRule, RuleIsKept}
 use Rattle.position_words.proofs.Examples.{pair, single, shards, first, holding, held_first}
 
 pub word_of_a_free_shard : IsEvenWord 4
@@ -158,6 +158,13 @@ odd_word_without_a_holder kept = let found = kept.odd 0 (omega arith) refl in no
     none_holds : (seat : ℕ) → IsHoldingSeat (first ∷ []) seat 0 → ⊥
     none_holds zero holder = cc (ap (λ v. v.held) (some-injective first holder.view holder.at) ∙ holder.holds)
     none_holds (suc seat) holder = cc holder.at
+
+pub rule_is_under_itself : IsUnderRule shards (RuleIsKept shards)
+rule_is_under_itself = λ state kept. kept
+
+-- a table that allows an odd word without a holder
+pub table_with_a_word_that_no_seat_gives_back : IsUnderRule shards (λ state. state ≡ held_by_none) → ⊥
+table_with_a_word_that_no_seat_gives_back under = odd_word_without_a_holder (under held_by_none refl)
 
 -- words of these shards
 abbrev words_of : SeatValue → PositionWordsValue

@@ -11,3 +11,4 @@ pub use Rattle.position_words.specs.View.{view_after_loss, view_trail_after_loss
 pub use Rattle.position_words.specs.View.{view_after_split, view_after_win, view_with_trail}
 pub use Rattle.position_words.specs.PositionWords.{IsShardAtSomePosition, PositionWordsValue}
 pub use Rattle.position_words.specs.Seat.{IsSeatOf, SeatValue, view}
+pub use Rattle.position_words.specs.Rule.{IsUnderRule}

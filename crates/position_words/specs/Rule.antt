@@ -35,3 +35,7 @@ pub record RuleIsKept (opening : List ShardValue) (state : State (Option ShardVa
   pub alone : (seat other place : ℕ) → IsHoldingSeat state.views seat place → IsHoldingSeat state.views other place → seat ≡ other
   pub views : (seat : ℕ) (view : View) → get_elem? state.views seat ≡ some view → view.spent ≡ false
       → FitsRule opening state.words view
+
+-- a table that allows these states of words, slots and views is under the rule: each of them keeps it over the shards
+abbrev pub IsUnderRule : List ShardValue → (State (Option ShardValue) View → Type 0) → Type 0
+IsUnderRule opening allows = (state : State (Option ShardValue) View) → allows state → RuleIsKept opening state

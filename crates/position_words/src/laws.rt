@@ -1,4 +1,4 @@
-//! What the rule says of words and slots.
+//! What the rule says of words and slots. `Words::shared` says that those at hand are under it.
 
 ghost use Rattle.std.specs.Prelude.{◌≡◌, ◌/◌, ◌<◌, ℕ, List, length, Option, Some, slice_get, slice_index};
 ghost use mathlib.Core.Option.{some};

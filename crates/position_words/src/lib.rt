@@ -7,10 +7,11 @@ mod rule;
 mod view;
 mod words;
 
+pub use atomic_table::TableRule;
 pub use laws::{even_words_hold_their_states, odd_words_are_held};
 pub use rule::SlotRule;
 pub use view::{Aim, Held, Trail, View};
-pub use words::{Seat, Take, Words};
+pub use words::{Seat, Shared, Take, Words};
 
 #[cfg(test)]
 mod tests;

@@ -98,6 +98,7 @@ fn one_seat_holds_and_another_looks(rt: HostRuntime) -> Result<(), Fail> {
     assert_eq!(rt; read(&words, 0, &mut b), Some(4));
     assert_eq!(rt; fold(&words, 0, 4, &mut a), Some(Folded { from: 4, to: 6 }));
     assert_eq!(rt; words.look(0, &mut b), 6);
+    assert_eq!(rt; (words.shared().peek(0), words.shared().peek(1)), (12, 0));
     words.join(&mut a, b);
     assert_eq!(rt;
         (words.look(0, &mut a), words.look(1, &mut a), words.shards()),

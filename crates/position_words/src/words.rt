@@ -6,11 +6,13 @@ ghost use Rattle.shard_state.specs.{AreCoreShards};
 ghost use Rattle.position_words.specs.View.{first_view, view_after_giving, view_after_join, view_after_look};
 ghost use Rattle.position_words.specs.View.{newcomer_view, view_after_split};
 ghost use Rattle.position_words.specs.PositionWords.{IsShardAtSomePosition, MayGiveAtPosition};
+ghost use Rattle.position_words.specs.Rule.{IsUnderRule};
 ghost use Rattle.position_words.specs.Seat.{IsSeatOf, view};
 ghost use Rattle.position_words.specs.WordSteps.{WordStepAnswers, WordStepMeets};
 
 use crate::rule::{Joining, SlotRule, SplittingOff};
 use crate::view::{Aim, View};
+use atomic_table::TableRule;
 use shard_state::{ShardState, states_are_kept};
 use std::alloc::{AllocError, Global};
 use std::marker::Model;
@@ -29,6 +31,14 @@ pub enum Take {
     /// Another seat holds the shard.
     Busy,
 }
+
+/// What threads share: the words and slots of shards, a table under `SlotRule`.
+pub type Shared = atomic_table::Shared<
+    Option<ShardState>,
+    View,
+    Snapshot<Vec<ShardState>>,
+    SlotRule,
+>;
 
 type Table = atomic_table::Table<
     Option<ShardState>,
@@ -83,6 +93,16 @@ impl Words {
         ensures kept { AreCoreShards self.now.opening }
     {
         self.table.word_count() as u32
+    }
+
+    /// What threads share. The states that its rule allows, and so each in which it is between any two steps, keep the
+    /// rule of words and slots over the shards as they were at the start.
+    pub fn shared(&self) -> &Shared
+        ensures id { result.now.table_id ≡ self.now.id }
+        ensures words { result.now.table_id.words ≡ length self.now.opening }
+        ensures rule { IsUnderRule self.now.opening (⟦<SlotRule as TableRule<Option<ShardState>, View, Snapshot<Vec<ShardState>>>>⟧.holds result.now.key) }
+    {
+        &self.table.shared
     }
 
     /// The position of a shard: one load of its word.
