@@ -87,7 +87,8 @@ pub fn run<R: Threads + Wait + Sync, S: Source, T: Source, K: Sink, D: Disk, G: 
     dealers: &Dealers,
 ) -> Status
     // The text of the command was written for its inputs, which were read to their ends. What the text says of weights
-    // holds for the records themselves. Whatever a crash leaves of its store opens to the last cut that a report saved.
+    // holds for the records themselves. A crash at any moment of a report with a store leaves what it could have left
+    // before, or a store that opens as before or to a cut that was saved; a crash afterwards, one that opens to the last.
     ensures done { result ≡ Done → Answers (λ kind. ⟦<Dealer as Deals>⟧.may_answer (dealer_of kind dealers.now))
         (SavesAreKeptOnDisk D.reads D.image_now D.moment D.image_since disk.old disk.new) (argument_texts words.now)
         (inputs (S.left capture.old) (S.left capture.new) (T.left text.old) (T.left text.new) (D.reads disk.old)) (K.taken sink.old) (K.taken sink.new) }

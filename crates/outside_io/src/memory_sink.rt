@@ -42,7 +42,10 @@ impl Model for MemorySink {
 impl MemorySink {
     /// An empty sink that takes at most `room` bytes. All memory is reserved here: after an `Err` there is no sink.
     pub fn with_room(alloc: Global, room: usize, fails: Vec<u64>) -> Result<MemorySink, AllocError>
-        ensures { IfOk result (λ sink. sink ≡ record { taken = []; room = room; fails = fails.items; calls = 0; faults = 0 }) }
+        ensures state { IfOk result (λ sink. sink ≡ record { taken = []; room = room; fails = fails.items; calls = 0; faults = 0 }) }
+
+        // As a sink it tells its bytes: none was taken yet.
+        ensures known { IfOk result (λ sink. ⟦<MemorySink as Sink>⟧.taken sink ≡ Some []) }
     {
         Ok(MemorySink {
             taken: Vec::with_capacity(alloc, room)?,

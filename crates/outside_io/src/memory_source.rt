@@ -43,7 +43,10 @@ impl MemorySource {
     /// A source of these bytes, none of which is read yet. `step`, at least 1, is the most bytes that one call gives.
     pub fn new(bytes: Vec<u8>, fails: Vec<u64>, step: usize) -> MemorySource
         requires { 1 ≤ step }
-        ensures { result ≡ record { left = bytes.items; fails = fails.items; step = step; calls = 0; faults = 0 } }
+        ensures state { result ≡ record { left = bytes.items; fails = fails.items; step = step; calls = 0; faults = 0 } }
+
+        // As a source it tells its bytes: all of them remain.
+        ensures known { ⟦<MemorySource as Source>⟧.left result ≡ Some bytes.items }
     {
         MemorySource {
             bytes,

@@ -82,7 +82,7 @@ impl MemoryDisk {
         fails: Vec<u64>,
     ) -> Result<MemoryDisk, AllocError>
         requires { length bytes.items ≤ room }
-        ensures { IfOk result (λ disk. disk ≡ record {
+        ensures state { IfOk result (λ disk. disk ≡ record {
           room = room;
           log = log;
           first = bytes.items;
@@ -92,6 +92,10 @@ impl MemoryDisk {
           calls = 0;
           faults = 0;
         }) }
+
+        // As a disk it tells its bytes: a read gives them, and a crash leaves nothing else.
+        ensures known { IfOk result (λ disk. ⟦<MemoryDisk as Disk>⟧.reads disk ≡ Some bytes.items) }
+        ensures safe { IfOk result (λ disk. IsOnlyImage bytes.items (⟦<MemoryDisk as Disk>⟧.image_now disk)) }
     {
         let mut contents = Vec::with_capacity(alloc, room)?;
         contents.extend_from_slice(&bytes)?;
