@@ -1,15 +1,15 @@
 -- Worked examples of plans, of rounds, and of what threads bring back.
-use Rattle.std.proofs.Common.{◌≡◌, ◌≤◌, [], ◌∷◌, length}
+use Rattle.std.proofs.Common.{◌≡◌, ◌≤◌, [], ◌∷◌, ℕ, zero, suc, length}
 use Rattle.std.proofs.Common.{refl, sym, ap, ◌∙◌, arith}
 use Rattle.prefix_lattice.specs.{RecordValue}
 use Rattle.shard_state.specs.{empty_snapshot}
 use Rattle.position_words.specs.declared.view.Trail.{Trail}
 use Rattle.position_words.specs.declared.view.View.{View}
-use Rattle.pass_tokens.specs.{PositionWordsValue, first_view, newcomer_view}
+use Rattle.pass_tokens.specs.{PositionWordsValue, first_view, newcomer_view, view_after_join}
 use Rattle.gate_workers.specs.Call.{IsReportAtCall}
 use Rattle.gate_workers.specs.Feed.{FeedHasSeenEnds}
 use Rattle.gate_workers.specs.Threads.{AreSoundThreadReports, CallingThreadMakesRounds, WorkerThreadHasFed}
-use Rattle.gate_workers.specs.Threads.{after_thread_splits}
+use Rattle.gate_workers.specs.Threads.{EachThreadByNumber, after_thread_splits}
 use Rattle.gate_workers.specs.Plan.{IsPlanFor}
 use Rattle.gate_workers.specs.LaterView.{IsLaterTrail, IsLaterView, StaysReadyInLaterViews}
 use Rattle.gate_workers.specs.declared.plan.ThreadPlan.{ThreadPlan}
@@ -62,7 +62,7 @@ a_split_is_later = record {
   trails = λ shard before now is. cc is;
 }
 
-pub a_join_is_no_later_view : IsLaterView none (record none { joins = 1 ∷ [] }) → ⊥
+pub a_join_is_no_later_view : IsLaterView none (view_after_join none none) → ⊥
 a_join_is_no_later_view later = cc (ap (λ (v : View). v.joins) later.same)
 
 -- a condition on the board alone still holds in later views
@@ -75,6 +75,22 @@ no_split_does_not_stay board stays = cc (stays board none (after_thread_splits 1
 
 pub three_passes_were_split_off : (after_thread_splits 3 first).splits ≡ 3
 three_passes_were_split_off = refl
+
+-- the view of the pass that was split off after two others tells which it is
+pub third_pass_is_told : (newcomer_view (after_thread_splits 2 first)).lineage ≡ 2 ∷ []
+third_pass_is_told = refl
+
+-- two threads with their numbers, and the same two exchanged
+abbrev HasItsNumber : ℕ → ℕ → Type 0
+HasItsNumber number thread = thread ≡ number
+
+pub threads_in_order : EachThreadByNumber HasItsNumber (0 ∷ 1 ∷ [])
+threads_in_order zero default below = refl
+threads_in_order (suc zero) default below = refl
+threads_in_order (suc (suc number)) default below = absurd (omega (arith, below))
+
+pub exchanged_threads : EachThreadByNumber HasItsNumber (1 ∷ 0 ∷ []) → ⊥
+exchanged_threads each = let one : 1 ≡ 0 = each 0 7 (omega arith) in omega (arith, one)
 
 -- a worker of no shard has nothing to feed
 pub worker_of_no_shard : WorkerThreadHasFed [] 1 none (newcomer_view none) → FeedHasSeenEnds [] (newcomer_view none)

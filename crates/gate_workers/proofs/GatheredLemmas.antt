@@ -1,8 +1,11 @@
 -- What threads bring back, put together from what each did.
 use Rattle.std.proofs.Common.{◌≡◌, ℕ, zero, suc, ◌+◌, ◌<◌, ◌≤◌, List, [], ◌∷◌, ◌++◌, map, fold, length}
-use Rattle.std.proofs.Common.{All, IfOk, slice_index, slice_index_or, refl, sym, ap, ◌∙◌, arith, subst}
+use Rattle.std.proofs.Common.{All, IfOk, slice_index, slice_index_or, refl, sym, ap, ◌∙◌, arith, subst, ⊎_elim}
+use Rattle.std.proofs.Common.{add-zero, length-append}
 use Rattle.std.specs.List.{AllZip}
-use Rattle.std.proofs.lemmas.List.Elements.{All-nil, All-cons, All-head, All-tail}
+use Rattle.std.proofs.lemmas.Bool.{cases_lt}
+use Rattle.std.proofs.lemmas.List.{get_or_append_left, get_or_push}
+use Rattle.std.proofs.lemmas.List.Elements.{All-head, All-tail}
 use Rattle.shard_state.specs.{CoreBasesRepresent, ShardValue}
 use Rattle.position_words.specs.declared.view.Trail.{Trail}
 use Rattle.position_words.specs.declared.view.View.{View}
@@ -11,7 +14,7 @@ use Rattle.gate_workers.specs.Feed.{Feeds, FeedHasSeenEnds}
 use Rattle.gate_workers.specs.Call.{Calls}
 use Rattle.gate_workers.specs.Threads.{AreSoundThreadReports, CallerThreadBringsBack, EachRelatesAcrossThreads}
 use Rattle.gate_workers.specs.Threads.{WorkerThreadFeedsToEnds, CallerThreadHasCalled, CallerThreadHasEnded}
-use Rattle.gate_workers.specs.Threads.{WorkerThreadHasFed}
+use Rattle.gate_workers.specs.Threads.{EachThreadByNumber, WorkerThreadHasFed}
 use Rattle.gate_workers.specs.Threads.{IsSplitOffForThread, CallerThreadRuns, after_thread_splits}
 use Rattle.gate_workers.specs.declared.callers.Caller.{Caller}
 use Rattle.gate_workers.specs.declared.gathered.Called.{Called}
@@ -26,10 +29,37 @@ pub gathered_splits_are_summed : (first second : ℕ) (before : View)
 gathered_splits_are_summed first second before =
     ap (λ (splits : ℕ). record before { splits = splits }) (gathered_sums_associate before.splits first second)
 
+pub gathered_splits_are_none : (before : View) → before ≡ after_thread_splits 0 before
+gathered_splits_are_none before = ap (λ (splits : ℕ). record before { splits = splits }) (sym (add-zero before.splits))
+
+-- one more thread, which has the next number
+pub gathered_one_more_thread : {X : Type 0} (P : ℕ → X → Type 0) (threads : List X) (thread : X) (number : ℕ)
+    → length threads ≡ number → EachThreadByNumber P threads → P number thread → EachThreadByNumber P (threads ++ thread ∷ [])
+gathered_one_more_thread P threads thread number many each next place default below =
+    ⊎_elim
+    (λ (within : place < length threads).
+    subst (P place) (sym (get_or_append_left threads (thread ∷ []) default place within)) (each place default within))
+    (λ (past : length threads ≤ place).
+    let here : length threads ≡ place = omega (arith, past, below, length-append threads (thread ∷ [])) in
+    subst (P place) (sym (get_or_push threads thread default place here))
+    (subst (λ n. P n thread) (sym many ∙ here) next))
+    (cases_lt place (length threads))
+
+-- what holds of an answer for each thread holds of the list of answers
+pub gathered_threads-map : {X Y : Type 0} (P : ℕ → Y → Type 0) (f : X → Y) (threads : List X)
+    → EachThreadByNumber (λ number thread. P number (f thread)) threads → EachThreadByNumber P (map f threads)
+gathered_threads-map P f [] each place default below = absurd (omega (arith, below))
+gathered_threads-map P f (thread ∷ rest) each zero default below = each 0 thread (omega arith)
+gathered_threads-map P f (thread ∷ rest) each (suc place) default below =
+    gathered_threads-map (λ number. P (suc number)) f rest (λ number other within. each (suc number) other (omega (arith, within)))
+    place default (omega (arith, below))
+
 -- each worker, from what its thread did
 pub gathered_workers_have_fed : (board : PositionWordsValue) (block : ℕ) (before : View) (passes fed : List SeatValue)
-    → length fed ≡ length passes → All (IsSplitOffForThread board before) passes → EachRelatesAcrossThreads (WorkerThreadFeedsToEnds board block) passes fed
-    → All (λ pass. WorkerThreadHasFed board.opening block before (view pass)) fed
+    → length fed ≡ length passes
+    → EachThreadByNumber (λ number. IsSplitOffForThread board (after_thread_splits number before)) passes
+    → EachRelatesAcrossThreads (WorkerThreadFeedsToEnds board block) passes fed
+    → EachThreadByNumber (λ number pass. WorkerThreadHasFed board.opening block (after_thread_splits number before) (view pass)) fed
 gathered_workers_have_fed board block before passes fed many split each place default below =
     let within : place < length passes = omega (arith, many, below) in
     let made = each place default within in
@@ -45,10 +75,12 @@ pub gathered_workers_are_of_board : (board : PositionWordsValue) (block : ℕ) (
 gathered_workers_are_of_board board block passes fed many each place default below =
     (each place default (omega (arith, many, below))).pass
 
--- each caller, from what its thread did
-pub gathered_callers_have_ended : (board : PositionWordsValue) (plan : ThreadPlan) (before : View) (callers ended : List Caller)
-    → length ended ≡ length callers → All (λ caller. view caller.pass ≡ newcomer_view before) callers
-    → EachRelatesAcrossThreads (CallerThreadRuns board plan) callers ended → All (CallerThreadHasEnded board plan before) ended
+-- each caller, whose pass was split off from the view of its number, from what its thread did
+pub gathered_callers_have_ended : (board : PositionWordsValue) (plan : ThreadPlan) (before : ℕ → View) (callers ended : List Caller)
+    → length ended ≡ length callers
+    → EachThreadByNumber (λ number caller. view caller.pass ≡ newcomer_view (before number)) callers
+    → EachRelatesAcrossThreads (CallerThreadRuns board plan) callers ended
+    → EachThreadByNumber (λ number. CallerThreadHasEnded board plan (before number)) ended
 gathered_callers_have_ended board plan before callers ended many new each place default below =
     let within : place < length callers = omega (arith, many, below) in
     let made = each place default within in
@@ -62,14 +94,17 @@ gathered_callers_have_ended board plan before callers ended many new each place 
     }
 
 -- what holds for each element of a list carries over to another list, if a relation holds at each index
-gathered_lists_carry_over : {X Y : Type 0} (P : X → Type 0) (R : X → Y → Type 0) (Q : Y → Type 0)
-    → ((x : X) (y : Y) → P x → R x y → Q y) → (xs : List X) (ys : List Y) → All P xs → AllZip R xs ys → All Q ys
-gathered_lists_carry_over P R Q one [] [] each related = All-nil Q
-gathered_lists_carry_over P R Q one [] (y ∷ ys) each related = absurd related
-gathered_lists_carry_over P R Q one (x ∷ xs) [] each related = absurd related
-gathered_lists_carry_over P R Q one (x ∷ xs) (y ∷ ys) each related =
-    All-cons Q y ys (one x y (All-head P x xs each) related.0)
-    (gathered_lists_carry_over P R Q one xs ys (All-tail P x xs each) related.1)
+gathered_lists_carry_over : {X Y : Type 0} (P : ℕ → X → Type 0) (R : X → Y → Type 0) (Q : ℕ → Y → Type 0)
+    → ((number : ℕ) (x : X) (y : Y) → P number x → R x y → Q number y) → (xs : List X) (ys : List Y)
+    → EachThreadByNumber P xs → AllZip R xs ys → EachThreadByNumber Q ys
+gathered_lists_carry_over P R Q one [] [] each related place default below = absurd (omega (arith, below))
+gathered_lists_carry_over P R Q one [] (y ∷ ys) each related place default below = absurd related
+gathered_lists_carry_over P R Q one (x ∷ xs) [] each related place default below = absurd related
+gathered_lists_carry_over P R Q one (x ∷ xs) (y ∷ ys) each related zero default below =
+    one 0 x y (each 0 x (omega arith)) related.0
+gathered_lists_carry_over P R Q one (x ∷ xs) (y ∷ ys) each related (suc place) default below =
+    gathered_lists_carry_over (λ number. P (suc number)) R (λ number. Q (suc number)) (λ number. one (suc number)) xs ys
+    (λ number other within. each (suc number) other (omega (arith, within))) related.1 place default (omega (arith, below))
 
 gathered_caller_has_called : (board : PositionWordsValue) (plan : ThreadPlan) (before : View) (caller : Caller) (called : Called)
     → CallerThreadHasEnded board plan before caller → CallerThreadBringsBack caller called → CallerThreadHasCalled board.opening plan before called
@@ -79,30 +114,34 @@ gathered_caller_has_called board plan before caller called ended back =
     (subst (λ reports. IfOk reports (Calls board.opening plan.phi plan.rounds (newcomer_view before) (view caller.pass)))
     back.reports ended.calls)
 
-pub gathered_callers_have_called : (board : PositionWordsValue) (plan : ThreadPlan) (before : View) (ended : List Caller) (called : List Called)
-    → All (CallerThreadHasEnded board plan before) ended → AllZip CallerThreadBringsBack ended called
-    → All (CallerThreadHasCalled board.opening plan before) called
+pub gathered_callers_have_called : (board : PositionWordsValue) (plan : ThreadPlan) (before : ℕ → View) (ended : List Caller)
+    (called : List Called) → EachThreadByNumber (λ number. CallerThreadHasEnded board plan (before number)) ended
+    → AllZip CallerThreadBringsBack ended called
+    → EachThreadByNumber (λ number. CallerThreadHasCalled board.opening plan (before number)) called
 gathered_callers_have_called board plan before ended called each back =
-    gathered_lists_carry_over (CallerThreadHasEnded board plan before) CallerThreadBringsBack (CallerThreadHasCalled board.opening plan before)
-    (gathered_caller_has_called board plan before) ended called each back
+    gathered_lists_carry_over (λ number. CallerThreadHasEnded board plan (before number)) CallerThreadBringsBack
+    (λ number. CallerThreadHasCalled board.opening plan (before number))
+    (λ number. gathered_caller_has_called board plan (before number)) ended called each back
 
-pub gathered_callers_are_sound : (board : PositionWordsValue) (plan : ThreadPlan) (before : View) (ended : List Caller) (called : List Called)
-    → All (CallerThreadHasEnded board plan before) ended → AllZip CallerThreadBringsBack ended called → CoreBasesRepresent board.opening
+pub gathered_callers_are_sound : (board : PositionWordsValue) (plan : ThreadPlan) (before : ℕ → View) (ended : List Caller)
+    (called : List Called) → EachThreadByNumber (λ number. CallerThreadHasEnded board plan (before number)) ended
+    → AllZip CallerThreadBringsBack ended called → CoreBasesRepresent board.opening
     → All (λ (one : Called). AreSoundThreadReports board.opening plan.phi one.reports) called
 gathered_callers_are_sound board plan before ended called each back bases =
-    gathered_lists_carry_over (CallerThreadHasEnded board plan before) CallerThreadBringsBack
-    (λ (one : Called). AreSoundThreadReports board.opening plan.phi one.reports)
-    (λ caller one has brings.
+    gathered_lists_carry_over (λ number. CallerThreadHasEnded board plan (before number)) CallerThreadBringsBack
+    (λ number (one : Called). AreSoundThreadReports board.opening plan.phi one.reports)
+    (λ number caller one has brings.
     subst (λ reports. IfOk reports (λ rs. CoreBasesRepresent board.opening → AreSoundThreadReports board.opening plan.phi rs))
     brings.reports has.sound bases)
     ended called each back
 
-pub gathered_callers_are_of_board : (board : PositionWordsValue) (plan : ThreadPlan) (before : View) (ended : List Caller) (called : List Called)
-    → All (CallerThreadHasEnded board plan before) ended → AllZip CallerThreadBringsBack ended called
-    → All (λ (one : Called). IsPassOfBoard board one.pass) called
+pub gathered_callers_are_of_board : (board : PositionWordsValue) (plan : ThreadPlan) (before : ℕ → View) (ended : List Caller)
+    (called : List Called) → EachThreadByNumber (λ number. CallerThreadHasEnded board plan (before number)) ended
+    → AllZip CallerThreadBringsBack ended called → All (λ (one : Called). IsPassOfBoard board one.pass) called
 gathered_callers_are_of_board board plan before ended called each back =
-    gathered_lists_carry_over (CallerThreadHasEnded board plan before) CallerThreadBringsBack (λ (one : Called). IsPassOfBoard board one.pass)
-    (λ caller one has brings. subst (IsPassOfBoard board) (sym brings.pass) has.pass) ended called each back
+    gathered_lists_carry_over (λ number. CallerThreadHasEnded board plan (before number)) CallerThreadBringsBack
+    (λ number (one : Called). IsPassOfBoard board one.pass)
+    (λ number caller one has brings. subst (IsPassOfBoard board) (sym brings.pass) has.pass) ended called each back
 
 -- the trails of a view to which another was joined
 abbrev gathered_trails : View → View → List Trail → List Trail → List Trail
@@ -150,18 +189,18 @@ gathered_ends_all_stay board to (pass ∷ rest) many passes ends =
     (gathered_ends_stay board.opening to (view pass) (seat.trails ∙ sym many) ends)
 
 -- the pass to which those of the workers are joined has seen the end of each list
-pub gathered_pass_sees_ends : (board : PositionWordsValue) (block : ℕ) (before to : View) (fed : List SeatValue)
+pub gathered_pass_sees_ends : (board : PositionWordsValue) (to : View) (fed : List SeatValue)
     → length to.trails ≡ length board.opening → 1 ≤ length fed → All (IsPassOfBoard board) fed
-    → All (λ pass. WorkerThreadHasFed board.opening block before (view pass)) fed
+    → All (λ pass. FeedHasSeenEnds board.opening (view pass)) fed
     → FeedHasSeenEnds board.opening (fold view_after_join to (map view fed))
-gathered_pass_sees_ends board block before to [] many some passes each = absurd (omega (arith, some))
-gathered_pass_sees_ends board block before to (pass ∷ rest) many some passes each =
+gathered_pass_sees_ends board to [] many some passes each = absurd (omega (arith, some))
+gathered_pass_sees_ends board to (pass ∷ rest) many some passes each =
     let seat = (All-head (IsPassOfBoard board) pass rest passes).seat in
-    let fed = All-head (λ pass. WorkerThreadHasFed board.opening block before (view pass)) pass rest each in
+    let ends = All-head (λ pass. FeedHasSeenEnds board.opening (view pass)) pass rest each in
     gathered_ends_all_stay board (view_after_join to (view pass)) rest
     (gathered_trails-length to (view pass) to.trails (view pass).trails ∙ many)
     (All-tail (IsPassOfBoard board) pass rest passes)
-    (gathered_ends_of_other board.opening to (view pass) (seat.trails ∙ sym many) fed.ends)
+    (gathered_ends_of_other board.opening to (view pass) (seat.trails ∙ sym many) ends)
 
 -- what one more caller brought back
 pub gathered_one_more_caller : (callers : List Caller) (called : List Called) (caller : Caller) (one : Called)

@@ -1,5 +1,5 @@
 -- What the threads of a plan do, and what comes back.
-use Rattle.std.specs.Prelude.{ℕ, ◌≡◌, ◌+◌, ◌<◌, List, length, fold, All, Ok, IfOk, slice_index_or}
+use Rattle.std.specs.Prelude.{ℕ, ◌≡◌, ◌+◌, ◌<◌, List, length, fold, Ok, All, IfOk, slice_index_or}
 use Rattle.shard_state.specs.{CoreBasesRepresent, HasCoreShape, ShardValue, core_capacity, core_lists}
 use Rattle.position_words.specs.declared.view.View.{View}
 use Rattle.pass_tokens.specs.{IsPassOfBoard, SeatValue, PositionWordsValue, view_after_join, newcomer_view, view}
@@ -15,6 +15,10 @@ use Rattle.gate_workers.specs.declared.gathered.Gathered.{Gathered}
 -- a view after passes were split off
 abbrev pub after_thread_splits : ℕ → View → View
 after_thread_splits count view = record view { splits = view.splits + count }
+
+-- each element of a list has P for its number, from 0
+abbrev pub EachThreadByNumber : {X : Type 0} → (ℕ → X → Type 0) → List X → Type 0
+EachThreadByNumber {X} P threads = (number : ℕ) (default : X) → number < length threads → P number (slice_index_or threads number default)
 
 -- a worker at its end: its pass was split off from this view, only fed, and has seen the end of each list
 pub record WorkerThreadHasFed (opening : List ShardValue) (block : ℕ) (before worker : View) : Type 0 where
@@ -36,17 +40,18 @@ pub record CallingThreadMakesRounds (relates : View → View → Type 0) (passes
   pub now : View
   pub does : relates (after_thread_splits passes before) now
 
--- what comes back: the calling thread made its rounds once; each worker fed to the ends, and its pass is joined to that
--- of the calling thread; each caller brings back its pass and its reports
+-- what comes back: the calling thread made its rounds once; each worker fed to the ends by the plan's blocks, and its pass
+-- is joined to that of the calling thread; each caller brings back its pass and its reports. All are in the order of splits
 pub record ThreadsBringBack (opening : List ShardValue) (plan : ThreadPlan) (relates : View → View → Type 0) (before : View)
     (gathered : Gathered) : Type 0 where
   pub rounds : CallingThreadMakesRounds relates (plan.workers + plan.callers) before
   pub workers : List View
   pub as_many_workers : length workers ≡ plan.workers
-  pub fed : All (WorkerThreadHasFed opening plan.block before) workers
+  pub fed : EachThreadByNumber (λ number. WorkerThreadHasFed opening plan.block (after_thread_splits number before)) workers
   pub pass : view gathered.pass ≡ fold view_after_join rounds.now workers
   pub as_many_callers : length gathered.called.items ≡ plan.callers
-  pub called : All (CallerThreadHasCalled opening plan before) gathered.called.items
+  pub called : EachThreadByNumber
+      (λ number. CallerThreadHasCalled opening plan (after_thread_splits (plan.workers + number) before)) gathered.called.items
 
 -- within the crate: a pass that was split off from this view
 pub record IsSplitOffForThread (board : PositionWordsValue) (before : View) (pass : SeatValue) : Type 0 where

@@ -5,7 +5,7 @@ ghost use Rattle.std.specs.List.{AllZip};
 ghost use Rattle.shard_state.specs.{core_capacity, least_table_capacity, most_table_capacity};
 ghost use Rattle.pass_tokens.specs.{IsPassOfBoard, newcomer_view, view};
 ghost use Rattle.gate_workers.specs.Threads.{CallerThreadBringsBack, CallerThreadCanCall, EachRelatesAcrossThreads};
-ghost use Rattle.gate_workers.specs.Threads.{CallerThreadRuns, after_thread_splits};
+ghost use Rattle.gate_workers.specs.Threads.{CallerThreadRuns, EachThreadByNumber, after_thread_splits};
 ghost use Rattle.gate_workers.specs.Plan.{IsPlanFor};
 
 use crate::calling::report_in_rounds;
@@ -29,7 +29,7 @@ pub(crate) struct Caller {
     pub(crate) reports: Result<Reports, AllocError>,
 }
 
-/// The callers of a plan, each with a pass that is split off from this one, and a cut of the board's shape.
+/// The callers of a plan, each with a pass that is split off from this one, in their order, and a cut of the board's shape.
 pub(crate) fn split_callers(
     alloc: Global,
     board: &Board,
@@ -39,14 +39,16 @@ pub(crate) fn split_callers(
     requires plan { IsPlanFor board.now.opening plan.now }
     requires pass { IsPassOfBoard board.now pass.old }
     ensures callers { IfOk result (λ callers. All (CallerThreadCanCall board.now) callers.items) }
-    ensures newcomers { IfOk result (λ callers. All (λ caller. view caller.pass ≡ newcomer_view (view pass.old)) callers.items) }
+    ensures newcomers { IfOk result (λ callers. EachThreadByNumber
+        (λ number caller. view caller.pass ≡ newcomer_view (after_thread_splits number (view pass.old))) callers.items) }
     ensures count { IfOk result (λ callers. length callers.items ≡ plan.now.callers) }
     ensures split { OnOk result (view pass.new ≡ after_thread_splits plan.now.callers (view pass.old)) }
     ensures pass { IsPassOfBoard board.now pass.new }
 {
     let mut callers = Vec::new(alloc);
     for _caller in 0..plan.callers {
-        callers.push(new_caller(alloc, board, pass, plan.capacity)?)?;
+        let made = new_caller(alloc, board, pass, plan.capacity)?;
+        callers.push(made)?;
     }
     Ok(callers)
 }

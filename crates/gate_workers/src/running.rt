@@ -19,8 +19,8 @@ use std::sync::Wait;
 use std::thread::{Threads, join_mut};
 
 /// Feeds a board to its ends by the plan's workers, while the plan's callers report and the calling thread makes the
-/// rounds of `work` once. All passes and cuts are made before the first thread starts, and all threads have ended when
-/// it returns. Where a thread can't be started, the calling thread does its work.
+/// rounds of `work` once. All passes and cuts are made before the first thread starts, the workers' passes first, and all
+/// threads have ended when it returns. Where a thread can't be started, the calling thread does its work.
 ///
 /// An error means that memory ran out, here or in a caller.
 pub fn run_threads<R: Threads + Wait + Sync, G: Gate + Sync, W: Rounds>(

@@ -4,7 +4,7 @@ ghost use Rattle.std.specs.Prelude.{◌≡◌, ◌<◌, ◌^◌, length, All, If
 ghost use Rattle.pass_tokens.specs.{IsPassOfBoard, view_after_join, view};
 ghost use Rattle.gate_workers.specs.Plan.{IsPlanFor};
 ghost use Rattle.gate_workers.specs.Threads.{EachRelatesAcrossThreads, WorkerThreadFeedsToEnds, IsSplitOffForThread};
-ghost use Rattle.gate_workers.specs.Threads.{after_thread_splits};
+ghost use Rattle.gate_workers.specs.Threads.{EachThreadByNumber, after_thread_splits};
 
 use crate::feeding::feed_to_ends;
 use crate::{Gate, ThreadPlan};
@@ -14,7 +14,7 @@ use std::marker::Sync;
 use std::sync::Wait;
 use std::thread::{Threads, for_each_mut};
 
-/// As many passes as there are workers, split off from this one.
+/// As many passes as there are workers, split off from this one, in their order.
 pub(crate) fn split_workers(
     alloc: Global,
     board: &Board,
@@ -22,14 +22,16 @@ pub(crate) fn split_workers(
     count: u32,
 ) -> Result<Vec<Pass>, AllocError>
     requires pass { IsPassOfBoard board.now pass.old }
-    ensures workers { IfOk result (λ workers. All (IsSplitOffForThread board.now (view pass.old)) workers.items) }
+    ensures workers { IfOk result (λ workers. EachThreadByNumber
+        (λ number. IsSplitOffForThread board.now (after_thread_splits number (view pass.old))) workers.items) }
     ensures count { IfOk result (λ workers. length workers.items ≡ count) }
     ensures split { OnOk result (view pass.new ≡ after_thread_splits count (view pass.old)) }
     ensures pass { IsPassOfBoard board.now pass.new }
 {
     let mut workers = Vec::new(alloc);
     for _worker in 0..count {
-        workers.push(board.split(pass))?;
+        let worker = board.split(pass);
+        workers.push(worker)?;
     }
     Ok(workers)
 }

@@ -95,7 +95,8 @@ impl Board {
         self.words.split(pass)
     }
 
-    /// Joins another pass to this one, which has then seen what both had, and keeps only its own steps.
+    /// Joins another pass to this one, which has then seen what both had, keeps its own steps, and notes those of the
+    /// other.
     pub fn join(&self, pass: &mut Pass, other: Pass)
         requires pass { IsPassOfBoard self.now pass.old }
         requires other { IsPassOfBoard self.now other }

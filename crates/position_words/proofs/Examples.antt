@@ -1,16 +1,17 @@
 -- Worked examples of what seats know, by computing.
-use Rattle.std.proofs.Common.{◌≡◌, List, [], ◌∷◌, None, Some, true, false, refl}
+use Rattle.std.proofs.Common.{◌≡◌, List, [], ◌∷◌, None, Some, true, false, refl, ap}
 use Rattle.prefix_lattice.specs.{RecordValue}
 use Rattle.shard_state.specs.{ShardValue, empty_snapshot}
 use Rattle.position_words.specs.declared.view.Aim.TheVariants.{Fold, Read}
 use Rattle.position_words.specs.declared.view.Held.{Held}
+use Rattle.position_words.specs.declared.view.Joined.{Joined}
 use Rattle.position_words.specs.declared.view.Trail.{Trail}
 use Rattle.position_words.specs.declared.view.View.{View}
 use Rattle.position_words.specs.View.{view_trail_from, first_view, seen_in_view, view_with_trail, view_after_look}
 use Rattle.position_words.specs.View.{view_trail_after_win, view_after_win, view_trail_after_loss}
 use Rattle.position_words.specs.View.{view_after_loss, view_trail_after_giving, view_after_giving_held}
 use Rattle.position_words.specs.View.{view_after_giving, view_after_split, newcomer_view, joined_view_trails}
-use Rattle.position_words.specs.View.{view_after_join, spent_view}
+use Rattle.position_words.specs.View.{joined_view, view_after_join, spent_view}
 use Rattle.position_words.specs.Seat.{slots_out_with_seat}
 
 -- a packet from 1.0.0.1 to 101.0.0.1
@@ -36,7 +37,7 @@ first = first_view shards
 pub first_has_seen_the_starts : first ≡ record {
   opening = shards;
   trails = view_trail_from 0 ∷ view_trail_from 0 ∷ [];
-  generation = 0;
+  lineage = [];
   splits = 0;
   joins = [];
   held = None;
@@ -104,14 +105,18 @@ gave_what_it_held = refl
 pub two_seats_split_off : (view_after_split (view_after_split first)).splits ≡ 2
 two_seats_split_off = refl
 
--- it has seen what the first has, and made no step
+-- it has seen what the first has, made no step, and is the second that was split off
 pub newcomer_has_seen : newcomer_view (view_after_split (view_after_loss 0 3 first))
-    ≡ record first { trails = view_trail_from 1 ∷ view_trail_from 0 ∷ []; generation = 1 }
+    ≡ record first { trails = view_trail_from 1 ∷ view_trail_from 0 ∷ []; lineage = 1 ∷ [] }
 newcomer_has_seen = refl
 
--- a seat that was split off a new seat is two generations after the first
-pub newcomer_of_a_newcomer : (newcomer_view (newcomer_view first)).generation ≡ 2
+-- the first seat that was split off a new seat, which was the second that was split off
+pub newcomer_of_a_newcomer : (newcomer_view (newcomer_view (view_after_split first))).lineage ≡ 1 ∷ 0 ∷ []
 newcomer_of_a_newcomer = refl
+
+-- of two seats that are split off one after the other, neither is taken for the other
+pub newcomers_differ : newcomer_view (view_after_split first) ≡ newcomer_view first → ⊥
+newcomers_differ same = cc (ap (λ (view : View). view.lineage) same)
 
 -- what was seen of two shards: each list is ahead at one of them
 abbrev far : List Trail
@@ -121,13 +126,20 @@ pub both_have_seen : joined_view_trails far (view_trail_from 1 ∷ view_trail_fr
     ≡ record (view_trail_from 2) { losses = 5 ∷ [] } ∷ view_trail_from 1 ∷ []
 both_have_seen = refl
 
--- a join takes over no step of the other
-pub joined_has_seen : view_after_join first (newcomer_view (view_after_loss 0 3 first))
-    ≡ record first { trails = view_trail_from 1 ∷ view_trail_from 0 ∷ []; joins = 1 ∷ [] }
+-- a seat that was split off and lost a take leaves that step, and which split made it
+abbrev lost : Joined
+lost = record { lineage = 0 ∷ []; trails = record (view_trail_from 1) { losses = 3 ∷ [] } ∷ view_trail_from 0 ∷ [] }
+
+pub loss_is_left : joined_view (view_after_loss 0 3 (newcomer_view first)) ≡ lost
+loss_is_left = refl
+
+-- a join takes over no step of the other, but notes them
+pub joined_has_seen : view_after_join first (view_after_loss 0 3 (newcomer_view first))
+    ≡ record first { trails = view_trail_from 1 ∷ view_trail_from 0 ∷ []; joins = lost ∷ [] }
 joined_has_seen = refl
 
 pub spent_knows_nothing : spent_view
-    ≡ record { opening = []; trails = []; generation = 0; splits = 0; joins = []; held = None; spent = true }
+    ≡ record { opening = []; trails = []; lineage = []; splits = 0; joins = []; held = None; spent = true }
 spent_knows_nothing = refl
 
 pub slot_of_a_holder : slots_out_with_seat holding.held ≡ (0, None) ∷ []

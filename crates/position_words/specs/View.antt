@@ -5,6 +5,7 @@ use Rattle.position_words.specs.declared.view.Aim.{Aim}
 use Rattle.position_words.specs.declared.view.Aim.TheVariants.{Fold, Read}
 use Rattle.position_words.specs.declared.view.Trail.{Trail}
 use Rattle.position_words.specs.declared.view.Held.{Held}
+use Rattle.position_words.specs.declared.view.Joined.{Joined}
 use Rattle.position_words.specs.declared.view.View.{View}
 
 -- a trail without a step, from a position on
@@ -16,7 +17,7 @@ abbrev pub first_view : List ShardValue → View
 first_view shards = record {
   opening = shards;
   trails = map (λ shard. view_trail_from shard.position) shards;
-  generation = 0;
+  lineage = [];
   splits = 0;
   joins = [];
   held = None;
@@ -77,12 +78,13 @@ view_after_giving position view = view_after_giving_held position view.held view
 abbrev pub view_after_split : View → View
 view_after_split view = record view { splits = view.splits + 1 }
 
--- the view of the seat that was split off: it has seen the same positions, made no step, and is one generation later
+-- the view of the seat that was split off: it has seen the same positions and made no step; its lineage has one split more,
+-- the number of seats that were split off before it
 abbrev pub newcomer_view : View → View
 newcomer_view view = record {
   opening = view.opening;
   trails = map (λ trail. view_trail_from trail.seen) view.trails;
-  generation = view.generation + 1;
+  lineage = view.lineage ++ view.splits ∷ [];
   splits = 0;
   joins = [];
   held = None;
@@ -96,13 +98,17 @@ joined_view_trails (trail ∷ rest) [] = trail ∷ rest
 joined_view_trails (trail ∷ rest) (other ∷ others) =
     record trail { seen = max trail.seen other.seen } ∷ joined_view_trails rest others
 
--- a view after another seat was joined: it has seen what both have, and keeps only its own steps
+-- what a seat leaves where it is joined to another: its lineage, and its steps
+abbrev pub joined_view : View → Joined
+joined_view view = record { lineage = view.lineage; trails = view.trails }
+
+-- a view after another seat was joined: it has seen what both have, keeps its own steps, and notes what the other leaves
 abbrev pub view_after_join : View → View → View
 view_after_join view other = record view {
   trails = joined_view_trails view.trails other.trails;
-  joins = view.joins ++ other.generation ∷ [];
+  joins = view.joins ++ joined_view other ∷ [];
 }
 
 -- the view that a joined seat is left with
 abbrev pub spent_view : View
-spent_view = record { opening = []; trails = []; generation = 0; splits = 0; joins = []; held = None; spent = true }
+spent_view = record { opening = []; trails = []; lineage = []; splits = 0; joins = []; held = None; spent = true }

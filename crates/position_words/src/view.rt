@@ -36,18 +36,26 @@ pub struct Held {
     pub aim: Aim,
 }
 
+/// What a seat that was joined to another left there.
+pub struct Joined {
+    /// The splits that led from the first seat to it.
+    pub lineage: LinkedList<u64>,
+    /// What it knew of each shard, with its steps.
+    pub trails: LinkedList<Trail>,
+}
+
 /// What a seat knows.
 pub struct View {
     /// The shards as they were at the start, with their lists, bases and starting positions.
     pub opening: LinkedList<ShardState>,
     /// What it knows of each shard.
     pub trails: LinkedList<Trail>,
-    /// How many splits lie between the first seat and this one.
-    pub generation: u64,
+    /// The splits that lead from the first seat to this one: of each seat on the way, how many it had split off before.
+    pub lineage: LinkedList<u64>,
     /// How many seats were split off.
     pub splits: u64,
-    /// The generations of the seats that were joined to it.
-    pub joins: LinkedList<u64>,
+    /// What the seats that were joined to it left, in the order of the joins.
+    pub joins: LinkedList<Joined>,
     /// The shard that it holds, if any.
     pub held: Option<Held>,
     /// Whether it was joined to another, and knows nothing from then on.

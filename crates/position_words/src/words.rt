@@ -161,8 +161,8 @@ impl Words {
         self.table.shared.split_seat::<SplittingOff>(seat)
     }
 
-    /// Joins another seat to this one, which has then seen what both had, and keeps only its own steps. Neither holds a
-    /// shard.
+    /// Joins another seat to this one, which has then seen what both had, keeps its own steps, and notes those of the
+    /// other. Neither holds a shard.
     pub fn join(&self, seat: &mut Seat, other: Seat)
         requires seat { IsSeatOf self.now seat.old }
         requires free { (view seat.old).held ≡ None }

@@ -1,16 +1,16 @@
-use Rattle.std.proofs.Common.{◌≡◌, ◌+◌, ◌≤◌, inr, length, map, fold, All, OnErr, Ok, Err, Result, ap, sym, subst, ◌∙◌}
+use Rattle.std.proofs.Common.{◌≡◌, ◌+◌, ◌≤◌, inr, length, map, fold, OnErr, Ok, Err, Result, ap, sym, subst, ◌∙◌}
 use Rattle.std.proofs.Common.{arith}
 use Rattle.std.proofs.Common.{ℕ, List, ◌++◌, take, drop}
 use Rattle.std.specs.List.{AllZip}
 use Rattle.std.proofs.Math.Seq.{take-append_seam}
 use Rattle.std.proofs.lemmas.List.{length-map}
 use Rattle.std.proofs.lemmas.Slice.Zip.{AllZip-long}
-use Rattle.std.proofs.lemmas.List.Elements.{All-map}
+use Rattle.position_words.specs.declared.view.View.{View}
 use Rattle.pass_tokens.specs.{view_after_join, newcomer_view, view}
 use Rattle.gate_workers.specs.Feed.{FeedHasSeenEnds}
 use Rattle.gate_workers.specs.Threads.{CallerThreadBringsBack, WorkerThreadHasFed, IsSplitOffForThread}
-use Rattle.gate_workers.specs.Threads.{after_thread_splits}
-use Rattle.gate_workers.proofs.GatheredLemmas.{gathered_splits_are_summed, gathered_workers_have_fed}
+use Rattle.gate_workers.specs.Threads.{EachThreadByNumber, after_thread_splits}
+use Rattle.gate_workers.proofs.GatheredLemmas.{gathered_splits_are_summed, gathered_threads-map, gathered_workers_have_fed}
 use Rattle.gate_workers.proofs.GatheredLemmas.{gathered_workers_are_of_board, gathered_callers_have_ended}
 use Rattle.gate_workers.proofs.GatheredLemmas.{gathered_callers_have_called, gathered_callers_are_sound}
 use Rattle.gate_workers.proofs.GatheredLemmas.{gathered_callers_are_of_board, gathered_pass_sees_ends}
@@ -34,8 +34,9 @@ returns-clause-ends g c =
     let passes = c.as_mut_slice.result.now in
     let fed = c.run_all.new.workers in
     let many : length fed ≡ length passes = c.run_all.auto.workers in
-    let split : All (IsSplitOffForThread board before) passes =
-    subst (All (IsSplitOffForThread board before)) (sym c.as_mut_slice.ensures.value) c.in_ok-workers.ensures.workers in
+    let split : EachThreadByNumber (λ number. IsSplitOffForThread board (after_thread_splits number before)) passes =
+    subst (EachThreadByNumber (λ number. IsSplitOffForThread board (after_thread_splits number before)))
+    (sym c.as_mut_slice.ensures.value) c.in_ok-workers.ensures.workers in
     let some : 1 ≤ length fed =
     omega (
       arith,
@@ -48,7 +49,8 @@ returns-clause-ends g c =
     let each = gathered_workers_have_fed board block before passes fed many split c.run_all.ensures.workers in
     let of_board = gathered_workers_are_of_board board block passes fed many c.run_all.ensures.workers in
     let all : FeedHasSeenEnds board.opening (fold view_after_join (view c.run_all.new.pass) (map view fed)) =
-    gathered_pass_sees_ends board block before (view c.run_all.new.pass) fed c.run_all.ensures.pass.seat.trails some of_board each in
+    gathered_pass_sees_ends board (view c.run_all.new.pass) fed c.run_all.ensures.pass.seat.trails some of_board
+    (λ number default below. (each number default below).ends) in
     subst (FeedHasSeenEnds board.opening)
     (sym (c.join_workers.ensures.joined
     ∙ ap (λ passes. fold view_after_join (view c.run_all.new.pass) (map view passes))
@@ -62,12 +64,15 @@ returns-clause-sound g c bases =
     let callers = c.as_mut_slice-2.result.now in
     let ended = c.run_all.new.callers in
     let many : length ended ≡ length callers = c.run_all.auto.callers in
-    let new : All (λ caller. view caller.pass ≡ newcomer_view before) callers =
-    subst (All (λ caller. view caller.pass ≡ newcomer_view before)) (sym c.as_mut_slice-2.ensures.value)
-    (λ place default below.
-    c.in_ok-callers.ensures.newcomers place default below ∙ ap newcomer_view c.in_ok-workers.ensures.split) in
-    gathered_callers_are_sound board plan before ended c.in_ok-called.called.items
-    (gathered_callers_have_ended board plan before callers ended many new c.run_all.ensures.callers)
+    let start : ℕ → View = λ number. after_thread_splits (plan.workers + number) before in
+    let new : EachThreadByNumber (λ number caller. view caller.pass ≡ newcomer_view (start number)) callers =
+    subst (EachThreadByNumber (λ number caller. view caller.pass ≡ newcomer_view (start number))) (sym c.as_mut_slice-2.ensures.value)
+    (λ number default below.
+    c.in_ok-callers.ensures.newcomers number default below
+    ∙ ap (λ v. newcomer_view (after_thread_splits number v)) c.in_ok-workers.ensures.split
+    ∙ ap newcomer_view (gathered_splits_are_summed plan.workers number before)) in
+    gathered_callers_are_sound board plan start ended c.in_ok-called.called.items
+    (gathered_callers_have_ended board plan start callers ended many new c.run_all.ensures.callers)
     (subst (λ callers. AllZip CallerThreadBringsBack callers c.in_ok-called.called.items)
     (written c.in_ok-callers.callers.len ended c.in_ok-callers.callers.items (many ∙ c.as_mut_slice-2.ensures.len)) c.in_ok-called.ensures)
     bases
@@ -80,12 +85,15 @@ returns-clause-passes g c =
     let callers = c.as_mut_slice-2.result.now in
     let ended = c.run_all.new.callers in
     let many : length ended ≡ length callers = c.run_all.auto.callers in
-    let new : All (λ caller. view caller.pass ≡ newcomer_view before) callers =
-    subst (All (λ caller. view caller.pass ≡ newcomer_view before)) (sym c.as_mut_slice-2.ensures.value)
-    (λ place default below.
-    c.in_ok-callers.ensures.newcomers place default below ∙ ap newcomer_view c.in_ok-workers.ensures.split) in
-    gathered_callers_are_of_board board plan before ended c.in_ok-called.called.items
-    (gathered_callers_have_ended board plan before callers ended many new c.run_all.ensures.callers)
+    let start : ℕ → View = λ number. after_thread_splits (plan.workers + number) before in
+    let new : EachThreadByNumber (λ number caller. view caller.pass ≡ newcomer_view (start number)) callers =
+    subst (EachThreadByNumber (λ number caller. view caller.pass ≡ newcomer_view (start number))) (sym c.as_mut_slice-2.ensures.value)
+    (λ number default below.
+    c.in_ok-callers.ensures.newcomers number default below
+    ∙ ap (λ v. newcomer_view (after_thread_splits number v)) c.in_ok-workers.ensures.split
+    ∙ ap newcomer_view (gathered_splits_are_summed plan.workers number before)) in
+    gathered_callers_are_of_board board plan start ended c.in_ok-called.called.items
+    (gathered_callers_have_ended board plan start callers ended many new c.run_all.ensures.callers)
     (subst (λ callers. AllZip CallerThreadBringsBack callers c.in_ok-called.called.items)
     (written c.in_ok-callers.callers.len ended c.in_ok-callers.callers.items (many ∙ c.as_mut_slice-2.ensures.len)) c.in_ok-called.ensures)
 
@@ -97,16 +105,20 @@ returns-clause-gathers g c =
     let passes = c.as_mut_slice.result.now in
     let fed = c.run_all.new.workers in
     let many : length fed ≡ length passes = c.run_all.auto.workers in
-    let split : All (IsSplitOffForThread board before) passes =
-    subst (All (IsSplitOffForThread board before)) (sym c.as_mut_slice.ensures.value) c.in_ok-workers.ensures.workers in
+    let split : EachThreadByNumber (λ number. IsSplitOffForThread board (after_thread_splits number before)) passes =
+    subst (EachThreadByNumber (λ number. IsSplitOffForThread board (after_thread_splits number before)))
+    (sym c.as_mut_slice.ensures.value) c.in_ok-workers.ensures.workers in
     let each = gathered_workers_have_fed board plan.block before passes fed many split c.run_all.ensures.workers in
     let callers = c.as_mut_slice-2.result.now in
     let ended = c.run_all.new.callers in
     let as_many : length ended ≡ length callers = c.run_all.auto.callers in
-    let new : All (λ caller. view caller.pass ≡ newcomer_view before) callers =
-    subst (All (λ caller. view caller.pass ≡ newcomer_view before)) (sym c.as_mut_slice-2.ensures.value)
-    (λ place default below.
-    c.in_ok-callers.ensures.newcomers place default below ∙ ap newcomer_view c.in_ok-workers.ensures.split) in
+    let start : ℕ → View = λ number. after_thread_splits (plan.workers + number) before in
+    let new : EachThreadByNumber (λ number caller. view caller.pass ≡ newcomer_view (start number)) callers =
+    subst (EachThreadByNumber (λ number caller. view caller.pass ≡ newcomer_view (start number))) (sym c.as_mut_slice-2.ensures.value)
+    (λ number default below.
+    c.in_ok-callers.ensures.newcomers number default below
+    ∙ ap (λ v. newcomer_view (after_thread_splits number v)) c.in_ok-workers.ensures.split
+    ∙ ap newcomer_view (gathered_splits_are_summed plan.workers number before)) in
     let back : AllZip CallerThreadBringsBack ended c.in_ok-called.called.items =
     subst (λ callers. AllZip CallerThreadBringsBack callers c.in_ok-called.called.items)
     (written c.in_ok-callers.callers.len ended c.in_ok-callers.callers.items (as_many ∙ c.as_mut_slice-2.ensures.len)) c.in_ok-called.ensures in
@@ -124,7 +136,8 @@ returns-clause-gathers g c =
       as_many_workers =
           length-map fed view ∙ many ∙ c.as_mut_slice.ensures.len ∙ c.in_ok-workers.workers.ok.0
           ∙ c.in_ok-workers.ensures.count;
-      fed = All-map (WorkerThreadHasFed board.opening plan.block before) view fed each;
+      fed = gathered_threads-map
+          (λ number. WorkerThreadHasFed board.opening plan.block (after_thread_splits number before)) view fed each;
       pass =
           c.join_workers.ensures.joined
           ∙ ap (λ passes. fold view_after_join (view c.run_all.new.pass) (map view passes))
@@ -133,8 +146,8 @@ returns-clause-gathers g c =
           AllZip-long CallerThreadBringsBack ended c.in_ok-called.called.items back ∙ as_many ∙ c.as_mut_slice-2.ensures.len
           ∙ c.in_ok-callers.callers.ok.0 ∙ c.in_ok-callers.ensures.count;
       called =
-          gathered_callers_have_called board plan before ended c.in_ok-called.called.items
-          (gathered_callers_have_ended board plan before callers ended as_many new c.run_all.ensures.callers) back;
+          gathered_callers_have_called board plan start ended c.in_ok-called.called.items
+          (gathered_callers_have_ended board plan start callers ended as_many new c.run_all.ensures.callers) back;
     }
 
 pub returns-in_err-called-clause-memory : goal.returns-in_err-called-clause-memory
