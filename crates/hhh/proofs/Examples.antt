@@ -59,7 +59,7 @@ shard_of_both_addresses = refl
 -- a run that took nothing and gave nothing, over sources, a sink and a disk that are numbers, with these counts of faults
 abbrev idle_run : SessionKeeping → List (List ℕ) → (read_now : EndingSourceFaults) → (disk_now : ℕ) → Status → Type 0
 idle_run keeping words read_now disk_now status =
-    ProgramRunEnds {S = ℕ} {T = ℕ} {K = ℕ} {D = ℕ} keeping ⊤ words (inputs None None None None None) 1 1 2 2 (ending_source_faults 0 0)
+    ProgramRunEnds {S = ℕ} {T = ℕ} {K = ℕ} {D = ℕ} keeping ⊤ ⊤ words (inputs None None None None None) 1 1 2 2 (ending_source_faults 0 0)
     read_now 3 3 None None 0 0 4 4 None (λ image. ⊤) 0 disk_now status
 
 -- it doesn't end with a read fault that no source had

@@ -16,7 +16,7 @@ use Rattle.hhh.specs.ProgramRules.{program_rule_shard}
 
 -- how a run for these arguments ended: what each status says, and when it comes. `capture`, `text`, `sink` and `disk` are as
 -- the run began, and `capture_read`, `text_read`, `written` and `stands` as it ended
-pub record ProgramRunEnds {S T K D : Type 0} (keeping : SessionKeeping) (AsBefore : Type 0) (words : List (List ℕ)) (read : InputBytes)
+pub record ProgramRunEnds {S T K D : Type 0} (keeping : SessionKeeping) (AsBefore Torn : Type 0) (words : List (List ℕ)) (read : InputBytes)
     (capture capture_read : S) (text text_read : T) (read_before read_now : EndingSourceFaults)
     (sink written : K) (old new : Option (List ℕ)) (write_before write_now : ℕ)
     (disk stands : D) (stored : Option (List ℕ)) (possible : List ℕ → Type 0) (disk_before disk_now : ℕ)
@@ -57,9 +57,10 @@ pub record ProgramRunEnds {S T K D : Type 0} (keeping : SessionKeeping) (AsBefor
       → EndsWithFailedDisk (session_rules_by_formula program_rule_shard) keeping words read AsBefore sink written old new disk_before disk_now
   pub disk_fault_reported : (status ≡ DiskFault → ⊥) → disk_now ≡ disk_before
   -- `format` leaves an empty store where it ends with Done or a write fault: then the disk reads `stored`, and a crash may
-  -- leave what is `possible`. What the command doesn't use is untouched
+  -- leave what is `possible`. After a disk fault no more than the front of the disk has changed (Torn). What the command
+  -- doesn't use is untouched
   pub formats : (settings : Settings) → AskForCommand words (Command.Format settings)
-      → FormatEnds (store_settings_for_saves settings) stored possible sink written disk stands status
+      → FormatEnds (store_settings_for_saves settings) stored possible Torn sink written disk stands status
   pub unused_disk : AskedCommandAvoidsInput UsesInputStore words → stands ≡ disk
   pub unused_capture : AskedCommandAvoidsInput UsesInputCapture words → capture_read ≡ capture
   pub unused_text : AskedCommandAvoidsInput UsesInputSession words → text_read ≡ text

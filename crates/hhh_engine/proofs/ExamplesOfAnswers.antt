@@ -1,6 +1,6 @@
 -- Worked examples of what commands write and read, of what may happen instead, and of what each status says.
 use Rattle.std.proofs.Common.{◌≡◌, ℕ, List, [], ◌∷◌, ◌++◌, Some, None, inl, inr, ⊎_elim, refl, ap}
-use Rattle.std.proofs.Common.{codes, arith, get_or, length, true}
+use Rattle.std.proofs.Common.{codes, arith, get_or, length, replicate, true}
 use Rattle.std.specs.Prelude.{⊤}
 use Rattle.std.proofs.lemmas.List.Elements.{All-nil}
 use Rattle.pcap_frames.specs.declared.fault.FaultKind.TheVariants.{ShortHeader}
@@ -20,7 +20,7 @@ use Rattle.hhh_engine.specs.Ending.{Ends, EndsWithFailedDisk, EndsFailingToRead,
 use Rattle.hhh_engine.specs.Ending.{EndsRefusingCapture, EndsAtFailedSource}
 use Rattle.hhh_engine.specs.Ending.{HappenedToDiskAtEnding, SourceFaultsRoseAtEnding, EndsRefusingWords}
 use Rattle.hhh_engine.specs.Ending.{RefusesAtEnding, RefusesStoreAtEnding, EndsAnswered, EndsWritingInPart}
-use Rattle.hhh_engine.specs.Ending.{EndsAsBeforeUnlessFormat, ending_source_faults}
+use Rattle.hhh_engine.specs.Ending.{EndsAsBeforeUnlessFormat, EndsTearingFront, ending_source_faults}
 use Rattle.recovery.specs.declared.fault.OpenFault.{OpenFault}
 use Rattle.recovery.specs.declared.fault.OpenFault.TheVariants as opening
 use Rattle.hhh_engine.specs.Saves.{store_settings_for_saves}
@@ -323,19 +323,30 @@ pub format_refuses_no_store : (fault : OpenFault)
     → RefusesAtEnding (Format settings) in_turn (inputs None None None None None) ⊤ fault → ⊥
 format_refuses_no_store fault refuses = refuses
 
--- where the disk fails, `format` writes nothing; where memory runs out, the disk is as before too
+-- where the disk fails, `format` writes nothing, and changes no more than the front; where memory runs out, the disk is as
+-- before too
 pub format_on_a_disk_that_failed :
-    FormatEnds {K = List ℕ} {D = List ℕ} (store_settings_for_saves settings) None (λ image. ⊤) [] [] [] (8 ∷ []) DiskFault
-format_on_a_disk_that_failed = refl
+    FormatEnds {K = List ℕ} {D = List ℕ} (store_settings_for_saves settings) None (λ image. ⊤) ⊤ [] [] [] (8 ∷ []) DiskFault
+format_on_a_disk_that_failed = (refl, tt)
 
 pub format_without_memory :
-    FormatEnds {K = List ℕ} {D = List ℕ} (store_settings_for_saves settings) None (λ image. ⊤) [] [] [] (8 ∷ []) OutOfMemory → ⊥
+    FormatEnds {K = List ℕ} {D = List ℕ} (store_settings_for_saves settings) None (λ image. ⊤) ⊤ [] [] [] (8 ∷ []) OutOfMemory → ⊥
 format_without_memory ended =
     let same : 1 ≡ 0 = ap (λ (bytes : List ℕ). length bytes) ended.1 in omega (arith, same)
 
+-- a disk of 65 bytes, of which the last one is behind the front
+abbrev disk_ending_in : ℕ → List ℕ
+disk_ending_in last = replicate 64 0 ++ last ∷ []
+
+pub byte_behind_the_front_was_torn : EndsTearingFront {D = List ℕ} (λ disk. Some disk) (λ disk image. image ≡ disk) (λ disk. 0)
+    (λ disk moment image. image ≡ disk) (disk_ending_in 1) (disk_ending_in 2) → ⊥
+byte_behind_the_front_was_torn torn =
+    let last : 2 ≡ 1 = (torn.reading (disk_ending_in 1) (disk_ending_in 2) refl refl).after 64 (omega arith) (omega arith) in
+    omega (arith, last)
+
 -- `format` reads no capture that could be refused
 pub format_refuses_no_capture :
-    FormatEnds {K = List ℕ} {D = List ℕ} (store_settings_for_saves settings) None (λ image. ⊤) [] [] [] []
+    FormatEnds {K = List ℕ} {D = List ℕ} (store_settings_for_saves settings) None (λ image. ⊤) ⊤ [] [] [] []
     (BadCapture (header_fault_at ShortHeader 0)) → ⊥
 format_refuses_no_capture ended = ended
 

@@ -26,7 +26,8 @@ use Rattle.hhh_engine.specs.DealtFeed.{DealtFeedGoesOn, HasNoDealtFeedBase, IsDe
 use Rattle.hhh_engine.specs.Inputs.{IsInputStore}
 use Rattle.hhh_engine.specs.Saves.{SavesBelongThroughout, SavesFitBoard, IsAsBeforeSaves, IsNoEarlierSave, KeepsSaves}
 use Rattle.hhh_engine.specs.Saves.{OpensAsBeforeOrToSaves, SavesReopen, Saves}
-use Rattle.hhh_engine.specs.Saves.{SavesInPart, after_saves, SavesAreKeptOnDisk, last_of_saves}
+use Rattle.hhh_engine.specs.Saves.{SavesBreakOff, SavesInPart, after_saves, saver_after_broken_saves, SavesAreKeptOnDisk}
+use Rattle.hhh_engine.specs.Saves.{last_of_saves}
 use Rattle.hhh_engine.specs.Saves.{SavesAreReopenedFromDisk, saves_after, store_settings_for_saves}
 use Rattle.hhh_engine.specs.Session.{SessionGoesOnFrom, SessionReports, session_reports_of_calling_thread, session_ends}
 use Rattle.hhh_engine.specs.Session.{last_session_positions, new_session_shards}
@@ -208,6 +209,18 @@ disk_is_as_before = record {
 -- the saver of the formatted store, after two saves
 abbrev saver : SaverState
 saver = saver_of (known_slots_of formatted) one (9 ∷ []) None
+
+-- after a save that was made the saver goes on from it, and an unfinished one leaves none
+pub saver_goes_on_after_a_whole_save : saver_after_broken_saves (Some saver) (one_counted ∷ []) [] ≡ Some (after_saves saver (one_counted ∷ []))
+saver_goes_on_after_a_whole_save = refl
+
+pub no_saver_after_an_unfinished_save : saver_after_broken_saves (Some saver) (one_counted ∷ []) (none_counted ∷ []) ≡ None
+no_saver_after_an_unfinished_save = refl
+
+-- nothing was saved, and the saver is lost all the same
+pub saver_was_dropped :
+    SavesBreakOff {D = ℕ} (λ disk. None) (λ disk image. ⊤) (λ disk. disk) image_since (Some saver) None 7 7 [] [] → ⊥
+saver_was_dropped broke = cc broke.saver
 
 pub two_saves_use_two_sequences : (after_saves saver (none_counted ∷ one_counted ∷ [])).sequence ≡ 2
 two_saves_use_two_sequences = refl

@@ -228,6 +228,28 @@ broken_round_says_less opening phi before now store Kept Less old new faults_bef
 broken_round_says_less opening phi before now store Kept Less old new faults_before faults_now (BadReport wrong) less broken =
     absurd broken
 
+-- rounds that ended, of whose saves less is said where they broke off
+pub ended_rounds_say_less : (opening : List ShardValue) (phi rounds : ℕ) (before now : View) (store : Bool)
+    (Kept : List CutValue → Type 0) (KeptInPart Less : SessionSaving) (old new : Option (List ℕ))
+    (faults_before faults_now : RoundFaults) (stop : Option Status)
+    → EndRounds opening phi rounds before now store Kept KeptInPart old new faults_before faults_now stop
+    → ((saved unfinished : List CutValue) → KeptInPart saved unfinished → Less saved unfinished)
+    → EndRounds opening phi rounds before now store Kept Less old new faults_before faults_now stop
+ended_rounds_say_less opening phi rounds before now store Kept KeptInPart Less old new faults_before faults_now None ended less =
+    ended
+ended_rounds_say_less opening phi rounds before now store Kept KeptInPart Less old new faults_before faults_now (Some status) off
+    less = record {
+      whole = off.whole;
+      few = off.few;
+      middle = off.middle;
+      between = off.between;
+      written = off.written;
+      broken =
+          broken_round_says_less opening phi off.middle now store (session_after_saves store opening off.written.reports KeptInPart)
+          (session_after_saves store opening off.written.reports Less) off.between new faults_before faults_now status
+          (λ saved unfinished kept. less (session_saved_cuts store opening off.written.reports ++ saved) unfinished kept) off.broken;
+    }
+
 -- a round broke off
 pub one_round_broke_off : (opening shards : List ShardValue) (phi share made rounds : ℕ) (before middle now : View)
     (store stored : Bool) (Kept : List CutValue → Type 0) (KeptInRound KeptInPart : SessionSaving)
@@ -275,13 +297,13 @@ round_broken_by_sink opening phi before now store Kept old new sink_before sink_
 pub round_broken_at_saving : (opening : List ShardValue) (phi : ℕ) (before now : View) (store : Bool) (Kept : SessionSaving)
     (old new : Option (List ℕ)) (sink_before sink_now disk_before disk_now : ℕ) (status : Status)
     → store ≡ true → IsDealtFeedSaveFault disk_before disk_now status → sink_now ≡ sink_before
-    → WritesUnsavedRound opening phi before now true Kept old new
+    → (status ≡ DiskFault → WritesUnsavedRound opening phi before now true Kept old new)
     → (status ≡ OutOfMemory → WritesUnsavedRound opening phi before now false Kept old new)
     → BreaksRound opening phi before now store Kept old new (record { sink = sink_before; disk = disk_before })
     (record { sink = sink_now; disk = disk_now }) status
 round_broken_at_saving opening phi before now store Kept old new sink_before sink_now disk_before disk_now DiskFault used fault same
     unsaved untouched =
-    (used, unsaved, record { rose = fault; sink = same })
+    (used, unsaved refl, record { rose = fault; sink = same })
 round_broken_at_saving opening phi before now store Kept old new sink_before sink_now disk_before disk_now OutOfMemory used fault same
     unsaved untouched =
     (inr (used, untouched refl), ap₂ (λ s d. record { sink = s; disk = d }) same fault)

@@ -2,7 +2,7 @@
 use Rattle.std.proofs.Common.{◌≡◌, ◌∙◌, ◌+◌, ◌⊎◌, inl, inr, ⊎_elim, ℕ, Bool, true, false, List, [], ◌∷◌, ◌++◌, Option}
 use Rattle.std.proofs.Common.{None, Some}
 use Rattle.std.proofs.Common.{◌≤◌, refl, sym, ap, subst, arith, length, fold, append_assoc, append-nil}
-use Rattle.std.specs.Prelude.{IfSome, is_some}
+use Rattle.std.specs.Prelude.{IfSome, is_some, option_map}
 use Rattle.std.proofs.lemmas.List.{length-append, map-append}
 use Rattle.shard_state.specs.{CutValue, ShardValue}
 use Rattle.hhh_output.specs.declared.report.Report.{Report}
@@ -16,7 +16,7 @@ use Rattle.checkpoint.specs.{saver_after_save, newest_in_store, next_saved, stor
 use Rattle.checkpoint.specs.declared.settings.StoreSettings.{StoreSettings}
 use Rattle.hhh_engine.specs.DealtFeed.{DealtFeedCanSaveCut}
 use Rattle.hhh_engine.specs.Saves.{IsAsBeforeSaves, KeepsSaves, OpensAsBeforeOrToSaves, Saves, SavesCuts, SavesInPart}
-use Rattle.hhh_engine.specs.Saves.{SavesInTurn, after_saves}
+use Rattle.hhh_engine.specs.Saves.{SavesBreakOff, SavesInTurn, after_saves, saver_after_broken_saves}
 use Rattle.hhh_engine.specs.Saves.{last_of_saves, saves_after}
 use Rattle.hhh_engine.specs.Session.{session_saved_cuts}
 
@@ -332,6 +332,41 @@ no_save_into_untouched_disk reads image_now moment image_since before old new on
     (part_of_saves reads image_now moment image_since before old old []
     (no_save reads image_now moment image_since before old (only_now old) stands).saves)
 
+-- the saver after no save
+no_save_keeps_saver : (saver : Option SaverState) → saver ≡ saver_after_broken_saves saver [] []
+no_save_keeps_saver None = refl
+no_save_keeps_saver (Some saver) = refl
+
+-- saves that broke off before the first, into a disk that is untouched, and with the saver as it was
+pub no_save_broke_off : {D : Type 0} (reads : D → Option (List ℕ)) (image_now : D → List ℕ → Type 0) (moment : D → ℕ)
+    (image_since : D → ℕ → List ℕ → Type 0) (before after : Option SaverState) (old new : D)
+    → ((disk : D) (image : List ℕ) → image_since disk (moment disk) image → image_now disk image)
+    → IfSome before (DiskMatchesSaver (reads old) (image_now old)) → after ≡ before → new ≡ old
+    → SavesBreakOff reads image_now moment image_since before after old new [] []
+no_save_broke_off reads image_now moment image_since before after old new only_now stands same_saver same = record {
+  saver = same_saver ∙ no_save_keeps_saver before;
+  saves = no_save_into_untouched_disk reads image_now moment image_since before old new only_now stands same;
+}
+
+-- saves that were made before what broke off
+pub whole_saves_broke_off : {D : Type 0} (reads : D → Option (List ℕ)) (image_now : D → List ℕ → Type 0) (moment : D → ℕ)
+    (image_since : D → ℕ → List ℕ → Type 0) (before after : Option SaverState) (old new : D) (cuts : List CutValue)
+    → SavesInTurn reads image_now moment image_since before after old new cuts
+    → SavesBreakOff reads image_now moment image_since before after old new cuts []
+whole_saves_broke_off reads image_now moment image_since before after old new cuts saves = record {
+  saver = saves.saver;
+  saves = part_of_saves reads image_now moment image_since before old new cuts saves.saves;
+}
+
+-- the saver after saves, and then after saves that broke off
+saver_after_more_saves : (before between : Option SaverState) (cuts saved unfinished : List CutValue)
+    → between ≡ option_map (λ saver. after_saves saver cuts) before
+    → saver_after_broken_saves between saved unfinished ≡ saver_after_broken_saves before (cuts ++ saved) unfinished
+saver_after_more_saves before between cuts saved (cut ∷ more) is = refl
+saver_after_more_saves None between cuts saved [] is = ap (option_map (λ saver. after_saves saver saved)) is
+saver_after_more_saves (Some saver) between cuts saved [] is =
+    ap (option_map (λ saver. after_saves saver saved)) is ∙ ap Some (sym (fold-append_saves saver_after_save saver cuts saved))
+
 -- what broke off after saves
 pub broken_off_save_follows : StoresOpenToOneThing → {D : Type 0} (reads : D → Option (List ℕ)) (image_now : D → List ℕ → Type 0)
     (moment : D → ℕ) (image_since : D → ℕ → List ℕ → Type 0) (before between : Option SaverState)
@@ -352,6 +387,21 @@ broken_off_save_follows one reads image_now moment image_since (Some saver) betw
           kept_saves_follow one image_now moment image_since saver.settings saver.digest (λ image. ⊥) cuts saved unfinished old mid
           new bytes known.0 are (is_image mid known.0 known.1) (first.saves.kept bytes is)
           (saves_kept_as_before image_now moment image_since saver cuts saved unfinished mid new known.0 (then.kept known.0 known.1));
+    }
+
+-- and the saver after it
+pub broken_saves_follow : StoresOpenToOneThing → {D : Type 0} (reads : D → Option (List ℕ)) (image_now : D → List ℕ → Type 0)
+    (moment : D → ℕ) (image_since : D → ℕ → List ℕ → Type 0) (before between after : Option SaverState)
+    (cuts saved unfinished : List CutValue) (old mid new : D) → IfSome before (λ saver. AreHeaderSettings saver.settings)
+    → ((disk : D) (bytes : List ℕ) → reads disk ≡ Some bytes → image_now disk bytes)
+    → SavesInTurn reads image_now moment image_since before between old mid cuts
+    → SavesBreakOff reads image_now moment image_since between after mid new saved unfinished
+    → SavesBreakOff reads image_now moment image_since before after old new (cuts ++ saved) unfinished
+broken_saves_follow one reads image_now moment image_since before between after cuts saved unfinished old mid new are is_image first
+    second = record {
+      saver = second.saver ∙ saver_after_more_saves before between cuts saved unfinished first.saver;
+      saves = broken_off_save_follows one reads image_now moment image_since before between cuts saved unfinished old mid new are
+          is_image first second.saves;
     }
 
 -- a disk that is untouched is as before

@@ -25,7 +25,7 @@ use Rattle.gate_workers.specs.declared.gathered.Gathered.{Gathered}
 use Rattle.gate_workers.specs.declared.plan.ThreadPlan.{ThreadPlan}
 use Rattle.command_words.specs.declared.settings.Settings.{Settings}
 use Rattle.report_text.specs.{report_text}
-use Rattle.hhh_engine.specs.DealtFeed.{DealtFeedBreaksOffInRounds, dealt_feed_other_reports}
+use Rattle.hhh_engine.specs.DealtFeed.{DealtFeedBreaksOffInRounds, DealtFeedMakesSteps, dealt_feed_other_reports}
 use Rattle.hhh_engine.specs.Rounds.{RoundsBreakOff, EndRounds, RoundFaults, IsRoundInVain, RoundReportsOnce}
 use Rattle.hhh_engine.specs.Rounds.{RoundBreaksInLine}
 use Rattle.hhh_engine.specs.Rounds.{RoundBreaksInReport, WritesRounds, WritesUnsavedRound}
@@ -365,14 +365,50 @@ session_threads_gathered_all relates opening settings plan view gathered Kept ol
           gathered.called.items
           (λ k d lt.
           let called : Called = get_or gathered.called.items k d in
-          session_thread_reports_of_calls opening settings settings.rounds (newcomer_view view) (view_of called.pass) called.reports alike
-          (new_session_thread_sees_starts opening view seen)
-          (subst (λ n. Calls opening settings.phi n (newcomer_view view) (view_of called.pass) called.reports) rounds
-          (subst (λ n. Calls opening n plan.rounds (newcomer_view view) (view_of called.pass) called.reports) phi
+          let start : View = record view { splits = view.splits + (plan.workers + k) } in
+          session_thread_reports_of_calls opening settings settings.rounds (newcomer_view start) (view_of called.pass) called.reports alike
+          (new_session_thread_sees_starts opening start seen)
+          (subst (λ n. Calls opening settings.phi n (newcomer_view start) (view_of called.pass) called.reports) rounds
+          (subst (λ n. Calls opening n plan.rounds (newcomer_view start) (view_of called.pass) called.reports) phi
           (gathers.called k d lt)))
           (λ bases. subst (λ n. AreSoundThreadReports opening n called.reports) phi (sound bases k d lt))),
       whole.kept,
     )
+
+-- rounds that were all made split off no pass, and took in none
+pub session_thread_rounds_make_steps : (opening : List ShardValue) (phi rounds : ℕ) (before now : View) (store : Bool)
+    (Kept : List CutValue → Type 0) (old new : Option (List ℕ)) → WritesRounds opening phi rounds before now store Kept old new
+    → DealtFeedMakesSteps before now
+session_thread_rounds_make_steps opening phi rounds before now store Kept old new written =
+    subst (DealtFeedMakesSteps before) (sym written.calls.view) refl
+
+pub session_thread_made_no_step : (before now : View) → now ≡ before → DealtFeedMakesSteps before now
+session_thread_made_no_step before now same = subst (DealtFeedMakesSteps before) (sym same) refl
+
+-- what the threads of a plan bring back, of which less is said
+session_threads_say_less : (relates less : View → View → Type 0) (opening : List ShardValue) (plan : ThreadPlan) (view : View)
+    (gathered : Gathered) → ((before now : View) → relates before now → less before now)
+    → ThreadsBringBack opening plan relates view gathered → ThreadsBringBack opening plan less view gathered
+session_threads_say_less relates less opening plan view gathered implies back = record {
+  rounds = record {
+    now = back.rounds.now;
+    does = implies (record view { splits = view.splits + (plan.workers + plan.callers) }) back.rounds.now back.rounds.does;
+  };
+  workers = back.workers;
+  as_many_workers = back.as_many_workers;
+  fed = back.fed;
+  pass = back.pass;
+  as_many_callers = back.as_many_callers;
+  called = back.called;
+}
+
+-- the same of the plan that was asked for
+pub session_threads_ran_as_planned : (relates less : View → View → Type 0) (opening : List ShardValue) (plan asked : ThreadPlan)
+    (view : View) (gathered : Gathered) → plan ≡ asked → ((before now : View) → relates before now → less before now)
+    → ThreadsBringBack opening plan relates view gathered → ThreadsBringBack opening asked less view gathered
+session_threads_ran_as_planned relates less opening plan asked view gathered same implies back =
+    subst (λ p. ThreadsBringBack opening p less view gathered) same
+    (session_threads_say_less relates less opening plan view gathered implies back)
 
 -- one more report of a caller, none of whose cuts is saved
 pub session_thread_adds_report : (reports : List Reported) (index : ℕ) (d : Reported) → index < length reports

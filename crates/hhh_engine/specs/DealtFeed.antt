@@ -7,7 +7,8 @@ use Rattle.shard_state.specs.{AreCutPositionsNotPast, CutValue, HasCoreShape, Sh
 use Rattle.hhh_output.specs.declared.reports.Reported.{Reported}
 use Rattle.gate_workers.specs.declared.gathered.Called.{Called}
 use Rattle.gate_workers.specs.declared.gathered.Gathered.{Gathered}
-use Rattle.gate_workers.specs.{FeedHasSeenEnds, cut_at_call}
+use Rattle.gate_workers.specs.declared.plan.ThreadPlan.{ThreadPlan}
+use Rattle.gate_workers.specs.{FeedHasSeenEnds, ThreadsBringBack, View, cut_at_call}
 use Rattle.pass_tokens.specs.{IsPassOfBoard, PositionWordsValue, first_view, view}
 use Rattle.frame_records.specs.declared.records.Records.{Records}
 use Rattle.report_text.specs.{report_text, report_tail_text}
@@ -142,6 +143,27 @@ DealtFeedStartsBeforeEnds opening = (shard : ℕ) → slice_index (session_start
 -- the reports of the other callers
 abbrev pub dealt_feed_other_reports : List Called → List (List Reported)
 dealt_feed_other_reports called = map (λ caller. caller.reports) called
+
+-- the plan of the threads that the settings ask for
+abbrev pub dealt_feed_plan : Settings → ThreadPlan
+dealt_feed_plan settings = record {
+  workers = settings.workers;
+  callers = settings.callers;
+  rounds = settings.rounds;
+  block = settings.block;
+  phi = settings.phi;
+  capacity = settings.capacity;
+}
+
+-- a pass made steps, and split off no other and took in none
+abbrev pub DealtFeedMakesSteps : View → View → Type 0
+DealtFeedMakesSteps before now = now ≡ record before { trails = now.trails }
+
+-- the threads of this plan were run over a board, with passes that were split off from this view; the calling thread made
+-- steps alone
+abbrev pub DealtFeedRunsPlan : PositionWordsValue → Settings → View → Gathered → Type 0
+DealtFeedRunsPlan board settings before gathered =
+    ThreadsBringBack board.opening (dealt_feed_plan settings) DealtFeedMakesSteps before gathered
 
 -- what threads bring back that fed a board to the ends: the calling thread's rounds were written, and the other callers
 -- made theirs

@@ -7,7 +7,8 @@ use Rattle.frame_records.specs.{CaptureFileHasFrames, IsRefusedCaptureFile}
 use Rattle.frame_records.specs.declared.records.Records.{Records}
 use Rattle.pcap_frames.specs.{FrameValue}
 use Rattle.pcap_frames.specs.declared.fault.CaptureFault.{CaptureFault}
-use Rattle.slot_disk.specs.{IfImageKnown}
+use Rattle.slot_disk.specs.{CrashLeavesAtAnyMoment, IfBothImagesKnown, IfImageKnown, IsTornFromImage, IsTornImage}
+use Rattle.slot_disk.specs.{layout_front_bytes}
 use Rattle.checkpoint.specs.{StoreOpensTo}
 use Rattle.checkpoint.specs.declared.settings.StoreSettings.{StoreSettings}
 use Rattle.recovery.specs.{IsRefusedAtOpening, IsShownByOpening}
@@ -257,15 +258,22 @@ abbrev pub EndsWithEmptyStore : Option (List ℕ) → (List ℕ → Type 0) → 
 EndsWithEmptyStore reads possible settings =
     IfImageKnown reads (λ bytes. (image : List ℕ) → possible image → StoreOpensTo settings image None)
 
+-- of a disk no more than the 64 bytes of gates and header, and what is past its old end, has changed: in what a read gives,
+-- where that is known, and in what a crash leaves at any moment
+pub record EndsTearingFront {D : Type 0} (reads : D → Option (List ℕ)) (image_now : D → List ℕ → Type 0) (moment : D → ℕ)
+    (image_since : D → ℕ → List ℕ → Type 0) (old new : D) : Type 0 where
+  pub reading : IfBothImagesKnown (reads old) (reads new) (IsTornImage 0 layout_front_bytes)
+  pub any_moment : CrashLeavesAtAnyMoment moment image_since old new (IsTornFromImage (image_now old) 0 layout_front_bytes)
+
 -- how `format` ends: the store is formatted once its text is written, or the sink failed; nothing was written where the
--- disk failed; the disk is as before where memory ran out
-abbrev pub FormatEnds : {K D : Type 0} → StoreSettings → Option (List ℕ) → (List ℕ → Type 0) → (sink written : K)
-    → (disk stands : D) → Status → Type 0
-FormatEnds settings reads possible sink written disk stands Done = EndsWithEmptyStore reads possible settings
-FormatEnds settings reads possible sink written disk stands WriteFault = EndsWithEmptyStore reads possible settings
-FormatEnds settings reads possible sink written disk stands DiskFault = written ≡ sink
-FormatEnds settings reads possible sink written disk stands OutOfMemory = (written ≡ sink) × (stands ≡ disk)
-FormatEnds settings reads possible sink written disk stands _ = ⊥
+-- disk failed, and of it no more than the front has changed (Torn); the disk is as before where memory ran out
+abbrev pub FormatEnds : {K D : Type 0} → StoreSettings → Option (List ℕ) → (List ℕ → Type 0) → (Torn : Type 0)
+    → (sink written : K) → (disk stands : D) → Status → Type 0
+FormatEnds settings reads possible Torn sink written disk stands Done = EndsWithEmptyStore reads possible settings
+FormatEnds settings reads possible Torn sink written disk stands WriteFault = EndsWithEmptyStore reads possible settings
+FormatEnds settings reads possible Torn sink written disk stands DiskFault = (written ≡ sink) × Torn
+FormatEnds settings reads possible Torn sink written disk stands OutOfMemory = (written ≡ sink) × (stands ≡ disk)
+FormatEnds settings reads possible Torn sink written disk stands _ = ⊥
 
 -- within the crate: a report with a store was asked for, the store is refused for this fault, and the disk is as before
 abbrev pub RefusesStoreAtEnding : Settings → SessionRules → (capture store : Option (List ℕ)) → (AsBefore : Type 0) → OpenFault → Type 0

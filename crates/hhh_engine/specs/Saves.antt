@@ -141,6 +141,18 @@ pub record SavesInTurn {D : Type 0} (reads : D → Option (List ℕ)) (image_now
   pub saver : after ≡ option_map (λ saver. after_saves saver cuts) before
   pub saves : Saves reads image_now moment image_since before cuts old new
 
+-- the saver after saves that broke off: none where a save is unfinished, else the one after those that were made
+abbrev pub saver_after_broken_saves : Option SaverState → (saved unfinished : List CutValue) → Option SaverState
+saver_after_broken_saves before saved [] = option_map (λ saver. after_saves saver saved) before
+saver_after_broken_saves before saved (cut ∷ cuts) = None
+
+-- saves that broke off, and this is the saver after them
+pub record SavesBreakOff {D : Type 0} (reads : D → Option (List ℕ)) (image_now : D → List ℕ → Type 0) (moment : D → ℕ)
+    (image_since : D → ℕ → List ℕ → Type 0) (before after : Option SaverState) (old new : D) (saved unfinished : List CutValue)
+    : Type 0 where
+  pub saver : after ≡ saver_after_broken_saves before saved unfinished
+  pub saves : SavesInPart reads image_now moment image_since before old new saved unfinished
+
 -- a saver for a board that may save what a pass with this view reads: no position that it saved is past what the view
 -- has seen
 pub record SavesFitBoard (opening : List ShardValue) (view : View) (saver : SaverState) : Type 0 where

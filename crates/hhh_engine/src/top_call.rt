@@ -15,7 +15,7 @@ ghost use Rattle.command_words.specs.declared.settings.Settings.{Settings};
 ghost use Rattle.command_words.specs.declared.words_kind.WordsKind.{WordsKind};
 ghost use Rattle.hhh_engine.specs.Answer.{Answers, IsAnswer, IsAnswerInPart};
 ghost use Rattle.hhh_engine.specs.Ending.{Ends, EndsWithFailedDisk, EndsFailingToRead, EndsFailingToWrite};
-ghost use Rattle.hhh_engine.specs.Ending.{AuditFindsAtEnding, FormatEnds, EndsFindingUnsound};
+ghost use Rattle.hhh_engine.specs.Ending.{AuditFindsAtEnding, EndsTearingFront, FormatEnds, EndsFindingUnsound};
 ghost use Rattle.hhh_engine.specs.Ending.{HappenedToDiskAtEnding, EndsRefusingCapture};
 ghost use Rattle.hhh_engine.specs.Ending.{EndsRefusingStore, EndsRefusingText, EndsRefusingWords, RefusesAtEnding};
 ghost use Rattle.hhh_engine.specs.Ending.{EndsInOrder, EndsAsBeforeUnlessFormat, EndsWritingInPart};
@@ -157,10 +157,11 @@ pub fn run<R: Threads + Wait + Sync, S: Source, T: Source, K: Sink, D: Disk, G: 
         (D.faults disk.old) (D.faults disk.new) }
     ensures disk_fault_reported { (result ≡ DiskFault → ⊥) → D.faults disk.new ≡ D.faults disk.old }
 
-    // A store is formatted where its line was written, or began to be. A source or disk that the command doesn't use is
-    // untouched.
+    // A store is formatted where its line was written, or began to be; where the disk failed, no more than its first 64 bytes
+    // have changed. A source or disk that the command doesn't use is untouched.
     ensures formats { (settings : Settings) → AskForCommand (argument_texts words.now) (Format settings) → FormatEnds (store_settings_for_saves settings)
-        (D.reads disk.new) (D.image_now disk.new) sink.old sink.new disk.old disk.new result }
+        (D.reads disk.new) (D.image_now disk.new) (EndsTearingFront D.reads D.image_now D.moment D.image_since disk.old disk.new)
+        sink.old sink.new disk.old disk.new result }
     ensures unused_disk { AskedCommandAvoidsInput UsesInputStore (argument_texts words.now) → disk.new ≡ disk.old }
     ensures unused_capture { AskedCommandAvoidsInput UsesInputCapture (argument_texts words.now) → capture.new ≡ capture.old }
     ensures unused_text { AskedCommandAvoidsInput UsesInputSession (argument_texts words.now) → text.new ≡ text.old }
@@ -233,7 +234,8 @@ fn answer<R: Threads + Wait + Sync, S: Source, T: Source, K: Sink, D: Disk, G: G
     ensures unread { (UsesInputCapture command.now → ⊥) → capture.new ≡ capture.old }
     ensures text_unread { (UsesInputSession command.now → ⊥) → text.new ≡ text.old }
     ensures formats { (settings : Settings) → command.now ≡ Format settings → FormatEnds (store_settings_for_saves settings)
-        (D.reads disk.new) (D.image_now disk.new) sink.old sink.new disk.old disk.new result }
+        (D.reads disk.new) (D.image_now disk.new) (EndsTearingFront D.reads D.image_now D.moment D.image_since disk.old disk.new)
+        sink.old sink.new disk.old disk.new result }
 {
     match command {
         Command::Weigh { prefix, settings } => weigh(alloc, prefix, settings, capture, sink),

@@ -135,7 +135,8 @@ fn answers_and_refuses(rt: HostRuntime) -> Result<(), Fail> {
     rounds::reports_in_rounds(&rt, alloc, &dealers)?;
     rounds::ends_at_the_first_fault(&rt, alloc, &dealers)?;
     rounds::two_workers_feed_at_once(&rt, alloc, &dealers)?;
-    rounds::a_round_reads_what_was_folded(&rt, alloc, &dealers)
+    rounds::a_round_reads_what_was_folded(&rt, alloc, &dealers)?;
+    rounds::each_thread_has_its_number(&rt, alloc, &dealers)
 }
 
 #[test]

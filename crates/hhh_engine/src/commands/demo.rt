@@ -2,6 +2,8 @@
 
 ghost use Rattle.std.specs.Prelude.{⊤, ◌≡◌, ◌≤◌, ◌↔◌, ℕ, List, length, Option, None, IfErr, IfOk};
 ghost use Rattle.shard_state.specs.{core_capacity};
+ghost use Rattle.pass_tokens.specs.{IsPassOfBoard, view};
+ghost use Rattle.gate_workers.specs.{FeedHasSeenEnds};
 ghost use Rattle.prefix_lattice.specs.{record_limit};
 ghost use Rattle.pcap_frames.specs.{FrameValue};
 ghost use Rattle.frame_records.specs.{AreRecordsOf, CaptureFileHasFrames, HasRecords};
@@ -15,7 +17,7 @@ ghost use Rattle.command_words.specs.{AreLimitedSettings, AreWideSettings};
 ghost use Rattle.hhh_engine.specs.Answer.{IsUnfinishedAnswer};
 ghost use Rattle.hhh_engine.specs.Demo.{IsDemoText, IsDemoReport, demo_text as text_of_demo};
 ghost use Rattle.hhh_engine.specs.Ending.{Ends, EndingSourceFaults};
-ghost use Rattle.hhh_engine.specs.DealtFeed.{IsDealtFeedOpening};
+ghost use Rattle.hhh_engine.specs.DealtFeed.{DealtFeedRunsPlan, IsDealtFeedOpening};
 ghost use Rattle.hhh_engine.specs.NoText.{HasNoText};
 ghost use Rattle.hhh_engine.specs.Session.{IsShownInSession, session_ends};
 ghost use Rattle.hhh_engine.specs.declared.status.Status.TheVariants.{BadCapture, ReadFault};
@@ -30,7 +32,7 @@ use crate::{Settings, Status};
 use deal_rules::{Dealer, Dealers, Deals, Dealt};
 use exact_audit::{Verdict, audit};
 use frame_records::{Records, Weigh, files_are_read_or_refused, read_records};
-use gate_workers::{Gate, OpenGate, Rounds, report_once, run_threads};
+use gate_workers::{Gate, Gathered, OpenGate, Rounds, report_once, run_threads};
 use hhh_output::Report;
 use outside_io::{Sink, Source, write_all};
 use pass_tokens::{Board, Pass};
@@ -178,16 +180,7 @@ fn report_opened<R: Threads + Wait + Sync, G: Gate + Sync>(
 {
     let Opened { board, pass, cut } = opened;
     let mut cut = cut;
-    let mut rounds = NoRounds;
-    let gathered = run_threads(
-        rt,
-        alloc,
-        &board,
-        pass,
-        &plan_of(settings),
-        gate,
-        &mut rounds,
-    )?;
+    let gathered = count_all(rt, alloc, &board, pass, settings, gate)?;
     let mut pass = gathered.pass;
     let report = report_once(
         rt,
@@ -201,6 +194,36 @@ fn report_opened<R: Threads + Wait + Sync, G: Gate + Sync>(
         &OpenGate,
     )?;
     Ok(report)
+}
+
+// Counts all records of the shards on a board by the plan of the settings. The calling thread makes no rounds.
+fn count_all<R: Threads + Wait + Sync, G: Gate + Sync>(
+    rt: &R,
+    alloc: Global,
+    board: &Board,
+    pass: Pass,
+    settings: &Settings,
+    gate: &G,
+) -> Result<Gathered, AllocError>
+    requires limited { AreLimitedSettings settings.now }
+    requires wide { AreWideSettings settings.now }
+    requires pass { IsPassOfBoard board.now pass }
+    requires alike { core_capacity board.now.opening ≡ settings.now.capacity }
+    ensures ran { IfOk result (DealtFeedRunsPlan board.now settings.now (view pass)) }
+    ensures ends { IfOk result (λ gathered. FeedHasSeenEnds board.now.opening (view gathered.pass)) }
+    ensures pass { IfOk result (λ gathered. IsPassOfBoard board.now gathered.pass) }
+{
+    let mut rounds = NoRounds;
+    let gathered = run_threads(
+        rt,
+        alloc,
+        board,
+        pass,
+        &plan_of(settings),
+        gate,
+        &mut rounds,
+    )?;
+    Ok(gathered)
 }
 
 // The calling thread makes no rounds.

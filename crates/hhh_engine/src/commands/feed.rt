@@ -5,7 +5,7 @@ ghost use Rattle.shard_state.specs.{HasCoreShape, core_capacity};
 ghost use Rattle.pass_tokens.specs.{IsPassOfBoard, first_view, view};
 ghost use Rattle.command_words.specs.{AreLimitedSettings, AreWideSettings};
 ghost use Rattle.hhh_engine.specs.DealtFeed.{IsDealtFeedFault, IsDealtFeedResult, IsDealtFeedGathered};
-ghost use Rattle.hhh_engine.specs.DealtFeed.{DealtFeedBreaksOffInRounds};
+ghost use Rattle.hhh_engine.specs.DealtFeed.{DealtFeedBreaksOffInRounds, DealtFeedRunsPlan, dealt_feed_plan};
 ghost use Rattle.hhh_engine.specs.Saves.{CanMakeSaves, SavesInPart, SavesInTurn};
 
 use crate::commands::LiveRounds;
@@ -30,8 +30,8 @@ pub(crate) struct Fed {
     pub(crate) cut: Cut,
 }
 
-/// Feeds the board to the ends, while the calling thread and the other callers make their rounds. With a saver the calling
-/// thread saves each of its cuts.
+/// Feeds the board to the ends by the plan of the settings, while the calling thread and the other callers make their
+/// rounds. With a saver the calling thread saves each of its cuts.
 pub(crate) fn feed<'a, R: Threads + Wait + Sync, K: Sink, D: Disk, G: Gate + Sync>(
     rt: &R,
     alloc: Global,
@@ -52,6 +52,7 @@ pub(crate) fn feed<'a, R: Threads + Wait + Sync, K: Sink, D: Disk, G: Gate + Syn
     requires alike { core_capacity board.now.opening ≡ settings.now.capacity }
     requires used { is_some saver.old ≡ settings.now.store }
     requires can_save { IfSome saver.old (CanMakeSaves (D.reads disk.old) (D.image_now disk.old) board.now.opening (view pass) settings.now.rounds) }
+    ensures ran { IfOk result (λ fed. DealtFeedRunsPlan board.now settings.now (view pass) fed.gathered) }
     ensures fed { IfOk result (IsDealtFeedResult board.now settings.now
         (SavesInTurn D.reads D.image_now D.moment D.image_since saver.old saver.new disk.old disk.new) (K.taken sink.old) (K.taken sink.new)) }
     ensures faults { OnOk result ((K.faults sink.new ≡ K.faults sink.old) × (D.faults disk.new ≡ D.faults disk.old)) }
@@ -77,8 +78,8 @@ pub(crate) fn feed<'a, R: Threads + Wait + Sync, K: Sink, D: Disk, G: Gate + Syn
     Ok(Fed { gathered, cut })
 }
 
-// Feeds the board to the ends while these rounds are made. A fault of the sink or the disk is reported also where memory
-// ran out in a caller.
+// Feeds the board to the ends by the plan of the settings while these rounds are made. What the callers bring back is in
+// their order. A fault of the sink or the disk is reported also where memory ran out in a caller.
 fn run_feed<R: Threads + Wait + Sync, K: Sink, D: Disk, G: Gate + Sync>(
     rt: &R,
     alloc: Global,
@@ -96,6 +97,7 @@ fn run_feed<R: Threads + Wait + Sync, K: Sink, D: Disk, G: Gate + Sync>(
     requires shape { HasCoreShape (length board.now.opening) (core_capacity board.now.opening) rounds.old.cut.now }
     requires share { rounds.old.phi ≡ settings.now.phi }
     requires count { rounds.old.rounds ≡ settings.now.rounds }
+    requires number { rounds.old.callers ≡ settings.now.callers }
     requires begun { rounds.old.stop ≡ None }
     requires used { is_some rounds.old.saver.now ≡ settings.now.store }
     requires can_save { IfSome rounds.old.saver.now (CanMakeSaves (D.reads rounds.old.disk.now) (D.image_now rounds.old.disk.now)
@@ -105,6 +107,7 @@ fn run_feed<R: Threads + Wait + Sync, K: Sink, D: Disk, G: Gate + Sync>(
     ensures same_saver { rounds.new.saver.ghost_name ≡ rounds.old.saver.ghost_name }
     ensures same_cut { rounds.new.cut.ghost_name ≡ rounds.old.cut.ghost_name }
     ensures shape { HasCoreShape (length board.now.opening) (core_capacity board.now.opening) rounds.new.cut.now }
+    ensures ran { IfOk result (DealtFeedRunsPlan board.now settings.now (view pass)) }
     ensures fed { IfOk result (IsDealtFeedGathered board.now settings.now
         (SavesInTurn D.reads D.image_now D.moment D.image_since rounds.old.saver.now rounds.new.saver.now rounds.old.disk.now rounds.new.disk.now)
         (K.taken rounds.old.sink.now) (K.taken rounds.new.sink.now)) }
@@ -128,14 +131,7 @@ fn run_feed<R: Threads + Wait + Sync, K: Sink, D: Disk, G: Gate + Sync>(
 
 /// The threads that the settings ask for.
 pub(crate) fn plan_of(settings: &Settings) -> ThreadPlan
-    ensures { result ≡ record {
-      workers = settings.now.workers;
-      callers = settings.now.callers;
-      rounds = settings.now.rounds;
-      block = settings.now.block;
-      phi = settings.now.phi;
-      capacity = settings.now.capacity;
-    } }
+    ensures { result ≡ dealt_feed_plan settings.now }
 {
     ThreadPlan {
         workers: settings.workers,

@@ -5,7 +5,7 @@ ghost use Rattle.outside_io.specs.{FaultCountRose};
 ghost use Rattle.pcap_frames.specs.declared.fault.CaptureFault.{CaptureFault};
 ghost use Rattle.command_words.specs.{AreLimitedSettings};
 ghost use Rattle.hhh_engine.specs.Answer.{IsUnfinishedAnswer, formatted_answer};
-ghost use Rattle.hhh_engine.specs.Ending.{Ends, FormatEnds, EndingSourceFaults};
+ghost use Rattle.hhh_engine.specs.Ending.{Ends, EndsTearingFront, FormatEnds, EndingSourceFaults};
 ghost use Rattle.hhh_engine.specs.Saves.{store_settings_for_saves};
 ghost use Rattle.hhh_engine.specs.declared.status.Status.TheVariants.{BadCapture, ReadFault, DiskFault};
 
@@ -16,7 +16,8 @@ use outside_io::{Sink, write_all};
 use slot_disk::Disk;
 
 /// Formats the store of these settings, and writes that it is formatted. What the disk held is lost. After `DiskFault`
-/// nothing was written, and the store is formatted again before it is used.
+/// nothing was written to the sink, at most the first 64 bytes of the disk have changed, and the store is formatted again
+/// before it is used.
 pub(crate) fn format<K: Sink, D: Disk>(settings: &Settings, sink: &mut K, disk: &mut D) -> Status
     requires { AreLimitedSettings settings.now }
     ensures ends { (capture : Option (List ℕ)) (faults : EndingSourceFaults)
@@ -24,7 +25,7 @@ pub(crate) fn format<K: Sink, D: Disk>(settings: &Settings, sink: &mut K, disk: 
         (FaultCountRose (D.faults disk.old) (D.faults disk.new)) (disk.new ≡ disk.old) ⊤ (λ fault. ⊥) (λ status. ⊥) capture faults faults
         sink.old sink.new (K.taken sink.old) (K.taken sink.new) (K.faults sink.old) (K.faults sink.new) result }
     ensures store { FormatEnds (store_settings_for_saves settings.now) (D.reads disk.new) (D.image_now disk.new)
-        sink.old sink.new disk.old disk.new result }
+        (EndsTearingFront D.reads D.image_now D.moment D.image_since disk.old disk.new) sink.old sink.new disk.old disk.new result }
     ensures no_capture { (fault : CaptureFault) → result ≡ BadCapture fault → ⊥ }
     ensures no_read_fault { result ≡ ReadFault → ⊥ }
     ensures told { (result ≡ DiskFault → ⊥) → D.faults disk.new ≡ D.faults disk.old }

@@ -5,7 +5,7 @@ ghost use Rattle.shard_state.specs.{HasCoreShape, core_capacity};
 ghost use Rattle.hhh_output.specs.{IsWideShare, threshold_million};
 ghost use Rattle.pass_tokens.specs.{IsPassOfBoard, view};
 ghost use Rattle.hhh_engine.specs.Rounds.{BreaksRound, EndRounds, WritesRounds};
-ghost use Rattle.hhh_engine.specs.Saves.{CanMakeSaves, SavesFitBoard, SavesInPart, SavesInTurn};
+ghost use Rattle.hhh_engine.specs.Saves.{CanMakeSaves, SavesBreakOff, SavesFitBoard, SavesInTurn};
 
 use crate::Status;
 use crate::commands::saving::{save_cut, saved_line};
@@ -21,7 +21,8 @@ use std::alloc::Global;
 use std::sync::Wait;
 
 /// The rounds of the calling thread. In each it reads a cut of all shards, reports on it, and writes the report's text.
-/// With a saver, it then saves the cut, and writes the line of the saved positions. The first fault ends them.
+/// With a saver, it then saves the cut, and writes the line of the saved positions. The first fault ends them. After a
+/// fault of the disk there is no saver; after any other it is the one after the cuts that were saved.
 #[derive(Drop)]
 pub struct LiveRounds<'a, K: Sink, D: Disk, G: Gate> {
     /// Where the reports are written.
@@ -50,7 +51,7 @@ impl<K: Sink, D: Disk, G: Gate> Rounds for LiveRounds<'_, K, D, G> {
     ghost use Rattle.shard_state.specs.{HasCoreShape, core_capacity};
     ghost use Rattle.hhh_output.specs.{IsWideShare, threshold_million};
     ghost use Rattle.hhh_engine.specs.Rounds.{EndRounds};
-    ghost use Rattle.hhh_engine.specs.Saves.{CanMakeSaves, CanMakeSaves-later, SavesInPart, SavesInTurn};
+    ghost use Rattle.hhh_engine.specs.Saves.{CanMakeSaves, CanMakeSaves-later, SavesBreakOff, SavesInTurn};
 
     ghost ready = { λ rounds board view. HasCoreShape (length board.opening) (core_capacity board.opening) rounds.cut.now
         × (1 ≤ rounds.phi) × (rounds.phi ≤ threshold_million) × IsWideShare rounds.phi (core_capacity board.opening)
@@ -74,7 +75,7 @@ impl<K: Sink, D: Disk, G: Gate> Rounds for LiveRounds<'_, K, D, G> {
         × HasCoreShape (length view.opening) (core_capacity view.opening) after.cut.now
         × EndRounds view.opening before.phi before.rounds view later (is_some before.saver.now)
         (SavesInTurn D.reads D.image_now D.moment D.image_since before.saver.now after.saver.now before.disk.now after.disk.now)
-        (SavesInPart D.reads D.image_now D.moment D.image_since before.saver.now before.disk.now after.disk.now)
+        (SavesBreakOff D.reads D.image_now D.moment D.image_since before.saver.now after.saver.now before.disk.now after.disk.now)
         (K.taken before.sink.now) (K.taken after.sink.now)
         (record { sink = K.faults before.sink.now; disk = D.faults before.disk.now })
         (record { sink = K.faults after.sink.now; disk = D.faults after.disk.now }) after.stop
@@ -133,7 +134,7 @@ fn make_round<R: Wait, K: Sink, D: Disk, G: Gate>(
     ensures fits { OnOk result (IfSome saver.new (SavesFitBoard board.now.opening (view pass.new))) }
     ensures faults { OnOk result ((K.faults sink.new ≡ K.faults sink.old) × (D.faults disk.new ≡ D.faults disk.old)) }
     ensures broken { IfErr result (BreaksRound board.now.opening phi (view pass.old) (view pass.new) (is_some saver.old)
-        (SavesInPart D.reads D.image_now D.moment D.image_since saver.old disk.old disk.new) (K.taken sink.old) (K.taken sink.new)
+        (SavesBreakOff D.reads D.image_now D.moment D.image_since saver.old saver.new disk.old disk.new) (K.taken sink.old) (K.taken sink.new)
         (record { sink = K.faults sink.old; disk = D.faults disk.old }) (record { sink = K.faults sink.new; disk = D.faults disk.new })) }
     ensures unused { saver.old ≡ None → (saver.new ≡ None) × (disk.new ≡ disk.old) }
     ensures shape { HasCoreShape (length board.now.opening) (core_capacity board.now.opening) cut.new }

@@ -1,7 +1,7 @@
 //! What `report` writes while workers feed.
 
 use super::captures::{ONE, capture_of};
-use super::gates::{Meeting, Turnstile};
+use super::gates::{Meeting, RollCall, Turnstile};
 use super::reports::ELEVEN;
 use super::{Outside, SOUND, run_gated, run_over};
 use deal_rules::Dealers;
@@ -161,5 +161,34 @@ pub(crate) fn a_round_reads_what_was_folded<R: Abort + Threads + Wait + Sync>(
             [at, at, "8"].as_slice()
         );
     }
+    Ok(())
+}
+
+// Three workers fold blocks of two packets. The first caller, of number 0, and the calling thread, whose number is that
+// of the callers, read after one block of each shard, the second caller after two. Their reports are in this order.
+pub(crate) fn each_thread_has_its_number<R: Abort + Threads + Wait + Sync>(
+    rt: &R,
+    alloc: Global,
+    dealers: &Dealers,
+) -> Result<(), Fail> {
+    let words = [
+        "report",
+        "--shards=3",
+        "--workers=3",
+        "--block=2",
+        "--callers=2",
+        "--rounds=1",
+    ];
+    let gate = RollCall::new();
+    let bytes = capture_of(alloc, &[ONE; 15])?;
+    let ended = run_gated(rt, alloc, dealers, &words, bytes, SOUND, &gate)?;
+    assert_eq!(rt; gate.missed(), 0);
+    assert_eq!(rt; ended.status, Status::Done);
+    assert_eq!(rt; gate.other_folds(), 0);
+    assert_eq!(rt; gate.reads(), [1, 1, 1, 0]);
+    assert_eq!(rt;
+        positions_in(alloc, &ended.text)?.as_slice(),
+        ["2 2 2", "2 2 2", "4 4 4", "5 5 5"].as_slice()
+    );
     Ok(())
 }

@@ -1,6 +1,6 @@
 use Rattle.std.proofs.Common.{inr, refl, sym, subst}
 use Rattle.command_words.specs.declared.command.Command.TheVariants.{Report, Format, Audit}
-use Rattle.hhh_engine.specs.Ending.{FormatEnds}
+use Rattle.hhh_engine.specs.Ending.{EndsTearingFront, FormatEnds}
 use Rattle.hhh_engine.specs.Inputs.{UsesInputCapture}
 use Rattle.hhh_engine.specs.Saves.{store_settings_for_saves}
 use Rattle.hhh_engine.proofs.AuditFindingLemmas.{asked_audit_finding_is_unsound, audit_finding_by_status}
@@ -52,6 +52,7 @@ returns-in-Err-clause-refuses_store g c = λ settings file image frames fault as
 pub returns-in-Err-clause-formats : goal.returns-in-Err-clause-formats
 returns-in-Err-clause-formats g c = λ settings asks.
     subst (FormatEnds (store_settings_for_saves settings) (g.D.Disk.reads c.args.disk.now) (g.D.Disk.image_now c.args.disk.now)
+    (EndsTearingFront g.D.Disk.reads g.D.Disk.image_now g.D.Disk.moment g.D.Disk.image_since c.args.disk.now c.args.disk.now)
     c.args.sink.now c.args.sink.now c.args.disk.now c.args.disk.now)
     (sym (status_is_want_of_memory c.read_words.result (Format settings) c.in-Err.refusal c.from.result
     (c.read_words.ensures.complete (Format settings) asks) c.in-Err.is c.from.ensures)) (refl, refl)

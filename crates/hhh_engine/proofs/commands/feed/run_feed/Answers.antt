@@ -1,19 +1,22 @@
 use Rattle.std.proofs.Common.{ap}
 use Rattle.gate_workers.specs.declared.plan.ThreadPlan.{ThreadPlan}
 use Rattle.pass_tokens.specs.{view}
+use Rattle.hhh_engine.proofs.RoundLemmas.{ended_rounds_say_less}
 use Rattle.hhh_engine.proofs.SaveLemmas.{no_save_into_untouched_disk, part_of_saves}
 use Rattle.hhh_engine.proofs.SeenPositionLemmas.{seen_positions_saver_stands}
 use Rattle.hhh_engine.proofs.SessionThreadLemmas.{session_thread_ended_as_set, session_thread_ended_all_rounds}
 use Rattle.hhh_engine.proofs.SessionThreadLemmas.{session_threads_leave_rounds, session_threads_gathered_all}
 use Rattle.hhh_engine.proofs.SessionThreadLemmas.{session_thread_on_err, session_threads_ran_or_not}
+use Rattle.hhh_engine.proofs.SessionThreadLemmas.{session_thread_rounds_make_steps, session_threads_ran_as_planned}
 use Rattle.hhh_engine.proofs.commands.feed.run_feed.Goals as goal
 
 pub returns-in-Some-clause-part : goal.returns-in-Some-clause-part
 returns-in-Some-clause-part g c =
     session_threads_leave_rounds _ _ c.args.board.now.opening c.args.settings.now _ (view c.args.pass) _ _ _ _ _ _ _ c.requires.view
     c.requires.alike
-    (λ before now does. session_thread_ended_as_set _ _ _ _ _ before now _ _ _ _ _ _ _ _ _ c.requires.share c.requires.count
-    c.requires.used does.5)
+    (λ before now does. ended_rounds_say_less _ _ _ before now _ _ _ _ _ _ _ _ _
+    (session_thread_ended_as_set _ _ _ _ _ before now _ _ _ _ _ _ _ _ _ c.requires.share c.requires.count c.requires.used does.5)
+    (λ saved unfinished kept. kept.saves))
     (c.calls_follow_calls.ensures.more c.args.board.now.opening)
     (λ cuts saves. part_of_saves _ _ _ _ _ _ _ cuts saves.saves)
     (λ same. (
@@ -31,8 +34,9 @@ returns-in_err-gathered-clause-part g c =
     session_thread_on_err c.from_residual.result _
     (session_threads_leave_rounds _ _ c.args.board.now.opening c.args.settings.now _ (view c.args.pass) _ _ _ _ _ _ _ c.requires.view
     c.requires.alike
-    (λ before now does. session_thread_ended_as_set _ _ _ _ _ before now _ _ _ _ _ _ _ _ _ c.requires.share c.requires.count
-    c.requires.used does.5)
+    (λ before now does. ended_rounds_say_less _ _ _ before now _ _ _ _ _ _ _ _ _
+    (session_thread_ended_as_set _ _ _ _ _ before now _ _ _ _ _ _ _ _ _ c.requires.share c.requires.count c.requires.used does.5)
+    (λ saved unfinished kept. kept.saves))
     (c.calls_follow_calls.ensures.more c.args.board.now.opening)
     (λ cuts saves. part_of_saves _ _ _ _ _ _ _ cuts saves.saves)
     (λ same. (
@@ -43,6 +47,13 @@ returns-in_err-gathered-clause-part g c =
           (ap (λ work. work.disk.now) same),
     ))
     c.in_err-gathered.ensures.memory)
+
+pub returns-clause-ran : goal.returns-clause-ran
+returns-clause-ran g c =
+    session_threads_ran_as_planned _ _ c.args.board.now.opening _ _ (view c.args.pass) c.in_ok-gathered.gathered c.plan_of.ensures
+    (λ before now does. session_thread_rounds_make_steps _ _ _ before now _ _ _ _
+    (session_thread_ended_all_rounds _ _ _ before now _ _ _ _ _ _ _ _ c.in_default.is does.5))
+    c.in_ok-gathered.ensures.gathers
 
 pub returns-clause-fed : goal.returns-clause-fed
 returns-clause-fed g c =

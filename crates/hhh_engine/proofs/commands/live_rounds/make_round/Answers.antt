@@ -9,8 +9,7 @@ use Rattle.hhh_engine.specs.Session.{session_save_line}
 use Rattle.hhh_engine.proofs.RoundLemmas.{round_broken_by_memory, round_makes_report, round_report_has_positions}
 use Rattle.hhh_engine.proofs.RoundLemmas.{round_broken_at_saving}
 use Rattle.hhh_engine.proofs.RoundLemmas.{round_broken_by_sink, writes_one_round}
-use Rattle.hhh_engine.proofs.SaveLemmas.{no_saver_no_save, no_save_into_untouched_disk, part_of_saves}
-use Rattle.hhh_engine.proofs.SaveLemmas.{save_of_reported_cut}
+use Rattle.hhh_engine.proofs.SaveLemmas.{no_saver_no_save, no_save_broke_off, save_of_reported_cut, whole_saves_broke_off}
 use Rattle.hhh_engine.proofs.SeenPositionLemmas.{seen_positions_can_be_saved, seen_positions_fit_next_saver}
 use Rattle.hhh_engine.proofs.SeenPositionLemmas.{seen_positions_saver_stands}
 use Rattle.hhh_engine.proofs.commands.live_rounds.make_round.Goals as goal
@@ -43,9 +42,9 @@ returns-in-Err-clause-broken g c =
       report = report;
       reports = record { calls = c.in_ok-report.ensures.calls; sound = c.in_ok-report.ensures.sound };
       written = subst (AppendsBeginning _ _) text c.in-Err.ensures.beginning;
-      kept = no_save_into_untouched_disk g.D.Disk.reads g.D.Disk.image_now g.D.Disk.moment g.D.Disk.image_since c.args.saver.now
-          c.args.disk.now c.args.disk.now g.met.D.Disk.only_now
-          (seen_positions_saver_stands _ _ c.args.board.now.opening _ _ c.args.saver.now c.requires.can_save) refl;
+      kept = no_save_broke_off g.D.Disk.reads g.D.Disk.image_now g.D.Disk.moment g.D.Disk.image_since c.args.saver.now
+          c.args.saver.now c.args.disk.now c.args.disk.now g.met.D.Disk.only_now
+          (seen_positions_saver_stands _ _ c.args.board.now.opening _ _ c.args.saver.now c.requires.can_save) refl refl;
     }))
 
 pub returns-in-Err-save_cut-clause-broken : goal.returns-in-Err-save_cut-clause-broken
@@ -55,22 +54,25 @@ returns-in-Err-save_cut-clause-broken g c =
     let written = subst (Appends _ _) text c.in_default.ensures.whole in
     round_broken_at_saving _ _ _ _ (is_some c.args.saver.now) _ _ _ _ _ _ _ c.in-Err-save_cut.status c.in-Err-save_cut.ensures.used
     c.in-Err-save_cut.ensures.fault c.in_default.ensures.faults
-    (record {
+    (λ is. record {
       report = report;
       reports = record { calls = c.in_ok-report.ensures.calls; sound = c.in_ok-report.ensures.sound };
       written = written;
-      kept = subst (λ cut. SavesInPart g.D.Disk.reads g.D.Disk.image_now g.D.Disk.moment g.D.Disk.image_since
-          c.args.saver.now c.args.disk.now c.save_cut.new.disk [] (cut ∷ [])) c.in_ok-report.ensures.cut
-          c.in-Err-save_cut.ensures.in_part;
+      kept = record {
+        saver = c.in-Err-save_cut.ensures.saver_goes is;
+        saves = subst (λ cut. SavesInPart g.D.Disk.reads g.D.Disk.image_now g.D.Disk.moment g.D.Disk.image_since
+            c.args.saver.now c.args.disk.now c.save_cut.new.disk [] (cut ∷ [])) c.in_ok-report.ensures.cut
+            c.in-Err-save_cut.ensures.in_part;
+      };
     })
     (λ is. record {
       report = report;
       reports = record { calls = c.in_ok-report.ensures.calls; sound = c.in_ok-report.ensures.sound };
       written = written;
-      kept = no_save_into_untouched_disk g.D.Disk.reads g.D.Disk.image_now g.D.Disk.moment g.D.Disk.image_since c.args.saver.now
-          c.args.disk.now c.save_cut.new.disk g.met.D.Disk.only_now
+      kept = no_save_broke_off g.D.Disk.reads g.D.Disk.image_now g.D.Disk.moment g.D.Disk.image_since c.args.saver.now
+          c.save_cut.new.saver c.args.disk.now c.save_cut.new.disk g.met.D.Disk.only_now
           (seen_positions_saver_stands _ _ c.args.board.now.opening _ _ c.args.saver.now c.requires.can_save)
-          (c.in-Err-save_cut.ensures.ran_out is);
+          (c.in-Err-save_cut.ensures.saver_stays is) (c.in-Err-save_cut.ensures.ran_out is);
     })
 
 pub returns-clause-broken : goal.returns-clause-broken
@@ -86,12 +88,12 @@ returns-clause-broken g c =
       between = _;
       whole = subst (Appends _ _) text c.in_default.ensures.whole;
       written = subst (AppendsBeginning _ _) line c.in-Err-write.ensures.beginning;
-      kept = part_of_saves g.D.Disk.reads g.D.Disk.image_now g.D.Disk.moment g.D.Disk.image_since c.args.saver.now
-          c.args.disk.now c.save_cut.new.disk _
+      kept = whole_saves_broke_off g.D.Disk.reads g.D.Disk.image_now g.D.Disk.moment g.D.Disk.image_since c.args.saver.now
+          c.save_cut.new.saver c.args.disk.now c.save_cut.new.disk _
           (save_of_reported_cut (is_some c.args.saver.now) _ report _ (SavesInTurn g.D.Disk.reads g.D.Disk.image_now
           g.D.Disk.moment g.D.Disk.image_since c.args.saver.now c.save_cut.new.saver c.args.disk.now c.save_cut.new.disk)
           c.in_ok-report.ensures.cut (no_saver_no_save _ _ _ _ c.args.saver.now _ _ _ _)
-          c.in_default-save_cut.ensures.saved).saves;
+          c.in_default-save_cut.ensures.saved);
     }))
 
 pub returns-in-Ok-clause-whole : goal.returns-in-Ok-clause-whole
@@ -116,22 +118,22 @@ pub returns-in_err-report-clause-broken : goal.returns-in_err-report-clause-brok
 returns-in_err-report-clause-broken g c =
     round_broken_by_memory c.from_residual.result c.args.board.now.opening c.args.phi _ _ (is_some c.args.saver.now) _ _ _
     c.from_residual.ensures.1 c.report_once.ensures.reads
-    (no_save_into_untouched_disk g.D.Disk.reads g.D.Disk.image_now g.D.Disk.moment g.D.Disk.image_since c.args.saver.now
+    (no_save_broke_off g.D.Disk.reads g.D.Disk.image_now g.D.Disk.moment g.D.Disk.image_since c.args.saver.now c.args.saver.now
     c.args.disk.now c.args.disk.now g.met.D.Disk.only_now
-    (seen_positions_saver_stands _ _ c.args.board.now.opening _ _ c.args.saver.now c.requires.can_save) refl)
+    (seen_positions_saver_stands _ _ c.args.board.now.opening _ _ c.args.saver.now c.requires.can_save) refl refl)
 
 pub returns-in_err-print-clause-broken : goal.returns-in_err-print-clause-broken
 returns-in_err-print-clause-broken g c =
     round_broken_by_memory c.from_residual-in_err-print.result c.args.board.now.opening c.args.phi _ _ (is_some c.args.saver.now) _ _ _
     c.from_residual-in_err-print.ensures.1 c.report_once.ensures.reads
-    (no_save_into_untouched_disk g.D.Disk.reads g.D.Disk.image_now g.D.Disk.moment g.D.Disk.image_since c.args.saver.now
+    (no_save_broke_off g.D.Disk.reads g.D.Disk.image_now g.D.Disk.moment g.D.Disk.image_since c.args.saver.now c.args.saver.now
     c.args.disk.now c.args.disk.now g.met.D.Disk.only_now
-    (seen_positions_saver_stands _ _ c.args.board.now.opening _ _ c.args.saver.now c.requires.can_save) refl)
+    (seen_positions_saver_stands _ _ c.args.board.now.opening _ _ c.args.saver.now c.requires.can_save) refl refl)
 
 pub returns-in_err-line-clause-broken : goal.returns-in_err-line-clause-broken
 returns-in_err-line-clause-broken g c =
     round_broken_by_memory c.from_residual-in_err-line.result c.args.board.now.opening c.args.phi _ _ (is_some c.args.saver.now) _ _ _
     c.from_residual-in_err-line.ensures.1 c.report_once.ensures.reads
-    (no_save_into_untouched_disk g.D.Disk.reads g.D.Disk.image_now g.D.Disk.moment g.D.Disk.image_since c.args.saver.now
+    (no_save_broke_off g.D.Disk.reads g.D.Disk.image_now g.D.Disk.moment g.D.Disk.image_since c.args.saver.now c.args.saver.now
     c.args.disk.now c.args.disk.now g.met.D.Disk.only_now
-    (seen_positions_saver_stands _ _ c.args.board.now.opening _ _ c.args.saver.now c.requires.can_save) refl)
+    (seen_positions_saver_stands _ _ c.args.board.now.opening _ _ c.args.saver.now c.requires.can_save) refl refl)

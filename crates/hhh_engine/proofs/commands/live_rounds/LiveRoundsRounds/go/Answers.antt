@@ -4,10 +4,10 @@ use Rattle.hhh_output.specs.{IsWideShare, threshold_million}
 use Rattle.shard_state.specs.{HasCoreShape, core_capacity}
 use Rattle.pass_tokens.specs.{view}
 use Rattle.hhh_engine.specs.Rounds.{WritesRounds}
-use Rattle.hhh_engine.specs.Saves.{SavesInPart, SavesInTurn}
+use Rattle.hhh_engine.specs.Saves.{SavesBreakOff, SavesInTurn}
 use Rattle.hhh_engine.proofs.RoundLemmas.{all_rounds_were_made, one_round_broke_off, round_saver_stays_or_none}
 use Rattle.hhh_engine.proofs.RoundLemmas.{writes_no_round, writes_more_rounds}
-use Rattle.hhh_engine.proofs.SaveLemmas.{no_save, save_needs_saver, broken_off_save_follows, saves_follow}
+use Rattle.hhh_engine.proofs.SaveLemmas.{no_save, save_needs_saver, broken_saves_follow, saves_follow}
 use Rattle.hhh_engine.proofs.SeenPositionLemmas.{seen_positions_allowed_settings, seen_positions_allow_more_saves}
 use Rattle.hhh_engine.proofs.SeenPositionLemmas.{seen_position_report_count, seen_positions_fit_saver}
 use Rattle.hhh_engine.proofs.SeenPositionLemmas.{seen_positions_saver_is_early, seen_positions_saver_stands}
@@ -70,16 +70,16 @@ returns-in-Err-clause-does g c =
       one_round_broke_off _ _ _ _ _ _ _ _ _ _ _
           (SavesInTurn g.D.Disk.reads g.D.Disk.image_now g.D.Disk.moment g.D.Disk.image_since c.args.self.now.saver.now
           c.loop-round.self.saver.now c.args.self.now.disk.now c.loop-round.self.disk.now)
-          (SavesInPart g.D.Disk.reads g.D.Disk.image_now g.D.Disk.moment g.D.Disk.image_since
-          c.loop-round.self.saver.now c.loop-round.self.disk.now c.make_round-made.new.disk)
-          (SavesInPart g.D.Disk.reads g.D.Disk.image_now g.D.Disk.moment g.D.Disk.image_since c.args.self.now.saver.now
-          c.args.self.now.disk.now c.make_round-made.new.disk) _ _ _ _ _ _ c.in-Err.status opening far.same_share
+          (SavesBreakOff g.D.Disk.reads g.D.Disk.image_now g.D.Disk.moment g.D.Disk.image_since
+          c.loop-round.self.saver.now c.make_round-made.new.saver c.loop-round.self.disk.now c.make_round-made.new.disk)
+          (SavesBreakOff g.D.Disk.reads g.D.Disk.image_now g.D.Disk.moment g.D.Disk.image_since c.args.self.now.saver.now
+          c.make_round-made.new.saver c.args.self.now.disk.now c.make_round-made.new.disk) _ _ _ _ _ _ c.in-Err.status opening far.same_share
           (round_saver_stays_or_none c.args.self.now.saver.now c.loop-round.self.saver.now _ far.written.kept.saver)
           (ap₂ (λ s d. record { sink = s; disk = d }) far.sink_faults far.disk_faults) c.loop-round-test.true
           (λ cuts saved unfinished first second.
-          broken_off_save_follows c.stores_open_to_one.ensures g.D.Disk.reads g.D.Disk.image_now g.D.Disk.moment
-          g.D.Disk.image_since c.args.self.now.saver.now c.loop-round.self.saver.now cuts saved unfinished
-          c.args.self.now.disk.now c.loop-round.self.disk.now c.make_round-made.new.disk
+          broken_saves_follow c.stores_open_to_one.ensures g.D.Disk.reads g.D.Disk.image_now g.D.Disk.moment
+          g.D.Disk.image_since c.args.self.now.saver.now c.loop-round.self.saver.now c.make_round-made.new.saver cuts saved
+          unfinished c.args.self.now.disk.now c.loop-round.self.disk.now c.make_round-made.new.disk
           (seen_positions_allowed_settings _ _ c.args.board.now.opening _ _ c.args.self.now.saver.now c.requires.ready.5)
           g.met.D.Disk.reading_is_image first second)
           far.written c.in-Err.ensures.broken,
