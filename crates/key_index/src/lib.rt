@@ -8,6 +8,3 @@ mod key_index;
 mod searching;
 
 pub use key_index::KeyIndex;
-
-#[cfg(test)]
-mod tests;

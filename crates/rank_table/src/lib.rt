@@ -11,6 +11,3 @@ mod steps;
 mod words;
 
 pub use rank_table::RankTable;
-
-#[cfg(test)]
-mod tests;

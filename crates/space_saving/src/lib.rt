@@ -22,6 +22,3 @@ pub use laws::{
 };
 pub use plain_table::PlainTable;
 pub use summary::Summary;
-
-#[cfg(test)]
-mod tests;

@@ -6,6 +6,3 @@ mod nodes;
 mod winner_tree;
 
 pub use winner_tree::WinnerTree;
-
-#[cfg(test)]
-mod tests;

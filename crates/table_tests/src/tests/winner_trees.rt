@@ -1,7 +1,10 @@
-use super::*;
+//! Winner trees, compared with plain lists.
+
+use super::next;
 use std::alloc::{AllocError, Global};
 use std::process::Abort;
 use std::test::Fail;
+use winner_tree::WinnerTree;
 
 /// Compares the least leaf of a tree with that of a plain list, after each of 300 random changes.
 fn follow_a_list(rt: &impl Abort, alloc: Global, leaves: usize) -> Result<(), AllocError> {
@@ -11,9 +14,7 @@ fn follow_a_list(rt: &impl Abort, alloc: Global, leaves: usize) -> Result<(), Al
     let mut list: Vec<u64> = (0..leaves as u64).collect(alloc)?;
     let mut random: u64 = 7;
     for turn in 0..300 {
-        random = random
-            .wrapping_mul(6364136223846793005)
-            .wrapping_add(1442695040888963407);
+        random = next(random);
         let place = (random >> 33) as usize % leaves;
         let word = (random >> 20) % 50;
         tree.set(place, word);

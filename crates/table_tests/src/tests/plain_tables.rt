@@ -1,6 +1,9 @@
+//! The plain table, flat copies, and sources of entries.
+
 ghost use Rattle.std.specs.Prelude.{◌≤◌};
 
-use super::*;
+use super::{entry, next};
+use space_saving::{Entry, EntrySource, Flat, PlainTable, Summary};
 use std::alloc::{AllocError, Global};
 use std::process::Abort;
 use std::test::Fail;
@@ -10,10 +13,6 @@ const A: u64 = 0x0a01_0203_1401_0203;
 const B: u64 = 7;
 
 const C: u64 = u64::MAX;
-
-const fn entry(key: u64, count: u64, error: u64) -> Entry {
-    Entry { key, count, error }
-}
 
 fn table_after<T: Summary + Drop>(
     rt: &impl Abort,
@@ -232,9 +231,7 @@ fn follow_the_plain_step<T: Summary + Drop>(
     let mut weights = [0u64; 8];
     let mut random: u64 = 7;
     for _ in 0..2000 {
-        random = random
-            .wrapping_mul(6364136223846793005)
-            .wrapping_add(1442695040888963407);
+        random = next(random);
         let key = (random >> 33) % 8;
         let weight = 1 + ((random >> 50) % 9) as u32;
         assert!(rt; table.total() < 1 << 40);

@@ -1,21 +1,13 @@
+//! The table of a shard, compared with the plain table.
+
 ghost use Rattle.std.specs.Prelude.{◌≤◌};
 
-use super::*;
-use space_saving::{Entry, Flat, PlainTable, Summary};
+use super::{entry, next};
+use rank_table::RankTable;
+use space_saving::{Flat, PlainTable, Summary};
 use std::alloc::{AllocError, Global};
 use std::process::Abort;
 use std::test::Fail;
-
-const fn entry(key: u64, count: u64, error: u64) -> Entry {
-    Entry { key, count, error }
-}
-
-/// The next state of a linear congruential generator.
-fn next(random: u64) -> u64 {
-    random
-        .wrapping_mul(6364136223846793005)
-        .wrapping_add(1442695040888963407)
-}
 
 /// Adds a weight of at most `weights` for one of `keys` keys to both tables.
 fn add_to_both(

@@ -1,4 +1,7 @@
-use super::*;
+//! Indexes of keys, compared with plain lists of the same keys.
+
+use super::next;
+use key_index::KeyIndex;
 use std::alloc::{AllocError, Global};
 use std::process::Abort;
 use std::test::Fail;
@@ -27,9 +30,7 @@ fn follow_a_list(rt: &impl Abort, alloc: Global, room: usize, step: u64) -> Resu
     }
     let mut random: u64 = 7;
     for turn in 0..2000 {
-        random = random
-            .wrapping_mul(6364136223846793005)
-            .wrapping_add(1442695040888963407);
+        random = next(random);
         let place = (random >> 33) as usize % room;
         let key = (random >> 41).wrapping_mul(step);
         assert!(rt; place < list.len());

@@ -1,5 +1,5 @@
 use Rattle.std.proofs.Common.{◌≡◌, length}
-use Rattle.winner_tree.proofs.tests.follow_a_list.Given as goal
+use Rattle.table_tests.proofs.tests.winner_trees.follow_a_list.Given as goal
 
 -- the tree keeps its leaves
 abbrev pub invariant-loop-turn : goal.invariant-loop-turn

@@ -1,5 +1,5 @@
 use Rattle.std.proofs.Common.{◌≡◌, length}
-use Rattle.key_index.proofs.tests.follow_a_list.Given as goal
+use Rattle.table_tests.proofs.tests.key_indexes.follow_a_list.Given as goal
 
 -- each turn so far appended one key
 abbrev pub invariant-loop-place : goal.invariant-loop-place

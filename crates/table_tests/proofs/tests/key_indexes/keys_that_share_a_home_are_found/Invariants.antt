@@ -1,5 +1,5 @@
 use Rattle.std.proofs.Common.{◌≡◌, length}
-use Rattle.key_index.proofs.tests.keys_that_share_a_home_are_found.Given as goal
+use Rattle.table_tests.proofs.tests.key_indexes.keys_that_share_a_home_are_found.Given as goal
 
 -- each turn so far appended one key
 abbrev pub invariant-loop-number : goal.invariant-loop-number
