@@ -3,9 +3,10 @@
 
 They are the edits in `more-wrong-bodies/` of these crates, of all crates where none is named; with --only those whose name
 has WORD. `rt must-fail` tries them, one crate after the other, on N processors (2 unless given), in a copy of the repository
-in which they stand in `must-fail/`. There it begins with what `rt check` kept in the checkout. The copy lies in a temporary
-folder, and is removed at the end. Prints what is said of each, how many of each crate were refused and in how many seconds,
-and at the end the counts. Ends with 1 where one isn't refused. Needs `rt`.
+in which they stand in `must-fail/`. There it begins with what `rt check` kept in the checkout, and tries nothing again that
+it tried of the same files before. The copy lies in a temporary folder, and is removed at the end. Prints what is said of
+each, how many of each crate were refused and in how many seconds, and at the end the counts. Ends with 1 where one isn't
+refused, or a crate isn't proved as it stands. Needs `rt`.
 """
 
 import argparse
@@ -40,18 +41,21 @@ def must_fail(folder, crate):
     how = {"cwd": folder, "stdin": subprocess.DEVNULL, "stdout": subprocess.PIPE, "stderr": subprocess.STDOUT}
     room = {**os.environ, "TMPDIR": str(folder.parent)}
     process = subprocess.Popen(["rt", "must-fail", crate], env=room, text=True, errors="replace", **how)
+    is_proved = True
     try:
         for line in process.stdout:
             print(line, end="", flush=True)
             end = re.match(r"rt: must-fail \S+: (%s)" % "|".join(KINDS), line)
             ends.update(end.groups() if end else ())
+            is_proved = is_proved and "did not end well" not in line
         process.wait()
     except BaseException:
         process.terminate()
         process.wait()
         time.sleep(1)  # What it started ends right after it.
         raise
-    return ends
+    # In a crate that isn't proved any body is refused.
+    return ends if is_proved else Counter()
 
 
 def stop(*_):
