@@ -19,6 +19,3 @@ pub use path_texts::{PathTexts, paths};
 pub use reading::read_words;
 pub use settings::Settings;
 pub use words_kind::{WordsKind, WordsRefusal};
-
-#[cfg(test)]
-mod tests;

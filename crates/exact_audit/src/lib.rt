@@ -16,6 +16,3 @@ mod verdict;
 pub use auditing::audit;
 pub use laws::a_report_has_one_verdict;
 pub use verdict::Verdict;
-
-#[cfg(test)]
-mod tests;

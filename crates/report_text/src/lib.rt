@@ -22,6 +22,3 @@ pub use printing::{print, print_positions, print_tail};
 pub use session::Session;
 pub use session_fault::{SessionFault, TextFault};
 pub use session_reading::read_session;
-
-#[cfg(test)]
-mod tests;

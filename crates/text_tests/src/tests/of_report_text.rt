@@ -1,26 +1,26 @@
-ghost use Rattle.std.specs.Prelude.{◌≤◌, IfOk};
-ghost use Rattle.report_text.specs.ReportText.{ReportTextShowsPositions};
+//! The text of a report and of the lines around it, and the reader of a session.
 
-use crate::{
-    Mark, Session, SessionFault, TextFault, print, print_positions, print_tail, read_session,
-};
+ghost use Rattle.std.specs.Prelude.{◌≤◌, IfOk};
+ghost use Rattle.report_text.specs.{ReportTextShowsPositions};
+
+use super::worked_lines::{prefix_of, two_lines};
 use frame_records::Records;
-use hhh_output::{Line, Lines, Report};
-use prefix_lattice::{Prefix, RecordList};
+use hhh_output::{Line, Report};
+use prefix_lattice::RecordList;
+use report_text::{
+    Mark, SessionFault, TextFault, print, print_positions, print_tail, read_session,
+};
 use shard_state::Positions;
 use std::alloc::{AllocError, Global};
-use std::cmp::Ordering;
 use std::test::Fail;
 
 fn line_of(source: &str, dest: &str, lo: u64, hi: u64) -> Result<Line, Fail> {
-    let prefix = Prefix::parse(source.as_bytes(), dest.as_bytes()).map_err(|_| Fail::from(
-        "no prefix",
-    ))?;
+    let prefix = prefix_of(source, dest)?;
     Ok(Line { prefix, lo, hi })
 }
 
 // The positions of two shards.
-#[tactic(auto, using(crate::proofs::ShortListLemmas::short_list_of_positions))]
+#[tactic(auto, using(crate::proofs::LinePairLemmas::pair_of_positions_is_shown))]
 fn positions_of(alloc: Global, first: u64, second: u64) -> Result<Positions, AllocError>
     requires first { first ≤ 16777216 }
     requires second { second ≤ 16777216 }
@@ -33,25 +33,12 @@ fn positions_of(alloc: Global, first: u64, second: u64) -> Result<Positions, All
 }
 
 // A report of two lines in their order.
-#[tactic(auto, using(crate::proofs::ShortListLemmas::short_list_of_two_lines))]
 fn report_of(alloc: Global, positions: Positions, first: Line, second: Line) -> Result<Report, Fail>
     requires { ReportTextShowsPositions positions }
     ensures positions { IfOk result (λ report. ReportTextShowsPositions report.positions) }
     ensures threshold { IfOk result (λ report. 1 ≤ report.threshold) }
 {
-    if first.lo > first.hi {
-        return Err(Fail::from("first line"));
-    }
-    if second.lo > second.hi {
-        return Err(Fail::from("second line"));
-    }
-    match first.prefix.order(&second.prefix) {
-        Ordering::Less => {}
-        _ => return Err(Fail::from("order")),
-    }
-    let mut lines = Lines::new(alloc);
-    lines.push(first)?;
-    lines.push(second)?;
+    let lines = two_lines(alloc, first, second)?;
     Ok(Report {
         positions,
         total: 260,

@@ -1,4 +1,6 @@
-use crate::{Command, Opt, Settings, WordsKind, WordsRefusal, paths, read_words};
+//! The arguments of the command line.
+
+use command_words::{Command, Opt, Settings, WordsKind, WordsRefusal, paths, read_words};
 use deal_rules::DealKind;
 use frame_records::Weigh;
 use prefix_lattice::{Prefix, PrefixFault, Side};

@@ -1,15 +1,15 @@
-ghost use Rattle.std.specs.Prelude.{◌≡◌, ◌%◌, ◌≤◌};
-ghost use Rattle.deal_rules.specs.{IsAskedOfDealRule};
-ghost use Rattle.shard_state.specs.{least_table_capacity, most_table_capacity};
-ghost use Rattle.hhh_output.specs.{threshold_million};
+//! Audits of reports.
 
-use super::*;
+ghost use Rattle.std.specs.Prelude.{◌≡◌, ◌%◌};
+ghost use Rattle.deal_rules.specs.{IsAskedOfDealRule};
+
+use super::worked_lines::{prefix_of, two_lines};
 use deal_rules::{DealKind, Dealer, Dealt, deal};
+use exact_audit::{Verdict, audit};
 use hhh_output::{Line, Lines, Report};
-use prefix_lattice::{Prefix, Record, RecordList};
+use prefix_lattice::{Record, RecordList};
 use shard_state::Positions;
 use std::alloc::{AllocError, Global};
-use std::cmp::Ordering;
 use std::process::Abort;
 use std::test::Fail;
 
@@ -60,10 +60,6 @@ fn dealt_of(rt: &impl Abort, alloc: Global, sent: &[Sent], shards: u32) -> Resul
     Ok(deal(alloc, &list, &dealer, shards)?)
 }
 
-fn prefix_of(source: &str, dest: &str) -> Result<Prefix, Fail> {
-    Prefix::parse(source.as_bytes(), dest.as_bytes()).map_err(|_| Fail::from("no prefix"))
-}
-
 fn positions_of(alloc: Global, of_shards: &[u64]) -> Result<Positions, AllocError> {
     let mut positions = Positions::new(alloc);
     for position in of_shards {
@@ -112,19 +108,7 @@ fn with_two_lines(
     first: Line,
     second: Line,
 ) -> Result<Report, Fail> {
-    if first.lo > first.hi {
-        return Err(Fail::from("low above high in the first line"));
-    }
-    if second.lo > second.hi {
-        return Err(Fail::from("low above high in the second line"));
-    }
-    match first.prefix.order(&second.prefix) {
-        Ordering::Less => {}
-        _ => return Err(Fail::from("order")),
-    }
-    let mut lines = Lines::new(alloc);
-    lines.push(first)?;
-    lines.push(second)?;
+    let lines = two_lines(alloc, first, second)?;
     Ok(Report {
         positions: positions_of(alloc, at)?,
         total,

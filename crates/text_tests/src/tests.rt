@@ -1,0 +1,4 @@
+mod of_command_words;
+mod of_exact_audit;
+mod of_report_text;
+mod worked_lines;
