@@ -1,3 +1,4 @@
 pub mod ProgramInputs
 pub mod ProgramRules
 pub mod ProgramRun
+pub mod FileSyncs

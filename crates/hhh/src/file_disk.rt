@@ -1,38 +1,34 @@
-//! A file of the system as a disk.
+//! A file as a disk.
 
 ghost use Rattle.std.specs.Prelude.{◌≡◌, ◌<◌, ◌≤◌, ◌+◌, length, vec_len, drop, ⊤, false, true, is_err, None, IfOk};
 ghost use Rattle.std.specs.Prelude.{ℕ, List, Option, OnOk, OnErr, is_some};
 ghost use Rattle.outside_io.specs.{FailsByFaultCount};
 ghost use Rattle.slot_disk.specs.{IfImageKnown, IfBothImagesKnown, GivesImageRange, IsTornImage, IsWrittenImage};
 ghost use Rattle.slot_disk.specs.{IsTornFromImage, IsOnlyImage, MomentsGoOn, IsUnchangedAtMoment};
+ghost use Rattle.hhh.specs.FileSyncs.{CountsFileSync, late_file_syncs};
 
+use crate::store_file::{StoreFile, StoreOpener};
 use outside_io::{Failed, PathText};
 use slot_disk::Disk;
-use std::alloc::AllocError;
-use std::fs;
-use std::fs::{File, OpenOptions};
+use std::alloc::{AllocError, Global};
 use std::io::{Error, ErrorKind, Result as IoResult};
-use std::os::fd::AsRawFd;
 use std::os::unix::fs::FileExt;
 
 // How many bytes one system call reads at most.
 const ROOM: usize = 65_536;
 
-// Standard input, standard output and standard error have the numbers below this one.
-const STANDARD_STREAMS: i32 = 3;
-
-/// A regular file of the system as a disk. Its bytes are not known.
+/// A file as a disk. Its bytes are not known.
 ///
-/// The first call opens the file for reading and writing, and creates it empty where it is missing. If it can't be
-/// opened, or is no regular file, the call fails, and the next call tries again.
+/// The first call opens the file, and creates it empty where it is missing. If it can't be opened, the call fails, and
+/// the next call tries again.
 ///
-/// The first sync also syncs the directory that the file is in, so that a crash leaves the file's name too. After a
-/// sync that failed each later sync fails, since the system may have dropped what it could not write.
+/// The first sync also syncs the file's name, so that a crash leaves it too. After a sync that failed each later sync
+/// fails, since the system may have dropped what it could not write.
 #[derive(Drop)]
-pub struct FileDisk<'a> {
-    rt: &'a HostRuntime,
+pub struct FileDisk<O, F> {
+    opener: O,
     path: PathText,
-    opened: Option<File>,
+    opened: Option<F>,
     buffer: Vec<u8>,
     name_synced: bool,
     sync_failed: bool,
@@ -40,17 +36,17 @@ pub struct FileDisk<'a> {
     ghost has_room: { 0 < vec_len buffer },
 }
 
-impl<'a> FileDisk<'a> {
+impl<O: StoreOpener<F> + Drop, F: StoreFile + Drop> FileDisk<O, F> {
     /// The file at this path, not yet opened.
-    pub fn new(rt: &'a HostRuntime, path: PathText) -> Result<Self, AllocError>
+    pub fn new(alloc: Global, opener: O, path: PathText) -> Result<Self, AllocError>
         ensures { IfOk result (λ disk. (disk.path ≡ path) × (disk.opened ≡ None) × (disk.name_synced ≡ false)
             × (disk.sync_failed ≡ false) × (disk.faults ≡ 0)) }
     {
         Ok(FileDisk {
-            rt,
+            opener,
             path,
             opened: None,
-            buffer: vec![in rt.alloc(); 0; ROOM]?,
+            buffer: vec![in alloc; 0; ROOM]?,
             name_synced: false,
             sync_failed: false,
             faults: 0,
@@ -61,8 +57,8 @@ impl<'a> FileDisk<'a> {
         ensures same_faults { self.new.faults ≡ self.old.faults }
         ensures same_syncs { self.new.sync_failed ≡ self.old.sync_failed }
     {
-        let file = opened(&mut self.opened, self.rt, self.path.as_str())?;
-        Ok(file.metadata()?.len())
+        let file = opened(&mut self.opened, &self.opener, self.path.as_str())?;
+        file.size()
     }
 
     fn try_read(&mut self, place: u64, into: &mut [u8]) -> IoResult<usize>
@@ -71,7 +67,7 @@ impl<'a> FileDisk<'a> {
         ensures same_faults { self.new.faults ≡ self.old.faults }
         ensures same_syncs { self.new.sync_failed ≡ self.old.sync_failed }
     {
-        let file = opened(&mut self.opened, self.rt, self.path.as_str())?;
+        let file = opened(&mut self.opened, &self.opener, self.path.as_str())?;
         read_on(file, &mut self.buffer, place, into)
     }
 
@@ -80,7 +76,7 @@ impl<'a> FileDisk<'a> {
         ensures same_faults { self.new.faults ≡ self.old.faults }
         ensures same_syncs { self.new.sync_failed ≡ self.old.sync_failed }
     {
-        let file = opened(&mut self.opened, self.rt, self.path.as_str())?;
+        let file = opened(&mut self.opened, &self.opener, self.path.as_str())?;
         write_on(file, place, bytes)
     }
 
@@ -89,15 +85,16 @@ impl<'a> FileDisk<'a> {
         ensures after_failed { self.old.sync_failed ≡ true → is_err result ≡ true }
         ensures failed { is_err result ≡ self.new.sync_failed }
         ensures named { OnOk result (self.new.name_synced ≡ true) }
+        ensures synced { OnOk result (CountsFileSync (late_file_syncs O.syncs F.syncs self.old.opener self.old.path self.old.opened)
+            (late_file_syncs O.syncs F.syncs self.new.opener self.new.path self.new.opened)) }
     {
         if self.sync_failed {
             return Err(Error::from(ErrorKind::Other));
         }
         self.sync_failed = true;
-        let file = opened(&mut self.opened, self.rt, self.path.as_str())?;
-        file.sync_all()?;
+        sync_opened(&mut self.opened, &self.opener, self.path.as_str())?;
         if !self.name_synced {
-            sync_directory(self.rt, self.path.as_str())?;
+            self.opener.sync_name(self.path.as_str())?;
             self.name_synced = true;
         }
         self.sync_failed = false;
@@ -115,7 +112,7 @@ impl<'a> FileDisk<'a> {
     }
 }
 
-impl Disk for FileDisk<'_> {
+impl<O: StoreOpener<F> + Drop, F: StoreFile + Drop> Disk for FileDisk<O, F> {
     ghost reads = { λ _. None };
 
     ghost image_now = { λ _ _. ⊤ };
@@ -194,6 +191,10 @@ impl Disk for FileDisk<'_> {
         ensures after_failed { self.old.sync_failed ≡ true → is_err result ≡ true }
         ensures failed { is_err result ≡ self.new.sync_failed }
         ensures named { OnOk result (self.new.name_synced ≡ true) }
+
+        // Where it is known how often the file was synced, it was synced once more.
+        ensures synced { OnOk result (CountsFileSync (late_file_syncs O.syncs F.syncs self.old.opener self.old.path self.old.opened)
+            (late_file_syncs O.syncs F.syncs self.new.opener self.new.path self.new.opened)) }
     {
         match self.try_sync() {
             Ok(()) => Ok(()),
@@ -203,48 +204,34 @@ impl Disk for FileDisk<'_> {
 }
 
 // The file, which the first call opens.
-fn opened<'f>(slot: &'f mut Option<File>, rt: &HostRuntime, path: &str) -> IoResult<&'f File> {
+fn opened<'f, O: StoreOpener<F>, F: StoreFile + Drop>(
+    slot: &'f mut Option<F>,
+    opener: &O,
+    path: &str,
+) -> IoResult<&'f F> {
     let file = match slot.take() {
         Some(file) => file,
-        None => open(rt, path)?,
+        None => opener.open_file(path)?,
     };
     Ok(slot.insert(file))
 }
 
-// Opens the file under a number that no standard stream has. Where one of these is closed, the system gives its number to
-// the file that is opened next, and what is written to the stream would be written into the store.
-fn open(rt: &HostRuntime, path: &str) -> IoResult<File> {
-    let mut holders = Vec::new(rt.alloc());
-    for _ in 0..STANDARD_STREAMS {
-        let file = open_once(rt, path)?;
-        if file.as_raw_fd() >= STANDARD_STREAMS {
-            return Ok(file);
-        }
-        holders.push(file)?;
-    }
-    open_once(rt, path)
-}
-
-// Opens the regular file at this path, and creates it where it is missing.
-fn open_once(rt: &HostRuntime, path: &str) -> IoResult<File> {
-    let file = OpenOptions::new()
-        .read(true)
-        .write(true)
-        .create(true)
-        .open(rt, path)?;
-    if !file.metadata()?.is_file() {
-        return Err(Error::from(ErrorKind::InvalidInput));
-    }
-    Ok(file)
-}
-
-// Syncs the directory that has the file's name: where the path leads through links, that of the file itself.
-fn sync_directory(rt: &HostRuntime, path: &str) -> IoResult<()> {
-    let whole = fs::canonicalize(rt, path)?;
-    match whole.parent() {
-        Some(directory) => File::open(rt, directory)?.sync_all(),
-        None => Err(Error::from(ErrorKind::NotFound)),
-    }
+// Syncs the file, which the first call opens.
+fn sync_opened<O: StoreOpener<F>, F: StoreFile + Drop>(
+    slot: &mut Option<F>,
+    opener: &O,
+    path: &str,
+) -> IoResult<()>
+    ensures { OnOk result (CountsFileSync (late_file_syncs O.syncs F.syncs opener.now path.now slot.old)
+        (late_file_syncs O.syncs F.syncs opener.now path.now slot.new)) }
+{
+    let mut file = match slot.take() {
+        Some(file) => file,
+        None => opener.open_file(path)?,
+    };
+    let synced = file.sync();
+    *slot = Some(file);
+    synced
 }
 
 // Reads up to the file's end or the room. A call interrupted by a signal is made again.

@@ -1,13 +1,17 @@
-ghost use Rattle.std.specs.Prelude.{◌≤◌, IfOk};
+ghost use Rattle.std.specs.Prelude.{◌≤◌, IfOk, None};
 
 use super::file_disk::{read_on, write_on};
-use super::{FileDisk, LateFile, NamedInput, StdSink, StdSource};
+use super::store_file::{StoreFile, StoreOpener};
+use super::{FileDisk, LateFile, NamedInput, StdSink, StdSource, StoreDisk, code_of, finish};
+use hhh_engine::Status;
 use outside_io::{Failed, PathText, Sink, Source};
 use slot_disk::Disk;
 use std::cell::Cell;
 use std::fs;
+use std::fs::File;
 use std::io::{Error, ErrorKind, Read, Result as IoResult, Write};
 use std::os::unix::fs::FileExt;
+use std::process::ExitCode;
 use std::test::Fail;
 
 // A writer that takes all bytes, and can't be flushed.
@@ -245,14 +249,14 @@ fn another_disk_reads_what_was_written(rt: HostRuntime) -> Result<(), Fail> {
     let alloc = rt.alloc();
     let name = "hhh_file_disk_test";
     let _ = fs::remove_file(&rt, name);
-    let mut disk = FileDisk::new(&rt, PathText::of(alloc, name)?)?;
+    let mut disk = StoreDisk::new(alloc, &rt, PathText::of(alloc, name)?)?;
     assert_eq!(rt; disk.len(), Ok(0));
     assert_eq!(rt; disk.write_at(3, b"abcde"), Ok(()));
     assert_eq!(rt; disk.sync(), Ok(()));
     assert_eq!(rt; disk.write_at(4, b"x"), Ok(()));
     assert_eq!(rt; disk.sync(), Ok(()));
     assert_eq!(rt; disk.write_at(1 << 63, b"y"), Err(Failed));
-    let mut other = FileDisk::new(&rt, PathText::of(alloc, name)?)?;
+    let mut other = StoreDisk::new(alloc, &rt, PathText::of(alloc, name)?)?;
     let mut into = [9; 8];
     assert_eq!(rt; other.read_at(2, &mut into), Ok(6));
     assert_eq!(rt; into, *b"\0axcde\x09\x09");
@@ -267,7 +271,7 @@ fn another_disk_reads_what_was_written(rt: HostRuntime) -> Result<(), Fail> {
 fn a_failed_sync_is_lasting(rt: HostRuntime) -> Result<(), Fail> {
     let alloc = rt.alloc();
     let name = "hhh_file_disk_sync_test";
-    let mut disk = FileDisk::new(&rt, PathText::of(alloc, name)?)?;
+    let mut disk = StoreDisk::new(alloc, &rt, PathText::of(alloc, name)?)?;
     assert_eq!(rt; disk.write_at(0, b"a"), Ok(()));
     fs::remove_file(&rt, name)?;
     assert_eq!(rt; disk.sync(), Err(Failed));
@@ -281,11 +285,119 @@ fn a_failed_sync_is_lasting(rt: HostRuntime) -> Result<(), Fail> {
 fn no_call_succeeds_without_a_regular_file(rt: HostRuntime) -> Result<(), Fail> {
     let alloc = rt.alloc();
     for path in ["no such directory/file", ".", "/dev/full", ""] {
-        let mut disk = FileDisk::new(&rt, PathText::of(alloc, path)?)?;
+        let mut disk = StoreDisk::new(alloc, &rt, PathText::of(alloc, path)?)?;
         assert_eq!(rt; disk.len(), Err(Failed));
         assert_eq!(rt; disk.read_at(0, &mut [0; 1]), Err(Failed));
         assert_eq!(rt; disk.write_at(0, b"a"), Err(Failed));
         assert_eq!(rt; disk.sync(), Err(Failed));
     }
+    Ok(())
+}
+
+// A file that is as long as the calls of its sync, and that takes what is written.
+#[derive(Drop)]
+struct CountsSyncs {
+    syncs: u64,
+}
+
+impl FileExt for CountsSyncs {
+    fn read_at(&self, _into: &mut [u8], _place: u64) -> IoResult<usize> {
+        Ok(0)
+    }
+
+    fn write_at(&self, from: &[u8], _place: u64) -> IoResult<usize> {
+        Ok(from.len())
+    }
+}
+
+impl StoreFile for CountsSyncs {
+    ghost syncs = { λ _. None };
+
+    fn size(&self) -> IoResult<u64> {
+        Ok(self.syncs)
+    }
+
+    fn sync(&mut self) -> IoResult<()> {
+        self.syncs = self.syncs.saturating_add(1);
+        Ok(())
+    }
+}
+
+// Opens such a file, and counts how often a file was opened and a name was synced.
+#[derive(Drop)]
+struct CountsNames {
+    opened: Cell<u64>,
+    synced: Cell<u64>,
+}
+
+impl StoreOpener<CountsSyncs> for &CountsNames {
+    ghost syncs = { λ _ _. None };
+
+    fn open_file(&self, _path: &str) -> IoResult<CountsSyncs> {
+        self.opened.set(self.opened.get().saturating_add(1));
+        Ok(CountsSyncs { syncs: 0 })
+    }
+
+    fn sync_name(&self, _path: &str) -> IoResult<()> {
+        self.synced.set(self.synced.get().saturating_add(1));
+        Ok(())
+    }
+}
+
+type CountedDisk<'a> = FileDisk<&'a CountsNames, CountsSyncs>;
+
+#[test]
+fn each_sync_syncs_the_file_and_the_first_one_its_name(rt: HostRuntime) -> Result<(), Fail> {
+    let alloc = rt.alloc();
+    let names = CountsNames {
+        opened: Cell::new(0),
+        synced: Cell::new(0),
+    };
+    let mut disk = CountedDisk::new(alloc, &names, PathText::of(alloc, "a")?)?;
+    assert_eq!(rt; disk.write_at(0, b"a"), Ok(()));
+    assert_eq!(rt; disk.len(), Ok(0));
+    for syncs in 1..4 {
+        assert_eq!(rt; disk.sync(), Ok(()));
+        assert_eq!(rt; disk.len(), Ok(syncs));
+        assert_eq!(rt; names.synced.get(), 1);
+    }
+    assert_eq!(rt; names.opened.get(), 1);
+    Ok(())
+}
+
+// Neither a device nor a directory of the kernel's can be synced, so `Ok` would show that the system was not asked.
+#[test]
+fn a_sync_of_the_system_is_asked_for(rt: HostRuntime) -> Result<(), Fail> {
+    let mut device = File::open(&rt, "/dev/null")?;
+    assert!(rt; device.sync().is_err());
+    assert!(rt; (&rt).sync_name("/proc/version").is_err());
+    Ok(())
+}
+
+#[test]
+fn a_status_is_told_in_its_line_and_its_code(rt: HostRuntime) -> Result<(), Fail> {
+    let alloc = rt.alloc();
+    let mut room = [0; 20];
+    let mut errors = room.as_mut_slice();
+    assert_eq!(rt;
+        finish(alloc, &Status::Done, &mut errors),
+        ExitCode::from(0)
+    );
+    assert_eq!(rt;
+        finish(alloc, &Status::ReadFault, &mut errors),
+        ExitCode::from(4)
+    );
+    assert_eq!(rt;
+        finish(alloc, &Status::DiskFault, &mut errors),
+        ExitCode::from(6)
+    );
+    assert_eq!(rt; room, *b"hhh: read fault\nhhh:");
+    Ok(())
+}
+
+// Whatever arguments a test is given, they are no command.
+#[test]
+fn arguments_without_a_command_end_with_2(rt: HostRuntime) -> Result<(), Fail> {
+    assert_eq!(rt; code_of(&rt, &rt, rt.alloc())?, ExitCode::from(2));
     Ok(())
 }

@@ -1,0 +1,101 @@
+//! The file of a store, and what opens it.
+
+ghost use Rattle.std.specs.Prelude.{ℕ, List, Option, None, IfOk, OnOk};
+ghost use Rattle.hhh.specs.FileSyncs.{CountsFileSync, KeepsFileSyncs};
+
+use std::fs;
+use std::fs::{File, OpenOptions};
+use std::io::{Error, ErrorKind, Result as IoResult};
+use std::os::fd::AsRawFd;
+use std::os::unix::fs::FileExt;
+
+// Standard input, standard output and standard error have the numbers below this one.
+const STANDARD_STREAMS: i32 = 3;
+
+/// A file that is read and written at offsets.
+pub trait StoreFile: FileExt {
+    /// How many syncs of the file have succeeded, where this is known.
+    ghost syncs: { Self → Option ℕ };
+
+    /// How many bytes the file has.
+    fn size(&self) -> IoResult<u64>;
+
+    /// Makes what was written safe from a crash.
+    fn sync(&mut self) -> IoResult<()>
+        ensures { OnOk result (CountsFileSync (syncs self.old) (syncs self.new)) };
+}
+
+/// What opens the file of a store.
+pub trait StoreOpener<F: StoreFile> {
+    /// How many syncs of the file at a path have succeeded, where this is known.
+    ghost syncs: { Self → List ℕ → Option ℕ };
+
+    /// Opens the file at a path for reading and writing, and creates it empty where it is missing.
+    fn open_file(&self, path: &str) -> IoResult<F>
+        ensures { IfOk result (λ file. KeepsFileSyncs (syncs self.now path.now) (F.syncs file)) };
+
+    /// Makes the name of the file at a path safe from a crash.
+    fn sync_name(&self, path: &str) -> IoResult<()>;
+}
+
+/// A file of the system. How often it was synced is not known.
+impl StoreFile for File {
+    ghost syncs = { λ _. None };
+
+    fn size(&self) -> IoResult<u64> {
+        Ok(self.metadata()?.len())
+    }
+
+    fn sync(&mut self) -> IoResult<()> {
+        self.sync_all()
+    }
+}
+
+/// Opens regular files of the system.
+impl StoreOpener<File> for &HostRuntime {
+    ghost syncs = { λ _ _. None };
+
+    fn open_file(&self, path: &str) -> IoResult<File> {
+        open(*self, path)
+    }
+
+    fn sync_name(&self, path: &str) -> IoResult<()> {
+        sync_directory(*self, path)
+    }
+}
+
+// Opens the file under a number that no standard stream has. Where one of these is closed, the system gives its number to
+// the file that is opened next, and what is written to the stream would be written into the store.
+fn open(rt: &HostRuntime, path: &str) -> IoResult<File> {
+    let mut holders = Vec::new(rt.alloc());
+    for _ in 0..STANDARD_STREAMS {
+        let file = open_once(rt, path)?;
+        if file.as_raw_fd() >= STANDARD_STREAMS {
+            return Ok(file);
+        }
+        holders.push(file)?;
+    }
+    open_once(rt, path)
+}
+
+// Opens the regular file at this path, and creates it where it is missing.
+fn open_once(rt: &HostRuntime, path: &str) -> IoResult<File> {
+    let file = OpenOptions::new()
+        .read(true)
+        .write(true)
+        .create(true)
+        .open(rt, path)?;
+    if !file.metadata()?.is_file() {
+        return Err(Error::from(ErrorKind::InvalidInput));
+    }
+    Ok(file)
+}
+
+// Syncs the directory that has the file's name: where the path leads through links, that of the file itself.
+fn sync_directory(rt: &HostRuntime, path: &str) -> IoResult<()> {
+    let whole = fs::canonicalize(rt, path)?;
+    match whole.parent() {
+        Some(directory) => File::open(rt, directory)?.sync_all(),
+        None => Err(Error::from(ErrorKind::NotFound)),
+    }
+}
