@@ -13,6 +13,3 @@ pub use dealer::{DealRule, Dealer, Deals};
 pub use dealers::Dealers;
 pub use dealing::{a_formula_deals_in_one_way, deal, dealing_loses_nothing};
 pub use dealt::Dealt;
-
-#[cfg(test)]
-mod tests;

@@ -17,6 +17,3 @@ pub use path_text::PathText;
 pub use sink::Sink;
 pub use source::Source;
 pub use writing::write_all;
-
-#[cfg(test)]
-mod tests;

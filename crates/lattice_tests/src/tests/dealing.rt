@@ -1,7 +1,9 @@
-ghost use Rattle.std.specs.Prelude.{◌≡◌, ◌%◌, bit_xor};
-ghost use Rattle.deal_rules.specs.DealRule.{IsAskedOfDealRule};
+//! Records that are dealt by rules.
 
-use super::*;
+ghost use Rattle.std.specs.Prelude.{◌≡◌, ◌%◌, bit_xor};
+ghost use Rattle.deal_rules.specs.{IsAskedOfDealRule};
+
+use deal_rules::{DealKind, Dealer, Dealers, deal};
 use prefix_lattice::{Record, RecordList};
 use std::alloc::{AllocError, Global};
 use std::process::Abort;

@@ -1,4 +1,6 @@
-use super::*;
+//! The fakes of a source and of a sink, whole writes and the text of a path.
+
+use outside_io::{Failed, MemorySink, MemorySource, PathText, Sink, Source, write_all};
 use std::test::Fail;
 
 const BYTES: [u8; 5] = [1, 2, 3, 4, 5];

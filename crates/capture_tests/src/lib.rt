@@ -1,0 +1,5 @@
+//! Tests of sources and sinks.
+#![tactic(auto)]
+
+#[cfg(test)]
+mod tests;

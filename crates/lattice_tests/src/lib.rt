@@ -1,0 +1,5 @@
+//! Tests of dealing records.
+#![tactic(auto)]
+
+#[cfg(test)]
+mod tests;
