@@ -1,20 +1,17 @@
 -- A saver, and the store that it knows.
-use Rattle.std.proofs.Common.{◌≡◌, ℕ, zero, suc, ◌+◌, ◌<◌, List, Bool, false, None, Some, refl, sym, ap, subst, ◌∙◌}
+use Rattle.std.proofs.Common.{◌≡◌, ℕ, zero, suc, ◌+◌, ◌<◌, List, Some, refl, sym, ap, subst, ◌∙◌}
 use Rattle.std.proofs.Common.{inl, arith, length}
 use Rattle.shard_state.specs.{CutValue, HasCoreShape}
 use Rattle.slot_disk.specs.{IsPut, IsReadyForPut, IsStoreOfKnownSlots, CrashLeavesAtAnyMoment}
-use Rattle.slot_disk.specs.{CrashLeavesAtAnyMoment-weaker, PutMayLeave, KnownSlotsState, closed_known_slots}
+use Rattle.slot_disk.specs.{CrashLeavesAtAnyMoment-weaker, PutMayLeave, KnownSlotsState}
 use Rattle.slot_disk.specs.{other_slot_of_put, known_slots_after_opening}
-use Rattle.checkpoint.specs.declared.settings.StoreSettings.{StoreSettings}
-use Rattle.checkpoint.specs.HeaderSettings.{header_of_settings}
 use Rattle.checkpoint.specs.Span.{span_of_settings}
 use Rattle.checkpoint.specs.Saved.{SavedValue}
 use Rattle.checkpoint.specs.Body.{IsBody}
 use Rattle.checkpoint.specs.Store.{StoreOpensAsOldOrNew, StoreOpensTo, newest_in_store, store_positions, store_sequence}
-use Rattle.checkpoint.specs.Saver.{SaverState, IsSafeForSaver, saver_after_save, next_saved, saver_of}
+use Rattle.checkpoint.specs.Saver.{SaverState, IsSafeForSaver, saver_after_save, next_saved}
 use Rattle.checkpoint.proofs.StoreLemmas.{stores_open_old_or_new, stores_open_the_new, store_holds_new_body}
 use Rattle.checkpoint.proofs.StoreLemmas.{stores_are_ready}
-use Rattle.checkpoint.proofs.StoreLemmas.{closed_store_holds}
 
 -- the other slot is one of two
 pub saver_slot_is_small : (slot : ℕ) → other_slot_of_put slot < 2
@@ -113,28 +110,3 @@ saver_leaves_none saver possible old saved stands image may =
       opens,
       subst (λ (bytes : List ℕ). StoreOpensTo saver.settings bytes (newest_in_store known.first known.second)) (sym (stands.only image may)) opens,
     )
-
--- two closed gates and a header
-pub saver_is_closed_by_parts : (slots : KnownSlotsState) (header : List ℕ) → slots.first_open ≡ false → slots.second_open ≡ false
-    → slots.header ≡ header → slots ≡ closed_known_slots header
-saver_is_closed_by_parts slots header first second same =
-    ap (λ (b : Bool). let s : KnownSlotsState = record slots { first_open = b } in s) first
-    ∙ ap (λ (b : Bool). let s : KnownSlotsState = record slots { first_open = false; second_open = b } in s) second
-    ∙ ap closed_known_slots same
-
--- a saver of a store with no gate open
-pub new_saver_stands : (settings : StoreSettings) (slots : KnownSlotsState) (digest : List ℕ) (possible : List ℕ → Type 0) (bytes : List ℕ)
-    → slots ≡ closed_known_slots (header_of_settings settings) → IsStoreOfKnownSlots bytes possible slots
-    → IsSafeForSaver (saver_of slots settings digest None) possible bytes
-new_saver_stands settings slots digest possible bytes closed store = record {
-  is_known = record {
-    slots_are = store.slots_are;
-    first = None;
-    second = None;
-    holds = closed_store_holds settings bytes store.long (sym store.slots_are ∙ closed);
-    slot_is = refl;
-    sequence_is = refl;
-    positions_are = refl;
-  };
-  only = store.only;
-}

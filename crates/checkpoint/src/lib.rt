@@ -28,6 +28,3 @@ pub use newest::Newest;
 pub use saved::Saved;
 pub use saver::Saver;
 pub use settings::{StoreSettings, span};
-
-#[cfg(test)]
-mod tests;

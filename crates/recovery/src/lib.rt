@@ -14,6 +14,3 @@ pub use fault::OpenFault;
 pub use laws::{belonging_stores_are_opened, openings_are_decided};
 pub use opened::Opened;
 pub use reopening::reopen;
-
-#[cfg(test)]
-mod tests;

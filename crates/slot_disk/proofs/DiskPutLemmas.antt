@@ -6,9 +6,8 @@ use Rattle.slot_disk.specs.Images.{IsOnlyImage}
 use Rattle.slot_disk.specs.Moments.{CrashLeavesAtAnyMoment, CrashLeavesAtAnyMoment-weaker, CrashLeavesAtAnyMoment-trans}
 use Rattle.slot_disk.specs.StoreLayout.{layout_gate_is_open, layout_header, layout_body, layout_slot_content}
 use Rattle.slot_disk.specs.StoreLayout.{shown_in_layout, LayoutSlotContent, Closed, Broken, Whole}
-use Rattle.slot_disk.specs.KnownSlots.{KnownSlotsState, closed_known_slots, known_slot_open, known_slots_after_opening}
+use Rattle.slot_disk.specs.KnownSlots.{KnownSlotsState, known_slot_open, known_slots_after_opening}
 use Rattle.slot_disk.specs.KnownSlots.{known_slots_of, IsStoreOfKnownSlots}
-use Rattle.slot_disk.proofs.ContentLemmas.{content_is_closed_by_gate}
 use Rattle.slot_disk.specs.Puts.{other_slot_of_put, IsSoundForPut, IsReadyForPut, PutCanClose, PutCanWrite, PutCanOpen}
 use Rattle.slot_disk.specs.Puts.{IsSameApartFromPut, MayBeClosedByPut}
 use Rattle.slot_disk.specs.Puts.{IsClosedByPut, IsStoredByPut, MayBeOpenByPut, PutMayLeave, IsPut}
@@ -134,35 +133,6 @@ disk_put_may_leave_open span slot body old closed stored image first second thir
       second.closed.beside third.beside);
   slot_holds = inr third.slot_holds;
 }
-
--- a store with both gates closed is ready for a put into either slot
-pub closed_slots_take_disk_put : (span slot : ℕ) (bytes header : List ℕ) (possible : List ℕ → Type 0) → slot < 2
-    → IsStoreOfKnownSlots bytes possible (closed_known_slots header) → IsReadyForPut span slot bytes
-closed_slots_take_disk_put span slot bytes header possible small store =
-    let first : layout_slot_content span 0 bytes ≡ Closed = content_is_closed_by_gate span 0 bytes
-    (sym (ap (λ (s : KnownSlotsState). s.first_open) store.slots_are)) in
-    let second : layout_slot_content span 1 bytes ≡ Closed = content_is_closed_by_gate span 1 bytes
-    (sym (ap (λ (s : KnownSlotsState). s.second_open) store.slots_are)) in
-    either_ready span slot bytes small first second
-  where
-    either_ready : (span slot : ℕ) (bytes : List ℕ) → slot < 2 → layout_slot_content span 0 bytes ≡ Closed → layout_slot_content span 1 bytes ≡ Closed
-        → IsReadyForPut span slot bytes
-    either_ready span zero bytes small first second = record { other_holds = inr (second, first); slot_holds = inr first }
-    either_ready span (suc zero) bytes small first second = record { other_holds = inr (first, second); slot_holds = inr second }
-    either_ready span (suc (suc slot)) bytes small first second = absurd (omega arith)
-
--- after a put the store is ready for a put into the other slot
-pub next_slot_takes_disk_put : (span slot : ℕ) (body old new : List ℕ) → slot < 2 → IsReadyForPut span slot old → IsPut span slot body old new
-    → IsReadyForPut span (other_slot_of_put slot) new
-next_slot_takes_disk_put span zero body old new small ready put = record {
-  other_holds = inl (body, put.slot_holds);
-  slot_holds = subst IsSoundForPut (sym put.beside.other_slot) (disk_put_other_is_sound span 0 old ready);
-}
-next_slot_takes_disk_put span (suc zero) body old new small ready put = record {
-  other_holds = inl (body, put.slot_holds);
-  slot_holds = subst IsSoundForPut (sym put.beside.other_slot) (disk_put_other_is_sound span 1 old ready);
-}
-next_slot_takes_disk_put span (suc (suc slot)) body old new small ready put = absurd (omega arith)
 
 module _ {D : Type 0} (moment : D → ℕ) (image_since : D → ℕ → List ℕ → Type 0) (span slot : ℕ) (body old : List ℕ) where
   pub disk_put_leaves_closing : (begun closed : D) → CrashLeavesAtAnyMoment moment image_since begun closed (MayBeClosedByPut span slot old)

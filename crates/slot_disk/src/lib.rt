@@ -19,6 +19,3 @@ pub use formatting::format;
 pub use laws::puts_lose_nothing;
 pub use memory_disk::MemoryDisk;
 pub use slots::Slots;
-
-#[cfg(test)]
-mod tests;

@@ -1,5 +1,5 @@
 use Rattle.std.proofs.Common.{◌≡◌, length}
-use Rattle.recovery.proofs.tests.records.Given as goal
+use Rattle.store_tests.proofs.tests.worked_saves.records.Given as goal
 
 abbrev pub invariant-loop-record : goal.invariant-loop-record
 invariant-loop-record l = length l.list ≡ l._record

@@ -1,24 +1,20 @@
-ghost use Rattle.std.specs.Prelude.{◌≡◌, ◌≤◌, ◌%◌, ◌^◌, [], ◌∷◌, length, IfOk};
-ghost use Rattle.deal_rules.specs.{IsAskedOfDealRule};
-ghost use Rattle.shard_state.specs.{cut_positions};
-ghost use Rattle.checkpoint.specs.Saver.{DiskMatchesSaver};
+//! Headers, bodies and saves of a store.
 
-use super::*;
+ghost use Rattle.std.specs.Prelude.{◌≡◌, [], ◌∷◌, IfOk};
+ghost use Rattle.checkpoint.specs.{DiskMatchesSaver};
+
+use super::worked_saves::{DIGEST, PACKET, by_place, cut_of, disk_of, records};
+use checkpoint::{
+    DecodeFault, SaveFault, Saved, Saver, StoreSettings, decode, digest_of, encode,
+    formatted_stores_are_empty, header_of, read_header, span,
+};
 use deal_rules::{DealKind, Dealer, deal};
 use frame_records::Weigh;
 use prefix_lattice::{Node, Record, RecordList};
-use shard_state::{Cut, ShardState, Snapshot};
-use slot_disk::{Disk, MemoryDisk, Slots, format};
+use slot_disk::{Disk, Slots, format};
 use std::alloc::{AllocError, Global};
 use std::process::Abort;
 use std::test::Fail;
-
-// A packet of 100 bytes from 10.1.2.3 to 20.1.2.3.
-const PACKET: Record = Record {
-    src: 0x0a01_0203,
-    dst: 0x1401_0203,
-    weight: 100,
-};
 
 const ONE_SHARD: StoreSettings = StoreSettings {
     shards: 1,
@@ -26,13 +22,6 @@ const ONE_SHARD: StoreSettings = StoreSettings {
     weigh: Weigh::Bytes,
     deal: DealKind::RoundRobin,
 };
-
-// SHA-256, by another program, of the 62 bytes of the header of `ONE_SHARD` and of
-// 00000001 0a010203 14010203 00000064.
-const DIGEST: [u8; 32] = [
-    0xb7, 0x81, 0x69, 0x0e, 0x5c, 0x08, 0xaf, 0xc3, 0x7c, 0xff, 0x7d, 0x3d, 0x45, 0x68, 0x8c, 0x7f,
-    0x7b, 0x7a, 0x07, 0xdf, 0xbf, 0x74, 0xa5, 0xeb, 0x2d, 0x99, 0x79, 0x32, 0x36, 0x26, 0x73, 0x91,
-];
 
 #[test]
 fn headers_spell_settings(rt: HostRuntime) {
@@ -105,13 +94,6 @@ fn other_headers_are_refused(rt: HostRuntime) {
     assert_eq!(&rt; read_header(&header), None);
 }
 
-fn by_place(place: u64, rec: Record, shards: u32) -> u32
-    requires { IsAskedOfDealRule place rec shards }
-    ensures { result ≡ place % shards }
-{
-    (place % u64::from(shards)) as u32
-}
-
 #[test]
 fn the_digest_is_that_of_the_dealt_records(rt: HostRuntime) -> Result<(), Fail> {
     let alloc = rt.alloc();
@@ -122,22 +104,6 @@ fn the_digest_is_that_of_the_dealt_records(rt: HostRuntime) -> Result<(), Fail> 
     assert!(rt; dealt.shards() == 1);
     assert_eq!(rt; digest_of(&dealt, &ONE_SHARD), DIGEST);
     Ok(())
-}
-
-// A cut of one shard that counted these records whole.
-fn cut_of(alloc: Global, list: RecordList, capacity: u32) -> Result<Cut, AllocError>
-    requires few { length list ≤ 2 ^ 24 }
-    requires least { 2 ≤ capacity }
-    requires most { capacity ≤ 4096 }
-    ensures shards { IfOk result (λ cut. length cut.shards ≡ 1) }
-    ensures capacity { IfOk result (λ cut. cut.capacity ≡ capacity) }
-    ensures positions { IfOk result (λ cut. cut_positions cut ≡ length list ∷ []) }
-{
-    let mut shard = ShardState::start(alloc, list, capacity)?;
-    shard.fold_block(u32::MAX);
-    let mut cut = Cut::with_room(alloc, 1, capacity)?;
-    cut.copy_shard(0, &shard);
-    Ok(cut)
 }
 
 // The body of the packet alone, as the third save.
@@ -273,12 +239,6 @@ const SMALLEST: StoreSettings = StoreSettings {
     ..ONE_SHARD
 };
 
-// A disk of these bytes, with room for a store of the smallest settings.
-fn disk_of(alloc: Global, bytes: Vec<u8>, fuse: Option<u64>) -> Result<MemoryDisk, AllocError> {
-    let room = bytes.len().max(64 + 2 * 1_556);
-    MemoryDisk::with_room(alloc, room, 1_048_576, bytes, fuse, Vec::new(alloc))
-}
-
 // Makes a store, and a saver of it: calls 0 to 3 of the disk.
 fn make_store<D: Disk>(alloc: Global, disk: &mut D) -> Result<Saver, Fail>
     ensures stands { IfOk result (λ saver. DiskMatchesSaver (D.reads disk.new) (D.image_now disk.new) saver) }
@@ -286,6 +246,7 @@ fn make_store<D: Disk>(alloc: Global, disk: &mut D) -> Result<Saver, Fail>
     ensures sequence { IfOk result (λ saver. saver.sequence ≡ 0) }
     ensures positions { IfOk result (λ saver. saver.positions ≡ 0 ∷ []) }
 {
+    formatted_stores_are_empty();
     let header = header_of(&SMALLEST);
     format(disk, &header)?;
     let slots = Slots::begin(disk)?;
@@ -301,17 +262,6 @@ fn make_store<D: Disk>(alloc: Global, disk: &mut D) -> Result<Saver, Fail>
     Ok(Saver::new(alloc, slots, SMALLEST, DIGEST, &None)?)
 }
 
-// `count` packets.
-fn packets(alloc: Global, count: usize) -> Result<RecordList, AllocError>
-    ensures { IfOk result (λ list. length list ≡ count) }
-{
-    let mut list = RecordList::new(alloc);
-    for _packet in 0..count {
-        list.push(PACKET)?;
-    }
-    Ok(list)
-}
-
 // Saves a cut of one packet: calls 4 to 9 of the disk.
 fn save_first<D: Disk>(alloc: Global, disk: &mut D) -> Result<Saver, Fail>
     ensures stands { IfOk result (λ saver. DiskMatchesSaver (D.reads disk.new) (D.image_now disk.new) saver) }
@@ -320,20 +270,20 @@ fn save_first<D: Disk>(alloc: Global, disk: &mut D) -> Result<Saver, Fail>
     ensures positions { IfOk result (λ saver. saver.positions ≡ 1 ∷ []) }
 {
     let saver = make_store(alloc, disk)?;
-    let cut = cut_of(alloc, packets(alloc, 1)?, 2)?;
+    let cut = cut_of(alloc, records(alloc, PACKET, 1)?, 2)?;
     Ok(saver.save(alloc, disk, &cut)?)
 }
 
 // Then saves a cut of two packets: calls 10 to 15 of the disk.
 fn save_both<D: Disk>(alloc: Global, disk: &mut D) -> Result<Saver, Fail> {
     let saver = save_first(alloc, disk)?;
-    let cut = cut_of(alloc, packets(alloc, 2)?, 2)?;
+    let cut = cut_of(alloc, records(alloc, PACKET, 2)?, 2)?;
     Ok(saver.save(alloc, disk, &cut)?)
 }
 
 // The newest sequence in these bytes, and the position of its cut, or zeros where no gate is open.
 fn newest_of(alloc: Global, bytes: Vec<u8>) -> Result<(u64, u64), Fail> {
-    let mut disk = disk_of(alloc, bytes, None)?;
+    let mut disk = disk_of(alloc, bytes, None, &[])?;
     let slots = Slots::begin(&mut disk)?;
     let mut newest = (0, 0);
     for slot in 0..2 {
@@ -349,7 +299,7 @@ fn newest_of(alloc: Global, bytes: Vec<u8>) -> Result<(u64, u64), Fail> {
 #[test]
 fn a_store_is_made_with_its_header(rt: HostRuntime) -> Result<(), Fail> {
     let alloc = rt.alloc();
-    let mut disk = disk_of(alloc, Vec::new(alloc), None)?;
+    let mut disk = disk_of(alloc, Vec::new(alloc), None, &[])?;
     let saver = make_store(alloc, &mut disk)?;
     assert_eq!(rt; saver.sequence(), 0);
     assert_eq!(rt; saver.positions().as_slice(), [0].as_slice());
@@ -366,7 +316,7 @@ fn a_store_is_made_with_its_header(rt: HostRuntime) -> Result<(), Fail> {
 #[test]
 fn saves_go_to_both_slots_in_turn(rt: HostRuntime) -> Result<(), Fail> {
     let alloc = rt.alloc();
-    let mut disk = disk_of(alloc, Vec::new(alloc), None)?;
+    let mut disk = disk_of(alloc, Vec::new(alloc), None, &[])?;
     let saver = save_both(alloc, &mut disk)?;
     assert_eq!(rt; saver.sequence(), 2);
     assert_eq!(rt; saver.positions().as_slice(), [2].as_slice());
@@ -396,9 +346,9 @@ fn saves_go_to_both_slots_in_turn(rt: HostRuntime) -> Result<(), Fail> {
 fn a_stop_leaves_the_old_cut_or_the_new_one(rt: HostRuntime) -> Result<(), Fail> {
     let alloc = rt.alloc();
     for call in 0..6 {
-        let mut disk = disk_of(alloc, Vec::new(alloc), Some(10 + call))?;
+        let mut disk = disk_of(alloc, Vec::new(alloc), Some(10 + call), &[])?;
         let saver = save_first(alloc, &mut disk)?;
-        let cut = cut_of(alloc, packets(alloc, 2)?, 2)?;
+        let cut = cut_of(alloc, records(alloc, PACKET, 2)?, 2)?;
         let saved = saver.save(alloc, &mut disk, &cut);
         assert!(rt;
             matches!(saved, Err(SaveFault::DiskFault)),

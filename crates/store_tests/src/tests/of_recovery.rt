@@ -1,23 +1,16 @@
-ghost use Rattle.std.specs.Prelude.{◌≡◌, ◌≤◌, ◌%◌, ◌^◌, [], ◌∷◌, length, IfOk};
-ghost use Rattle.deal_rules.specs.{IsAskedOfDealRule};
-ghost use Rattle.shard_state.specs.{cut_positions};
+//! The opening of a store.
+
+ghost use Rattle.std.specs.Prelude.{◌≡◌, ◌≤◌, ◌^◌, length, IfOk};
 ghost use Rattle.checkpoint.specs.{AreHeaderSettings, greatest_body_sequence};
 
-use super::*;
+use super::worked_saves::{DIGEST, PACKET, by_place, cut_of, disk_of, records};
 use checkpoint::{Saver, StoreSettings, digest_of, encode, header_of, read_header};
 use deal_rules::{DealKind, Dealer, Dealt, deal};
-use prefix_lattice::{Record, RecordList};
-use shard_state::{Cut, ShardState};
-use slot_disk::{Disk, MemoryDisk, format};
+use prefix_lattice::Record;
+use recovery::{OpenFault, Opened, reopen};
+use slot_disk::{Disk, format};
 use std::alloc::{AllocError, Global};
 use std::test::Fail;
-
-// A packet of 100 bytes from 10.1.2.3 to 20.1.2.3.
-const PACKET: Record = Record {
-    src: 0x0a01_0203,
-    dst: 0x1401_0203,
-    weight: 100,
-};
 
 // A packet of 100 bytes from 1.0.0.1 to 101.0.0.1.
 const OTHER_PACKET: Record = Record {
@@ -26,14 +19,7 @@ const OTHER_PACKET: Record = Record {
     weight: 100,
 };
 
-// SHA-256, by another program, of the header of one shard of capacity 512, by bytes and dealt in turn, and of
-// 00000001 0a010203 14010203 00000064.
-const DIGEST: [u8; 32] = [
-    0xb7, 0x81, 0x69, 0x0e, 0x5c, 0x08, 0xaf, 0xc3, 0x7c, 0xff, 0x7d, 0x3d, 0x45, 0x68, 0x8c, 0x7f,
-    0x7b, 0x7a, 0x07, 0xdf, 0xbf, 0x74, 0xa5, 0xeb, 0x2d, 0x99, 0x79, 0x32, 0x36, 0x26, 0x73, 0x91,
-];
-
-// The same, of that header and of 00000001 01000001 65000001 00000064.
+// As `DIGEST`, of the same header and of 00000001 01000001 65000001 00000064.
 const OTHER_DIGEST: [u8; 32] = [
     0x48, 0x4b, 0xd1, 0x3d, 0x1c, 0x87, 0x66, 0x30, 0x16, 0xfe, 0xe1, 0x05, 0x01, 0x69, 0xde, 0x09,
     0x9e, 0x69, 0x81, 0x95, 0xdd, 0x83, 0xe5, 0xc6, 0x8d, 0x8e, 0x68, 0x76, 0x0c, 0xfd, 0x2d, 0x70,
@@ -55,24 +41,6 @@ fn settings_of(capacity: u16) -> Result<StoreSettings, Fail>
     }
 }
 
-// `count` records.
-fn records(alloc: Global, rec: Record, count: usize) -> Result<RecordList, AllocError>
-    ensures { IfOk result (λ list. length list ≡ count) }
-{
-    let mut list = RecordList::new(alloc);
-    for _record in 0..count {
-        list.push(rec)?;
-    }
-    Ok(list)
-}
-
-fn by_place(place: u64, rec: Record, shards: u32) -> u32
-    requires { IsAskedOfDealRule place rec shards }
-    ensures { result ≡ place % shards }
-{
-    (place % u64::from(shards)) as u32
-}
-
 // `count` records, dealt to one shard.
 fn dealt_of(alloc: Global, rec: Record, count: usize) -> Result<Dealt, Fail>
     requires { count ≤ 2 ^ 24 }
@@ -85,22 +53,6 @@ fn dealt_of(alloc: Global, rec: Record, count: usize) -> Result<Dealt, Fail>
         return Err("not one shard".into());
     }
     Ok(dealt)
-}
-
-// A cut of one shard that counted these records whole.
-fn cut_of(alloc: Global, list: RecordList, capacity: u32) -> Result<Cut, AllocError>
-    requires few { length list ≤ 2 ^ 24 }
-    requires least { 2 ≤ capacity }
-    requires most { capacity ≤ 4096 }
-    ensures shards { IfOk result (λ cut. length cut.shards ≡ 1) }
-    ensures capacity { IfOk result (λ cut. cut.capacity ≡ capacity) }
-    ensures positions { IfOk result (λ cut. cut_positions cut ≡ length list ∷ []) }
-{
-    let mut shard = ShardState::start(alloc, list, capacity)?;
-    shard.fold_block(u32::MAX);
-    let mut cut = Cut::with_room(alloc, 1, capacity)?;
-    cut.copy_shard(0, &shard);
-    Ok(cut)
 }
 
 // The body of a cut of `count` records, with tables of two entries.
@@ -129,12 +81,6 @@ fn store_of(alloc: Global, gates: [u8; 2], first: &[u8], second: &[u8]) -> Resul
     Ok(bytes)
 }
 
-// A disk of these bytes with room for more, of which these calls fail.
-fn disk_of(alloc: Global, bytes: Vec<u8>, fails: Vec<u64>) -> Result<MemoryDisk, AllocError> {
-    let room = bytes.len().max(4_096);
-    MemoryDisk::with_room(alloc, room, 1_048_576, bytes, None, fails)
-}
-
 // What the opening of a store gives: the sequence of the saver, and whether there is a base and its position.
 #[derive(Clone, Copy, Debug, PartialEq, Eq)]
 struct Found {
@@ -158,7 +104,7 @@ fn open(
     if settings.shards != 1 {
         return Err("not one shard".into());
     }
-    let mut disk = disk_of(alloc, bytes, Vec::new(alloc))?;
+    let mut disk = disk_of(alloc, bytes, None, &[])?;
     Ok(found_of(reopen(alloc, &mut disk, &settings, &dealt)))
 }
 
@@ -204,7 +150,7 @@ fn save_first<D: Disk>(alloc: Global, disk: &mut D) -> Result<Saver, Fail> {
 #[test]
 fn a_store_is_opened_where_it_was_left(rt: HostRuntime) -> Result<(), Fail> {
     let alloc = rt.alloc();
-    let mut disk = disk_of(alloc, Vec::new(alloc), Vec::new(alloc))?;
+    let mut disk = disk_of(alloc, Vec::new(alloc), None, &[])?;
     format(&mut disk, &header_of(&settings_of(512)?))?;
     let saver = save_first(alloc, &mut disk)?;
     assert_eq!(rt; saver.digest(), &DIGEST);
@@ -323,7 +269,7 @@ fn each_call_of_the_disk_may_fail(rt: HostRuntime) -> Result<(), Fail> {
     let body = body_of(alloc, 1, &digest, PACKET, 1)?;
     let bytes = store_of(alloc, [1, 0], &body, &[])?;
     for call in 0..6 {
-        let mut disk = disk_of(alloc, bytes.clone()?, [call].to_vec(alloc)?)?;
+        let mut disk = disk_of(alloc, bytes.clone()?, None, &[call])?;
         let found = found_of(reopen(alloc, &mut disk, &settings, &dealt));
         assert_eq!(rt;
             found.err(),

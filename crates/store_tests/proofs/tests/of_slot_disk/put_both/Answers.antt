@@ -1,6 +1,6 @@
 use Rattle.std.proofs.Common.{arith, refl}
-use Rattle.slot_disk.specs.StoreLayout.{layout_number_at}
-use Rattle.slot_disk.proofs.tests.put_both.Goals as goal
+use Rattle.slot_disk.specs.{layout_number_at}
+use Rattle.store_tests.proofs.tests.of_slot_disk.put_both.Goals as goal
 
 pub put-requires-clause-body : goal.put-requires-clause-body
 unfolding layout_number_at

@@ -1,11 +1,12 @@
-ghost use Rattle.std.specs.Prelude.{◌≡◌, ℕ, ◌<◌, List, Some, IfOk, OnOk};
-ghost use Rattle.slot_disk.specs.Images.{IfImageKnown};
-ghost use Rattle.slot_disk.specs.KnownSlots.{DiskMatchesKnownSlots};
-ghost use Rattle.slot_disk.specs.Puts.{IsReadyForPut};
+//! Disks, and a store of two slots.
 
-use super::*;
+ghost use Rattle.std.specs.Prelude.{◌≡◌, ◌<◌, IfOk, OnOk};
+ghost use Rattle.slot_disk.specs.{IfImageKnown, DiskMatchesKnownSlots, IsReadyForPut};
+
+use super::worked_saves::disk_of;
 use outside_io::Failed;
-use std::alloc::{AllocError, Global};
+use slot_disk::{BeginFault, BodyFault, Disk, MemoryDisk, Slots, format};
+use std::alloc::Global;
 use std::test::Fail;
 
 const SPAN: u64 = 16;
@@ -15,12 +16,6 @@ const FIRST: [u8; 16] = [0, 0, 0, 0, 0, 0, 0, 16, 7, 7, 7, 7, 7, 7, 7, 7];
 
 // A length of 9 in 8 bytes, and a byte 5.
 const SECOND: [u8; 9] = [0, 0, 0, 0, 0, 0, 0, 9, 5];
-
-// A disk of these bytes, with some room after them.
-fn disk_of(alloc: Global, bytes: Vec<u8>, fuse: Option<u64>) -> Result<MemoryDisk, AllocError> {
-    let room = bytes.len().max(96);
-    MemoryDisk::with_room(alloc, room, 1_048_576, bytes, fuse, Vec::new(alloc))
-}
 
 // Makes a store, and puts a body into its slot 0: calls 0 to 9 of the disk.
 fn put_first<D: Disk>(disk: &mut D) -> Result<Slots, Failed>
@@ -45,7 +40,7 @@ fn put_both<D: Disk>(disk: &mut D) -> Result<Slots, Failed> {
 fn open_body(alloc: Global, bytes: Vec<u8>, slot: u8) -> Result<Option<Vec<u8>>, Fail>
     requires { slot < 2 }
 {
-    let mut disk = disk_of(alloc, bytes, None)?;
+    let mut disk = disk_of(alloc, bytes, None, &[])?;
     let slots = Slots::begin(&mut disk)?;
     if !slots.gate(slot) {
         return Ok(None);
@@ -56,7 +51,7 @@ fn open_body(alloc: Global, bytes: Vec<u8>, slot: u8) -> Result<Option<Vec<u8>>,
 #[test]
 fn a_store_is_made(rt: HostRuntime) -> Result<(), Fail> {
     let alloc = rt.alloc();
-    let mut disk = disk_of(alloc, Vec::new(alloc), None)?;
+    let mut disk = disk_of(alloc, Vec::new(alloc), None, &[])?;
     assert_eq!(rt; format(&mut disk, &[0; 62]), Ok(()));
     let slots = Slots::begin(&mut disk)?;
     assert_eq!(rt; (slots.gate(0), slots.gate(1)), (false, false));
@@ -68,7 +63,7 @@ fn a_store_is_made(rt: HostRuntime) -> Result<(), Fail> {
 #[test]
 fn a_body_is_put(rt: HostRuntime) -> Result<(), Fail> {
     let alloc = rt.alloc();
-    let mut disk = disk_of(alloc, Vec::new(alloc), None)?;
+    let mut disk = disk_of(alloc, Vec::new(alloc), None, &[])?;
     let slots = put_first(&mut disk)?;
     assert_eq!(rt; (slots.gate(0), slots.gate(1)), (true, false));
     assert_eq!(rt; disk.len(), Ok(80));
@@ -90,7 +85,7 @@ fn a_body_is_put(rt: HostRuntime) -> Result<(), Fail> {
 fn a_stop_leaves_the_old_body_or_the_new_one(rt: HostRuntime) -> Result<(), Fail> {
     let alloc = rt.alloc();
     for fuse in 4..16 {
-        let mut disk = disk_of(alloc, Vec::new(alloc), Some(fuse))?;
+        let mut disk = disk_of(alloc, Vec::new(alloc), Some(fuse), &[])?;
         assert!(rt; put_both(&mut disk).is_err(), "at call {fuse}");
         for choice in 0..4 {
             let first = open_body(alloc, disk.crash(alloc, choice)?, 0)?;
@@ -115,7 +110,7 @@ fn a_stop_leaves_the_old_body_or_the_new_one(rt: HostRuntime) -> Result<(), Fail
 #[test]
 fn a_short_disk_is_no_store(rt: HostRuntime) -> Result<(), Fail> {
     let alloc = rt.alloc();
-    let mut disk = disk_of(alloc, vec![in alloc; 0; 63]?, None)?;
+    let mut disk = disk_of(alloc, vec![in alloc; 0; 63]?, None, &[])?;
     assert!(rt; matches!(&Slots::begin(&mut disk), Err(BeginFault::TooShort)));
     Ok(())
 }
@@ -126,7 +121,7 @@ fn lengths_outside_the_limits_are_damaged(rt: HostRuntime) -> Result<(), Fail> {
     for length in [17, 7] {
         let mut bytes = vec![in alloc; 0; 90]?;
         bytes[71] = length;
-        let mut disk = disk_of(alloc, bytes, None)?;
+        let mut disk = disk_of(alloc, bytes, None, &[])?;
         let slots = Slots::begin(&mut disk)?;
         let body = slots.read_body(alloc, &mut disk, 0, SPAN);
         assert_eq!(rt; body.err(), Some(BodyFault::Damaged));
@@ -138,7 +133,7 @@ fn lengths_outside_the_limits_are_damaged(rt: HostRuntime) -> Result<(), Fail> {
 #[test]
 fn a_crash_fills_or_halves_a_gap(rt: HostRuntime) -> Result<(), Fail> {
     let alloc = rt.alloc();
-    let mut disk = disk_of(alloc, [5].to_vec(alloc)?, None)?;
+    let mut disk = disk_of(alloc, [5].to_vec(alloc)?, None, &[])?;
     assert_eq!(rt; disk.write_at(3, &[6, 7]), Ok(()));
     assert_eq!(rt; disk.crash(alloc, 0)?.as_slice(), [5].as_slice());
     assert_eq!(rt;

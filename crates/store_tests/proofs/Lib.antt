@@ -1,0 +1,2 @@
+pub mod FirstPutLemmas
+pub mod NewSaverLemmas
