@@ -1,4 +1,4 @@
-//! Tests of sources and sinks.
+//! Tests of sources and sinks, of captures and their records, and of made traffic.
 #![tactic(auto)]
 
 #[cfg(test)]

@@ -1,1 +1,4 @@
 mod fakes;
+mod frames;
+mod made;
+mod records;

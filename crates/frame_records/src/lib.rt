@@ -15,6 +15,3 @@ pub use reading::read_records;
 pub use records::Records;
 pub use skip::Skip;
 pub use weigh::Weigh;
-
-#[cfg(test)]
-mod tests;

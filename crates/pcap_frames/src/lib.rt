@@ -17,6 +17,3 @@ pub use laws::{files_are_decided, fronts_are_decided};
 pub use reader::FrameReader;
 pub use reading::read_frames;
 pub use visitor::FrameVisitor;
-
-#[cfg(test)]
-mod tests;

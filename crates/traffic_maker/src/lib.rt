@@ -8,6 +8,3 @@ mod making;
 mod piece;
 
 pub use making::{make, make_bytes};
-
-#[cfg(test)]
-mod tests;

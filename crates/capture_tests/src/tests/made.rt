@@ -1,6 +1,8 @@
-use crate::{make, make_bytes};
+//! The bytes of made traffic, and its writing.
+
 use outside_io::{Failed, MemorySink};
 use std::test::Fail;
+use traffic_maker::{make, make_bytes};
 
 // The header and the first frame that seed 7 makes.
 const ONE_FRAME: [u8; 74] = [

@@ -1,4 +1,6 @@
-use super::*;
+//! The records of a capture's frames, and why a frame has none.
+
+use frame_records::{Skip, Weigh, read_records};
 use outside_io::MemorySource;
 use pcap_frames::{CaptureFault, FaultKind, ReadRefusal};
 use prefix_lattice::Record;

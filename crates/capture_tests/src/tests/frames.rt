@@ -1,5 +1,9 @@
-use super::*;
+//! The frames of a capture, or its first fault.
+
 use outside_io::MemorySource;
+use pcap_frames::{
+    CaptureFault, FaultKind, FeedFault, Frame, FrameReader, FrameVisitor, ReadRefusal, read_frames,
+};
 use std::alloc::{AllocError, Global};
 use std::test::Fail;
 
