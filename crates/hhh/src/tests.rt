@@ -379,9 +379,18 @@ fn a_status_is_told_in_its_line_and_its_code(rt: HostRuntime) -> Result<(), Fail
     let alloc = rt.alloc();
     let mut room = [0; 20];
     let mut errors = StdSink::new(room.as_mut_slice());
-    assert_eq!(rt; finish(alloc, &Status::Done, &mut errors), ExitCode::from(0));
-    assert_eq!(rt; finish(alloc, &Status::ReadFault, &mut errors), ExitCode::from(4));
-    assert_eq!(rt; finish(alloc, &Status::DiskFault, &mut errors), ExitCode::from(6));
+    assert_eq!(rt;
+        finish(alloc, &Status::Done, &mut errors),
+        ExitCode::from(0)
+    );
+    assert_eq!(rt;
+        finish(alloc, &Status::ReadFault, &mut errors),
+        ExitCode::from(4)
+    );
+    assert_eq!(rt;
+        finish(alloc, &Status::DiskFault, &mut errors),
+        ExitCode::from(6)
+    );
     assert_eq!(rt; room, *b"hhh: read fault\nhhh:");
     Ok(())
 }
