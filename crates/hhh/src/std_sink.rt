@@ -1,8 +1,9 @@
 //! A stream of the system as a sink.
 
-ghost use Rattle.std.specs.Prelude.{◌≡◌, ◌<◌, ◌≤◌, ℕ, List, length, take, None, IfOk, OnErr};
+ghost use Rattle.std.specs.Prelude.{◌≡◌, ◌<◌, ◌≤◌, ℕ, List, length, take, None, IfOk, OnOk, OnErr};
 ghost use Rattle.std.specs.Io.KnownBytes.{Appends, WriteAppends};
 ghost use Rattle.outside_io.specs.{FailsByFaultCount, IsBeginning, next_fault_count};
+ghost use Rattle.hhh.specs.ToldStatus.{AppendsFront};
 
 use outside_io::{Failed, Sink};
 use std::io::{ErrorKind, Write};
@@ -20,6 +21,20 @@ impl<W: Write + Drop> StdSink<W> {
         ensures { (result.writer ≡ writer) × (result.faults ≡ 0) }
     {
         StdSink { writer, faults: 0 }
+    }
+
+    /// Writes a whole line. After `Failed` a beginning of it was appended to the stream, and no other byte.
+    pub fn write_line(&mut self, line: &[u8]) -> Result<(), Failed>
+        ensures whole { OnOk result (Appends (W.contents self.old.writer) (W.contents self.new.writer) line.now) }
+        ensures beginning { OnErr result (AppendsFront (W.contents self.old.writer) (W.contents self.new.writer) line.now) }
+        ensures cause { FailsByFaultCount self.old.faults self.new.faults result }
+    {
+        let mut rest = line;
+        while !rest.is_empty() {
+            let count = self.write(rest)?;
+            (_, rest) = rest.split_at(count);
+        }
+        Ok(())
     }
 }
 

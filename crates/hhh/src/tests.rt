@@ -378,7 +378,7 @@ fn a_sync_of_the_system_is_asked_for(rt: HostRuntime) -> Result<(), Fail> {
 fn a_status_is_told_in_its_line_and_its_code(rt: HostRuntime) -> Result<(), Fail> {
     let alloc = rt.alloc();
     let mut room = [0; 20];
-    let mut errors = room.as_mut_slice();
+    let mut errors = StdSink::new(room.as_mut_slice());
     assert_eq!(rt;
         finish(alloc, &Status::Done, &mut errors),
         ExitCode::from(0)
