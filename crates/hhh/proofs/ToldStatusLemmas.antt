@@ -63,6 +63,6 @@ line_is_told old new line before now (Ok x) whole cause none = whole
 line_is_told old new line before now (Err e) whole cause none = absurd (none cause.failed)
 
 -- what holds whatever was returned, holds after an error
-pub on_any_err : {T E P : Type 0} (result : Result T E) → P → OnErr result P
-on_any_err (Ok x) holds = tt
-on_any_err (Err e) holds = holds
+pub told_on_error : {T E P : Type 0} (result : Result T E) → P → OnErr result P
+told_on_error (Ok x) holds = tt
+told_on_error (Err e) holds = holds

@@ -1,5 +1,5 @@
 use Rattle.std.proofs.Common.{arith}
-use Rattle.hhh.proofs.ToldStatusLemmas.{more_is_told, beginning_is_told, on_any_err}
+use Rattle.hhh.proofs.ToldStatusLemmas.{more_is_told, beginning_is_told, told_on_error}
 use Rattle.hhh.proofs.std_sink.StdSink.write_line.Goals as goal
 
 pub loop-rest-preserved : goal.loop-rest-preserved
@@ -9,5 +9,5 @@ loop-rest-preserved g c = record {
 }
 
 pub returns-in_err-count-clause-beginning : goal.returns-in_err-count-clause-beginning
-returns-in_err-count-clause-beginning g c = on_any_err c.from_residual.result
+returns-in_err-count-clause-beginning g c = told_on_error c.from_residual.result
     (beginning_is_told _ _ _ _ _ c.loop-rest.invariant.told c.in_err-count.ensures.of_failed_stream)
