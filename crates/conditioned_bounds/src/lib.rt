@@ -19,6 +19,3 @@ pub use laws::{bounds_hold, only_prefixes_are_asked, weights_balance};
 pub use line_index::LineIndex;
 pub use lines::closest;
 pub use meets::kept_pairs;
-
-#[cfg(test)]
-mod tests;

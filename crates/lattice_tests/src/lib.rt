@@ -1,4 +1,4 @@
-//! Tests of dealing records.
+//! Tests of prefixes, of dealing records, and of bounds.
 #![tactic(auto)]
 
 #[cfg(test)]

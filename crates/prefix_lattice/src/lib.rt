@@ -26,6 +26,3 @@ pub use prefix_fault::{PrefixFault, Side};
 pub use prefixes::Prefixes;
 pub use record::Record;
 pub use record_list::RecordList;
-
-#[cfg(test)]
-mod tests;

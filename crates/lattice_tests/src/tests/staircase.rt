@@ -1,6 +1,9 @@
+//! The staircase law, counted over each small set of prefixes.
+
 ghost use Rattle.std.specs.Prelude.{◌<◌, length};
 
-use crate::{Prefix, Prefixes, Record};
+use super::prefix_of_texts;
+use prefix_lattice::{Prefix, Prefixes, Record};
 use std::alloc::{AllocError, Global};
 use std::test::Fail;
 
@@ -148,9 +151,7 @@ fn small_prefixes(alloc: Global) -> Result<Prefixes, Fail> {
     let mut prefixes = Prefixes::new(alloc);
     for source in SIDES {
         for dest in SIDES {
-            prefixes.push(Prefix::parse(source.as_bytes(), dest.as_bytes()).map_err(|_| Fail::from(
-                "no prefix",
-            ))?)?;
+            prefixes.push(prefix_of_texts(source, dest)?)?;
         }
     }
     Ok(prefixes)

@@ -1,9 +1,12 @@
-ghost use Rattle.std.specs.Prelude.{◌≡◌, ◌≤◌, ◌<◌, ◌^◌, OnOk, if◌then◌else◌};
-ghost use Rattle.prefix_lattice.specs.{covers};
+//! Closest lines, kept pairs and bounds, and an index of lines, compared with the plain list of them.
 
-use super::*;
-use crate::members::Members;
-use prefix_lattice::{Prefix, Prefixes, Record};
+ghost use Rattle.std.specs.Prelude.{◌≡◌, ◌≤◌, ◌<◌, ◌^◌, OnOk, if◌then◌else◌};
+ghost use Rattle.std.specs.List.{list_any};
+ghost use Rattle.prefix_lattice.specs.{covers, same_in_lattice};
+
+use super::prefix_of_texts;
+use conditioned_bounds::{Intervals, LineIndex, bound, closest, kept_pairs};
+use prefix_lattice::{Node, Prefix, Prefixes, Record, prefixes_are_ordered};
 use std::alloc::{AllocError, Global};
 use std::process::Abort;
 use std::test::Fail;
@@ -44,8 +47,7 @@ const STAIRS: [Texts; 3] = [
 ];
 
 fn parse(text: Texts) -> Result<Prefix, Fail> {
-    let prefix = Prefix::parse(text.0.as_bytes(), text.1.as_bytes()).map_err(|_| "a prefix")?;
-    Ok(prefix)
+    prefix_of_texts(text.0, text.1)
 }
 
 fn parse_all(alloc: Global, texts: &[Texts]) -> Result<Prefixes, Fail> {
@@ -128,27 +130,39 @@ fn bounds_of_prefixes(rt: HostRuntime) -> Result<(), Fail> {
     Ok(())
 }
 
-/// Pushes a prefix that neither has yet to both.
-fn push_new(members: &mut Members, index: &mut LineIndex, prefix: &Prefix) -> Result<(), AllocError>
-    requires { members.old ≡ index.old }
-    ensures { OnOk result (members.new ≡ index.new) }
+/// Whether a prefix is one of some lines.
+fn is_among(lines: &Prefixes, prefix: &Prefix) -> bool
+    ensures { result ≡ list_any (λ line. same_in_lattice prefix.now line) lines.now }
 {
-    if members.len() > 1000 {
-        return Ok(());
-    }
-    if members.has(prefix) {
-        return Ok(());
-    }
-    members.push(prefix)?;
+    lines
+        .as_slice()
+        .iter()
+        .any(|line| prefix.under(line) && line.under(prefix))
+}
+
+/// Pushes a prefix that neither has yet to both.
+fn push_new(
+    rt: &impl Abort,
+    pushed: &mut Prefixes,
+    index: &mut LineIndex,
+    prefix: &Prefix,
+) -> Result<(), AllocError>
+    requires { pushed.old ≡ index.old }
+    ensures { OnOk result (pushed.new ≡ index.new) }
+{
+    prefixes_are_ordered();
+    assert!(rt; pushed.len() <= 1000);
+    assert!(rt; !is_among(pushed, prefix));
+    pushed.push(*prefix)?;
     index.push(prefix)
 }
 
 /// An index of these lines, pushed in their order.
-fn indexed(alloc: Global, lines: &Prefixes) -> Result<LineIndex, AllocError> {
-    let mut members = Members::new(alloc);
+fn indexed(rt: &impl Abort, alloc: Global, lines: &Prefixes) -> Result<LineIndex, AllocError> {
+    let mut pushed = Prefixes::new(alloc);
     let mut index = LineIndex::new(alloc);
     for line in lines.as_slice() {
-        push_new(&mut members, &mut index, line)?;
+        push_new(rt, &mut pushed, &mut index, line)?;
     }
     Ok(index)
 }
@@ -163,7 +177,7 @@ fn lines_of_an_index(rt: HostRuntime) -> Result<(), Fail> {
         high: 9,
     };
     let lines = parse_all(alloc, &STAIRS)?;
-    let index = indexed(alloc, &lines)?;
+    let index = indexed(&rt, alloc, &lines)?;
     assert_eq!(rt; index.closest(&parse(ROOT)?)?.as_slice(), lines.as_slice());
     let parts = index.bound(&parse(ROOT)?, &exact)?;
     // 9 - 27 + 18.
@@ -190,7 +204,7 @@ fn of_world(number: u32) -> Result<Prefix, Fail> {
     let (source, source_bytes) = SIDES[(number % 7) as usize];
     let (dest, dest_bytes) = SIDES[(number / 7 % 7) as usize];
     let pair = Record::new(source, dest, 1).ok_or("a weight of 0")?;
-    let node = prefix_lattice::Node::new(source_bytes, dest_bytes).ok_or("a node")?;
+    let node = Node::new(source_bytes, dest_bytes).ok_or("a node")?;
     Ok(Prefix::of(&pair, node))
 }
 
@@ -246,7 +260,7 @@ fn an_index_gives_what_a_plain_list_gives(rt: HostRuntime) -> Result<(), Fail> {
     let mut kept = 0u64;
     for set in 0..2000u32 {
         let lines = some_lines(alloc, &mut state, 2 + set % 8)?;
-        let index = indexed(alloc, &lines)?;
+        let index = indexed(&rt, alloc, &lines)?;
         agree(&rt, alloc, &lines, &index, &parse(ROOT)?, &intervals)?;
         agree(
             &rt,

@@ -1,7 +1,7 @@
-mod lattice;
-mod staircase;
+//! Records, prefixes, their nodes and their texts.
 
-use super::*;
+use super::prefix_of_texts;
+use prefix_lattice::{Node, Prefix, PrefixFault, Record, RecordList, Side, number_of};
 use std::test::Fail;
 
 // 10.1.2.3 to 20.1.2.3.
@@ -89,7 +89,7 @@ fn covers_by_both_sides(rt: HostRuntime) -> Result<(), Fail> {
         ("10.0.0.0/8", "21.0.0.0/8", false),
         ("11.0.0.0/8", "20.0.0.0/8", false),
     ] {
-        let prefix = Prefix::parse(source.as_bytes(), dest.as_bytes()).map_err(|_| "a prefix")?;
+        let prefix = prefix_of_texts(source, dest)?;
         assert_eq!(rt; prefix.covers(&rec), want, "{source} {dest}");
         let own = Prefix::of(&rec, prefix.node());
         assert_eq!(rt; own == prefix, want, "{source} {dest}");

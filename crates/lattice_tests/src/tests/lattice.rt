@@ -1,11 +1,14 @@
-use crate::Prefix;
+//! Which prefix is under which, meets, the order of a report, and texts that are read back.
+
+use super::prefix_of_texts;
+use prefix_lattice::Prefix;
 use std::cmp::Ordering;
 use std::test::Fail;
 
 // A prefix by its text: a source, a space and a destination.
 fn prefix_of(text: &str) -> Result<Prefix, Fail> {
     let (source, dest) = text.split_once(' ').ok_or("no space")?;
-    Prefix::parse(source.as_bytes(), dest.as_bytes()).map_err(|_| Fail::from("no prefix"))
+    prefix_of_texts(source, dest)
 }
 
 #[test]
