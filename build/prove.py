@@ -54,9 +54,9 @@ def sums_of(crates):
     for crate, below in crates.items():
         made_of = hashlib.sha256((kit / "KIT-ID").read_bytes())
         made_of.update(repr([(name, sums.get(name)) for name in below]).encode())
-        for folder in ("src", "specs"):
-            for path in sorted((top / "crates" / crate / folder).glob("**/*.*")):
-                made_of.update(repr((str(path.relative_to(top)), path.read_bytes())).encode())
+        folder = top / "crates" / crate
+        for path in sorted([*folder.glob("src/**/*.rt"), *folder.glob("specs/**/*.antt")]):
+            made_of.update(repr((str(path.relative_to(folder)), path.read_bytes())).encode())
         sums[crate] = made_of.hexdigest()
     return sums
 
@@ -127,18 +127,20 @@ def run_in(crate, command):
 def minutes_left():
     """About how many minutes the crates take that aren't proved yet: as many as the longest chain of them, or as all of
     them side by side, if that is more, at the pace of those that are proved."""
-    stale, seconds = words_by_crate(logs / "stale"), words_by_crate(logs / "seconds")
-    measured = measured_seconds()
-    proved = {crate: float(words[0]) for crate, words in seconds.items()}
-    pace = sum(proved.values()) / sum(measured[crate] for crate in proved) if proved else 1
-    left = {crate: measured[crate] if crate in stale and crate not in proved else 0 for crate in measured}
-    return pace * max(sum(left.values()) / processors, *chains(left).values()) / 60
+    stale, proved = words_by_crate(logs / "stale"), words_by_crate(logs / "seconds")
+    clock, used = measured_seconds(0), measured_seconds(1)
+    expected = sum(used[crate] for crate in proved)
+    pace = sum(float(words[1]) for words in proved.values()) / expected if proved else 1
+    left = [crate for crate in clock if crate in stale and crate not in proved]
+    chain = chains({crate: clock[crate] if crate in left else 0 for crate in clock})
+    return pace * max(sum(used[crate] for crate in left) / processors, *chain.values()) / 60
 
 
-def measured_seconds():
-    """How long each crate took in the measured build; one that is newer counts as a common one."""
+def measured_seconds(column):
+    """How long each crate took in the measured build, by the clock (0) or of processors (1). One that is newer counts as a
+    common one."""
     measured = words_by_crate(top / "build/seconds")
-    return {crate: float(measured.get(crate, ["60"])[0]) for crate in crates_of_the_program()}
+    return {crate: float(measured.get(crate, ["60", "60"])[column]) for crate in crates_of_the_program()}
 
 
 def chains(seconds):
@@ -151,7 +153,7 @@ def chains(seconds):
 
 def longest_chain():
     """The crates for which the program waits longest, each of which waits for the next."""
-    crates, lengths = crates_of_the_program(), chains(measured_seconds())
+    crates, lengths = crates_of_the_program(), chains(measured_seconds(0))
     chain = ["hhh"]
     while below := [name for name in crates[chain[-1]] if name in crates]:
         chain.append(max(below, key=lengths.get))
