@@ -2,7 +2,8 @@
 
 ghost use Rattle.std.specs.Prelude.{◌≡◌, ◌<◌, ◌≤◌, ℕ, List, Some, Err, replicate, is_some, IfOk, IsErrOf, OnOk};
 ghost use Rattle.outside_io.specs.{FaultCountRose};
-ghost use Rattle.shard_state.specs.{AreCutPositionsNotPast, HasCoreShape, cut_positions};
+ghost use Rattle.hhh_report.specs.{AreCutPositionsNotPast};
+ghost use Rattle.shard_state.specs.{HasCoreShape, cut_positions};
 ghost use Rattle.slot_disk.specs.{IfImageKnown, CrashLeavesAtAnyMoment, other_slot_of_put};
 ghost use Rattle.checkpoint.specs.HeaderSettings.{AreHeaderSettings, header_of_settings};
 ghost use Rattle.checkpoint.specs.Body.{greatest_body_sequence};
@@ -11,7 +12,8 @@ ghost use Rattle.checkpoint.specs.Saver.{SaverState, DiskMatchesSaver, IsNewestF
 ghost use Rattle.checkpoint.specs.Saver.{saver_of};
 
 use crate::{Newest, SaveFault, StoreSettings, encode, span};
-use shard_state::{Cut, Positions};
+use hhh_report::Positions;
+use shard_state::Cut;
 use slot_disk::{Disk, Slots};
 use std::alloc::{AllocError, Global};
 use std::marker::Model;

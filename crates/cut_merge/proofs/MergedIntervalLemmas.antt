@@ -14,7 +14,8 @@ use Rattle.space_saving.specs.declared.entry.Entry.{Entry}
 use Rattle.space_saving.specs.{TableValue, table_entry, interval_in_table, table_interval_from, table_total, IsTable}
 use Rattle.shard_state.specs.{SnapshotValue, IsSnapshot, snapshot_table_at, snapshot_total, SnapshotRepresents}
 use Rattle.shard_state.specs.{CutValue, IsCut}
-use Rattle.shard_state.specs.{cut_positions, total_of_cut, CutRepresents, records_before_cut, NarrowIntervalHoldsWeight}
+use Rattle.hhh_report.specs.{records_before_cut}
+use Rattle.shard_state.specs.{cut_positions, total_of_cut, CutRepresents, NarrowIntervalHoldsWeight}
 use Rattle.shard_state.specs.{weight_interval_of}
 use Rattle.cut_merge.specs.CutTables.{interval_over_tables, keys_of_table}
 use Rattle.cut_merge.specs.CutTables.{cut_tables_at, interval_in_cut, keys_monitored_in_cut, IsTableIntervalWithinTotal}

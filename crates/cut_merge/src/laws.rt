@@ -3,7 +3,8 @@
 ghost use Rattle.std.specs.Prelude.{◌≡◌, ◌≢◌, ℕ, ◌*◌, ◌^◌, ◌<◌, ◌≤◌, List, length, All, AllPairs, Contains};
 ghost use Rattle.prefix_lattice.specs.{RecordValue, NodeValue, IsNode, PrefixValue, IsPrefix, node_of_prefix};
 ghost use Rattle.prefix_lattice.specs.{prefix_key, prefix_weight, total_weight, IsPrefixKey};
-ghost use Rattle.shard_state.specs.{CutValue, IsCut, cut_positions, total_of_cut, CutRepresents, records_before_cut};
+ghost use Rattle.hhh_report.specs.{records_before_cut};
+ghost use Rattle.shard_state.specs.{CutValue, IsCut, cut_positions, total_of_cut, CutRepresents};
 ghost use Rattle.shard_state.specs.{NarrowIntervalHoldsWeight};
 ghost use Rattle.cut_merge.specs.CutTables.{cut_tables_at, interval_in_cut, keys_monitored_in_cut};
 ghost use Rattle.cut_merge.specs.CutTables.{IsTableIntervalWithinTotal};

@@ -5,8 +5,7 @@ use Rattle.std.proofs.Common.{arith, append_assoc, append-nil, add-one}
 use Rattle.std.proofs.lemmas.List.{map-append, length-take}
 use Rattle.std.proofs.lemmas.List.Elements.{All-push}
 use Rattle.prefix_lattice.specs.{RecordValue, PrefixValue}
-use Rattle.shard_state.specs.{records_before_cut}
-use Rattle.hhh_output.specs.{AreWithinListsInSoundReport}
+use Rattle.hhh_report.specs.{records_before_cut, AreWithinListsInSoundReport}
 use Rattle.exact_audit.specs.declared.counted.Counted.{Counted}
 use Rattle.exact_audit.specs.CountedParts.{counted_part_at}
 use Rattle.exact_audit.specs.Depths.{AreDepths}

@@ -5,9 +5,9 @@ use Rattle.std.proofs.Common.{true, false, refl, arith}
 use Rattle.std.proofs.lemmas.List.Elements.{All-nil, All-cons}
 use Rattle.prefix_lattice.specs.{RecordValue, NodeValue, PrefixValue, IsPrefix, one_line_covers, lines_under}
 use Rattle.prefix_lattice.specs.{prefix_key}
-use Rattle.hhh_output.specs.declared.line.Line.{Line}
-use Rattle.hhh_output.specs.declared.report.Report.{Report}
-use Rattle.hhh_output.specs.{AreReportLines, HoldsWeightInSoundReport, IsThreshold}
+use Rattle.hhh_report.specs.declared.line.Line.{Line}
+use Rattle.hhh_report.specs.declared.report.Report.{Report}
+use Rattle.hhh_report.specs.{AreReportLines, HoldsWeightInSoundReport, IsThreshold}
 use Rattle.exact_audit.specs.declared.depths.Depths.{Depths}
 use Rattle.exact_audit.specs.declared.counted.Counted.{Counted}
 use Rattle.exact_audit.specs.declared.left_out.LeftOut.{LeftOut}

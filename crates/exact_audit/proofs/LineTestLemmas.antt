@@ -6,8 +6,8 @@ use Rattle.std.proofs.lemmas.Bool.{cases_lt, cases_eq}
 use Rattle.std.proofs.lemmas.List.{length-set, get_or-set_same, get_or-set_other}
 use Rattle.std.proofs.lemmas.Option.{slice_get_read, slice_get-get_or, slice_get_within, get_or_from_slice_get}
 use Rattle.std.proofs.lemmas.List.Elements.{All-more}
-use Rattle.hhh_output.specs.declared.line.Line.{Line}
-use Rattle.hhh_output.specs.{prefixes_of_lines}
+use Rattle.hhh_report.specs.declared.line.Line.{Line}
+use Rattle.hhh_report.specs.{prefixes_of_lines}
 use Rattle.prefix_lattice.specs.{RecordValue, node_index, node_of_prefix}
 use Rattle.exact_audit.specs.declared.node_sums.Sums.{Sums}
 use Rattle.exact_audit.specs.NodeSums.{sums_of}

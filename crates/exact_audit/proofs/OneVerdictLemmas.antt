@@ -10,12 +10,10 @@ use Rattle.std.proofs.lemmas.Bool.{cases_lt, cases_order, cases_eq}
 use Rattle.std.proofs.lemmas.List.{get_or-take, length-take-le}
 use Rattle.std.proofs.lemmas.Option.{get_or_from_slice_get, slice_get_within}
 use Rattle.prefix_lattice.specs.{RecordValue, PrefixValue, IsPrefix, report_order, conditioned_weight}
-use Rattle.shard_state.specs.{records_before_cut}
-use Rattle.hhh_output.specs.declared.line.Line.{Line}
-use Rattle.hhh_output.specs.declared.report.Report.{Report}
-use Rattle.hhh_output.specs.{AreWithinListsInSoundReport, IsThreshold, HoldsWeightInSoundReport, IsNarrowInSoundReport}
-use Rattle.hhh_output.specs.{IsHeavyInSoundReport, AreCompleteInSoundReport}
-use Rattle.hhh_output.specs.{prefixes_of_lines}
+use Rattle.hhh_report.specs.{records_before_cut, AreWithinListsInSoundReport, IsThreshold, HoldsWeightInSoundReport}
+use Rattle.hhh_report.specs.declared.line.Line.{Line}
+use Rattle.hhh_report.specs.declared.report.Report.{Report}
+use Rattle.hhh_report.specs.{IsNarrowInSoundReport, IsHeavyInSoundReport, AreCompleteInSoundReport, prefixes_of_lines}
 use Rattle.exact_audit.specs.declared.verdict.Verdict.{Verdict}
 use Rattle.exact_audit.specs.declared.verdict.Verdict.TheVariants.{Good, BadPositions, BadTotal, BadThreshold}
 use Rattle.exact_audit.specs.declared.verdict.Verdict.TheVariants.{BadInterval, TooWide, LowLine, NotJustified, LeftOut}

@@ -4,10 +4,9 @@ use Rattle.std.proofs.Common.{refl, subst, arith, ⊎_elim}
 use Rattle.std.proofs.lemmas.Bool.{cases_lt}
 use Rattle.std.proofs.lemmas.Option.{get_or_from_slice_get, slice_get_within}
 use Rattle.prefix_lattice.specs.{RecordValue, PrefixValue, conditioned_weight}
-use Rattle.shard_state.specs.{records_before_cut}
-use Rattle.hhh_output.specs.declared.line.Line.{Line}
-use Rattle.hhh_output.specs.declared.report.Report.{Report}
-use Rattle.hhh_output.specs.{IsSound, IsThreshold, AreCompleteInSoundReport}
+use Rattle.hhh_report.specs.{records_before_cut, IsSound, IsThreshold, AreCompleteInSoundReport}
+use Rattle.hhh_report.specs.declared.line.Line.{Line}
+use Rattle.hhh_report.specs.declared.report.Report.{Report}
 use Rattle.exact_audit.specs.declared.verdict.Verdict.{Verdict}
 use Rattle.exact_audit.specs.declared.verdict.Verdict.TheVariants.{Good, BadPositions, BadTotal, BadThreshold}
 use Rattle.exact_audit.specs.declared.verdict.Verdict.TheVariants.{BadInterval, TooWide, LowLine, NotJustified, LeftOut}

@@ -4,8 +4,8 @@ use Rattle.std.specs.List.{list_any}
 use Rattle.std.specs.declared.cmp.Ordering.{Ordering}
 use Rattle.std.specs.declared.cmp.Ordering.TheVariants.{Less, Equal, Greater}
 use Rattle.prefix_lattice.specs.{RecordValue, node_index, PrefixValue, node_of_prefix, prefix_key, report_order}
-use Rattle.hhh_output.specs.declared.line.Line.{Line}
-use Rattle.hhh_output.specs.{prefixes_of_lines}
+use Rattle.hhh_report.specs.declared.line.Line.{Line}
+use Rattle.hhh_report.specs.{prefixes_of_lines}
 use Rattle.exact_audit.specs.declared.node_sums.Sums.{Sums}
 use Rattle.exact_audit.specs.declared.left_out.LeftOut.{LeftOut}
 use Rattle.exact_audit.specs.declared.findings.Findings.{Findings}

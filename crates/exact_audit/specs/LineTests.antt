@@ -1,9 +1,9 @@
 -- What the tests of a report ask of its lines.
 use Rattle.std.specs.Prelude.{ℕ, ◌≡◌, ◌+◌, List, take, All, slice_get, Option, None, Some}
 use Rattle.prefix_lattice.specs.{RecordValue}
-use Rattle.hhh_output.specs.declared.line.Line.{Line}
-use Rattle.hhh_output.specs.{HoldsWeightInSoundReport, IsNarrowInSoundReport, IsHeavyInSoundReport}
-use Rattle.hhh_output.specs.{IsJustifiedInSoundReport, prefixes_of_lines}
+use Rattle.hhh_report.specs.declared.line.Line.{Line}
+use Rattle.hhh_report.specs.{HoldsWeightInSoundReport, IsNarrowInSoundReport, IsHeavyInSoundReport}
+use Rattle.hhh_report.specs.{IsJustifiedInSoundReport, prefixes_of_lines}
 use Rattle.exact_audit.specs.declared.line_tests.Measures.{Measures}
 
 -- the line of this number, counted from 1, is the first that fails a test
@@ -19,6 +19,14 @@ pub record IsFirstFailingLine (Passes : Line → Type 0) (lines : List Line) (nu
 abbrev pub IsLineTestResult : (Line → Type 0) → List Line → Option ℕ → Type 0
 IsLineTestResult Passes lines None = All Passes lines
 IsLineTestResult Passes lines (Some number) = IsFirstFailingLine Passes lines number
+
+-- the least capacity of tables for which a report is audited
+abbrev pub least_audited_capacity : ℕ
+least_audited_capacity = 2
+
+-- the greatest capacity of tables for which a report is audited
+abbrev pub most_audited_capacity : ℕ
+most_audited_capacity = 4096
 
 -- what the tests of lines are made with: the capacity of the tables, and the threshold and the total of the report
 pub record LineTestMeasures : Type 0 where

@@ -1,11 +1,11 @@
 -- The verdict on a report: that it is sound, or the first of the eight tests of a sound report that fails.
 use Rattle.std.specs.Prelude.{ℕ, ◌≡◌, List}
 use Rattle.prefix_lattice.specs.{RecordValue, total_weight}
-use Rattle.shard_state.specs.{records_before_cut}
-use Rattle.hhh_output.specs.declared.line.Line.{Line}
-use Rattle.hhh_output.specs.declared.report.Report.{Report}
-use Rattle.hhh_output.specs.{IsSound, AreWithinListsInSoundReport, IsThreshold, HoldsWeightInSoundReport}
-use Rattle.hhh_output.specs.{IsNarrowInSoundReport, IsHeavyInSoundReport, AreCompleteInSoundReport, prefixes_of_lines}
+use Rattle.hhh_report.specs.{records_before_cut, IsSound, AreWithinListsInSoundReport, IsThreshold}
+use Rattle.hhh_report.specs.declared.line.Line.{Line}
+use Rattle.hhh_report.specs.declared.report.Report.{Report}
+use Rattle.hhh_report.specs.{HoldsWeightInSoundReport, IsNarrowInSoundReport, IsHeavyInSoundReport}
+use Rattle.hhh_report.specs.{AreCompleteInSoundReport, prefixes_of_lines}
 use Rattle.exact_audit.specs.declared.verdict.Verdict.{Verdict}
 use Rattle.exact_audit.specs.declared.verdict.Verdict.TheVariants.{Good, BadPositions, BadTotal, BadThreshold}
 use Rattle.exact_audit.specs.declared.verdict.Verdict.TheVariants.{BadInterval, TooWide, LowLine, NotJustified, LeftOut}

@@ -2,9 +2,9 @@
 
 ghost use Rattle.std.specs.Prelude.{◌≡◌, ◌≤◌, ◌<◌, ◌↔◌, List, length, IfOk};
 ghost use Rattle.prefix_lattice.specs.{RecordValue, total_weight, total_limit};
-ghost use Rattle.shard_state.specs.{least_table_capacity, most_table_capacity};
-ghost use Rattle.hhh_output.specs.{threshold_million, AreReportLines, IsSound};
+ghost use Rattle.hhh_report.specs.{threshold_million, AreReportLines, IsSound};
 ghost use Rattle.exact_audit.specs.declared.verdict.Verdict.TheVariants.{Good};
+ghost use Rattle.exact_audit.specs.LineTests.{least_audited_capacity, most_audited_capacity};
 ghost use Rattle.exact_audit.specs.Verdict.{IsLineVerdict, IsVerdict};
 ghost use Rattle.exact_audit.specs.Findings.{AreFindings};
 
@@ -14,7 +14,7 @@ use crate::findings::{Findings, find};
 use crate::line_codes::LineCodes;
 use crate::line_tests::{Measures, bad_interval, low_line, not_justified, too_wide};
 use deal_rules::Dealt;
-use hhh_output::{Line, Report, threshold};
+use hhh_report::{Line, Report, threshold};
 use std::alloc::{AllocError, Global};
 
 /// Audits a report over dealt records: whether it is sound for tables of this capacity and this share `phi`, in parts
@@ -34,8 +34,8 @@ pub fn audit(
     capacity: u32,
     phi: u32,
 ) -> Result<Verdict, AllocError>
-    requires least { least_table_capacity ≤ capacity }
-    requires most { capacity ≤ most_table_capacity }
+    requires least { least_audited_capacity ≤ capacity }
+    requires most { capacity ≤ most_audited_capacity }
     requires some { 1 ≤ phi }
     requires share { phi ≤ threshold_million }
     ensures verdict { IfOk result (IsVerdict dealt.now capacity phi report.now) }
@@ -70,7 +70,7 @@ fn verdict_of(
 ) -> Result<Verdict, AllocError>
     requires lines { AreReportLines lines.now }
     requires as_many { length findings.now.sums.items ≡ length lines.now }
-    requires capacity { capacity ≤ most_table_capacity }
+    requires capacity { capacity ≤ most_audited_capacity }
     requires total { total < total_limit }
     ensures { IfOk result (λ verdict. (records : List RecordValue) → AreFindings lines.now records threshold findings.now
         → total_weight records ≡ total

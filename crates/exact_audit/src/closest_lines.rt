@@ -4,10 +4,9 @@ ghost use Rattle.std.specs.Prelude.{◌≡◌, ◌<◌, ◌≤◌, ◌*◌, IfOk
 ghost use Rattle.std.specs.List.{filter_map, list_any};
 ghost use Rattle.prefix_lattice.specs.{strictly_under, lines_under, greatest_lines, closest, same_in_lattice};
 ghost use Rattle.prefix_lattice.specs.{is_under_third_beside_pair, kept_pair_meet, kept_pairs};
-ghost use Rattle.hhh_output.specs.{prefixes_of_lines};
-ghost use Rattle.hhh_output.specs.{member_limit};
+ghost use Rattle.hhh_report.specs.{prefixes_of_lines, line_limit};
 
-use hhh_output::Line;
+use hhh_report::Line;
 use prefix_lattice::Prefix;
 use std::alloc::{AllocError, Global};
 
@@ -62,9 +61,9 @@ fn is_under_another(member: &Prefix, members: &[Prefix]) -> bool
 /// How many pairs of members are kept: those whose meet exists and is under no third member. It costs up to the cube
 /// of the number of members.
 pub(crate) fn count_kept_pairs(members: &[Prefix]) -> u64
-    requires { length members.now < member_limit }
+    requires { length members.now < line_limit }
     ensures number { result ≡ length (kept_pairs members.now) }
-    ensures few { result ≤ member_limit * member_limit }
+    ensures few { result ≤ line_limit * line_limit }
 {
     let mut pairs = 0;
     for (place, first) in members.iter().enumerate() {
@@ -75,7 +74,7 @@ pub(crate) fn count_kept_pairs(members: &[Prefix]) -> u64
 
 // How many pairs of one member with each of these others are kept.
 fn count_kept_with(members: &[Prefix], first: &Prefix, seconds: &[Prefix]) -> u64
-    requires { length seconds.now < member_limit }
+    requires { length seconds.now < line_limit }
     ensures number { result ≡ length (filter_map (kept_pair_meet members.now first.now) seconds.now) }
     ensures few { result ≤ length seconds.now }
 {

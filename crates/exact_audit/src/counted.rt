@@ -2,8 +2,7 @@
 
 ghost use Rattle.std.specs.Prelude.{◌≡◌, ◌≤◌, ◌<◌, ◌*◌, ◌^◌, ◌++◌, ◌↔◌, List, length, All, IsTrue, IfOk, OnOk};
 ghost use Rattle.prefix_lattice.specs.{PrefixValue, RecordValue, total_weight, total_limit, record_limit};
-ghost use Rattle.shard_state.specs.{records_before_cut};
-ghost use Rattle.hhh_output.specs.{AreWithinListsInSoundReport};
+ghost use Rattle.hhh_report.specs.{records_before_cut, AreWithinListsInSoundReport};
 ghost use Rattle.exact_audit.specs.LineCodes.{AreLineCodes};
 ghost use Rattle.exact_audit.specs.NodeSums.{AreCountedInNodeSums};
 ghost use Rattle.exact_audit.specs.CountedParts.{counted_part_at};
@@ -11,8 +10,8 @@ ghost use Rattle.exact_audit.specs.CountedParts.{counted_part_at};
 use crate::depths::Depths;
 use crate::line_codes::LineCodes;
 use deal_rules::Dealt;
+use hhh_report::Positions;
 use prefix_lattice::Record;
-use shard_state::Positions;
 use std::alloc::{AllocError, Global};
 
 /// A record that is counted, with the depths that the lines that cover it reach.

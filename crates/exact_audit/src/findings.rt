@@ -2,7 +2,7 @@
 
 ghost use Rattle.std.specs.Prelude.{◌≡◌, ◌+◌, ◌≤◌, ◌<◌, List, length, IfOk};
 ghost use Rattle.prefix_lattice.specs.{RecordValue, node_index, total_weight, total_limit};
-ghost use Rattle.hhh_output.specs.{prefixes_of_lines};
+ghost use Rattle.hhh_report.specs.{prefixes_of_lines};
 ghost use Rattle.exact_audit.specs.LineCodes.{AreLineCodes};
 ghost use Rattle.exact_audit.specs.NodeSums.{AreCountedInNodeSums, AreNodeSums, records_in_node_sums};
 ghost use Rattle.exact_audit.specs.Findings.{AreFindings, AreFindingSumsBefore};
@@ -11,7 +11,7 @@ use crate::counted::Counted;
 use crate::left_out::{LeftOut, first_left_out};
 use crate::line_codes::LineCodes;
 use crate::node_sums::{Sums, sums_at};
-use hhh_output::Line;
+use hhh_report::Line;
 use indexmap::IndexMap;
 use prefix_lattice::Node;
 use std::alloc::{AllocError, Global};

@@ -2,7 +2,7 @@
 
 ghost use Rattle.std.specs.Prelude.{◌≡◌, ℕ, List};
 ghost use Rattle.prefix_lattice.specs.{RecordValue};
-ghost use Rattle.hhh_output.specs.declared.report.Report.{Report};
+ghost use Rattle.hhh_report.specs.declared.report.Report.{Report};
 ghost use Rattle.exact_audit.specs.declared.verdict.Verdict.{Verdict};
 ghost use Rattle.exact_audit.specs.Verdict.{IsVerdict};
 

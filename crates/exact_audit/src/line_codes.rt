@@ -3,10 +3,10 @@
 ghost use Rattle.std.specs.Prelude.{◌≡◌, ◌^◌, ◌<◌, nat_eq, IfOk};
 ghost use Rattle.std.specs.List.{list_any};
 ghost use Rattle.prefix_lattice.specs.{IsPrefix, prefix_key, prefix_code};
-ghost use Rattle.hhh_output.specs.{prefixes_of_lines};
+ghost use Rattle.hhh_report.specs.{prefixes_of_lines};
 ghost use Rattle.exact_audit.specs.LineCodes.{AreLineCodes};
 
-use hhh_output::Line;
+use hhh_report::Line;
 use indexmap::IndexSet;
 use prefix_lattice::Prefix;
 use std::alloc::{AllocError, Global};

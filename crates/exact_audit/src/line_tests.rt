@@ -2,17 +2,16 @@
 
 ghost use Rattle.std.specs.Prelude.{◌≡◌, ◌+◌, ◌*◌, ◌≤◌, ◌<◌, ◌^◌, ◌↔◌, List, length, All, IsTrue, IfOk};
 ghost use Rattle.prefix_lattice.specs.{RecordValue, IntervalHoldsWeight, total_weight, total_limit};
-ghost use Rattle.shard_state.specs.{most_table_capacity};
-ghost use Rattle.hhh_output.specs.{HoldsWeightInSoundReport, IsHeavyInSoundReport, IsNarrowInSoundReport};
-ghost use Rattle.hhh_output.specs.{member_limit, prefixes_of_lines};
+ghost use Rattle.hhh_report.specs.{HoldsWeightInSoundReport, IsHeavyInSoundReport, IsNarrowInSoundReport, line_limit};
+ghost use Rattle.hhh_report.specs.{prefixes_of_lines};
 ghost use Rattle.exact_audit.specs.LineTests.{IsLineTestResult, LinePassesJustifiedTest};
 ghost use Rattle.exact_audit.specs.Widths.{widths_of};
-ghost use Rattle.exact_audit.specs.LineTests.{line_test_measures};
+ghost use Rattle.exact_audit.specs.LineTests.{line_test_measures, most_audited_capacity};
 ghost use Rattle.exact_audit.specs.Findings.{AreFindingSums};
 
 use crate::closest_lines::{closest, count_kept_pairs};
 use crate::node_sums::Sums;
-use hhh_output::Line;
+use hhh_report::Line;
 use std::alloc::{AllocError, Global};
 
 /// The first line whose interval doesn't hold its prefix's weight.
@@ -76,9 +75,9 @@ pub(crate) fn not_justified(
     sums: &[Sums],
     by: &Measures,
 ) -> Result<Option<u64>, AllocError>
-    requires few { length lines.now < member_limit }
+    requires few { length lines.now < line_limit }
     requires as_many { length sums.now ≡ length lines.now }
-    requires capacity { by.now.capacity ≤ most_table_capacity }
+    requires capacity { by.now.capacity ≤ most_audited_capacity }
     requires total { by.now.total < total_limit }
     ensures { IfOk result (λ found. (records : List RecordValue) → AreFindingSums lines.now records sums.now
         → total_weight records ≡ by.now.total
@@ -101,8 +100,8 @@ fn is_justified(
     left: u64,
     by: &Measures,
 ) -> Result<bool, AllocError>
-    requires few { length lines.now < member_limit }
-    requires capacity { by.now.capacity ≤ most_table_capacity }
+    requires few { length lines.now < line_limit }
+    requires capacity { by.now.capacity ≤ most_audited_capacity }
     requires total { by.now.total < total_limit }
     ensures { IfOk result (λ justified. IsTrue justified ↔ (by.now.capacity * by.now.threshold ≤ by.now.capacity * left
         + widths_of line.now.prefix (prefixes_of_lines lines.now) * by.now.total)) }
@@ -121,7 +120,7 @@ fn is_justified(
 impl Measures {
     // Whether a conditioned weight is at least the threshold less this many widths, each the total over the capacity.
     fn allows(&self, left: u64, widths: u64) -> bool
-        requires capacity { self.now.capacity ≤ most_table_capacity }
+        requires capacity { self.now.capacity ≤ most_audited_capacity }
         requires total { self.now.total < total_limit }
         ensures { IsTrue result ↔ (self.now.capacity * self.now.threshold
             ≤ self.now.capacity * left + widths * self.now.total) }

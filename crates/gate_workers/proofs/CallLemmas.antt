@@ -14,8 +14,8 @@ use Rattle.shard_state.specs.{SnapshotRepresents, SnapshotValue, core_capacity, 
 use Rattle.shard_state.specs.{snapshot_of_shard}
 use Rattle.shard_state.specs.{shard_state_at}
 use Rattle.hhh_output.specs.{IsReportOf}
-use Rattle.hhh_output.specs.declared.report.Report.{Report}
-use Rattle.hhh_output.specs.declared.reports.Reported.{Reported}
+use Rattle.hhh_report.specs.declared.report.Report.{Report}
+use Rattle.hhh_report.specs.declared.reports.Reported.{Reported}
 use Rattle.position_words.specs.declared.view.Trail.{Trail}
 use Rattle.position_words.specs.declared.view.View.{View}
 use Rattle.pass_tokens.specs.{IsOddWord, ReadsCut, ShardRead, after_reads, seen_in_view, states_of_read}

@@ -6,6 +6,7 @@ use Rattle.shard_state.specs.{empty_snapshot}
 use Rattle.position_words.specs.declared.view.Trail.{Trail}
 use Rattle.position_words.specs.declared.view.View.{View}
 use Rattle.pass_tokens.specs.{PositionWordsValue, first_view, newcomer_view, view_after_join}
+use Rattle.hhh_report.specs.declared.report.Report.{Report}
 use Rattle.gate_workers.specs.Call.{IsReportAtCall}
 use Rattle.gate_workers.specs.Feed.{FeedHasSeenEnds}
 use Rattle.gate_workers.specs.Threads.{AreSoundThreadReports, CallingThreadMakesRounds, WorkerThreadHasFed}
@@ -14,7 +15,6 @@ use Rattle.gate_workers.specs.Plan.{IsPlanFor}
 use Rattle.gate_workers.specs.LaterView.{IsLaterTrail, IsLaterView, StaysReadyInLaterViews}
 use Rattle.gate_workers.specs.declared.plan.ThreadPlan.{ThreadPlan}
 use Rattle.gate_workers.proofs.Examples.{shards, first, trail}
-use Rattle.hhh_output.specs.declared.report.Report.{Report}
 
 -- two workers and a caller with one round, at half of the total and capacity 4
 abbrev plan : ThreadPlan

@@ -3,8 +3,8 @@ use Rattle.std.specs.Prelude.{ℕ, ◌≡◌, ◌<◌, List, [], ◌∷◌, map,
 use Rattle.std.specs.List.Sorted.{IsNonDecreasing}
 use Rattle.shard_state.specs.{CutValue, IsShard, ShardValue, core_capacity, snapshot_of_shard, shard_state_at}
 use Rattle.hhh_output.specs.{IsReportOf}
-use Rattle.hhh_output.specs.declared.report.Report.{Report}
-use Rattle.hhh_output.specs.declared.reports.Reported.{Reported}
+use Rattle.hhh_report.specs.declared.report.Report.{Report}
+use Rattle.hhh_report.specs.declared.reports.Reported.{Reported}
 use Rattle.position_words.specs.declared.view.Trail.{Trail}
 use Rattle.position_words.specs.declared.view.View.{View}
 use Rattle.pass_tokens.specs.{IsOddWord, ShardRead, after_reads, seen_in_view}

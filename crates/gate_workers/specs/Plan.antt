@@ -1,7 +1,8 @@
 -- What a plan of threads may ask for.
 use Rattle.std.specs.Prelude.{◌≡◌, ◌≤◌, List}
 use Rattle.shard_state.specs.{ShardValue, core_capacity, least_table_capacity, most_table_capacity}
-use Rattle.hhh_output.specs.{IsWideShare, threshold_million}
+use Rattle.hhh_report.specs.{threshold_million}
+use Rattle.hhh_output.specs.{IsWideShare}
 use Rattle.gate_workers.specs.declared.plan.ThreadPlan.{ThreadPlan}
 
 -- a plan for a board: it has a worker, and the capacity of the board's tables, 2 to 4096, which can't hide a prefix of its

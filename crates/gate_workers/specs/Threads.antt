@@ -3,8 +3,8 @@ use Rattle.std.specs.Prelude.{ℕ, ◌≡◌, ◌+◌, ◌<◌, List, length, fo
 use Rattle.shard_state.specs.{CoreBasesRepresent, HasCoreShape, ShardValue, core_capacity, core_lists}
 use Rattle.position_words.specs.declared.view.View.{View}
 use Rattle.pass_tokens.specs.{IsPassOfBoard, SeatValue, PositionWordsValue, view_after_join, newcomer_view, view}
-use Rattle.hhh_output.specs.{IsSound}
-use Rattle.hhh_output.specs.declared.reports.Reported.{Reported}
+use Rattle.hhh_report.specs.{IsSound}
+use Rattle.hhh_report.specs.declared.reports.Reported.{Reported}
 use Rattle.gate_workers.specs.Feed.{Feeds, FeedHasSeenEnds}
 use Rattle.gate_workers.specs.Call.{Calls}
 use Rattle.gate_workers.specs.declared.callers.Caller.{Caller}

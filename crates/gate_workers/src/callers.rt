@@ -10,7 +10,7 @@ ghost use Rattle.gate_workers.specs.Plan.{IsPlanFor};
 
 use crate::calling::report_in_rounds;
 use crate::{Called, Gate, ThreadPlan};
-use hhh_output::Reports;
+use hhh_report::Reports;
 use pass_tokens::{Board, Pass};
 use shard_state::Cut;
 use std::alloc::{AllocError, Global};

@@ -2,12 +2,14 @@
 
 ghost use Rattle.std.specs.Prelude.{◌≡◌, ◌≤◌, ◌<◌, ◌++◌, [], ◌∷◌, length, All, IfOk, None};
 ghost use Rattle.shard_state.specs.{CoreBasesRepresent, HasCoreShape, core_capacity, core_lists, cut_positions};
-ghost use Rattle.hhh_output.specs.{IsSound, IsWideShare, threshold_million};
+ghost use Rattle.hhh_report.specs.{IsSound, threshold_million};
+ghost use Rattle.hhh_output.specs.{IsWideShare};
 ghost use Rattle.pass_tokens.specs.{IsPassOfBoard, view};
 ghost use Rattle.gate_workers.specs.Call.{Calls, IsCutAtCall, IsReportAtCall, CallReadsOnce, cut_at_call};
 
 use crate::Gate;
-use hhh_output::{Report, Reported, Reports, report_of};
+use hhh_output::report_of;
+use hhh_report::{Report, Reported, Reports};
 use pass_tokens::{Board, Pass};
 use shard_state::{Cut, shards_stand};
 use std::alloc::{AllocError, Global};

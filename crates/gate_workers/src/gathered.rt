@@ -1,6 +1,6 @@
 //! What comes back from threads.
 
-use hhh_output::Reports;
+use hhh_report::Reports;
 use pass_tokens::Pass;
 
 /// What one caller brings back.

@@ -2,8 +2,8 @@
 
 ghost use Rattle.std.specs.Prelude.{◌≡◌, ℕ, ◌+◌, ◌++◌, List, [], length};
 ghost use Rattle.shard_state.specs.{AreCoreShards, CoreBasesRepresent, CutRepresents, ShardValue, core_lists};
-ghost use Rattle.hhh_output.specs.declared.report.Report.{Report};
-ghost use Rattle.hhh_output.specs.declared.reports.Reported.{Reported};
+ghost use Rattle.hhh_report.specs.declared.report.Report.{Report};
+ghost use Rattle.hhh_report.specs.declared.reports.Reported.{Reported};
 ghost use Rattle.position_words.specs.declared.view.View.{View};
 ghost use Rattle.gate_workers.specs.Call.{Calls, IsReportAtCall, cut_at_call};
 

@@ -3,7 +3,7 @@ ghost use Rattle.shard_state.specs.{AreCoreShards, HasCoreShape, core_capacity};
 ghost use Rattle.pass_tokens.specs.{IsPassOfBoard};
 
 use super::*;
-use hhh_output::Reports;
+use hhh_report::Reports;
 use pass_tokens::{Board, Pass};
 use prefix_lattice::{Record, RecordList};
 use shard_state::{Cut, ShardState};

@@ -7,10 +7,10 @@ use Rattle.deal_rules.specs.{IsDealing}
 use Rattle.deal_rules.specs.declared.deal_kind.DealKind.{DealKind}
 use Rattle.frame_records.specs.{frame_records_of}
 use Rattle.frame_records.specs.declared.records.Records.{Records}
-use Rattle.hhh_output.specs.{AreReportLines, IsSameReport}
-use Rattle.hhh_output.specs.declared.line.Line.{Line}
-use Rattle.hhh_output.specs.declared.report.Report.{Report}
-use Rattle.hhh_output.specs.declared.reports.Reported.{Reported}
+use Rattle.hhh_report.specs.{AreReportLines, IsSameReport}
+use Rattle.hhh_report.specs.declared.line.Line.{Line}
+use Rattle.hhh_report.specs.declared.report.Report.{Report}
+use Rattle.hhh_report.specs.declared.reports.Reported.{Reported}
 use Rattle.report_text.specs.{AreSameTextSessions, IsSessionText}
 use Rattle.report_text.specs.declared.session.Session.{Session}
 use Rattle.exact_audit.specs.declared.verdict.Verdict.{Verdict}

@@ -9,7 +9,8 @@ use Rattle.recovery.specs.declared.opened.Opened.{Opened}
 use Rattle.command_words.specs.{AreLimitedSettings}
 use Rattle.std.specs.Prelude.{IfSome, is_some}
 use Rattle.prefix_lattice.specs.{RecordValue}
-use Rattle.shard_state.specs.{AreCutPositionsNotPast, CutValue, ShardValue, core_capacity}
+use Rattle.hhh_report.specs.{AreCutPositionsNotPast}
+use Rattle.shard_state.specs.{CutValue, ShardValue, core_capacity}
 use Rattle.pass_tokens.specs.{first_view}
 use Rattle.checkpoint.specs.{AreHeaderSettings, FormattedStoresAreEmpty, StoreOpensTo, SaverState, DiskMatchesSaver}
 use Rattle.checkpoint.specs.{header_of_settings}

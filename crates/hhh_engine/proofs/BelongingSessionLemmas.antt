@@ -5,7 +5,7 @@ use Rattle.std.specs.Prelude.{option_map, IfSome}
 use Rattle.std.proofs.lemmas.List.Elements.{All-append, All-cons, All-head, All-nil, All-tail}
 use Rattle.prefix_lattice.specs.{RecordValue, shard_limit}
 use Rattle.shard_state.specs.{AreCoreShards, CutRepresents, CutValue, ShardValue}
-use Rattle.hhh_output.specs.declared.reports.Reported.{Reported}
+use Rattle.hhh_report.specs.declared.reports.Reported.{Reported}
 use Rattle.slot_disk.specs.{CrashLeavesAtAnyMoment-weaker}
 use Rattle.checkpoint.specs.{StoreBelongs, IsStoreOfLists, SavedValue, StoresOpenToOneThing, digest_of_lists}
 use Rattle.checkpoint.specs.{store_sequence}

@@ -9,11 +9,11 @@ use Rattle.std.proofs.lemmas.List.Sums.{sum_by-append, sum_by-le, sum_by-take-le
 use Rattle.prefix_lattice.specs.{IntervalHoldsWeight, IsNarrowInterval, IsPrefix, PrefixValue, RecordValue, covers}
 use Rattle.prefix_lattice.specs.{record_limit}
 use Rattle.prefix_lattice.specs.{total_weight, prefix_weight}
-use Rattle.shard_state.specs.{IsShard, ShardValue, records_before_cut, shard_state_at}
-use Rattle.hhh_output.specs.{AreWithinListsInSoundReport, IsThreshold, threshold_million}
-use Rattle.hhh_output.specs.declared.line.Line.{Line}
-use Rattle.hhh_output.specs.declared.report.Report.{Report}
-use Rattle.hhh_output.specs.declared.reports.Reported.{Reported}
+use Rattle.hhh_report.specs.{records_before_cut, AreWithinListsInSoundReport, IsThreshold, threshold_million}
+use Rattle.shard_state.specs.{IsShard, ShardValue, shard_state_at}
+use Rattle.hhh_report.specs.declared.line.Line.{Line}
+use Rattle.hhh_report.specs.declared.report.Report.{Report}
+use Rattle.hhh_report.specs.declared.reports.Reported.{Reported}
 use Rattle.gate_workers.specs.{states_at_call}
 use Rattle.report_text.specs.{ReportTextShowsPositions}
 use Rattle.command_words.specs.{AreLimitedSettings}

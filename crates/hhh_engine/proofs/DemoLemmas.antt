@@ -3,8 +3,8 @@ use Rattle.std.proofs.Common.{◌≡◌, ◌∙◌, ℕ, List, None, Some, ap, a
 use Rattle.prefix_lattice.specs.{RecordValue}
 use Rattle.shard_state.specs.{CoreBasesRepresent, ShardValue, core_lists}
 use Rattle.gate_workers.specs.{IsReportAtCall}
-use Rattle.hhh_output.specs.{IsSound}
-use Rattle.hhh_output.specs.declared.report.Report.{Report}
+use Rattle.hhh_report.specs.{IsSound}
+use Rattle.hhh_report.specs.declared.report.Report.{Report}
 use Rattle.command_words.specs.declared.settings.Settings.{Settings}
 use Rattle.hhh_engine.specs.Demo.{IsDemoReport}
 use Rattle.hhh_engine.specs.Session.{IsShownInSession, session_ends, new_session_shards}

@@ -8,9 +8,10 @@ use Rattle.pcap_frames.specs.{FrameValue}
 use Rattle.frame_records.specs.{AreRecordsOf, CaptureFileHasFrames, frame_records_of}
 use Rattle.frame_records.specs.declared.records.Records.{Records}
 use Rattle.frame_records.specs.declared.weigh.Weigh.{Weigh}
-use Rattle.hhh_output.specs.{IsSameReport, IsReportOf}
-use Rattle.hhh_output.specs.declared.line.Line.{Line}
-use Rattle.hhh_output.specs.declared.report.Report.{Report}
+use Rattle.hhh_report.specs.{IsSameReport}
+use Rattle.hhh_output.specs.{IsReportOf}
+use Rattle.hhh_report.specs.declared.line.Line.{Line}
+use Rattle.hhh_report.specs.declared.report.Report.{Report}
 use Rattle.gate_workers.specs.{IsReportAtCall, cut_at_call}
 use Rattle.traffic_maker.specs.{made_capture}
 use Rattle.command_words.specs.declared.settings.Settings.{Settings}

@@ -4,7 +4,7 @@ use Rattle.std.proofs.Common.{codes}
 use Rattle.std.proofs.lemmas.List.{length-append}
 use Rattle.std.specs.Fmt.{digits}
 use Rattle.std.proofs.lemmas.List.Elements.{All-cons, All-nil}
-use Rattle.hhh_output.specs.declared.report.Report.{Report}
+use Rattle.hhh_report.specs.declared.report.Report.{Report}
 use Rattle.exact_audit.specs.{IsVerdict}
 use Rattle.exact_audit.specs.declared.verdict.Verdict.TheVariants.{BadPositions, BadTotal, TooWide, Good}
 use Rattle.pcap_frames.specs.declared.fault.FaultKind.TheVariants.{ShortHeader}

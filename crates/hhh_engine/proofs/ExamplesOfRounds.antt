@@ -6,8 +6,8 @@ use Rattle.std.proofs.lemmas.List.Elements.{All-nil, All-cons, All-from_recursio
 use Rattle.std.proofs.lemmas.Option.{same_Some}
 use Rattle.std.specs.Prelude.{⊤, All}
 use Rattle.shard_state.specs.{CutValue, ShardValue}
-use Rattle.hhh_output.specs.{IsSound}
-use Rattle.hhh_output.specs.declared.reports.Reported.{Reported}
+use Rattle.hhh_report.specs.{IsSound}
+use Rattle.hhh_report.specs.declared.reports.Reported.{Reported}
 use Rattle.pass_tokens.specs.{IsOddWord, SeatValue, ShardRead, PositionWordsValue, after_reads, first_view}
 use Rattle.gate_workers.specs.{Calls, FeedHasSeenEnds, IsReportAtCall, CallReadsOnce, View, cut_at_call}
 use Rattle.gate_workers.specs.declared.gathered.Gathered.{Gathered}

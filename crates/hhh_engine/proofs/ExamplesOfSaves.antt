@@ -6,10 +6,10 @@ use Rattle.std.proofs.lemmas.List.Elements.{All-nil, All-cons}
 use Rattle.prefix_lattice.specs.{RecordValue}
 use Rattle.deal_rules.specs.declared.deal_kind.DealKind.TheVariants.{RoundRobin}
 use Rattle.shard_state.specs.{CutValue, ShardValue, SnapshotValue, empty_snapshot, no_snapshot_entries}
-use Rattle.hhh_output.specs.{AreReportLines}
-use Rattle.hhh_output.specs.declared.line.Line.{Line}
-use Rattle.hhh_output.specs.declared.report.Report.{Report}
-use Rattle.hhh_output.specs.declared.reports.Reported.{Reported}
+use Rattle.hhh_report.specs.{AreReportLines}
+use Rattle.hhh_report.specs.declared.line.Line.{Line}
+use Rattle.hhh_report.specs.declared.report.Report.{Report}
+use Rattle.hhh_report.specs.declared.reports.Reported.{Reported}
 use Rattle.pass_tokens.specs.{first_view}
 use Rattle.gate_workers.specs.{cut_at_call}
 use Rattle.recovery.specs.declared.fault.OpenFault.TheVariants as opening

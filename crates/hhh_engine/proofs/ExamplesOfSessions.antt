@@ -15,10 +15,11 @@ use Rattle.shard_state.specs.{no_snapshot_entries}
 use Rattle.shard_state.specs.{CoreBasesRepresent, SnapshotRepresents, snapshot_table_at}
 use Rattle.space_saving.specs.declared.entry.Entry.{Entry}
 use Rattle.space_saving.specs.{AreTableEntries, interval_in_table, table_total}
-use Rattle.hhh_output.specs.{AreReportLines, IsLineOfReport, IsReportOf, IsSound, IsThreshold}
-use Rattle.hhh_output.specs.declared.line.Line.{Line}
-use Rattle.hhh_output.specs.declared.report.Report.{Report}
-use Rattle.hhh_output.specs.declared.reports.Reported.{Reported}
+use Rattle.hhh_report.specs.{AreReportLines, IsSound, IsThreshold}
+use Rattle.hhh_output.specs.{IsLineOfReport, IsReportOf}
+use Rattle.hhh_report.specs.declared.line.Line.{Line}
+use Rattle.hhh_report.specs.declared.report.Report.{Report}
+use Rattle.hhh_report.specs.declared.reports.Reported.{Reported}
 use Rattle.gate_workers.specs.{IsReportAtCall, cut_at_call}
 use Rattle.pcap_frames.specs.declared.file_order.FileOrder.TheVariants.{Little}
 use Rattle.pcap_frames.specs.{number_in_file_order, header_magic_order}

@@ -4,8 +4,9 @@ use Rattle.std.proofs.Common.{sym, ap, subst, arith, length, map, All}
 use Rattle.std.specs.Prelude.{IfSome, is_some, slice_index}
 use Rattle.std.proofs.lemmas.List.{length-map, map-append}
 use Rattle.std.proofs.lemmas.List.Elements.{All-head, All-tail}
-use Rattle.shard_state.specs.{AreCutPositionsNotPast, CutValue, HasCoreShape, ShardValue, core_capacity, cut_positions}
-use Rattle.hhh_output.specs.declared.reports.Reported.{Reported}
+use Rattle.hhh_report.specs.{AreCutPositionsNotPast}
+use Rattle.shard_state.specs.{CutValue, HasCoreShape, ShardValue, core_capacity, cut_positions}
+use Rattle.hhh_report.specs.declared.reports.Reported.{Reported}
 use Rattle.pass_tokens.specs.{PositionWordsValue, first_view}
 use Rattle.gate_workers.specs.{IsReportAtCall, View, cut_at_call}
 use Rattle.gate_workers.specs.declared.gathered.Called.{Called}

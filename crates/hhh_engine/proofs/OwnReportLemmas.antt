@@ -4,8 +4,8 @@ use Rattle.std.specs.List.{AllZip, flat_map}
 use Rattle.std.proofs.lemmas.List.Elements.{All-append, All-head, All-nil, All-tail}
 use Rattle.prefix_lattice.specs.{RecordValue}
 use Rattle.shard_state.specs.{CoreBasesRepresent, CutRepresents, CutValue, ShardValue, SnapshotValue, core_lists}
-use Rattle.hhh_output.specs.{IsSound}
-use Rattle.hhh_output.specs.declared.reports.Reported.{Reported}
+use Rattle.hhh_report.specs.{IsSound}
+use Rattle.hhh_report.specs.declared.reports.Reported.{Reported}
 use Rattle.recovery.specs.{OpeningContinuesList}
 use Rattle.exact_audit.specs.{IsVerdict}
 use Rattle.exact_audit.specs.declared.verdict.Verdict.{Verdict}

@@ -14,8 +14,8 @@ use Rattle.pcap_frames.specs.{FrameValue, frame_count_limit}
 use Rattle.frame_records.specs.{AreRecordsOf}
 use Rattle.frame_records.specs.declared.records.Records.{Records}
 use Rattle.frame_records.specs.declared.weigh.Weigh.{Weigh}
-use Rattle.hhh_output.specs.{IsSound}
-use Rattle.hhh_output.specs.declared.reports.Reported.{Reported}
+use Rattle.hhh_report.specs.{IsSound}
+use Rattle.hhh_report.specs.declared.reports.Reported.{Reported}
 use Rattle.report_text.specs.{ReportTextShowsPositions, IsTextSession as IsShowableSession, IsSessionText}
 use Rattle.report_text.specs.{longest_session_text_length, printed_session_text}
 use Rattle.report_text.specs.{session_text}

@@ -8,7 +8,7 @@ use Rattle.pcap_frames.specs.declared.fault.CaptureFault.{CaptureFault}
 use Rattle.recovery.specs.declared.fault.OpenFault.{OpenFault}
 use Rattle.report_text.specs.declared.session_fault.SessionFault.{SessionFault}
 use Rattle.report_text.specs.declared.session_fault.SessionFault.TheVariants as session
-use Rattle.hhh_output.specs.declared.reports.Reported.{Reported}
+use Rattle.hhh_report.specs.declared.reports.Reported.{Reported}
 use Rattle.command_words.specs.{AskForCommand}
 use Rattle.command_words.specs.declared.command.Command.{Command}
 use Rattle.command_words.specs.declared.command.Command.TheVariants.{Weigh, Report, Format, Audit, Make, Demo}

@@ -6,8 +6,9 @@ use Rattle.std.specs.List.Sorted.{IsNonDecreasing}
 use Rattle.std.proofs.lemmas.List.{length-map}
 use Rattle.std.proofs.lemmas.List.Elements.{All-head, All-tail}
 use Rattle.prefix_lattice.specs.{RecordValue}
-use Rattle.shard_state.specs.{AreCutPositionsNotPast, CutValue, ShardValue, cut_positions}
-use Rattle.hhh_output.specs.declared.reports.Reported.{Reported}
+use Rattle.hhh_report.specs.{AreCutPositionsNotPast}
+use Rattle.shard_state.specs.{CutValue, ShardValue, cut_positions}
+use Rattle.hhh_report.specs.declared.reports.Reported.{Reported}
 use Rattle.gate_workers.specs.{cut_at_call}
 use Rattle.checkpoint.specs.{StoreOpensTo, SavedValue, StoresOpenToOneThing, digest_of_lists, store_positions}
 use Rattle.checkpoint.specs.{store_sequence}

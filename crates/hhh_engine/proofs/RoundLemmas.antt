@@ -15,9 +15,9 @@ use Rattle.std.proofs.lemmas.List.Elements.{All-nil, All-cons, All-head, All-tai
 use Rattle.shard_state.specs.{AreCoreShards, CoreBasesRepresent, CutValue, IsShard, ShardValue, core_capacity}
 use Rattle.shard_state.specs.{core_lists, shard_state_at}
 use Rattle.prefix_lattice.specs.{record_limit}
-use Rattle.hhh_output.specs.{IsSound}
-use Rattle.hhh_output.specs.declared.report.Report.{Report}
-use Rattle.hhh_output.specs.declared.reports.Reported.{Reported}
+use Rattle.hhh_report.specs.{IsSound}
+use Rattle.hhh_report.specs.declared.report.Report.{Report}
+use Rattle.hhh_report.specs.declared.reports.Reported.{Reported}
 use Rattle.gate_workers.specs.{Calls, IsReportAtCall, CallReadsOnce, View, states_at_call}
 use Rattle.report_text.specs.{ReportTextShowsPositions}
 use Rattle.hhh_engine.specs.DealtFeed.{IsDealtFeedSaveFault}

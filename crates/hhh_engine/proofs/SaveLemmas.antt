@@ -5,8 +5,8 @@ use Rattle.std.proofs.Common.{◌≤◌, refl, sym, ap, subst, arith, length, fo
 use Rattle.std.specs.Prelude.{IfSome, is_some, option_map}
 use Rattle.std.proofs.lemmas.List.{length-append, map-append}
 use Rattle.shard_state.specs.{CutValue, ShardValue}
-use Rattle.hhh_output.specs.declared.report.Report.{Report}
-use Rattle.hhh_output.specs.declared.reports.Reported.{Reported}
+use Rattle.hhh_report.specs.declared.report.Report.{Report}
+use Rattle.hhh_report.specs.declared.reports.Reported.{Reported}
 use Rattle.gate_workers.specs.{cut_at_call}
 use Rattle.slot_disk.specs.{IfImageKnown, CrashLeavesAtAnyMoment, CrashLeavesAtAnyMoment-none}
 use Rattle.slot_disk.specs.{CrashLeavesAtAnyMoment-trans, CrashLeavesAtAnyMoment-weaker}

@@ -8,9 +8,10 @@ use Rattle.prefix_lattice.specs.{RecordValue}
 use Rattle.shard_state.specs.{AreCoreShards, CoreBasesRepresent, CutRepresents, CutValue, ShardValue, core_capacity}
 use Rattle.shard_state.specs.{core_lists}
 use Rattle.shard_state.specs.{cut_positions}
-use Rattle.hhh_output.specs.{AreReportLines, IsSameReport, IsReportOf}
-use Rattle.hhh_output.specs.declared.report.Report.{Report}
-use Rattle.hhh_output.specs.declared.reports.Reported.{Reported}
+use Rattle.hhh_report.specs.{AreReportLines, IsSameReport}
+use Rattle.hhh_output.specs.{IsReportOf}
+use Rattle.hhh_report.specs.declared.report.Report.{Report}
+use Rattle.hhh_report.specs.declared.reports.Reported.{Reported}
 use Rattle.gate_workers.specs.{IsReportAtCall, cut_at_call}
 use Rattle.checkpoint.specs.{StoreBelongs, IsStoreOfLists, SavedValue, digest_of_lists, store_sequence}
 use Rattle.checkpoint.specs.declared.settings.StoreSettings.{StoreSettings}

@@ -5,10 +5,11 @@ use Rattle.std.proofs.Common.{length, map, fold, get_or, true}
 use Rattle.std.specs.Prelude.{IfSome, is_some, option_map, slice_index}
 use Rattle.std.specs.List.Sorted.{IsNonDecreasing}
 use Rattle.std.proofs.lemmas.List.{length-map}
-use Rattle.shard_state.specs.{AreCutPositionsNotPast, CutValue, HasCoreShape, ShardValue, core_capacity, cut_positions}
+use Rattle.hhh_report.specs.{AreCutPositionsNotPast}
+use Rattle.shard_state.specs.{CutValue, HasCoreShape, ShardValue, core_capacity, cut_positions}
 use Rattle.shard_state.specs.{snapshot_of_shard}
-use Rattle.hhh_output.specs.declared.report.Report.{Report}
-use Rattle.hhh_output.specs.declared.reports.Reported.{Reported}
+use Rattle.hhh_report.specs.declared.report.Report.{Report}
+use Rattle.hhh_report.specs.declared.reports.Reported.{Reported}
 use Rattle.pass_tokens.specs.{ShardRead, after_reads, seen_in_view}
 use Rattle.gate_workers.specs.{Calls, Trail, View, cut_at_call, states_at_call}
 use Rattle.checkpoint.specs.{AreHeaderSettings, SaverState, DiskMatchesSaver, greatest_body_sequence}

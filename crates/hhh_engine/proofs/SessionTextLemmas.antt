@@ -13,7 +13,7 @@ use Rattle.std.proofs.lemmas.List.Sorted.{IsNonDecreasingBy-push}
 use Rattle.outside_io.specs.{AppendsBeginning, IsBeginning}
 use Rattle.std.proofs.Common.{Bool}
 use Rattle.shard_state.specs.{CutValue, IsShard, ShardValue, shard_state_at}
-use Rattle.hhh_output.specs.declared.reports.Reported.{Reported}
+use Rattle.hhh_report.specs.declared.reports.Reported.{Reported}
 use Rattle.gate_workers.specs.{states_at_call}
 use Rattle.pass_tokens.specs.{PositionWordsValue}
 use Rattle.command_words.specs.declared.settings.Settings.{Settings}

@@ -14,9 +14,9 @@ use Rattle.std.proofs.lemmas.List.Elements.{All-map, All-append, All-cons, All-h
 use Rattle.std.proofs.lemmas.List.Sorted.{IsNonDecreasingBy-short}
 use Rattle.shard_state.specs.{CoreBasesRepresent, CutValue, IsShard, ShardValue, core_capacity, core_lists}
 use Rattle.shard_state.specs.{shard_state_at}
-use Rattle.hhh_output.specs.{IsSound}
-use Rattle.hhh_output.specs.declared.report.Report.{Report}
-use Rattle.hhh_output.specs.declared.reports.Reported.{Reported}
+use Rattle.hhh_report.specs.{IsSound}
+use Rattle.hhh_report.specs.declared.report.Report.{Report}
+use Rattle.hhh_report.specs.declared.reports.Reported.{Reported}
 use Rattle.pass_tokens.specs.{first_view, newcomer_view, seen_in_view, view as view_of}
 use Rattle.gate_workers.specs.{AreSoundThreadReports, Calls, ThreadsBringBack, CallingThreadMakesRounds}
 use Rattle.gate_workers.specs.{FeedHasSeenEnds, View, states_at_call}

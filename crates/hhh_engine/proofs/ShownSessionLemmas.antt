@@ -9,7 +9,7 @@ use Rattle.std.proofs.lemmas.List.{length-append, length-map, map-append}
 use Rattle.std.proofs.lemmas.List.Concat.{flat_map-append}
 use Rattle.std.proofs.lemmas.List.Elements.{All-append, All-cons, All-head, All-map, All-nil, All-tail}
 use Rattle.shard_state.specs.{ShardValue}
-use Rattle.hhh_output.specs.declared.reports.Reported.{Reported}
+use Rattle.hhh_report.specs.declared.reports.Reported.{Reported}
 use Rattle.frame_records.specs.declared.records.Records.{Records}
 use Rattle.report_text.specs.{report_mark_text, printed_session_text, report_text, report_tail_text}
 use Rattle.report_text.specs.declared.mark.Mark.TheVariants.{Opened, Saved}

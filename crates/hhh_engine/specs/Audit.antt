@@ -3,8 +3,8 @@ use Rattle.std.specs.Prelude.{ℕ, ◌≡◌, ◌≢◌, ◌⊎◌, ◌+◌, ◌
 use Rattle.std.specs.Prelude.{Option, Some}
 use Rattle.std.specs.Io.KnownBytes.{Consumes, IsAtEnd}
 use Rattle.prefix_lattice.specs.{RecordValue, prefix_text}
-use Rattle.hhh_output.specs.{IsSound}
-use Rattle.hhh_output.specs.declared.reports.Reported.{Reported}
+use Rattle.hhh_report.specs.{IsSound}
+use Rattle.hhh_report.specs.declared.reports.Reported.{Reported}
 use Rattle.frame_records.specs.declared.records.Records.{Records}
 use Rattle.report_text.specs.{IsSessionText, longest_session_text_length}
 use Rattle.report_text.specs.declared.session.Session.{Session}

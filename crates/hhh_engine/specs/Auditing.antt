@@ -3,7 +3,7 @@ use Rattle.std.specs.Prelude.{⊤, ℕ, ◌≡◌, List, length, All, IfSome}
 use Rattle.outside_io.specs.{FaultCountRose}
 use Rattle.prefix_lattice.specs.{RecordValue}
 use Rattle.frame_records.specs.{IsRefusedCaptureFile}
-use Rattle.hhh_output.specs.declared.reports.Reported.{Reported}
+use Rattle.hhh_report.specs.declared.reports.Reported.{Reported}
 use Rattle.command_words.specs.declared.settings.Settings.{Settings}
 use Rattle.hhh_engine.specs.Audit.{AreAudited, IsAuditedAsFirstUnsound, IsAuditedAsSound, sound_audit_text}
 use Rattle.hhh_engine.specs.Audit.{unsound_audit_text}

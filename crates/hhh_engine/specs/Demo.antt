@@ -3,8 +3,8 @@ use Rattle.std.specs.Prelude.{ℕ, ◌≡◌, List, ◌++◌, length, codes, dec
 use Rattle.prefix_lattice.specs.{RecordValue}
 use Rattle.frame_records.specs.declared.records.Records.{Records}
 use Rattle.gate_workers.specs.{IsReportAtCall}
-use Rattle.hhh_output.specs.{IsSound}
-use Rattle.hhh_output.specs.declared.report.Report.{Report}
+use Rattle.hhh_report.specs.{IsSound}
+use Rattle.hhh_report.specs.declared.report.Report.{Report}
 use Rattle.traffic_maker.specs.{made_capture}
 use Rattle.command_words.specs.declared.settings.Settings.{Settings}
 use Rattle.hhh_engine.specs.Session.{AreDealtInSession, SessionRules, session_ends, new_session_shards}

@@ -3,9 +3,9 @@ use Rattle.std.specs.Prelude.{ℕ, ◌≡◌, ◌<◌, ◌⊎◌, ⊤, Bool, tru
 use Rattle.std.specs.Io.KnownBytes.{Appends}
 use Rattle.outside_io.specs.{AppendsBeginning, FaultCountRose}
 use Rattle.shard_state.specs.{CoreBasesRepresent, CutValue, ShardValue, core_capacity, core_lists}
-use Rattle.hhh_output.specs.{IsSound}
-use Rattle.hhh_output.specs.declared.report.Report.{Report}
-use Rattle.hhh_output.specs.declared.reports.Reported.{Reported}
+use Rattle.hhh_report.specs.{IsSound}
+use Rattle.hhh_report.specs.declared.report.Report.{Report}
+use Rattle.hhh_report.specs.declared.reports.Reported.{Reported}
 use Rattle.gate_workers.specs.{AreSoundThreadReports, Calls, CallReadsOnce, View}
 use Rattle.report_text.specs.{report_text}
 use Rattle.hhh_engine.specs.Session.{SessionSaving, session_after_saves, session_parts, session_saved_cuts}

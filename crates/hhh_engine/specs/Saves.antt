@@ -2,7 +2,8 @@
 use Rattle.std.specs.Prelude.{ℕ, suc, ◌≡◌, ◌+◌, ◌≤◌, ◌⊎◌, List, [], ◌∷◌, ◌++◌, fold, length, map, slice_get}
 use Rattle.std.specs.Prelude.{Option, None, Some, IfSome, option_map, is_some, refl}
 use Rattle.std.proofs.Common.{arith}
-use Rattle.shard_state.specs.{AreCutPositionsNotPast, CutRepresents, CutValue, ShardValue, core_capacity}
+use Rattle.hhh_report.specs.{AreCutPositionsNotPast}
+use Rattle.shard_state.specs.{CutRepresents, CutValue, ShardValue, core_capacity}
 use Rattle.gate_workers.specs.{IsLaterView, View}
 use Rattle.slot_disk.specs.{IfImageKnown, CrashLeavesAtAnyMoment}
 use Rattle.checkpoint.specs.{AreHeaderSettings, StoreBelongs, StoreOpensTo, SavedValue, SaverState, DiskMatchesSaver}

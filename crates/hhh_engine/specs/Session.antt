@@ -9,8 +9,8 @@ use Rattle.deal_rules.specs.{IsDealing}
 use Rattle.deal_rules.specs.declared.deal_kind.DealKind.{DealKind}
 use Rattle.shard_state.specs.{CoreBasesRepresent, CutRepresents, CutValue, ShardValue, SnapshotValue, empty_snapshot}
 use Rattle.shard_state.specs.{core_lists}
-use Rattle.hhh_output.specs.{IsSound}
-use Rattle.hhh_output.specs.declared.reports.Reported.{Reported}
+use Rattle.hhh_report.specs.{IsSound}
+use Rattle.hhh_report.specs.declared.reports.Reported.{Reported}
 use Rattle.gate_workers.specs.{IsReportAtCall, cut_at_call}
 use Rattle.pcap_frames.specs.{FrameValue}
 use Rattle.frame_records.specs.{CaptureFileHasFrames, AreRecordsOf}

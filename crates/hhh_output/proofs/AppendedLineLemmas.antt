@@ -1,14 +1,14 @@
 -- Lines that are appended to the reported ones, one after another.
-use Rattle.std.proofs.Common.{◌≡◌, ◌≢◌, ℕ, ◌+◌, ◌*◌, ◌<◌, ◌≤◌, zero, suc, List, ◌++◌, length, get_or, map, take}
+use Rattle.std.proofs.Common.{◌≡◌, ◌≢◌, ℕ, ◌+◌, ◌*◌, ◌<◌, ◌≤◌, zero, suc, List, ◌++◌, length, get_or, take}
 use Rattle.std.proofs.Common.{AllPairs}
-use Rattle.std.proofs.Common.{Contains, refl, sym, ap, ◌∙◌, subst, ⊎_elim, arith}
-use Rattle.std.proofs.lemmas.List.{get_or_append_left, get_or-append-add, get_or-map, get_or-take, get_or_default}
+use Rattle.std.proofs.Common.{Contains, sym, ap, ◌∙◌, ⊎_elim, arith}
+use Rattle.std.proofs.lemmas.List.{get_or_append_left, get_or-append-add, get_or-map, get_or-take}
 use Rattle.std.proofs.lemmas.List.{length-map, length-take, length-append}
 use Rattle.std.proofs.lemmas.List.Elements.{Contains-append_cases}
 use Rattle.prefix_lattice.specs.{PrefixValue}
 use Rattle.conditioned_bounds.specs.{member_limit}
-use Rattle.hhh_output.specs.declared.line.Line.{Line}
-use Rattle.hhh_output.specs.ReportLines.{prefixes_of_lines}
+use Rattle.hhh_report.specs.declared.line.Line.{Line}
+use Rattle.hhh_report.specs.{prefixes_of_lines}
 use Rattle.hhh_output.specs.Selecting.{selecting_nodes_down, most_candidates_to_select}
 
 -- no prefix before an index is the one at the index

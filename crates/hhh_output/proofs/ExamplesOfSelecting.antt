@@ -8,7 +8,8 @@ use Rattle.std.proofs.lemmas.List.Kept.{AllPairs-cons}
 use Rattle.prefix_lattice.specs.{NodeValue, node_index, PrefixValue, node_of_prefix, prefix_key, IsPrefixKey}
 use Rattle.prefix_lattice.specs.{node_count}
 use Rattle.cut_merge.specs.{NodeMergeValue, MergedValue, nothing_merged, merged_candidates_at}
-use Rattle.hhh_output.specs.declared.line.Line.{Line}
+use Rattle.hhh_report.specs.declared.line.Line.{Line}
+use Rattle.hhh_report.specs.{line_limit}
 use Rattle.hhh_output.specs.Selecting.{selecting_low, selecting_high, CanSelectLine, IsSelected}
 use Rattle.hhh_output.specs.Selecting.{most_candidates_to_select}
 use Rattle.hhh_output.specs.Selecting.{AreCandidatesToSelect, selecting_nodes_before, selecting_nodes_down}
@@ -28,6 +29,10 @@ a_node_has_the_entries_of_128_tables_at_most = refl
 
 pub candidates_of_all_nodes_are_below_the_limit : node_count * most_candidates_to_select < member_limit
 candidates_of_all_nodes_are_below_the_limit = omega arith
+
+-- the index of lines, by which they are selected, has room for all lines of a report
+pub limit_of_an_index_is_that_of_lines : member_limit ≡ line_limit
+limit_of_an_index_is_that_of_lines = refl
 
 pub lines_of_two_prefixes_are_distinct : SelectedAreDistinct (own ∷ of_all ∷ [])
 lines_of_two_prefixes_are_distinct =

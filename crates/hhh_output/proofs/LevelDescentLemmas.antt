@@ -10,8 +10,8 @@ use Rattle.std.proofs.lemmas.List.Elements.{All-weaker, All-contains_itself, All
 use Rattle.std.proofs.lemmas.List.Elements.{Contains-append_right, Contains-append_cases, Contains-get_or}
 use Rattle.prefix_lattice.specs.{address_of, PrefixValue, closest, kept_pairs}
 use Rattle.cut_merge.specs.{MergedValue}
-use Rattle.hhh_output.specs.declared.line.Line.{Line}
-use Rattle.hhh_output.specs.ReportLines.{prefixes_of_lines}
+use Rattle.hhh_report.specs.declared.line.Line.{Line}
+use Rattle.hhh_report.specs.{prefixes_of_lines}
 use Rattle.hhh_output.specs.Selecting.{selecting_low, selecting_high, IsSelected, AreSelectedOfLevel, AreSelectedDownTo}
 use Rattle.hhh_output.specs.Selecting.{selecting_nodes_before}
 use Rattle.hhh_output.specs.Selecting.{selecting_nodes_down}

@@ -19,7 +19,7 @@ use Rattle.prefix_lattice.specs.{under}
 use Rattle.prefix_lattice.specs.{same_in_lattice, report_order}
 use Rattle.prefix_lattice.proofs.NodePlaceLemmas.{node_at_own_place}
 use Rattle.cut_merge.specs.{MergedValue}
-use Rattle.hhh_output.specs.declared.line.Line.{Line}
+use Rattle.hhh_report.specs.declared.line.Line.{Line}
 use Rattle.hhh_output.specs.Selecting.{IsSelected, SelectedAreDistinct, AreSelectedOfLevel, selecting_nodes_before}
 use Rattle.hhh_output.specs.Selecting.{most_candidates_to_select}
 use Rattle.hhh_output.proofs.OneReportLemmas.{BeforeInOneReport}

@@ -7,6 +7,5 @@ pub mod LevelSearchLemmas
 pub mod LevelDescentLemmas
 pub mod AppendedLineLemmas
 pub mod SelectionLemmas
-pub mod WeightsRiseLemmas
 pub mod Examples
 pub mod ExamplesOfSelecting

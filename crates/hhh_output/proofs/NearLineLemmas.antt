@@ -8,8 +8,8 @@ use Rattle.prefix_lattice.specs.{node_level, PrefixValue, node_of_prefix, strict
 use Rattle.prefix_lattice.specs.{closest}
 use Rattle.prefix_lattice.specs.{kept_pairs}
 use Rattle.shard_state.specs.{CutValue}
-use Rattle.hhh_output.specs.declared.line.Line.{Line}
-use Rattle.hhh_output.specs.ReportLines.{prefixes_of_lines}
+use Rattle.hhh_report.specs.declared.line.Line.{Line}
+use Rattle.hhh_report.specs.{prefixes_of_lines}
 use Rattle.hhh_output.specs.Report.{report_low_in, report_high_in, IsLineOfReport}
 
 -- the level of a prefix

@@ -8,7 +8,7 @@ use Rattle.std.proofs.lemmas.List.Elements.{Contains-get_or}
 use Rattle.std.proofs.lemmas.List.Quantifiers.{all_pairs_push}
 use Rattle.prefix_lattice.specs.{NodeValue, PrefixValue, node_of_prefix, prefix_key, HasPrefixKey}
 use Rattle.cut_merge.specs.{MergedValue, merged_candidates_at}
-use Rattle.hhh_output.specs.declared.line.Line.{Line}
+use Rattle.hhh_report.specs.declared.line.Line.{Line}
 use Rattle.hhh_output.specs.Selecting.{CanSelectLine, IsSelected, SelectedAreDistinct}
 
 -- the line of a prefix of this node that has one of these keys, if merged tables give it

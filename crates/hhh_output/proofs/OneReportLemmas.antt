@@ -8,9 +8,8 @@ use Rattle.std.proofs.lemmas.Bool.{ltb-true}
 use Rattle.std.proofs.lemmas.List.Kept.{AllPairs-filter}
 use Rattle.prefix_lattice.specs.{PrefixValue, IsPrefix, report_order, closest}
 use Rattle.shard_state.specs.{CutValue}
-use Rattle.hhh_output.specs.declared.line.Line.{Line}
-use Rattle.hhh_output.specs.Threshold.{IsThreshold}
-use Rattle.hhh_output.specs.ReportLines.{prefixes_of_lines, AreReportLines}
+use Rattle.hhh_report.specs.declared.line.Line.{Line}
+use Rattle.hhh_report.specs.{IsThreshold, prefixes_of_lines, AreReportLines}
 use Rattle.hhh_output.specs.Report.{IsLineOfReport}
 use Rattle.prefix_lattice.proofs.ListLemmas.{Contains-list_cons, Contains-list_head, Contains-list_tail}
 use Rattle.prefix_lattice.proofs.ListLemmas.{Contains-empty_list}

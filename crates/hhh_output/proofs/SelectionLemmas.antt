@@ -12,8 +12,8 @@ use Rattle.shard_state.specs.{CutValue, IsCut, total_of_cut}
 use Rattle.cut_merge.specs.{MergedValue, MergedRepresentsCut, interval_in_cut, keys_monitored_in_cut}
 use Rattle.cut_merge.specs.{IsTableIntervalWithinTotal, TableInterval}
 use Rattle.conditioned_bounds.specs.{bound_of, prefixes_asked_for_bound}
-use Rattle.hhh_output.specs.declared.line.Line.{Line}
-use Rattle.hhh_output.specs.ReportLines.{prefixes_of_lines, AreReportLines}
+use Rattle.hhh_report.specs.declared.line.Line.{Line}
+use Rattle.hhh_report.specs.{prefixes_of_lines, AreReportLines}
 use Rattle.hhh_output.specs.Report.{report_low_in, report_high_in, IsLineOfReport}
 use Rattle.hhh_output.specs.Selecting.{selecting_low, selecting_high, IsSelected, AreCandidatesToSelect}
 use Rattle.hhh_output.specs.Selecting.{AreSelectedDownTo}

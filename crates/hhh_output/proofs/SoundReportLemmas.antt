@@ -15,16 +15,14 @@ use Rattle.prefix_lattice.specs.{RecordValue, PrefixValue, IsPrefix, covers, nod
 use Rattle.prefix_lattice.specs.{total_weight, report_order, lines_under, one_line_covers, conditioned_weight, closest}
 use Rattle.prefix_lattice.specs.{kept_pairs, IntervalHoldsWeight, IsNarrowInterval}
 use Rattle.shard_state.specs.{SnapshotValue, SnapshotRepresents, CutValue, cut_positions, total_of_cut, CutRepresents}
-use Rattle.shard_state.specs.{records_before_cut, NarrowIntervalHoldsWeight}
+use Rattle.hhh_report.specs.{records_before_cut, IsThreshold, prefixes_of_lines, AreReportLines, IsSound}
+use Rattle.shard_state.specs.{NarrowIntervalHoldsWeight}
 use Rattle.cut_merge.specs.{interval_in_cut, keys_monitored_in_cut}
 use Rattle.conditioned_bounds.specs.{bound_of, prefixes_asked_for_bound, BoundsHoldWeights, BoundsAreNarrow}
-use Rattle.hhh_output.specs.declared.line.Line.{Line}
-use Rattle.hhh_output.specs.declared.report.Report.{Report}
-use Rattle.hhh_output.specs.Threshold.{IsThreshold}
-use Rattle.hhh_output.specs.ReportLines.{prefixes_of_lines, AreReportLines}
+use Rattle.hhh_report.specs.declared.line.Line.{Line}
+use Rattle.hhh_report.specs.declared.report.Report.{Report}
+use Rattle.hhh_report.specs.{HoldsWeightInSoundReport, IsNarrowInSoundReport, IsJustifiedInSoundReport}
 use Rattle.hhh_output.specs.Report.{IsMonitoredInReport, report_low_in, report_high_in, IsLineOfReport, IsReportOf}
-use Rattle.hhh_output.specs.SoundReport.{HoldsWeightInSoundReport, IsNarrowInSoundReport, IsJustifiedInSoundReport}
-use Rattle.hhh_output.specs.SoundReport.{IsSound}
 use Rattle.prefix_lattice.proofs.ListLemmas.{AllPairs-list_head, AllPairs-list_tail, Contains-list_head}
 use Rattle.prefix_lattice.proofs.ListLemmas.{Contains-list_tail}
 use Rattle.prefix_lattice.proofs.ListLemmas.{Contains-list_cons, Contains-empty_list}

@@ -1,13 +1,12 @@
 -- The report of a cut (Mitzenmacher, Steinke, Thaler 2012): which prefixes are its lines.
-use Rattle.std.specs.Prelude.{ℕ, ◌≡◌, ◌≤◌, ◌↔◌, List, Contains, pos, ◌≤ℤ◌}
+use Rattle.std.specs.Prelude.{ℕ, ◌≡◌, ◌*◌, ◌≤◌, ◌↔◌, List, Contains, pos, ◌≤ℤ◌}
 use Rattle.prefix_lattice.specs.{PrefixValue, IsPrefix, node_of_prefix, prefix_key}
 use Rattle.shard_state.specs.{CutValue, cut_positions, total_of_cut}
 use Rattle.cut_merge.specs.{interval_in_cut, keys_monitored_in_cut}
 use Rattle.conditioned_bounds.specs.{bound_of}
-use Rattle.hhh_output.specs.declared.line.Line.{Line}
-use Rattle.hhh_output.specs.declared.report.Report.{Report}
-use Rattle.hhh_output.specs.ReportLines.{prefixes_of_lines}
-use Rattle.hhh_output.specs.Threshold.{IsThreshold}
+use Rattle.hhh_report.specs.declared.line.Line.{Line}
+use Rattle.hhh_report.specs.declared.report.Report.{Report}
+use Rattle.hhh_report.specs.{prefixes_of_lines, IsThreshold, threshold_million}
 
 -- some shard of the cut monitors the prefix at its node
 abbrev pub IsMonitoredInReport : CutValue → PrefixValue → Type 0
@@ -43,9 +42,6 @@ pub record IsReportOf (cut : CutValue) (phi : ℕ) (report : Report) : Type 0 wh
   pub threshold : IsThreshold phi report.total report.threshold
   pub lines : (line : Line) → Contains report.lines line ↔ IsLineOfReport cut report.threshold (prefixes_of_lines report.lines) line
 
--- two reports show the same positions, total, threshold and lines
-pub record IsSameReport (report other : Report) : Type 0 where
-  pub positions : report.positions ≡ other.positions
-  pub total : report.total ≡ other.total
-  pub threshold : report.threshold ≡ other.threshold
-  pub lines : report.lines ≡ other.lines
+-- tables of this capacity can't hide a prefix of this share, which is at least twice the greatest width of an interval
+abbrev pub IsWideShare : ℕ → ℕ → Type 0
+IsWideShare phi capacity = 2 * threshold_million ≤ phi * capacity

@@ -8,8 +8,8 @@ use Rattle.prefix_lattice.specs.{IsPrefixKey, report_order, deepest_node_level, 
 use Rattle.shard_state.specs.{most_cut_snapshots, most_table_capacity}
 use Rattle.cut_merge.specs.{MergedValue, merged_interval_for, merged_candidates_at}
 use Rattle.conditioned_bounds.specs.{bound_of}
-use Rattle.hhh_output.specs.declared.line.Line.{Line}
-use Rattle.hhh_output.specs.ReportLines.{prefixes_of_lines}
+use Rattle.hhh_report.specs.declared.line.Line.{Line}
+use Rattle.hhh_report.specs.{prefixes_of_lines}
 
 -- the low of a prefix in merged tables
 abbrev pub selecting_low : MergedValue → PrefixValue → ℕ

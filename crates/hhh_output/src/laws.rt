@@ -1,17 +1,14 @@
 //! Laws of reports, each the contract of a function that does nothing.
 
 ghost use Rattle.std.specs.Prelude.{◌≡◌, ℕ, ◌≤◌, List, All, Some, length, slice_get};
-ghost use Rattle.prefix_lattice.specs.{RecordValue, prefix_weight};
+ghost use Rattle.prefix_lattice.specs.{RecordValue};
 ghost use Rattle.shard_state.specs.{CutValue, IsCut, cut_positions, CutRepresents, CoreValue, HasCoreShape};
-ghost use Rattle.shard_state.specs.{records_before_cut};
-ghost use Rattle.shard_state.specs.{AreCutPositionsNotPast, IsCore, core_capacity, core_after_run, CoreBasesRepresent};
+ghost use Rattle.hhh_report.specs.{records_before_cut, AreCutPositionsNotPast, AreReportLines, IsSameReport, IsSound};
+ghost use Rattle.shard_state.specs.{IsCore, core_capacity, core_after_run, CoreBasesRepresent};
 ghost use Rattle.shard_state.specs.{ReadsEachCoreShard, core_lists};
 ghost use Rattle.shard_state.specs.declared.event.Event.{Event};
-ghost use Rattle.hhh_output.specs.declared.report.Report.{Report};
-ghost use Rattle.hhh_output.specs.ReportLines.{AreReportLines};
-ghost use Rattle.hhh_output.specs.Report.{IsReportOf, IsSameReport};
-ghost use Rattle.hhh_output.specs.SoundReport.{IsSound};
-ghost use Rattle.hhh_output.specs.Threshold.{IsWideShare};
+ghost use Rattle.hhh_report.specs.declared.report.Report.{Report};
+ghost use Rattle.hhh_output.specs.Report.{IsReportOf, IsWideShare};
 
 use conditioned_bounds::{bounds_hold, only_prefixes_are_asked};
 use cut_merge::{merged_intervals_are_narrow, merged_intervals_hold_weights};
@@ -52,19 +49,6 @@ pub fn reports_are_sound()
     only_prefixes_are_asked();
     bounds_hold();
 }
-
-/// What a sound report says of other positions. At positions that aren't past its own, no line's prefix weighs more
-/// than the line's high; at positions that aren't before its own, none weighs less than the line's low. So of two
-/// reports of one caller, the earlier one gives a lower limit for what the later one counts, and the later one an upper
-/// limit for what the earlier one counted.
-pub fn lines_bound_other_positions()
-    ensures earlier { (report : Report) (lists : List (List RecordValue)) (capacity phi : ℕ) (positions : List ℕ) → IsSound report lists capacity phi
-        → AreCutPositionsNotPast positions report.positions
-        → All (λ line. prefix_weight line.prefix (records_before_cut lists positions) ≤ line.hi) report.lines }
-    ensures later { (report : Report) (lists : List (List RecordValue)) (capacity phi : ℕ) (positions : List ℕ) → IsSound report lists capacity phi
-        → AreCutPositionsNotPast report.positions positions
-        → All (λ line. line.lo ≤ prefix_weight line.prefix (records_before_cut lists positions)) report.lines }
-{}
 
 /// After any events on the core, the report of each cut in which a caller read every shard is sound over the
 /// shards' lists, if the base of each shard represents its list.

@@ -3,14 +3,14 @@
 ghost use Rattle.std.specs.Prelude.{◌≡◌, ◌≤◌, ◌<◌, List, All, IfOk};
 ghost use Rattle.prefix_lattice.specs.{RecordValue, total_limit};
 ghost use Rattle.shard_state.specs.{total_of_cut, CutRepresents};
-ghost use Rattle.hhh_output.specs.Report.{IsReportOf};
-ghost use Rattle.hhh_output.specs.SoundReport.{IsSound};
-ghost use Rattle.hhh_output.specs.Threshold.{threshold_million, IsWideShare};
+ghost use Rattle.hhh_report.specs.{IsSound, threshold_million};
+ghost use Rattle.hhh_output.specs.Report.{IsReportOf, IsWideShare};
 
+use crate::reports_are_sound;
 use crate::selecting::select_lines;
-use crate::{Report, reports_are_sound, threshold};
 use conditioned_bounds::only_prefixes_are_asked;
 use cut_merge::{Merged, merged_intervals_are_narrow, monitored_keys_are_few};
+use hhh_report::{Report, threshold};
 use shard_state::Cut;
 use std::alloc::{AllocError, Global};
 

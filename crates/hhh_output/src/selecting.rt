@@ -7,15 +7,15 @@ ghost use Rattle.std.specs.Option.{option_to_list};
 ghost use Rattle.prefix_lattice.specs.{IsNode, deepest_node_level, node_level, node_of_prefix};
 ghost use Rattle.cut_merge.specs.{merged_candidates_at};
 ghost use Rattle.conditioned_bounds.specs.{member_limit};
-ghost use Rattle.hhh_output.specs.declared.line.Line.{Line as LineValue};
-ghost use Rattle.hhh_output.specs.ReportLines.{prefixes_of_lines};
+ghost use Rattle.hhh_report.specs.declared.line.Line.{Line as LineValue};
+ghost use Rattle.hhh_report.specs.{prefixes_of_lines};
 ghost use Rattle.hhh_output.specs.Selecting.{CanSelectLine, IsSelected, AreCandidatesToSelect, SelectedAreDistinct};
 ghost use Rattle.hhh_output.specs.Selecting.{AreSelectedOfLevel, AreSelectedDownTo};
 
 use crate::merged_intervals::MergedIntervals;
-use crate::{Line, Lines};
 use conditioned_bounds::LineIndex;
 use cut_merge::Merged;
+use hhh_report::{Line, Lines};
 use prefix_lattice::{Node, Prefix, prefixes_are_ordered, report_order_is_total};
 use std::alloc::{AllocError, Global};
 

@@ -211,12 +211,3 @@ fn cuts_are_reported(rt: HostRuntime) -> Result<(), Fail> {
     }
     Ok(())
 }
-
-#[test]
-fn thresholds(rt: HostRuntime) -> Result<(), Fail> {
-    assert_eq!(rt; threshold(10_000, 0), 1);
-    assert_eq!(rt; threshold(10_000, 101), 2);
-    assert_eq!(rt; threshold(1_000_000, 7), 7);
-    assert_eq!(rt; threshold(0, 7), 1);
-    Ok(())
-}

@@ -1,7 +1,8 @@
 //! What an opened store gives.
 
 use checkpoint::Saver;
-use shard_state::{Cut, Positions};
+use hhh_report::Positions;
+use shard_state::Cut;
 
 /// A store that was opened.
 #[derive(Drop)]

@@ -14,7 +14,8 @@ use crate::newest::newest_of;
 use crate::{OpenFault, Opened};
 use checkpoint::{Newest, Saver, StoreSettings, digest_of};
 use deal_rules::Dealt;
-use shard_state::{Cut, Positions};
+use hhh_report::Positions;
+use shard_state::Cut;
 use slot_disk::{Disk, Slots};
 use std::alloc::{AllocError, Global};
 

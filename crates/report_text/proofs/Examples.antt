@@ -7,8 +7,8 @@ use Rattle.std.specs.Fmt.{digits}
 use Rattle.std.specs.Prelude.{slice_index}
 use Rattle.prefix_lattice.specs.{IsPrefix}
 use Rattle.frame_records.specs.declared.records.Records.{Records}
-use Rattle.hhh_output.specs.declared.line.Line.{Line}
-use Rattle.hhh_output.specs.declared.report.Report.{Report}
+use Rattle.hhh_report.specs.declared.line.Line.{Line}
+use Rattle.hhh_report.specs.declared.report.Report.{Report}
 use Rattle.report_text.specs.declared.mark.Mark.TheVariants.{Opened, Saved}
 use Rattle.report_text.specs.ReportText.{ReportTextShowsPositions, ReportTextShowsLine, ReportTextShows}
 use Rattle.report_text.specs.ReportText.{report_text_line, report_number_text}

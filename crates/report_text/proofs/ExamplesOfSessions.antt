@@ -2,8 +2,8 @@
 use Rattle.std.proofs.Common.{◌≡◌, ℕ, ◌^◌, ◌<◌, ◌≤◌, inr, [], ◌∷◌, codes, Some, None, refl, arith}
 use Rattle.std.proofs.lemmas.List.Elements.{All-nil, All-cons, All-from_recursion}
 use Rattle.std.specs.Fmt.{digits}
-use Rattle.hhh_output.specs.declared.line.Line.{Line as LineValue}
-use Rattle.hhh_output.specs.declared.report.Report.{Report as ReportValue}
+use Rattle.hhh_report.specs.declared.line.Line.{Line as LineValue}
+use Rattle.hhh_report.specs.declared.report.Report.{Report as ReportValue}
 use Rattle.report_text.specs.ReportText.{ReportTextShowsPositions, ReportTextShowsLine}
 use Rattle.report_text.specs.SessionText.{IsSessionLine, AreSessionTextPositions, IsReportedInSessionText}
 use Rattle.report_text.specs.SessionText.{IsTextSession}

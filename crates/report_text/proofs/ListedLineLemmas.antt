@@ -10,8 +10,8 @@ use Rattle.std.proofs.Math.Seq.{length-take-le}
 use Rattle.std.proofs.lemmas.List.Elements.{All-push, All-weaker}
 use Rattle.std.proofs.lemmas.List.Quantifiers.{all_pairs_push}
 use Rattle.prefix_lattice.specs.{PrefixValue, report_order, side_text, address_of}
-use Rattle.hhh_output.specs.{AreReportLines, member_limit}
-use Rattle.hhh_output.specs.declared.line.Line.{Line as LineValue}
+use Rattle.hhh_report.specs.{AreReportLines, line_limit}
+use Rattle.hhh_report.specs.declared.line.Line.{Line as LineValue}
 use Rattle.report_text.specs.SessionText.{session_line_text, session_line_words}
 use Rattle.report_text.specs.Stages.{listing, done, ComesAfterLastOfStage}
 use Rattle.report_text.specs.LineReading.{ReadsLine, ReadsLines}
@@ -106,7 +106,7 @@ listed_lines_one_more order start cursor next listed last line are reads comes =
     let long = listed_line_is_long line in
     let room : 17 * length listed ≤ cursor.at = are.room in
     let more : 17 * (length listed + 1) ≤ next.at = omega (arith, longer, long, room) in
-    let few : length listed + 1 < member_limit = omega (arith, more, next.within, next.limit) in
+    let few : length listed + 1 < line_limit = omega (arith, more, next.within, next.limit) in
     let as_many : length (listed ++ line ∷ []) ≡ length listed + 1 = length-append listed (line ∷ []) in
     record {
       over = λ shards.

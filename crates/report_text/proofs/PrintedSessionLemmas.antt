@@ -4,9 +4,9 @@ use Rattle.std.proofs.Common.{◌∙◌, append_assoc, append-nil}
 use Rattle.std.specs.List.{flat_map}
 use Rattle.std.proofs.lemmas.List.Concat.{flat_map-append}
 use Rattle.prefix_lattice.specs.{side_text}
-use Rattle.hhh_output.specs.declared.line.Line.{Line as LineValue}
-use Rattle.hhh_output.specs.declared.report.Report.{Report as ReportValue}
-use Rattle.hhh_output.specs.declared.reports.Reported.{Reported}
+use Rattle.hhh_report.specs.declared.line.Line.{Line as LineValue}
+use Rattle.hhh_report.specs.declared.report.Report.{Report as ReportValue}
+use Rattle.hhh_report.specs.declared.reports.Reported.{Reported}
 use Rattle.report_text.specs.ReportText.{report_line_text, report_lines_text, report_text}
 use Rattle.report_text.specs.SessionText.{session_line_text, session_report_lines, session_saved_lines}
 use Rattle.report_text.specs.SessionText.{session_saved_text, session_reported_lines, session_reported_text}

@@ -4,8 +4,8 @@ use Rattle.std.proofs.Common.{Option, arith, append_assoc, append-nil, length-ap
 use Rattle.std.specs.List.{flat_map, join_with_byte}
 use Rattle.std.proofs.Math.Seq.{length-take-le}
 use Rattle.std.proofs.lemmas.List.Concat.{flat_map-append}
-use Rattle.hhh_output.specs.declared.report.Report.{Report as ReportValue}
-use Rattle.hhh_output.specs.declared.reports.Reported.{Reported}
+use Rattle.hhh_report.specs.declared.report.Report.{Report as ReportValue}
+use Rattle.hhh_report.specs.declared.reports.Reported.{Reported}
 use Rattle.report_text.specs.SessionText.{session_line_text, session_line_words, session_reported_lines}
 use Rattle.report_text.specs.SessionText.{session_saved_lines}
 use Rattle.report_text.specs.Stages.{Stage, opened, begun, done, stage_line_after_report, stage_after_report}

@@ -1,6 +1,6 @@
 -- Lines that may not come next.
 use Rattle.std.proofs.Common.{◌≢◌, ℕ, List, Option, Some, None, refl}
-use Rattle.hhh_output.specs.declared.line.Line.{Line as LineValue}
+use Rattle.hhh_report.specs.declared.line.Line.{Line as LineValue}
 use Rattle.report_text.specs.Stages.{Stage, nothing, opened, begun, placed, weighed, listing, done, saved, counted}
 use Rattle.report_text.specs.Stages.{skipped, FollowsStage, stage_line_after_report}
 use Rattle.report_text.specs.declared.session_line.Skips.{Skips}

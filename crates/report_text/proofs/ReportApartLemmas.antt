@@ -4,11 +4,11 @@ use Rattle.std.proofs.Common.{append_assoc}
 use Rattle.std.specs.List.{flat_map, AllByRecursion}
 use Rattle.std.proofs.lemmas.List.Elements.{All-head, All-tail}
 use Rattle.prefix_lattice.specs.{PrefixValue, IsPrefix, side_text, prefix_text}
-use Rattle.hhh_output.specs.declared.line.Line.{Line}
-use Rattle.hhh_output.specs.declared.report.Report.{Report}
+use Rattle.hhh_report.specs.declared.line.Line.{Line}
+use Rattle.hhh_report.specs.declared.report.Report.{Report}
+use Rattle.hhh_report.specs.{IsSameReport}
 use Rattle.report_text.specs.ReportText.{report_line_text, report_lines_text, report_text, ReportTextShowsLine}
 use Rattle.report_text.specs.ReportText.{ReportTextShows}
-use Rattle.hhh_output.specs.{IsSameReport}
 use Rattle.report_text.proofs.TextPartLemmas.{spaced_text_part, spaced_text_parts_join}
 use Rattle.report_text.proofs.TextWordLemmas.{text_words_begin_unlike, text_words_told_apart, text_word_numbers_apart}
 use Rattle.report_text.proofs.TextWordLemmas.{side_is_text_word, text_word_positions_apart}

@@ -8,10 +8,10 @@ use Rattle.std.proofs.lemmas.List.Elements.{All-from_recursion}
 use Rattle.std.proofs.lemmas.List.Kept.{AllPairs-cons}
 use Rattle.prefix_lattice.specs.{PrefixValue, report_order}
 use Rattle.prefix_lattice.proofs.ListLemmas.{AllPairs-list_tail}
-use Rattle.hhh_output.specs.{AreReportLines, member_limit}
-use Rattle.hhh_output.specs.declared.line.Line.{Line as LineValue}
-use Rattle.hhh_output.specs.declared.report.Report.{Report as ReportValue}
-use Rattle.hhh_output.specs.declared.reports.Reported.{Reported}
+use Rattle.hhh_report.specs.{AreReportLines, line_limit}
+use Rattle.hhh_report.specs.declared.line.Line.{Line as LineValue}
+use Rattle.hhh_report.specs.declared.report.Report.{Report as ReportValue}
+use Rattle.hhh_report.specs.declared.reports.Reported.{Reported}
 use Rattle.report_text.specs.ReportText.{ReportTextShowsPositions, ReportTextShowsLine}
 use Rattle.report_text.specs.SessionText.{IsSessionLine, IsSessionReportLine, AreSessionTextSkips}
 use Rattle.report_text.specs.SessionText.{AreSessionTextPositions, IsReportedInSessionText, IsTextSession}
@@ -101,7 +101,7 @@ pub record SessionPartAfterDone (n : ℕ) (lines : List SessionLine) : Type 0 wh
 -- the remaining lines of a report, after this many
 pub record ListedSessionPart (n count : ℕ) (last : Option PrefixValue) (lines : List SessionLine) : Type 0 where
   listed : List LineValue
-  few : count < member_limit → count + length listed < member_limit
+  few : count < line_limit → count + length listed < line_limit
   are : AllByRecursion IsSessionReportLine listed
   rising : SessionPartRises last listed
   rest : List SessionLine
@@ -178,7 +178,7 @@ session_part_is_ordered (line ∷ lines) all = (all.0.ordered, session_part_is_o
 -- the lines of a report are in order
 session_part_lines_in_order : IsTotalOrder report_order → (n : ℕ) (lines : List SessionLine) (l : ListedSessionPart n 0 None lines) → AreReportLines l.listed
 session_part_lines_in_order order n lines l = record {
-  few = let few : 0 + length l.listed < member_limit = l.few (omega arith) in omega arith;
+  few = let few : 0 + length l.listed < line_limit = l.few (omega arith) in omega arith;
   ordered = All-from_recursion IsOrderedSessionPart l.listed (session_part_is_ordered l.listed l.are);
   rising = SessionPartRises-pairs order None l.listed l.rising;
 }
@@ -319,7 +319,7 @@ session_part_one_line_more order (listing n count last) (Line line) next lines f
     let others = subst (λ s. SessionPartRest s lines) follows.2 rest in
     record {
       listed = line ∷ others.listed;
-      few = λ small. let more : count + 1 + length others.listed < member_limit = others.few follows.1 in omega arith;
+      few = λ small. let more : count + 1 + length others.listed < line_limit = others.few follows.1 in omega arith;
       are = (is, others.are);
       rising = (follows.0, others.rising);
       rest = others.rest;

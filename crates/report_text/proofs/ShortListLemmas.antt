@@ -1,8 +1,8 @@
 -- Short lists that meet what is asked of the lines of a report.
 use Rattle.std.proofs.Common.{◌≤◌, [], ◌∷◌, arith}
 use Rattle.std.proofs.lemmas.List.Elements.{All-cons}
-use Rattle.hhh_output.specs.declared.line.Line.{Line}
-use Rattle.hhh_output.specs.{AreReportLines}
+use Rattle.hhh_report.specs.declared.line.Line.{Line}
+use Rattle.hhh_report.specs.{AreReportLines}
 
 -- a line has its low at most at its high
 abbrev IsOrderedInShortList : Line → Type 0

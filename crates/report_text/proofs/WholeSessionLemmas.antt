@@ -3,9 +3,9 @@ use Rattle.std.proofs.Common.{◌≡◌, ℕ, ◌+◌, ◌<◌, ◌≤◌, List,
 use Rattle.std.proofs.Common.{Some, None, IfSome, suc, refl, sym, ap, ◌∙◌, subst, arith, append_assoc}
 use Rattle.std.specs.List.{flat_map, AllZip, AllByRecursion}
 use Rattle.std.proofs.lemmas.List.Elements.{All-from_recursion, recursion_from_All}
-use Rattle.hhh_output.specs.{AreReportLines, IsSameReport, member_limit}
-use Rattle.hhh_output.specs.declared.line.Line.{Line as LineValue}
-use Rattle.hhh_output.specs.declared.reports.Reported.{Reported}
+use Rattle.hhh_report.specs.{AreReportLines, IsSameReport, line_limit}
+use Rattle.hhh_report.specs.declared.line.Line.{Line as LineValue}
+use Rattle.hhh_report.specs.declared.reports.Reported.{Reported}
 use Rattle.report_text.specs.ReportText.{ReportTextShowsPositions, ReportTextShowsLine}
 use Rattle.report_text.specs.SessionText.{IsSessionLine, AreSessionTextPositions, IsReportedInSessionText}
 use Rattle.report_text.specs.SessionText.{IsTextSession}
@@ -22,7 +22,7 @@ use Rattle.report_text.proofs.SessionPartLemmas.{SessionPartRises, IsOrderedSess
 
 -- lines of a report lead on
 pub whole_session_lines_lead : (n count : ℕ) (last : _) (lines : List LineValue) (rest : List SessionLine) (end : Stage)
-    → SessionPartRises last lines → count + length lines < member_limit
+    → SessionPartRises last lines → count + length lines < line_limit
     → ((others : ℕ) (prefix : _) → LeadsFromStage (listing n others prefix) rest end)
     → LeadsFromStage (listing n count last) (map Line lines ++ rest) end
 whole_session_lines_lead n count last [] rest end rises few on = on count last
@@ -53,7 +53,7 @@ whole_session_report_leads n reported rest is on =
     let report = reported.report in
     let lines = report.are_lines in
     let end = whole_session_saved_leads n reported.saved rest is.saved on in
-    let few : 0 + length report.lines < member_limit = let some : length report.lines < member_limit = lines.few in omega arith in
+    let few : 0 + length report.lines < line_limit = let some : length report.lines < line_limit = lines.few in omega arith in
     let listed = whole_session_lines_lead n 0 None report.lines (Done ∷ (session_saved_lines reported.saved ++ rest)) ended
     (whole_session_lines_rise report.lines lines) few (λ others prefix. (done n, refl, end)) in
     let grouped = sym (append_assoc (map Line report.lines) (Done ∷ []) (session_saved_lines reported.saved ++ rest)) in (

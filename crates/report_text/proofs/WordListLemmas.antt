@@ -8,7 +8,7 @@ use Rattle.std.proofs.lemmas.List.{append_cancel_right}
 use Rattle.std.proofs.lemmas.List.Elements.{All-from_recursion, recursion_from_All}
 use Rattle.std.proofs.lemmas.List.Splits.{slice_split_at, slice_split_none, join_with_byte-slice_split}
 use Rattle.std.proofs.lemmas.Fmt.{decimal_injective}
-use Rattle.hhh_output.specs.declared.line.Line.{Line as LineValue}
+use Rattle.hhh_report.specs.declared.line.Line.{Line as LineValue}
 use Rattle.report_text.specs.ReportText.{ReportTextShowsPositions}
 use Rattle.report_text.specs.SessionText.{IsSessionLine, session_line_words, session_line_text}
 use Rattle.report_text.specs.Stages.{stage_words_in}

@@ -3,8 +3,8 @@ use Rattle.std.specs.Prelude.{ℕ, ◌+◌, ◌*◌, ◌≤◌, List, length, Al
 use Rattle.std.specs.List.{join_with_byte, flat_map}
 use Rattle.prefix_lattice.specs.{prefix_text_space, prefix_text, IsPrefix, longest_prefix_text_length, record_limit}
 use Rattle.prefix_lattice.specs.{shard_limit}
-use Rattle.hhh_output.specs.declared.line.Line.{Line}
-use Rattle.hhh_output.specs.declared.report.Report.{Report}
+use Rattle.hhh_report.specs.declared.line.Line.{Line}
+use Rattle.hhh_report.specs.declared.report.Report.{Report}
 use Rattle.frame_records.specs.declared.records.Records.{Records}
 use Rattle.report_text.specs.declared.mark.Mark.{Mark}
 use Rattle.report_text.specs.declared.mark.Mark.TheVariants.{Opened, Saved}

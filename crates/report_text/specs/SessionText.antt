@@ -3,10 +3,10 @@ use Rattle.std.specs.Prelude.{⊤, ℕ, ◌≡◌, ◌+◌, ◌<◌, ◌≤◌, 
 use Rattle.std.specs.Prelude.{map, take, All, codes, decimal, Option, Some, None, IfSome}
 use Rattle.std.specs.List.{flat_map, AllZip}
 use Rattle.prefix_lattice.specs.{side_text}
-use Rattle.hhh_output.specs.{IsSameReport}
-use Rattle.hhh_output.specs.declared.line.Line.{Line as LineValue}
-use Rattle.hhh_output.specs.declared.report.Report.{Report as ReportValue}
-use Rattle.hhh_output.specs.declared.reports.Reported.{Reported}
+use Rattle.hhh_report.specs.{IsSameReport}
+use Rattle.hhh_report.specs.declared.line.Line.{Line as LineValue}
+use Rattle.hhh_report.specs.declared.report.Report.{Report as ReportValue}
+use Rattle.hhh_report.specs.declared.reports.Reported.{Reported}
 use Rattle.report_text.specs.ReportText.{ReportTextShowsPositions, ReportTextShowsLine, report_text_line, report_text}
 use Rattle.report_text.specs.ReportText.{report_mark_text, report_counts_text}
 use Rattle.report_text.specs.declared.mark.Mark.TheVariants.{Opened as OpenedMark, Saved as SavedMark}

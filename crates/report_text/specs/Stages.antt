@@ -3,8 +3,8 @@ use Rattle.std.specs.Prelude.{⊤, ℕ, ◌≡◌, ◌+◌, ◌<◌, ◌==◌, L
 use Rattle.std.specs.List.{slice_split}
 use Rattle.std.specs.declared.cmp.Ordering.TheVariants.{Less}
 use Rattle.prefix_lattice.specs.{PrefixValue, report_order, prefix_text_space}
-use Rattle.hhh_output.specs.{member_limit}
-use Rattle.hhh_output.specs.declared.report.Report.{Report as ReportValue}
+use Rattle.hhh_report.specs.{line_limit}
+use Rattle.hhh_report.specs.declared.report.Report.{Report as ReportValue}
 use Rattle.report_text.specs.declared.session_line.SessionLine.{SessionLine}
 use Rattle.report_text.specs.declared.session_line.SessionLine.TheVariants.{Opened, Report, At, Total, Threshold, Line}
 use Rattle.report_text.specs.declared.session_line.SessionLine.TheVariants.{Done, Saved, Frames, Skipped, End}
@@ -41,7 +41,7 @@ FollowsStage (begun shards) (At positions) next = (length positions ≡ shards) 
 FollowsStage (placed shards) (Total total) next = next ≡ weighed shards
 FollowsStage (weighed shards) (Threshold threshold) next = next ≡ listing shards 0 None
 FollowsStage (listing shards count last) (Line line) next =
-    ComesAfterLastOfStage last line.prefix × (count + 1 < member_limit) × (next ≡ listing shards (count + 1) (Some line.prefix))
+    ComesAfterLastOfStage last line.prefix × (count + 1 < line_limit) × (next ≡ listing shards (count + 1) (Some line.prefix))
 FollowsStage (listing shards count last) Done next = next ≡ done shards
 FollowsStage (done shards) Report next = next ≡ begun shards
 FollowsStage (done shards) (Saved positions) next = (length positions ≡ shards) × (next ≡ saved shards)

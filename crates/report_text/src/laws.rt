@@ -2,8 +2,8 @@
 
 ghost use Rattle.std.specs.Prelude.{◌≡◌, ◌≤◌, List, ℕ, length, map};
 ghost use Rattle.std.specs.List.{flat_map};
-ghost use Rattle.hhh_output.specs.{IsSameReport};
-ghost use Rattle.hhh_output.specs.declared.report.Report.{Report};
+ghost use Rattle.hhh_report.specs.{IsSameReport};
+ghost use Rattle.hhh_report.specs.declared.report.Report.{Report};
 ghost use Rattle.report_text.specs.ReportText.{report_text, ReportTextShows};
 ghost use Rattle.report_text.specs.SessionText.{AreSameTextSessions, HasSessionTextFault, IsTextSession, IsSessionText};
 ghost use Rattle.report_text.specs.SessionText.{longest_session_text_length};

@@ -2,7 +2,7 @@
 
 ghost use Rattle.std.specs.Prelude.{◌≡◌, ◌≢◌, ◌≤◌, ◌<◌, ◌^◌, ℕ, List, [], ◌∷◌, map, codes, decimal, IfOk, IfSome};
 ghost use Rattle.std.specs.Prelude.{IfNone};
-ghost use Rattle.hhh_output.specs.declared.line.Line.{Line as LineValue};
+ghost use Rattle.hhh_report.specs.declared.line.Line.{Line as LineValue};
 ghost use Rattle.report_text.specs.ReportText.{ReportTextShowsPositions};
 ghost use Rattle.report_text.specs.SessionText.{AreSessionTextSkips, IsSessionLine, IsSessionReportLine};
 ghost use Rattle.report_text.specs.SessionText.{session_report_words, session_skipped_words, session_line_words};
@@ -12,9 +12,8 @@ ghost use Rattle.report_text.specs.declared.session_line.Skips.{Skips};
 
 use crate::session_line::{SessionLine, Skips};
 use crate::word_cut::cut_word;
-use hhh_output::Line;
+use hhh_report::{Line, Positions};
 use prefix_lattice::{Prefix, number_of};
-use shard_state::Positions;
 use std::alloc::{AllocError, Global};
 
 // The most positions of a list.

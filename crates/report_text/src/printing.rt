@@ -7,8 +7,7 @@ ghost use Rattle.report_text.specs.ReportText.{report_tail_text};
 use crate::Mark;
 use crate::putting::{put, put_lines, put_number, put_positions};
 use frame_records::Records;
-use hhh_output::Report;
-use shard_state::Positions;
+use hhh_report::{Positions, Report};
 use std::alloc::AllocError;
 
 // The most bytes of a report line: `line `, a prefix and two numbers.

@@ -5,7 +5,7 @@ ghost use Rattle.prefix_lattice.specs.{prefix_text, longest_prefix_text_length};
 ghost use Rattle.report_text.specs.ReportText.{report_line_text, report_lines_text, report_positions_text};
 ghost use Rattle.report_text.specs.ReportText.{longest_report_number_length, longest_report_line_length};
 
-use hhh_output::Line;
+use hhh_report::Line;
 use itoa::Buffer;
 use prefix_lattice::Prefix;
 

@@ -1,7 +1,6 @@
 //! What the text of a session says.
 
-use hhh_output::Reports;
-use shard_state::Positions;
+use hhh_report::{Positions, Reports};
 
 /// What the text of a session says.
 #[derive(Drop)]

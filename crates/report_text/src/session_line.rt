@@ -1,7 +1,6 @@
 //! The lines of a session.
 
-use hhh_output::Line;
-use shard_state::Positions;
+use hhh_report::{Line, Positions};
 
 /// How many frames were skipped, by the reason.
 #[derive(Clone, Copy, PartialEq, Eq)]

@@ -3,7 +3,7 @@
 ghost use Rattle.std.specs.Prelude.{◌≡◌, ◌≢◌, ◌≤◌, ◌<◌, ◌↔◌, ◌++◌, ℕ, [], ◌∷◌, length, map, Option, IfOk, IfErr};
 ghost use Rattle.std.specs.Prelude.{IfSome, IfNone, IsTrue};
 ghost use Rattle.std.specs.List.{flat_map};
-ghost use Rattle.hhh_output.specs.{AreReportLines};
+ghost use Rattle.hhh_report.specs.{AreReportLines};
 ghost use Rattle.report_text.specs.SessionText.{HasSessionTextReadFault, IsSessionText, longest_session_text_length};
 ghost use Rattle.report_text.specs.SessionText.{session_reported_lines, session_saved_lines, session_lines};
 ghost use Rattle.report_text.specs.Stages.{ComesAfterLastOfStage, stage_line_after_report, stage_after_report};
@@ -14,9 +14,8 @@ ghost use Rattle.report_text.specs.Stages.{nothing, opened, begun, listing, done
 use crate::line_cursor::LineCursor;
 use crate::session_line::SessionLine;
 use crate::{Session, SessionFault, TextFault};
-use hhh_output::{Lines, Report, Reported, Reports};
+use hhh_report::{Lines, Positions, Report, Reported, Reports};
 use prefix_lattice::{Prefix, report_order_is_total};
-use shard_state::Positions;
 use std::alloc::Global;
 use std::cmp::Ordering;
 

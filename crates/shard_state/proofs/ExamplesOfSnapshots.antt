@@ -4,13 +4,14 @@ use Rattle.std.proofs.lemmas.List.Elements.{All-nil, All-cons, All-head}
 use Rattle.prefix_lattice.specs.{node_at, IsPrefixKey}
 use Rattle.space_saving.specs.declared.entry.Entry.{Entry}
 use Rattle.space_saving.specs.{TableValue}
+use Rattle.hhh_report.specs.{AreCutPositionsNotPast, records_before_cut}
 use Rattle.shard_state.specs.Snapshot.{SnapshotValue, IsSnapshot, no_snapshot_entries, empty_snapshot}
 use Rattle.shard_state.specs.Snapshot.{snapshot_entries_at, snapshot_table_at}
 use Rattle.shard_state.specs.Snapshot.{tables_of_snapshot, snapshot_total, IsLikeSnapshotTable, AreTablesOfSnapshot}
 use Rattle.shard_state.specs.Snapshot.{AreSnapshotParts, snapshot_copied_from}
 use Rattle.shard_state.specs.Snapshot.{SnapshotRepresents}
-use Rattle.shard_state.specs.Cut.{AreCutPositionsNotPast, CutValue, IsCut, empty_cut, cut_positions, total_of_cut}
-use Rattle.shard_state.specs.Cut.{CutRepresents, records_before_cut}
+use Rattle.shard_state.specs.Cut.{CutValue, IsCut, empty_cut, cut_positions, total_of_cut}
+use Rattle.shard_state.specs.Cut.{CutRepresents}
 use Rattle.shard_state.specs.ShardState.{folded_shard, snapshot_of_shard}
 use Rattle.shard_state.proofs.EmptyTableLemmas.{empty_table, IsSnapshot-empty_tables, empty_tables_make_shard_cut}
 use Rattle.shard_state.proofs.RepresentationLemmas.{representation_when_empty, representation_of_shard}
@@ -97,12 +98,6 @@ pub total_of_two_shards : total_of_cut cut ≡ 6
 unfolding no_snapshot_entries
 total_of_two_shards = refl
 
-pub positions_of_two_shards_not_past : AreCutPositionsNotPast (1 ∷ 2 ∷ []) (1 ∷ 3 ∷ [])
-positions_of_two_shards_not_past = (omega arith, omega arith)
-
-pub one_shard_past : ¬ AreCutPositionsNotPast (1 ∷ 3 ∷ []) (2 ∷ 2 ∷ [])
-one_shard_past order = omega (arith, order.1.0)
-
 pub cut_of_no_record : IsCut (empty_cut 2 4)
 cut_of_no_record = empty_tables_make_shard_cut 2 4 (omega arith) (omega arith) (omega arith) (omega arith)
 
@@ -136,9 +131,6 @@ stands_for_no_other_capacity stands = let same : 4 ≡ 8 = All-head (λ (s : Sna
 -- a cut of two shards represents two lists
 pub stands_for_no_single_list : CutRepresents cut (first ∷ []) → ⊥
 stands_for_no_single_list stands = stands.shards.1
-
-pub before_two_and_one : records_before_cut (first ∷ (u ∷ u ∷ []) ∷ []) (2 ∷ 1 ∷ []) ≡ x ∷ x ∷ u ∷ []
-before_two_and_one = refl
 
 pub before_the_cut : records_before_cut (first ∷ (u ∷ u ∷ []) ∷ []) (cut_positions cut) ≡ first
 before_the_cut = refl

@@ -9,9 +9,10 @@ use Rattle.prefix_lattice.specs.{RecordValue, NodeValue, IsNode, node_index, nod
 use Rattle.prefix_lattice.specs.{node_of_prefix, prefix_key, prefix_weight, total_weight}
 use Rattle.space_saving.specs.declared.entry.Entry.{Entry}
 use Rattle.space_saving.specs.{TableInterval, interval_in_table, table_total}
+use Rattle.hhh_report.specs.{records_before_cut}
 use Rattle.shard_state.specs.Snapshot.{snapshot_records_table, fold_snapshot_at, SnapshotValue, IsSnapshot}
 use Rattle.shard_state.specs.Snapshot.{empty_snapshot, snapshot_entries_at, snapshot_total, SnapshotRepresents}
-use Rattle.shard_state.specs.Cut.{CutValue, IsCut, cut_positions, total_of_cut, CutRepresents, records_before_cut}
+use Rattle.shard_state.specs.Cut.{CutValue, IsCut, cut_positions, total_of_cut, CutRepresents}
 use Rattle.shard_state.specs.ShardState.{ShardValue, snapshot_of_shard}
 use Rattle.shard_state.specs.WeightIntervals.{NarrowIntervalHoldsWeight, NarrowIntervalHoldsWeightOver}
 use Rattle.shard_state.specs.WeightIntervals.{weight_interval_of}

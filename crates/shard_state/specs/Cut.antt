@@ -1,5 +1,5 @@
 -- A cut, as contracts see it.
-use Rattle.std.specs.Prelude.{ℕ, ◌≡◌, ◌≤◌, List, length, map, sum_by, All, [], ◌∷◌, ◌++◌, take}
+use Rattle.std.specs.Prelude.{ℕ, ◌≡◌, ◌≤◌, List, length, map, sum_by, All}
 use Rattle.std.proofs.Math.ListN.{replicate}
 use Rattle.shard_state.specs.Snapshot.{SnapshotValue, IsSnapshot, empty_snapshot, snapshot_total, SnapshotRepresents}
 use Rattle.std.specs.List.{AllZip}
@@ -14,10 +14,6 @@ pub record CutValue : Type 0 where
 -- the positions of a cut, one for each shard
 abbrev pub cut_positions : CutValue → List ℕ
 cut_positions cut = map (λ snapshot. snapshot.position) cut.shards
-
--- positions that aren't past others, shard by shard
-abbrev pub AreCutPositionsNotPast : List ℕ → List ℕ → Type 0
-AreCutPositionsNotPast earlier later = AllZip (λ one other. one ≤ other) earlier later
 
 -- the weight that the shards of a cut counted together
 abbrev pub total_of_cut : CutValue → ℕ
@@ -44,9 +40,3 @@ empty_cut shards capacity = record { capacity = capacity; shards = replicate sha
 pub record CutRepresents (cut : CutValue) (lists : List (List RecordValue)) : Type 0 where
   pub alike : All (λ snapshot. snapshot.capacity ≡ cut.capacity) cut.shards
   pub shards : AllZip SnapshotRepresents cut.shards lists
-
--- the records before positions: the first n records of each list, n being its position, one list after the other
-abbrev pub records_before_cut : List (List RecordValue) → List ℕ → List RecordValue
-records_before_cut [] positions = []
-records_before_cut (list ∷ lists) [] = []
-records_before_cut (list ∷ lists) (position ∷ positions) = take position list ++ records_before_cut lists positions

@@ -6,8 +6,7 @@ pub mod ShardCore
 -- passed on: the limits of the tables of a shard
 pub use Rattle.space_saving.specs.{least_table_capacity, most_table_capacity}
 -- the face: what contracts of other crates cite
-pub use Rattle.shard_state.specs.Cut.{AreCutPositionsNotPast, CutRepresents, CutValue, IsCut}
-pub use Rattle.shard_state.specs.Cut.{most_cut_snapshots, cut_positions, records_before_cut, total_of_cut}
+pub use Rattle.shard_state.specs.Cut.{CutRepresents, CutValue, IsCut, most_cut_snapshots, cut_positions, total_of_cut}
 pub use Rattle.shard_state.specs.ShardCore.{AreCoreShards, CoreBasesRepresent, CoreValue, HasCoreShape, IsCore}
 pub use Rattle.shard_state.specs.ShardCore.{ReadsEachCoreShard, core_capacity, changed_in_core, core_lists}
 pub use Rattle.shard_state.specs.ShardCore.{core_after_run, core_cut_with_shard}

@@ -7,7 +7,8 @@ ghost use Rattle.shard_state.specs.Cut.{IsCut, empty_cut, cut_positions, total_o
 ghost use Rattle.prefix_lattice.specs.{shard_limit, total_limit};
 ghost use Rattle.space_saving.specs.{least_table_capacity, most_table_capacity};
 
-use crate::{Positions, ShardState, Snapshot};
+use crate::{ShardState, Snapshot};
+use hhh_report::Positions;
 use std::alloc::{AllocError, Global};
 use std::marker::Model;
 

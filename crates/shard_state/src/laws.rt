@@ -3,10 +3,10 @@
 ghost use Rattle.std.specs.Prelude.{◌≡◌, ◌≤◌, ℕ, List, All, Some, length, slice_get, take};
 ghost use Rattle.prefix_lattice.specs.{RecordValue, NodeValue, PrefixValue, IsPrefix, prefix_weight, total_weight};
 ghost use Rattle.space_saving.specs.{table_total};
+ghost use Rattle.hhh_report.specs.{records_before_cut};
 ghost use Rattle.shard_state.specs.Snapshot.{snapshot_records_table, SnapshotValue, empty_snapshot, snapshot_total};
 ghost use Rattle.shard_state.specs.Snapshot.{SnapshotRepresents};
 ghost use Rattle.shard_state.specs.Cut.{CutValue, IsCut, cut_positions, total_of_cut, CutRepresents};
-ghost use Rattle.shard_state.specs.Cut.{records_before_cut};
 ghost use Rattle.shard_state.specs.ShardState.{ShardValue, snapshot_of_shard};
 ghost use Rattle.shard_state.specs.WeightIntervals.{NarrowIntervalHoldsWeight, NarrowIntervalHoldsWeightOver};
 ghost use Rattle.shard_state.specs.WeightIntervals.{weight_interval_of};

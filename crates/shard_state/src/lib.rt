@@ -6,7 +6,6 @@ mod cut;
 mod event;
 mod folding;
 mod laws;
-mod positions;
 mod shard_core;
 mod shard_state;
 mod snapshot;
@@ -15,10 +14,10 @@ mod table;
 
 pub use cut::Cut;
 pub use event::Event;
+pub use hhh_report::Positions;
 pub use laws::{
     runs_stand, shards_stand, snapshots_hold_weights, standing_cuts_are_equal, tables_hold_weights,
 };
-pub use positions::Positions;
 pub use shard_core::{Core, states_are_kept};
 pub use shard_state::{Folded, ShardState};
 pub use snapshot::Snapshot;

@@ -4,8 +4,8 @@ use Rattle.std.proofs.lemmas.List.Elements.{All-cons}
 use Rattle.std.proofs.lemmas.List.Kept.{AllPairs-cons}
 use Rattle.std.specs.declared.cmp.Ordering.TheVariants.{Less}
 use Rattle.prefix_lattice.specs.{report_order}
-use Rattle.hhh_output.specs.declared.line.Line.{Line}
-use Rattle.hhh_output.specs.{AreReportLines}
+use Rattle.hhh_report.specs.declared.line.Line.{Line}
+use Rattle.hhh_report.specs.{AreReportLines}
 use Rattle.report_text.specs.{ReportTextShowsPositions}
 
 -- a line has its low at most at its high

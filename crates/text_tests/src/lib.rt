@@ -1,4 +1,5 @@
-//! Tests of texts: of the arguments of the command line, of reports and sessions, and of the verdicts on reports.
+//! Tests of texts and reports: of the arguments of the command line, of thresholds and positions, of the texts of
+//! reports and sessions, and of the verdicts on reports.
 #![tactic(auto)]
 
 #[cfg(test)]

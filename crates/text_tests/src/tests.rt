@@ -1,4 +1,5 @@
 mod of_command_words;
 mod of_exact_audit;
+mod of_hhh_report;
 mod of_report_text;
 mod worked_lines;

@@ -11,8 +11,9 @@ ghost use Rattle.hhh_engine.specs.declared.status.Status.TheVariants.{OutOfMemor
 use crate::{Settings, Status};
 use checkpoint::{Saver, StoreSettings};
 use deal_rules::Dealt;
+use hhh_report::Positions;
 use recovery::{Opened, reopen};
-use shard_state::{Cut, Positions};
+use shard_state::Cut;
 use slot_disk::Disk;
 use std::alloc::{AllocError, Global};
 

@@ -10,7 +10,7 @@ ghost use Rattle.frame_records.specs.{AreRecordsOf, CaptureFileHasFrames, HasRec
 ghost use Rattle.deal_rules.specs.{dealer_of};
 ghost use Rattle.pcap_frames.specs.declared.fault.CaptureFault.{CaptureFault};
 ghost use Rattle.traffic_maker.specs.{made_capture, most_made_capture_frames};
-ghost use Rattle.hhh_output.specs.{IsSound};
+ghost use Rattle.hhh_report.specs.{IsSound};
 ghost use Rattle.exact_audit.specs.{IsVerdict};
 ghost use Rattle.exact_audit.specs.declared.verdict.Verdict.TheVariants.{Good};
 ghost use Rattle.command_words.specs.{AreLimitedSettings, AreWideSettings};
@@ -33,7 +33,7 @@ use deal_rules::{Dealer, Dealers, Deals, Dealt};
 use exact_audit::{Verdict, audit};
 use frame_records::{Records, Weigh, files_are_read_or_refused, read_records};
 use gate_workers::{Gate, Gathered, OpenGate, Rounds, report_once, run_threads};
-use hhh_output::Report;
+use hhh_report::Report;
 use outside_io::{Sink, Source, write_all};
 use pass_tokens::{Board, Pass};
 use std::alloc::{AllocError, Global};

@@ -2,7 +2,8 @@
 
 ghost use Rattle.std.specs.Prelude.{◌≡◌, ◌≤◌, length, IfErr, IfSome, OnOk, None, is_some};
 ghost use Rattle.shard_state.specs.{HasCoreShape, core_capacity};
-ghost use Rattle.hhh_output.specs.{IsWideShare, threshold_million};
+ghost use Rattle.hhh_report.specs.{threshold_million};
+ghost use Rattle.hhh_output.specs.{IsWideShare};
 ghost use Rattle.pass_tokens.specs.{IsPassOfBoard, view};
 ghost use Rattle.hhh_engine.specs.Rounds.{BreaksRound, EndRounds, WritesRounds};
 ghost use Rattle.hhh_engine.specs.Saves.{CanMakeSaves, SavesBreakOff, SavesFitBoard, SavesInTurn};
@@ -49,7 +50,8 @@ pub struct LiveRounds<'a, K: Sink, D: Disk, G: Gate> {
 impl<K: Sink, D: Disk, G: Gate> Rounds for LiveRounds<'_, K, D, G> {
     ghost use Rattle.std.specs.Prelude.{◌≡◌, ◌≤◌, length, IfSome, None, is_some};
     ghost use Rattle.shard_state.specs.{HasCoreShape, core_capacity};
-    ghost use Rattle.hhh_output.specs.{IsWideShare, threshold_million};
+    ghost use Rattle.hhh_report.specs.{threshold_million};
+    ghost use Rattle.hhh_output.specs.{IsWideShare};
     ghost use Rattle.hhh_engine.specs.Rounds.{EndRounds};
     ghost use Rattle.hhh_engine.specs.Saves.{CanMakeSaves, CanMakeSaves-later, SavesBreakOff, SavesInTurn};
 

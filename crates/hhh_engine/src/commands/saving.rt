@@ -10,8 +10,9 @@ ghost use Rattle.hhh_engine.specs.declared.status.Status.TheVariants.{DiskFault,
 
 use crate::Status;
 use checkpoint::{SaveFault, Saver, stores_open_to_one};
+use hhh_report::Positions;
 use report_text::{Mark, print_positions};
-use shard_state::{Cut, Positions};
+use shard_state::Cut;
 use slot_disk::Disk;
 use std::alloc::{AllocError, Global};
 

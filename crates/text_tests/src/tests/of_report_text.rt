@@ -5,12 +5,11 @@ ghost use Rattle.report_text.specs.{ReportTextShowsPositions};
 
 use super::worked_lines::{prefix_of, two_lines};
 use frame_records::Records;
-use hhh_output::{Line, Report};
+use hhh_report::{Line, Positions, Report};
 use prefix_lattice::RecordList;
 use report_text::{
     Mark, SessionFault, TextFault, print, print_positions, print_tail, read_session,
 };
-use shard_state::Positions;
 use std::alloc::{AllocError, Global};
 use std::test::Fail;
 

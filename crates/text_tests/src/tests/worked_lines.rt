@@ -1,9 +1,9 @@
 //! Prefixes by their texts, and two lines of a report.
 
 ghost use Rattle.std.specs.Prelude.{IfOk};
-ghost use Rattle.hhh_output.specs.{AreReportLines};
+ghost use Rattle.hhh_report.specs.{AreReportLines};
 
-use hhh_output::{Line, Lines};
+use hhh_report::{Line, Lines};
 use prefix_lattice::Prefix;
 use std::alloc::Global;
 use std::cmp::Ordering;

@@ -1,9 +1,8 @@
 use Rattle.std.proofs.Common.{◌≡◌, ℕ, ◌↔◌, List, refl, ap, sym, ◌∙◌, subst, arith}
 use Rattle.std.proofs.lemmas.Result.{IfOk-weaker}
 use Rattle.prefix_lattice.specs.{total_weight}
-use Rattle.shard_state.specs.{records_before_cut}
-use Rattle.hhh_output.specs.declared.line.Line.{Line}
-use Rattle.hhh_output.specs.{IsSound, IsThreshold, prefixes_of_lines}
+use Rattle.hhh_report.specs.{records_before_cut, IsSound, IsThreshold, prefixes_of_lines}
+use Rattle.hhh_report.specs.declared.line.Line.{Line}
 use Rattle.exact_audit.specs.declared.counted.Counted.{Counted}
 use Rattle.exact_audit.specs.declared.verdict.Verdict.TheVariants.{Good, BadThreshold}
 use Rattle.exact_audit.specs.declared.verdict.Verdict.{Verdict}

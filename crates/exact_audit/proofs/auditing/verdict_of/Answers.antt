@@ -1,5 +1,5 @@
 use Rattle.std.proofs.Common.{All, sym, subst}
-use Rattle.hhh_output.specs.{prefixes_of_lines}
+use Rattle.hhh_report.specs.{prefixes_of_lines}
 use Rattle.exact_audit.specs.LineTests.{IsLineTestResult, LinePassesJustifiedTest, LineTestMeasures}
 use Rattle.exact_audit.specs.LeftOut.{IsLeftOut}
 use Rattle.exact_audit.specs.Verdict.{IsLineVerdict}

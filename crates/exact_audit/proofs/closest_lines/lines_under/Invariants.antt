@@ -1,6 +1,6 @@
 use Rattle.std.proofs.Common.{◌≡◌, ◌≤◌, length, take}
 use Rattle.prefix_lattice.specs.{lines_under}
-use Rattle.hhh_output.specs.{prefixes_of_lines}
+use Rattle.hhh_report.specs.{prefixes_of_lines}
 use Rattle.exact_audit.proofs.closest_lines.lines_under.Given as goal
 
 -- those of the lines so far

@@ -1,6 +1,6 @@
 use Rattle.std.proofs.Common.{◌≤◌, ◌<◌, ◌++◌, length, take, sym, ap, ◌∙◌, subst, arith}
 use Rattle.std.proofs.lemmas.List.{take_all}
-use Rattle.shard_state.specs.{records_before_cut}
+use Rattle.hhh_report.specs.{records_before_cut}
 use Rattle.exact_audit.specs.NodeSums.{AreCountedInNodeSums}
 use Rattle.exact_audit.proofs.CountedRecordLemmas.{counted_record_positions_as_many, counted_records_gain_part}
 use Rattle.exact_audit.proofs.counted.count_before.Goals as goal

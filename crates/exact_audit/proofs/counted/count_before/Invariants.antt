@@ -1,6 +1,6 @@
 use Rattle.std.proofs.Common.{List, take}
 use Rattle.prefix_lattice.specs.{PrefixValue}
-use Rattle.shard_state.specs.{records_before_cut}
+use Rattle.hhh_report.specs.{records_before_cut}
 use Rattle.exact_audit.specs.LineCodes.{AreLineCodes}
 use Rattle.exact_audit.specs.NodeSums.{AreCountedInNodeSums}
 use Rattle.exact_audit.proofs.counted.count_before.Given as goal

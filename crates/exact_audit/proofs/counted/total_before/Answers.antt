@@ -2,7 +2,7 @@ use Rattle.std.proofs.Common.{◌≡◌, ◌+◌, ◌≤◌, ◌<◌, List, [], 
 use Rattle.std.proofs.lemmas.List.{take_all}
 use Rattle.std.proofs.lemmas.List.Sums.{sum_by-append, sum_by_more}
 use Rattle.prefix_lattice.specs.{RecordValue, total_weight}
-use Rattle.shard_state.specs.{records_before_cut}
+use Rattle.hhh_report.specs.{records_before_cut}
 use Rattle.exact_audit.specs.CountedParts.{counted_part_at}
 use Rattle.exact_audit.proofs.CountedRecordLemmas.{counted_record_positions_as_many, counted_records_gain_part}
 use Rattle.exact_audit.proofs.CountedRecordLemmas.{counted_record_part_fits_list}

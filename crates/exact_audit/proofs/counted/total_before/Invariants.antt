@@ -1,7 +1,7 @@
 use Rattle.std.proofs.Common.{◌≡◌, ◌*◌, ◌^◌, ◌≤◌, length, take}
 use Rattle.std.specs.List.{sum_by}
 use Rattle.prefix_lattice.specs.{total_weight}
-use Rattle.shard_state.specs.{records_before_cut}
+use Rattle.hhh_report.specs.{records_before_cut}
 use Rattle.exact_audit.proofs.counted.total_before.Given as goal
 
 -- the weight of the records of the shards so far, each below 2^32

@@ -1,6 +1,6 @@
 use Rattle.std.proofs.Common.{◌≡◌, ◌+◌, sym, subst, IfSome, arith}
 use Rattle.prefix_lattice.specs.{node_index}
-use Rattle.hhh_output.specs.{prefixes_of_lines}
+use Rattle.hhh_report.specs.{prefixes_of_lines}
 use Rattle.exact_audit.specs.Findings.{AreFindingSumsBefore, IsFirstFindingBefore}
 use Rattle.exact_audit.proofs.FindingLemmas.{findings_hold_all_line_sums, findings_leave_out_first}
 use Rattle.exact_audit.proofs.findings.find.Goals as goal

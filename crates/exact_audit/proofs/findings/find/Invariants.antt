@@ -1,6 +1,6 @@
 use Rattle.std.proofs.Common.{◌≡◌, List, length}
 use Rattle.prefix_lattice.specs.{RecordValue}
-use Rattle.hhh_output.specs.{prefixes_of_lines}
+use Rattle.hhh_report.specs.{prefixes_of_lines}
 use Rattle.exact_audit.specs.NodeSums.{AreCountedInNodeSums}
 use Rattle.exact_audit.specs.Findings.{AreFindingSumsBefore, IsFirstFindingBefore}
 use Rattle.exact_audit.proofs.findings.find.Given as goal

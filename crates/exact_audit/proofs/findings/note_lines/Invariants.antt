@@ -1,7 +1,7 @@
 use Rattle.std.proofs.Common.{◌≡◌, ◌<◌, ◌⊎◌, ℕ, List, length, slice_get, Some}
 use Rattle.prefix_lattice.specs.{RecordValue, node_index, node_of_prefix}
-use Rattle.hhh_output.specs.declared.line.Line.{Line}
-use Rattle.hhh_output.specs.{prefixes_of_lines}
+use Rattle.hhh_report.specs.declared.line.Line.{Line}
+use Rattle.hhh_report.specs.{prefixes_of_lines}
 use Rattle.exact_audit.specs.NodeSums.{AreNodeSums, sums_of}
 use Rattle.exact_audit.specs.Findings.{AreFindingSumsBefore}
 use Rattle.exact_audit.proofs.findings.note_lines.Given as goal

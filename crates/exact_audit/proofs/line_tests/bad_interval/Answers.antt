@@ -2,7 +2,7 @@ use Rattle.std.proofs.Common.{ap, sym, subst, refl, All}
 use Rattle.std.proofs.lemmas.List.{take_all}
 use Rattle.std.proofs.lemmas.Bool.{false≢true}
 use Rattle.prefix_lattice.specs.{IntervalHoldsWeight}
-use Rattle.hhh_output.specs.{HoldsWeightInSoundReport}
+use Rattle.hhh_report.specs.{HoldsWeightInSoundReport}
 use Rattle.exact_audit.specs.declared.node_sums.Sums.{Sums}
 use Rattle.exact_audit.proofs.LineTestLemmas.{line_test_fails_after_passes, line_test_passes_one_more}
 use Rattle.exact_audit.proofs.LineTestLemmas.{line_test_sums_at_place}

@@ -1,6 +1,6 @@
 use Rattle.std.proofs.Common.{List, All, take}
 use Rattle.prefix_lattice.specs.{RecordValue}
-use Rattle.hhh_output.specs.{HoldsWeightInSoundReport}
+use Rattle.hhh_report.specs.{HoldsWeightInSoundReport}
 use Rattle.exact_audit.specs.Findings.{AreFindingSums}
 use Rattle.exact_audit.proofs.line_tests.bad_interval.Given as goal
 

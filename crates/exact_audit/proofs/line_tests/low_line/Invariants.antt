@@ -1,5 +1,5 @@
 use Rattle.std.proofs.Common.{All, take}
-use Rattle.hhh_output.specs.{IsHeavyInSoundReport}
+use Rattle.hhh_report.specs.{IsHeavyInSoundReport}
 use Rattle.exact_audit.proofs.line_tests.low_line.Given as goal
 
 -- the lines so far pass

@@ -1,5 +1,5 @@
 use Rattle.std.proofs.Common.{All, take}
-use Rattle.hhh_output.specs.{IsNarrowInSoundReport}
+use Rattle.hhh_report.specs.{IsNarrowInSoundReport}
 use Rattle.exact_audit.proofs.line_tests.too_wide.Given as goal
 
 -- the lines so far pass

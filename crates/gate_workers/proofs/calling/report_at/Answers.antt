@@ -1,6 +1,6 @@
 use Rattle.std.proofs.Common.{ap, subst}
 use Rattle.shard_state.specs.{CutValue, core_lists, cut_positions}
-use Rattle.hhh_output.specs.{IsSound}
+use Rattle.hhh_report.specs.{IsSound}
 use Rattle.gate_workers.proofs.CallLemmas.{call_cut_represents_records, call_weights_are_positive}
 use Rattle.gate_workers.proofs.calling.report_at.Goals as goal
 

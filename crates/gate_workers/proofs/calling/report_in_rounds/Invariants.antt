@@ -1,6 +1,6 @@
 use Rattle.std.proofs.Common.{length, All}
 use Rattle.shard_state.specs.{CoreBasesRepresent, HasCoreShape, core_capacity, core_lists}
-use Rattle.hhh_output.specs.{IsSound}
+use Rattle.hhh_report.specs.{IsSound}
 use Rattle.pass_tokens.specs.{IsPassOfBoard, view}
 use Rattle.gate_workers.specs.Call.{Calls}
 use Rattle.gate_workers.proofs.calling.report_in_rounds.Given as goal

@@ -1,5 +1,5 @@
 use Rattle.std.proofs.Common.{◌≡◌, sym, subst, ◌∙◌}
-use Rattle.hhh_output.specs.Threshold.{IsThreshold}
+use Rattle.hhh_report.specs.{IsThreshold}
 use Rattle.hhh_output.proofs.OneReportLemmas.{MakesOneReport, one_report_has_one_list, one_report_has_one_threshold}
 use Rattle.hhh_output.proofs.laws.a_cut_has_one_report.Goals as goal
 

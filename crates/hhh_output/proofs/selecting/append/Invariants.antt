@@ -1,5 +1,5 @@
 use Rattle.std.proofs.Common.{◌≡◌, ◌++◌, take}
-use Rattle.hhh_output.specs.ReportLines.{prefixes_of_lines}
+use Rattle.hhh_report.specs.{prefixes_of_lines}
 use Rattle.hhh_output.proofs.selecting.append.Given as goal
 
 abbrev pub invariant-loop-line : goal.invariant-loop-line

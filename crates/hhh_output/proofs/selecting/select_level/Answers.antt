@@ -3,7 +3,7 @@ use Rattle.std.specs.Ordering.{is_lt}
 use Rattle.std.proofs.lemmas.List.Sorted.{ranks_by, answers_always}
 use Rattle.prefix_lattice.specs.{NodeValue, IsNode, node_index, node_at, report_order}
 use Rattle.cut_merge.specs.{merged_candidates_at}
-use Rattle.hhh_output.specs.declared.line.Line.{Line}
+use Rattle.hhh_report.specs.declared.line.Line.{Line}
 use Rattle.hhh_output.proofs.LevelSearchLemmas.{IsLevelSearch, LevelSearchIsOrdered, level_search_skips_node}
 use Rattle.hhh_output.proofs.LevelSearchLemmas.{level_search_takes_node, level_search_is_sorted}
 use Rattle.hhh_output.proofs.selecting.select_level.Goals as goal

@@ -3,8 +3,8 @@ use Rattle.std.proofs.lemmas.List.{map-append, length-map, length-append}
 use Rattle.prefix_lattice.specs.{PrefixValue}
 use Rattle.cut_merge.specs.{MergedValue}
 use Rattle.conditioned_bounds.specs.{member_limit}
-use Rattle.hhh_output.specs.declared.line.Line.{Line}
-use Rattle.hhh_output.specs.ReportLines.{prefixes_of_lines}
+use Rattle.hhh_report.specs.declared.line.Line.{Line}
+use Rattle.hhh_report.specs.{prefixes_of_lines}
 use Rattle.hhh_output.specs.Selecting.{AreSelectedOfLevel, AreSelectedDownTo}
 use Rattle.hhh_output.proofs.NearLineLemmas.{NearLineLevelsFall}
 use Rattle.hhh_output.proofs.LevelDescentLemmas.{level_descent_goes_on}

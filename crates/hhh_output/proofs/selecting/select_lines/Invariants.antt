@@ -1,5 +1,5 @@
 use Rattle.std.proofs.Common.{◌≡◌}
-use Rattle.hhh_output.specs.ReportLines.{prefixes_of_lines}
+use Rattle.hhh_report.specs.{prefixes_of_lines}
 use Rattle.hhh_output.specs.Selecting.{AreSelectedDownTo}
 use Rattle.hhh_output.proofs.selecting.select_lines.Given as goal
 

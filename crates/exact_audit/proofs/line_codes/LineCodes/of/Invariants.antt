@@ -1,5 +1,5 @@
 use Rattle.std.proofs.Common.{take}
-use Rattle.hhh_output.specs.{prefixes_of_lines}
+use Rattle.hhh_report.specs.{prefixes_of_lines}
 use Rattle.exact_audit.specs.LineCodes.{AreLineCodes}
 use Rattle.exact_audit.proofs.line_codes.LineCodes.of.Given as goal
 

@@ -1,6 +1,7 @@
 use Rattle.std.proofs.Common.{◌∙◌, ◌≤◌, length, refl, sym, ap₂, subst, arith}
 use Rattle.std.specs.Prelude.{is_some}
-use Rattle.hhh_output.specs.{IsWideShare, threshold_million}
+use Rattle.hhh_report.specs.{threshold_million}
+use Rattle.hhh_output.specs.{IsWideShare}
 use Rattle.shard_state.specs.{HasCoreShape, core_capacity}
 use Rattle.pass_tokens.specs.{view}
 use Rattle.hhh_engine.specs.Rounds.{WritesRounds}

@@ -2,8 +2,7 @@
 
 ghost use Rattle.std.specs.Prelude.{◌≡◌, ◌==◌, ◌<◌, ◌++◌, [], ◌∷◌, length, OnOk, OnErr, slice_get, Some};
 
-use crate::Report;
-use shard_state::Positions;
+use crate::{Positions, Report};
 use std::alloc::{AllocError, Global};
 use std::marker::Model;
 
@@ -24,7 +23,7 @@ pub struct Reports {
 
 impl Model for Reports {
     ghost use Rattle.std.specs.Prelude.{List};
-    ghost use Rattle.hhh_output.specs.declared.reports.Reported.{Reported};
+    ghost use Rattle.hhh_report.specs.declared.reports.Reported.{Reported};
 
     ghost Value = { List Reported };
 

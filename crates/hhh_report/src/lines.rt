@@ -14,7 +14,7 @@ pub struct Lines {
 
 impl Model for Lines {
     ghost use Rattle.std.specs.Prelude.{List};
-    ghost use Rattle.hhh_output.specs.declared.line.Line.{Line};
+    ghost use Rattle.hhh_report.specs.declared.line.Line.{Line};
 
     ghost Value = { List Line };
 

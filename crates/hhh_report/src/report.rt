@@ -1,9 +1,8 @@
 //! A report.
 
-ghost use Rattle.hhh_output.specs.ReportLines.{AreReportLines};
+ghost use Rattle.hhh_report.specs.ReportLines.{AreReportLines};
 
-use crate::Lines;
-use shard_state::Positions;
+use crate::{Lines, Positions};
 
 /// What is reported of the records before some positions.
 #[derive(Drop)]

@@ -4,7 +4,7 @@ use Rattle.std.specs.List.{sum_by}
 use Rattle.std.proofs.lemmas.List.Elements.{filter-append}
 use Rattle.std.proofs.lemmas.List.Sums.{sum_by-append}
 use Rattle.prefix_lattice.specs.{PrefixValue, RecordValue, covers, prefix_weight}
-use Rattle.shard_state.specs.{AreCutPositionsNotPast, records_before_cut}
+use Rattle.hhh_report.specs.Positions.{AreCutPositionsNotPast, records_before_cut}
 
 weight_rise-append : (prefix : PrefixValue) (first second : List RecordValue)
     → prefix_weight prefix (first ++ second) ≡ prefix_weight prefix first + prefix_weight prefix second

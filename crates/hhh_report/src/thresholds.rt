@@ -1,7 +1,7 @@
 //! The least weight at which a prefix is heavy.
 
 ghost use Rattle.std.specs.Prelude.{◌≤◌, ◌<◌};
-ghost use Rattle.hhh_output.specs.Threshold.{IsThreshold, threshold_million};
+ghost use Rattle.hhh_report.specs.Threshold.{IsThreshold, threshold_million};
 ghost use Rattle.prefix_lattice.specs.{total_limit};
 
 const MILLION: u128 = 1_000_000;

@@ -1,6 +1,6 @@
 use Rattle.std.proofs.Common.{arith, slice_index_or}
-use Rattle.hhh_output.proofs.WeightsRiseLemmas.{weight_rises}
-use Rattle.hhh_output.proofs.laws.lines_bound_other_positions.Goals as goal
+use Rattle.hhh_report.proofs.WeightsRiseLemmas.{weight_rises}
+use Rattle.hhh_report.proofs.laws.lines_bound_other_positions.Goals as goal
 
 pub returns-clause-earlier : goal.returns-clause-earlier
 returns-clause-earlier c report lists capacity phi positions sound order place default below =

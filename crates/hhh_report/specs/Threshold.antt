@@ -14,7 +14,3 @@ pub record IsHeavy (phi total weight : ℕ) : Type 0 where
 pub record IsThreshold (phi total threshold : ℕ) : Type 0 where
   pub heavy : IsHeavy phi total threshold
   pub least : (weight : ℕ) → IsHeavy phi total weight → threshold ≤ weight
-
--- tables of this capacity can't hide a prefix of this share, which is at least twice the greatest width of an interval
-abbrev pub IsWideShare : ℕ → ℕ → Type 0
-IsWideShare phi capacity = 2 * threshold_million ≤ phi * capacity

@@ -3,11 +3,11 @@ use Rattle.std.specs.Prelude.{ℕ, ◌≡◌, ◌+◌, ◌*◌, ◌<◌, ◌≤�
 use Rattle.std.specs.List.{AllZip}
 use Rattle.prefix_lattice.specs.{RecordValue, PrefixValue, IsPrefix, prefix_weight, total_weight, conditioned_weight}
 use Rattle.prefix_lattice.specs.{closest, kept_pairs, IntervalHoldsWeight, IsNarrowInterval}
-use Rattle.shard_state.specs.{records_before_cut}
-use Rattle.hhh_output.specs.declared.line.Line.{Line}
-use Rattle.hhh_output.specs.declared.report.Report.{Report}
-use Rattle.hhh_output.specs.ReportLines.{prefixes_of_lines}
-use Rattle.hhh_output.specs.Threshold.{IsThreshold}
+use Rattle.hhh_report.specs.declared.line.Line.{Line}
+use Rattle.hhh_report.specs.declared.report.Report.{Report}
+use Rattle.hhh_report.specs.Positions.{records_before_cut}
+use Rattle.hhh_report.specs.ReportLines.{prefixes_of_lines}
+use Rattle.hhh_report.specs.Threshold.{IsThreshold}
 
 -- there are as many positions as lists, and none is past the end of its list
 abbrev pub AreWithinListsInSoundReport : List ℕ → List (List RecordValue) → Type 0

@@ -1,0 +1,2 @@
+pub mod WeightsRiseLemmas
+pub mod Examples
