@@ -4,7 +4,7 @@ use Rattle.std.proofs.lemmas.List.Elements.{All-nil, All-cons, All-head}
 use Rattle.prefix_lattice.specs.{node_at, IsPrefixKey}
 use Rattle.space_saving.specs.declared.entry.Entry.{Entry}
 use Rattle.space_saving.specs.{TableValue}
-use Rattle.hhh_report.specs.{AreCutPositionsNotPast, records_before_cut}
+use Rattle.hhh_report.specs.{records_before_cut}
 use Rattle.shard_state.specs.Snapshot.{SnapshotValue, IsSnapshot, no_snapshot_entries, empty_snapshot}
 use Rattle.shard_state.specs.Snapshot.{snapshot_entries_at, snapshot_table_at}
 use Rattle.shard_state.specs.Snapshot.{tables_of_snapshot, snapshot_total, IsLikeSnapshotTable, AreTablesOfSnapshot}
