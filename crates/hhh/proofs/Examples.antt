@@ -1,6 +1,5 @@
--- Worked examples of where a capture comes from, of the shards that records go to, and of how a run ends.
-use Rattle.std.proofs.Common.{◌≡◌, ◌≤◌, ℕ, List, [], None, ⊎_elim, arith, refl, ap, codes}
-use Rattle.std.specs.Prelude.{⊤}
+-- Worked examples of where a capture comes from, and of the shards that records go to.
+use Rattle.std.proofs.Common.{◌≡◌, ℕ, List, [], None, refl, ap, codes}
 use Rattle.std.proofs.lemmas.Bool.{false≢true}
 use Rattle.std.specs.Str.{bytes_eq}
 use Rattle.hhh.specs.declared.input.Input.{Input}
@@ -10,10 +9,6 @@ use Rattle.hhh.specs.ProgramInputs.{IsProgramInput}
 use Rattle.prefix_lattice.specs.{RecordValue}
 use Rattle.deal_rules.specs.declared.deal_kind.DealKind.TheVariants.{RoundRobin, BySource, Free}
 use Rattle.hhh.specs.ProgramRules.{program_rule_shard}
-use Rattle.hhh.specs.ProgramRun.{ProgramRunEnds}
-use Rattle.hhh_engine.specs.{SessionKeeping, EndingSourceFaults, inputs, ending_source_faults}
-use Rattle.hhh_engine.specs.declared.status.Status.{Status}
-use Rattle.hhh_engine.specs.declared.status.Status.TheVariants.{Done, ReadFault}
 
 -- the name of a file
 abbrev name : List ℕ
@@ -55,29 +50,3 @@ shard_of_a_source = refl
 -- the lowest bits of the two addresses are 11 and 10
 pub shard_of_both_addresses : program_rule_shard Free 5 packet 4 ≡ 1
 shard_of_both_addresses = refl
-
--- a run that took nothing and gave nothing, over sources, a sink and a disk that are numbers, with these counts of faults
-abbrev idle_run : SessionKeeping → List (List ℕ) → (read_now : EndingSourceFaults) → (disk_now : ℕ) → Status → Type 0
-idle_run keeping words read_now disk_now status =
-    ProgramRunEnds {S = ℕ} {T = ℕ} {K = ℕ} {D = ℕ} keeping ⊤ ⊤ words (inputs None None None None None) 1 1 2 2 (ending_source_faults 0 0)
-    read_now 3 3 None None 0 0 4 4 None (λ image. ⊤) 0 disk_now status
-
--- it doesn't end with a read fault that no source had
-pub read_fault_of_no_source : (keeping : SessionKeeping) (words : List (List ℕ))
-    → idle_run keeping words (ending_source_faults 0 0) 0 ReadFault → ⊥
-read_fault_of_no_source keeping words ends = ⊎_elim
-    (λ capture. let rose : 1 ≤ 0 = capture.rose in omega (arith, rose))
-    (λ text. let rose : 1 ≤ 0 = text.rose in omega (arith, rose)) (ends.read_fault refl).failed
-
--- nor with Done, after a fault of a source or of the disk
-pub read_fault_reported_as_done : (keeping : SessionKeeping) (words : List (List ℕ))
-    → idle_run keeping words (ending_source_faults 1 0) 0 Done → ⊥
-read_fault_reported_as_done keeping words ends =
-    let same : 1 ≡ 0 = ap (λ faults. faults.capture) (ends.read_fault_reported (λ is. cc is)) in
-    omega (arith, same)
-
-pub disk_fault_reported_as_done : (keeping : SessionKeeping) (words : List (List ℕ))
-    → idle_run keeping words (ending_source_faults 0 0) 1 Done → ⊥
-disk_fault_reported_as_done keeping words ends =
-    let same : 1 ≡ 0 = ends.disk_fault_reported (λ is. cc is) in
-    omega (arith, same)

@@ -6,6 +6,9 @@ use Rattle.std.specs.Io.KnownBytes.{Appends, Consumes, IsAtEnd}
 use Rattle.std.proofs.lemmas.Bool.{cases_lt}
 use Rattle.std.proofs.lemmas.List.{length-append}
 use Rattle.outside_io.specs.{AppendsBeginning, FaultCountRose}
+use Rattle.outside_io.specs.declared.source.Source.{Ghosts as SourceOf}
+use Rattle.outside_io.specs.declared.sink.Sink.{Ghosts as SinkOf}
+use Rattle.slot_disk.specs.declared.disk.Disk.{Ghosts as DiskOf}
 use Rattle.prefix_lattice.specs.{RecordValue}
 use Rattle.report_text.specs.{HasSessionTextReadFault, longest_session_text_length}
 use Rattle.report_text.specs.declared.session.Session.{Session}
@@ -18,8 +21,8 @@ use Rattle.hhh_engine.specs.Answer.{IsUnfinishedAnswer}
 use Rattle.hhh_engine.specs.Audit.{AreAudited, IsAuditText, IsSoundAudit, IsUnsoundAudit}
 use Rattle.hhh_engine.specs.Auditing.{AreAuditingInputs, HasNoAudit, IsAuditingAnswer, AuditingSays}
 use Rattle.hhh_engine.specs.Ending.{EndsByAuditFinding, Ends, EndingSourceFaults}
-use Rattle.hhh_engine.specs.Inputs.{InputBytes, IsInputCapture, HoldsOfAuditInputs, InputsWereRead, inputs}
-use Rattle.hhh_engine.specs.Session.{SessionKeeping, SessionRules}
+use Rattle.hhh_engine.specs.Inputs.{InputBytes, IsInputCapture, HoldsOfAuditInputs, inputs}
+use Rattle.hhh_engine.specs.Session.{SessionRules}
 use Rattle.hhh_engine.specs.Status.{status_of_session}
 use Rattle.hhh_engine.specs.declared.commands.audit.Answer.{Answer}
 use Rattle.hhh_engine.specs.declared.commands.audit.Audited.{Audited}
@@ -28,7 +31,10 @@ use Rattle.hhh_engine.specs.declared.status.Status.TheVariants.{Done, BadWords, 
 use Rattle.hhh_engine.specs.declared.status.Status.TheVariants.{DiskFault, NotFormatted, Damaged, OtherSettings}
 use Rattle.hhh_engine.specs.declared.status.Status.TheVariants.{OtherCapture, AuditNo, BadReport, OutOfMemory}
 use Rattle.hhh_engine.proofs.CaptureReportLemmas.{capture_report_if_known}
-use Rattle.hhh_engine.proofs.StatusLemmas.{EndsWithStatus, status_beside_disk}
+use Rattle.hhh_engine.specs.CommandEnding.{CommandEnds}
+use Rattle.hhh_engine.specs.TopCall.{Streams, faults_after, faults_before, run_inputs}
+use Rattle.hhh_engine.specs.Saves.{IsAsBeforeSaves}
+use Rattle.hhh_engine.proofs.StatusLemmas.{status_beside_disk}
 
 -- what follows of the inputs of an audit that may be known
 pub audit_end_inputs_imply_more : (read : InputBytes) (P Q : List ℕ → List ℕ → Type 0)
@@ -272,16 +278,17 @@ audit_ends_as_written settings rules given read_before read_now sink written old
     audited.session answer.text.items answer.status are says capture_read text_read same appended same_sink
 
 -- how an audit ended, as a command with a disk that is untouched
-pub audit_ends_as : {K : Type 0} (settings : Settings) (rules : SessionRules) (keeping : SessionKeeping) (given : InputBytes)
-    (AsBefore : Type 0) (DiskSame : Type 0) (read_before read_now : EndingSourceFaults) (sink written : K)
-    (old new : Option (List ℕ)) (write_before write_now : ℕ) (status : Status) → DiskSame → AsBefore
-    → EndsAudit settings rules given read_before read_now sink written old new write_before write_now status
-    → EndsWithStatus rules keeping (Audit settings) given AsBefore (InputsWereRead (Audit settings) given) ⊥ DiskSame read_before
-    read_now sink written old new write_before write_now status
-audit_ends_as settings rules keeping given AsBefore DiskSame read_before read_now sink written old new write_before
-    write_now status same before ends =
+pub audit_ends_as : {S T K D : Type 0} (s : SourceOf S) (t : SourceOf T) (k : SinkOf K) (d : DiskOf D) (old new : Streams S T K D)
+    (rules : SessionRules) (settings : Settings) (status : Status) → new.disk ≡ old.disk → IsAsBeforeSaves d old.disk new.disk
+    → EndsAudit settings rules (run_inputs s t k d old new) (faults_before s t k d old new) (faults_after s t k d old new) old.sink new.sink
+    (k.taken old.sink) (k.taken new.sink) (k.faults old.sink) (k.faults new.sink) status
+    → CommandEnds s t k d old new rules (Audit settings) status
+audit_ends_as s t k d old new rules settings status same before ends =
+    let given = run_inputs s t k d old new in
     status_beside_disk (λ answer. HoldsOfAuditInputs given (λ file session. IsSoundAudit settings rules file session answer))
     (λ front. HoldsOfAuditInputs given (λ file session. IsUnfinishedAnswer (IsAuditText settings rules file session) front))
-    (IsAtEnd given.capture_left × IsAtEnd given.text_left) (IfSome given.capture IsInputCapture) DiskSame AsBefore (λ fault. ⊥)
-    (EndsByAuditFinding settings rules given old new) given.capture read_before read_now sink written old new write_before
-    write_now status same before ends
+    (IsAtEnd given.capture_left × IsAtEnd given.text_left) (IfSome given.capture IsInputCapture) (new.disk ≡ old.disk)
+    (IsAsBeforeSaves d old.disk new.disk) (λ fault. ⊥)
+    (EndsByAuditFinding settings rules given (k.taken old.sink) (k.taken new.sink)) given.capture (faults_before s t k d old new)
+    (faults_after s t k d old new) old.sink new.sink (k.taken old.sink) (k.taken new.sink) (k.faults old.sink) (k.faults new.sink)
+    status same before ends

@@ -1,5 +1,5 @@
 -- How an audit can end.
-use Rattle.std.proofs.Common.{◌≡◌, ◌⊎◌, ◌≤◌, ◌<◌, ◌+◌, ℕ, ◌≢◌, List, length, take, get_or, All, Option, Some, IfSome}
+use Rattle.std.proofs.Common.{◌≡◌, ◌⊎◌, ◌≤◌, ◌<◌, ◌+◌, ℕ, ◌≢◌, List, length, take, get_or, All, Some, IfSome}
 use Rattle.std.proofs.Common.{inl, inr, refl, ap, ap₂, ◌∙◌, subst, arith, ⊎_elim}
 use Rattle.std.specs.List.{slice_get}
 use Rattle.std.proofs.lemmas.Option.{get_or_from_slice_get, slice_get_read, slice_get_within}
@@ -24,16 +24,20 @@ use Rattle.command_words.specs.declared.settings.Settings.{Settings}
 use Rattle.hhh_engine.specs.Audit.{AreAudited, IsAuditText, IsAuditedAsFirstUnsound, IsAuditedAsSound, IsSoundAudit}
 use Rattle.hhh_engine.specs.Audit.{IsUnsoundAudit}
 use Rattle.hhh_engine.specs.Answer.{IsUnfinishedAnswer}
-use Rattle.hhh_engine.specs.Ending.{AuditFindsAtEnding, EndsFindingUnsound, HappenedToDiskAtEnding, EndsRefusingText}
-use Rattle.hhh_engine.specs.Ending.{EndingSourceFaults}
+use Rattle.hhh_engine.specs.Ending.{AuditFindsAtEnding}
 use Rattle.hhh_engine.specs.Inputs.{InputBytes, IsInputCapture, HoldsOfAuditInputs, InputsWereRead}
-use Rattle.hhh_engine.specs.Session.{SessionKeeping, SessionRules}
+use Rattle.hhh_engine.specs.Session.{SessionRules}
 use Rattle.hhh_engine.specs.declared.status.Status.{Status}
 use Rattle.hhh_engine.specs.declared.status.Status.TheVariants.{Done, BadWords, BadCapture, ReadFault, WriteFault}
 use Rattle.hhh_engine.specs.declared.status.Status.TheVariants.{DiskFault, NotFormatted, Damaged, OtherSettings}
 use Rattle.hhh_engine.specs.declared.status.Status.TheVariants.{OtherCapture, AuditNo, BadReport, OutOfMemory}
-use Rattle.hhh_engine.proofs.StatusLemmas.{EndsWithStatus, CaptureStatusIsFaultless, SessionStatusIsFaultless}
+use Rattle.hhh_engine.proofs.StatusLemmas.{CaptureStatusIsFaultless, SessionStatusIsFaultless}
 use Rattle.hhh_engine.proofs.StatusLemmas.{status_of_known_file}
+use Rattle.outside_io.specs.declared.source.Source.{Ghosts as SourceOf}
+use Rattle.outside_io.specs.declared.sink.Sink.{Ghosts as SinkOf}
+use Rattle.slot_disk.specs.declared.disk.Disk.{Ghosts as DiskOf}
+use Rattle.hhh_engine.specs.CommandEnding.{CommandEnds}
+use Rattle.hhh_engine.specs.TopCall.{FindsUnsound, LeavesUnwritten, RefusesText, Streams, run_inputs}
 
 -- a text has one fault at most
 abbrev pub AuditFindingHasOneFault : Type 0
@@ -138,243 +142,160 @@ audit_finding_excludes_bad_text no_fault settings rules file bytes answer fault 
     (λ is. no_fault bytes is.session fault is.audited.is_session is.audited.not_long has)
     (λ is. no_fault bytes is.2.session fault is.2.audited.is_session is.2.audited.not_long has)
 
--- an audit of a text with a fault is refused for it, unless a source fails or memory runs out
-audit_finding_is_text_fault : {K : Type 0} → CaptureStatusIsFaultless → AuditFindingHasOneFault → SessionStatusIsFaultless
-    → (rules : SessionRules) (keeping : SessionKeeping) (settings : Settings) (given : InputBytes) (AsBefore : Type 0)
-    (ReadToEnd DiskSame : Type 0) (read_before read_now : EndingSourceFaults) (sink written : K) (old new : Option (List ℕ))
-    (write_before write_now : ℕ) (status : Status) (file bytes : List ℕ) (frames : List FrameValue) (fault : TextFault)
-    → given.capture ≡ Some file → CaptureFileHasFrames file frames → given.text ≡ Some bytes → HasSessionTextFault bytes fault
-    → EndsWithStatus rules keeping (Audit settings) given AsBefore ReadToEnd ⊥ DiskSame read_before read_now sink written old
-    new write_before write_now status
-    → (status ≡ BadReport fault) ⊎ ((status ≡ ReadFault) ⊎ (status ≡ OutOfMemory))
-audit_finding_is_text_fault never_both one_fault no_fault rules keeping settings given AsBefore ReadToEnd DiskSame read_before
-    read_now sink written old new write_before write_now Done file bytes frames fault is_file capture is_text has ends =
-    let is =
-    audit_finding_of_known_inputs given file bytes (λ f t. IsSoundAudit settings rules f t ends.1.text) is_file is_text ends.1.is_text in
-    absurd (no_fault bytes is.session fault is.audited.is_session is.audited.not_long has)
-audit_finding_is_text_fault never_both one_fault no_fault rules keeping settings given AsBefore ReadToEnd DiskSame read_before
-    read_now sink written old new write_before write_now (BadWords kind) file bytes frames fault is_file capture is_text has ends =
-    absurd ends
-audit_finding_is_text_fault never_both one_fault no_fault rules keeping settings given AsBefore ReadToEnd DiskSame read_before
-    read_now sink written old new write_before write_now (BadCapture other) file bytes frames fault is_file capture is_text has ends =
-    absurd (never_both file frames other capture (status_of_known_file given.capture file (λ f. IsRefusedCaptureFile f other) is_file ends.0))
-audit_finding_is_text_fault never_both one_fault no_fault rules keeping settings given AsBefore ReadToEnd DiskSame read_before
-    read_now sink written old new write_before write_now ReadFault file bytes frames fault is_file capture is_text has ends =
-    inr (inl refl)
-audit_finding_is_text_fault never_both one_fault no_fault rules keeping settings given AsBefore ReadToEnd DiskSame read_before
-    read_now sink written old new write_before write_now WriteFault file bytes frames fault is_file capture is_text has ends =
-    let is =
-    audit_finding_of_known_inputs given file bytes (λ f t. IsUnfinishedAnswer (IsAuditText settings rules f t) ends.1.text) is_file is_text
-    ends.1.is_text in
-    absurd (audit_finding_excludes_bad_text no_fault settings rules file bytes is.text fault has is.is_text)
-audit_finding_is_text_fault never_both one_fault no_fault rules keeping settings given AsBefore ReadToEnd DiskSame read_before
-    read_now sink written old new write_before write_now DiskFault file bytes frames fault is_file capture is_text has ends =
-    absurd ends.3
-audit_finding_is_text_fault never_both one_fault no_fault rules keeping settings given AsBefore ReadToEnd DiskSame read_before
-    read_now sink written old new write_before write_now NotFormatted file bytes frames fault is_file capture is_text has ends =
-    absurd ends.0
-audit_finding_is_text_fault never_both one_fault no_fault rules keeping settings given AsBefore ReadToEnd DiskSame read_before
-    read_now sink written old new write_before write_now (Damaged slot) file bytes frames fault is_file capture is_text has ends =
-    absurd ends.0
-audit_finding_is_text_fault never_both one_fault no_fault rules keeping settings given AsBefore ReadToEnd DiskSame read_before
-    read_now sink written old new write_before write_now (OtherSettings stored asked) file bytes frames fault is_file capture is_text has ends =
-    absurd ends.0
-audit_finding_is_text_fault never_both one_fault no_fault rules keeping settings given AsBefore ReadToEnd DiskSame read_before
-    read_now sink written old new write_before write_now (OtherCapture stored asked) file bytes frames fault is_file capture is_text has ends =
-    absurd ends.0
-audit_finding_is_text_fault never_both one_fault no_fault rules keeping settings given AsBefore ReadToEnd DiskSame read_before
-    read_now sink written old new write_before write_now (AuditNo report verdict) file bytes frames fault is_file capture is_text has ends =
-    let is =
-    audit_finding_of_known_inputs given file bytes (λ f t. IsUnsoundAudit settings rules f t report verdict) is_file is_text ends.1.0 in
-    absurd (no_fault bytes is.session fault is.audited.is_session is.audited.not_long has)
-audit_finding_is_text_fault never_both one_fault no_fault rules keeping settings given AsBefore ReadToEnd DiskSame read_before
-    read_now sink written old new write_before write_now (BadReport wrong) file bytes frames fault is_file capture is_text has ends =
-    inl (ap BadReport (one_fault bytes wrong fault
-    (status_of_known_file given.text bytes (λ t. HasSessionTextFault t wrong) is_text ends.0.first_fault) has))
-audit_finding_is_text_fault never_both one_fault no_fault rules keeping settings given AsBefore ReadToEnd DiskSame read_before
-    read_now sink written old new write_before write_now OutOfMemory file bytes frames fault is_file capture is_text has ends =
-    inr (inr refl)
+-- a run, whose command ended so
+module _ {S T K D : Type 0} (s : SourceOf S) (t : SourceOf T) (k : SinkOf K) (d : DiskOf D) (old new : Streams S T K D)
+    (rules : SessionRules) where
+  -- its inputs, and how a command of it ends
+  abbrev given : InputBytes
+  given = run_inputs s t k d old new
 
--- a session whose first report that is not sound is known, however the records are dealt, is found so, unless a source or
--- the sink fails or memory runs out
-audit_finding_is_first_unsound : {K : Type 0} → CaptureStatusIsFaultless → SessionStatusIsFaultless → AuditFindingIsUnique
-    → (rules : SessionRules) (keeping : SessionKeeping) (settings : Settings) (given : InputBytes) (AsBefore : Type 0)
-    (ReadToEnd DiskSame : Type 0) (read_before read_now : EndingSourceFaults) (sink written : K) (old new : Option (List ℕ))
-    (write_before write_now : ℕ) (status : Status) (file bytes : List ℕ) (frames : List FrameValue) (known : Session)
-    (report : ℕ) (verdict : Verdict)
-    → given.capture ≡ Some file → CaptureFileHasFrames file frames → given.text ≡ Some bytes → IsSessionText bytes known
-    → length bytes ≤ longest_session_text_length
-    → ((lists : List (List RecordValue)) (session : Session) → AreAudited settings rules file bytes lists session
-    → IsAuditedAsFirstUnsound settings lists session.reports report verdict)
-    → EndsWithStatus rules keeping (Audit settings) given AsBefore ReadToEnd ⊥ DiskSame read_before read_now sink written old
-    new write_before write_now status
-    → (status ≡ AuditNo report verdict) ⊎ ((status ≡ ReadFault) ⊎ ((status ≡ WriteFault) ⊎ (status ≡ OutOfMemory)))
-audit_finding_is_first_unsound never_both no_fault one rules keeping settings given AsBefore ReadToEnd DiskSame read_before read_now sink
-    written old new write_before write_now Done file bytes frames known report verdict is_file capture is_text is_session
-    not_long first ends =
-    let is =
-    audit_finding_of_known_inputs given file bytes (λ f t. IsSoundAudit settings rules f t ends.1.text) is_file is_text ends.1.is_text in
-    let unsound = first is.lists is.session is.audited in
-    absurd (audit_finding_is_not_sound one settings is.lists is.session.reports report verdict unsound
-    (audit_finding_holds_at_index (IsAuditedAsSound settings is.lists) is.session.reports unsound.before unsound.reported unsound.is is.sound))
-audit_finding_is_first_unsound never_both no_fault one rules keeping settings given AsBefore ReadToEnd DiskSame read_before read_now sink
-    written old new write_before write_now (BadWords kind) file bytes frames known report verdict is_file capture is_text is_session
-    not_long first ends =
-    absurd ends
-audit_finding_is_first_unsound never_both no_fault one rules keeping settings given AsBefore ReadToEnd DiskSame read_before read_now sink
-    written old new write_before write_now (BadCapture other) file bytes frames known report verdict is_file capture is_text is_session
-    not_long first ends =
-    absurd (never_both file frames other capture (status_of_known_file given.capture file (λ f. IsRefusedCaptureFile f other) is_file ends.0))
-audit_finding_is_first_unsound never_both no_fault one rules keeping settings given AsBefore ReadToEnd DiskSame read_before read_now sink
-    written old new write_before write_now ReadFault file bytes frames known report verdict is_file capture is_text is_session
-    not_long first ends =
-    inr (inl refl)
-audit_finding_is_first_unsound never_both no_fault one rules keeping settings given AsBefore ReadToEnd DiskSame read_before read_now sink
-    written old new write_before write_now WriteFault file bytes frames known report verdict is_file capture is_text is_session
-    not_long first ends =
-    inr (inr (inl refl))
-audit_finding_is_first_unsound never_both no_fault one rules keeping settings given AsBefore ReadToEnd DiskSame read_before read_now sink
-    written old new write_before write_now DiskFault file bytes frames known report verdict is_file capture is_text is_session
-    not_long first ends =
-    absurd ends.3
-audit_finding_is_first_unsound never_both no_fault one rules keeping settings given AsBefore ReadToEnd DiskSame read_before read_now sink
-    written old new write_before write_now NotFormatted file bytes frames known report verdict is_file capture is_text is_session
-    not_long first ends =
-    absurd ends.0
-audit_finding_is_first_unsound never_both no_fault one rules keeping settings given AsBefore ReadToEnd DiskSame read_before read_now sink
-    written old new write_before write_now (Damaged slot) file bytes frames known report verdict is_file capture is_text is_session
-    not_long first ends =
-    absurd ends.0
-audit_finding_is_first_unsound never_both no_fault one rules keeping settings given AsBefore ReadToEnd DiskSame read_before read_now sink
-    written old new write_before write_now (OtherSettings stored asked) file bytes frames known report verdict is_file capture is_text is_session
-    not_long first ends =
-    absurd ends.0
-audit_finding_is_first_unsound never_both no_fault one rules keeping settings given AsBefore ReadToEnd DiskSame read_before read_now sink
-    written old new write_before write_now (OtherCapture stored asked) file bytes frames known report verdict is_file capture is_text is_session
-    not_long first ends =
-    absurd ends.0
-audit_finding_is_first_unsound never_both no_fault one rules keeping settings given AsBefore ReadToEnd DiskSame read_before read_now sink
-    written old new write_before write_now (AuditNo other_report other) file bytes frames known report verdict is_file capture is_text is_session
-    not_long first ends =
-    let is =
-    audit_finding_of_known_inputs given file bytes (λ f t. IsUnsoundAudit settings rules f t other_report other) is_file is_text ends.1.0 in
-    inl (audit_findings_agree one settings is.lists is.session.reports report other_report verdict other
-    (first is.lists is.session is.audited) is.first)
-audit_finding_is_first_unsound never_both no_fault one rules keeping settings given AsBefore ReadToEnd DiskSame read_before read_now sink
-    written old new write_before write_now (BadReport wrong) file bytes frames known report verdict is_file capture is_text is_session
-    not_long first ends =
-    absurd (no_fault bytes known wrong is_session not_long
-    (status_of_known_file given.text bytes (λ t. HasSessionTextFault t wrong) is_text ends.0.first_fault))
-audit_finding_is_first_unsound never_both no_fault one rules keeping settings given AsBefore ReadToEnd DiskSame read_before read_now sink
-    written old new write_before write_now OutOfMemory file bytes frames known report verdict is_file capture is_text is_session
-    not_long first ends =
-    inr (inr (inr refl))
+  abbrev Ended : Command → Status → Type 0
+  Ended = CommandEnds s t k d old new rules
 
--- what an audit that ended so found
-audit_finding_for_command : (rules : SessionRules) (words : List (List ℕ)) (command : Command) (given : InputBytes) (old new : Option (List ℕ))
-    (report : ℕ) (verdict : Verdict) → AskForCommand words command → InputsWereRead command given
-    → AuditFindsAtEnding command rules given old new (AuditNo report verdict)
-    → EndsFindingUnsound rules words given report verdict old new
-audit_finding_for_command rules words (Weigh prefix settings) given old new report verdict asked read finds = absurd finds
-audit_finding_for_command rules words (ToReport settings) given old new report verdict asked read finds = absurd finds
-audit_finding_for_command rules words (Format settings) given old new report verdict asked read finds = absurd finds
-audit_finding_for_command rules words (Make seed frames) given old new report verdict asked read finds = absurd finds
-audit_finding_for_command rules words (Demo seed frames settings) given old new report verdict asked read finds = absurd finds
-audit_finding_for_command rules words (Audit settings) given old new report verdict asked read finds = record {
-  settings = settings;
-  asked = asked;
-  read_to_end = read;
-  found = finds.0;
-  written = finds.1;
-}
+  -- an audit of a text with a fault is refused for it, unless a source fails or memory runs out
+  pub audit_finding_is_text_fault : CaptureStatusIsFaultless → AuditFindingHasOneFault → SessionStatusIsFaultless
+      → (settings : Settings) (status : Status) (file bytes : List ℕ) (frames : List FrameValue) (fault : TextFault)
+      → given.capture ≡ Some file → CaptureFileHasFrames file frames → given.text ≡ Some bytes → HasSessionTextFault bytes fault
+      → Ended (Audit settings) status
+      → (status ≡ BadReport fault) ⊎ ((status ≡ ReadFault) ⊎ (status ≡ OutOfMemory))
+  audit_finding_is_text_fault never_both one_fault no_fault settings Done file bytes frames fault is_file capture is_text has ends =
+      let is =
+      audit_finding_of_known_inputs given file bytes (λ f t. IsSoundAudit settings rules f t ends.1.text) is_file is_text ends.1.is_text in
+      absurd (no_fault bytes is.session fault is.audited.is_session is.audited.not_long has)
+  audit_finding_is_text_fault never_both one_fault no_fault settings (BadWords kind) file bytes frames fault is_file capture is_text has ends =
+      absurd ends
+  audit_finding_is_text_fault never_both one_fault no_fault settings (BadCapture other) file bytes frames fault is_file capture is_text has ends =
+      absurd (never_both file frames other capture (status_of_known_file given.capture file (λ f. IsRefusedCaptureFile f other) is_file ends.0))
+  audit_finding_is_text_fault never_both one_fault no_fault settings ReadFault file bytes frames fault is_file capture is_text has ends =
+      inr (inl refl)
+  audit_finding_is_text_fault never_both one_fault no_fault settings WriteFault file bytes frames fault is_file capture is_text has ends =
+      let is =
+      audit_finding_of_known_inputs given file bytes (λ f t. IsUnfinishedAnswer (IsAuditText settings rules f t) ends.1.text) is_file is_text
+      ends.1.is_text in
+      absurd (audit_finding_excludes_bad_text no_fault settings rules file bytes is.text fault has is.is_text)
+  audit_finding_is_text_fault never_both one_fault no_fault settings DiskFault file bytes frames fault is_file capture is_text has ends =
+      absurd ends.3
+  audit_finding_is_text_fault never_both one_fault no_fault settings NotFormatted file bytes frames fault is_file capture is_text has ends =
+      absurd ends.0
+  audit_finding_is_text_fault never_both one_fault no_fault settings (Damaged slot) file bytes frames fault is_file capture is_text has ends =
+      absurd ends.0
+  audit_finding_is_text_fault never_both one_fault no_fault settings (OtherSettings stored asked) file bytes frames fault is_file capture is_text has ends =
+      absurd ends.0
+  audit_finding_is_text_fault never_both one_fault no_fault settings (OtherCapture stored asked) file bytes frames fault is_file capture is_text has ends =
+      absurd ends.0
+  audit_finding_is_text_fault never_both one_fault no_fault settings (AuditNo report verdict) file bytes frames fault is_file capture is_text has ends =
+      let is =
+      audit_finding_of_known_inputs given file bytes (λ f t. IsUnsoundAudit settings rules f t report verdict) is_file is_text ends.1.0 in
+      absurd (no_fault bytes is.session fault is.audited.is_session is.audited.not_long has)
+  audit_finding_is_text_fault never_both one_fault no_fault settings (BadReport wrong) file bytes frames fault is_file capture is_text has ends =
+      inl (ap BadReport (one_fault bytes wrong fault
+      (status_of_known_file given.text bytes (λ t. HasSessionTextFault t wrong) is_text ends.0.first_fault) has))
+  audit_finding_is_text_fault never_both one_fault no_fault settings OutOfMemory file bytes frames fault is_file capture is_text has ends =
+      inr (inr refl)
 
-pub audit_finding_by_status : {K : Type 0} (rules : SessionRules) (keeping : SessionKeeping) (words : List (List ℕ)) (command : Command)
-    (given : InputBytes) (AsBefore : Type 0) (DiskRose DiskSame : Type 0)
-    (read_before read_now : EndingSourceFaults) (sink written : K) (old new : Option (List ℕ)) (write_before write_now : ℕ)
-    (status : Status) (report : ℕ) (verdict : Verdict) → AskForCommand words command → status ≡ AuditNo report verdict
-    → EndsWithStatus rules keeping command given AsBefore (InputsWereRead command given) DiskRose DiskSame read_before read_now sink
-    written old new write_before write_now status
-    → EndsFindingUnsound rules words given report verdict old new
-audit_finding_by_status rules keeping words command given AsBefore DiskRose DiskSame read_before read_now sink written old new
-    write_before write_now status report verdict asked is ends =
-    let now = subst (EndsWithStatus rules keeping command given AsBefore (InputsWereRead command given) DiskRose DiskSame read_before
-    read_now sink written old new write_before write_now) is ends in
-    audit_finding_for_command rules words command given old new report verdict asked now.0 now.1
+  -- a session whose first report that is not sound is known, however the records are dealt, is found so, unless a source or
+  -- the sink fails or memory runs out
+  pub audit_finding_is_first_unsound : CaptureStatusIsFaultless → SessionStatusIsFaultless → AuditFindingIsUnique
+      → (settings : Settings) (status : Status) (file bytes : List ℕ) (frames : List FrameValue) (known : Session)
+      (report : ℕ) (verdict : Verdict)
+      → given.capture ≡ Some file → CaptureFileHasFrames file frames → given.text ≡ Some bytes → IsSessionText bytes known
+      → length bytes ≤ longest_session_text_length
+      → ((lists : List (List RecordValue)) (session : Session) → AreAudited settings rules file bytes lists session
+      → IsAuditedAsFirstUnsound settings lists session.reports report verdict)
+      → Ended (Audit settings) status
+      → (status ≡ AuditNo report verdict) ⊎ ((status ≡ ReadFault) ⊎ ((status ≡ WriteFault) ⊎ (status ≡ OutOfMemory)))
+  audit_finding_is_first_unsound never_both no_fault one settings Done file bytes frames known report verdict is_file capture is_text is_session
+      not_long first ends =
+      let is =
+      audit_finding_of_known_inputs given file bytes (λ f t. IsSoundAudit settings rules f t ends.1.text) is_file is_text ends.1.is_text in
+      let unsound = first is.lists is.session is.audited in
+      absurd (audit_finding_is_not_sound one settings is.lists is.session.reports report verdict unsound
+      (audit_finding_holds_at_index (IsAuditedAsSound settings is.lists) is.session.reports unsound.before unsound.reported unsound.is is.sound))
+  audit_finding_is_first_unsound never_both no_fault one settings (BadWords kind) file bytes frames known report verdict is_file capture is_text is_session
+      not_long first ends =
+      absurd ends
+  audit_finding_is_first_unsound never_both no_fault one settings (BadCapture other) file bytes frames known report verdict is_file capture is_text is_session
+      not_long first ends =
+      absurd (never_both file frames other capture (status_of_known_file given.capture file (λ f. IsRefusedCaptureFile f other) is_file ends.0))
+  audit_finding_is_first_unsound never_both no_fault one settings ReadFault file bytes frames known report verdict is_file capture is_text is_session
+      not_long first ends =
+      inr (inl refl)
+  audit_finding_is_first_unsound never_both no_fault one settings WriteFault file bytes frames known report verdict is_file capture is_text is_session
+      not_long first ends =
+      inr (inr (inl refl))
+  audit_finding_is_first_unsound never_both no_fault one settings DiskFault file bytes frames known report verdict is_file capture is_text is_session
+      not_long first ends =
+      absurd ends.3
+  audit_finding_is_first_unsound never_both no_fault one settings NotFormatted file bytes frames known report verdict is_file capture is_text is_session
+      not_long first ends =
+      absurd ends.0
+  audit_finding_is_first_unsound never_both no_fault one settings (Damaged slot) file bytes frames known report verdict is_file capture is_text is_session
+      not_long first ends =
+      absurd ends.0
+  audit_finding_is_first_unsound never_both no_fault one settings (OtherSettings stored asked)
+      file bytes frames known report verdict is_file capture is_text is_session not_long first ends =
+      absurd ends.0
+  audit_finding_is_first_unsound never_both no_fault one settings (OtherCapture stored asked)
+      file bytes frames known report verdict is_file capture is_text is_session not_long first ends =
+      absurd ends.0
+  audit_finding_is_first_unsound never_both no_fault one settings (AuditNo other_report other)
+      file bytes frames known report verdict is_file capture is_text is_session not_long first ends =
+      let is =
+      audit_finding_of_known_inputs given file bytes (λ f t. IsUnsoundAudit settings rules f t other_report other) is_file is_text ends.1.0 in
+      inl (audit_findings_agree one settings is.lists is.session.reports report other_report verdict other
+      (first is.lists is.session is.audited) is.first)
+  audit_finding_is_first_unsound never_both no_fault one settings (BadReport wrong) file bytes frames known report verdict is_file capture is_text is_session
+      not_long first ends =
+      absurd (no_fault bytes known wrong is_session not_long
+      (status_of_known_file given.text bytes (λ t. HasSessionTextFault t wrong) is_text ends.0.first_fault))
+  audit_finding_is_first_unsound never_both no_fault one settings OutOfMemory file bytes frames known report verdict is_file capture is_text is_session
+      not_long first ends =
+      inr (inr (inr refl))
 
--- the text of a session that was refused
-audit_finding_refuses_text : {K D : Type 0} (rules : SessionRules) (words : List (List ℕ)) (command : Command) (given : InputBytes)
-    (old new : Option (List ℕ)) (fault : TextFault) (sink written : K) (disk stands : D) → AskForCommand words command
-    → AuditFindsAtEnding command rules given old new (BadReport fault) → written ≡ sink → stands ≡ disk
-    → EndsRefusingText words given fault sink written disk stands
-audit_finding_refuses_text rules words (Weigh prefix settings) given old new fault sink written disk stands asked finds same untouched =
-    absurd finds
-audit_finding_refuses_text rules words (ToReport settings) given old new fault sink written disk stands asked finds same untouched =
-    absurd finds
-audit_finding_refuses_text rules words (Format settings) given old new fault sink written disk stands asked finds same untouched =
-    absurd finds
-audit_finding_refuses_text rules words (Make seed frames) given old new fault sink written disk stands asked finds same untouched =
-    absurd finds
-audit_finding_refuses_text rules words (Demo seed frames settings) given old new fault sink written disk stands asked finds same
-    untouched =
-    absurd finds
-audit_finding_refuses_text rules words (Audit settings) given old new fault sink written disk stands asked finds same untouched = record {
-  settings = settings;
-  asked = asked;
-  refusal = finds;
-  unwritten = same;
-  untouched = untouched;
-}
+  -- what an audit that ended so found
+  audit_finding_for_command : (words : List (List ℕ)) (command : Command) (report : ℕ) (verdict : Verdict)
+      → AskForCommand words command → InputsWereRead command given
+      → AuditFindsAtEnding command rules given (k.taken old.sink) (k.taken new.sink) (AuditNo report verdict)
+      → FindsUnsound s t k d old new words rules report verdict
+  audit_finding_for_command words (Weigh prefix settings) report verdict asked read finds = absurd finds
+  audit_finding_for_command words (ToReport settings) report verdict asked read finds = absurd finds
+  audit_finding_for_command words (Format settings) report verdict asked read finds = absurd finds
+  audit_finding_for_command words (Make seed frames) report verdict asked read finds = absurd finds
+  audit_finding_for_command words (Demo seed frames settings) report verdict asked read finds = absurd finds
+  audit_finding_for_command words (Audit settings) report verdict asked read finds = record {
+    settings = settings;
+    asked = asked;
+    read_to_end = read;
+    found = finds.0;
+    written = finds.1;
+  }
 
-pub audit_finding_refuses_by_status : {K D : Type 0} (rules : SessionRules) (keeping : SessionKeeping) (words : List (List ℕ)) (command : Command)
-    (given : InputBytes) (AsBefore : Type 0) (ReadToEnd DiskRose : Type 0)
-    (read_before read_now : EndingSourceFaults) (sink written : K) (disk stands : D) (old new : Option (List ℕ))
-    (write_before write_now : ℕ) (status : Status) (fault : TextFault) → AskForCommand words command
-    → status ≡ BadReport fault
-    → EndsWithStatus rules keeping command given AsBefore ReadToEnd DiskRose (stands ≡ disk) read_before read_now sink written
-    old new write_before write_now status
-    → EndsRefusingText words given fault sink written disk stands
-audit_finding_refuses_by_status rules keeping words command given AsBefore ReadToEnd DiskRose read_before read_now sink written disk
-    stands old new write_before write_now status fault asked is ends =
-    let now = subst (EndsWithStatus rules keeping command given AsBefore ReadToEnd DiskRose (stands ≡ disk) read_before
-    read_now sink written old new write_before write_now) is ends in
-    audit_finding_refuses_text rules words command given old new fault sink written disk stands asked now.0 now.1 now.2
+  pub audit_finding_by_status : (words : List (List ℕ)) (command : Command) (status : Status) (report : ℕ) (verdict : Verdict)
+      → AskForCommand words command → status ≡ AuditNo report verdict → Ended command status
+      → FindsUnsound s t k d old new words rules report verdict
+  audit_finding_by_status words command status report verdict asked is ends =
+      let now = subst (Ended command) is ends in
+      audit_finding_for_command words command report verdict asked now.0 now.1
 
--- the same of the command that was asked for, where it is an audit
-pub asked_audit_finding_is_fault : {K : Type 0} → CaptureStatusIsFaultless → AuditFindingHasOneFault → SessionStatusIsFaultless
-    → (rules : SessionRules) (keeping : SessionKeeping) (settings : Settings) (read : Command) (given : InputBytes)
-    (AsBefore : Type 0) (DiskRose DiskSame : Type 0)
-    (read_before read_now : EndingSourceFaults) (sink written : K) (old new : Option (List ℕ)) (write_before write_now : ℕ)
-    (status : Status) (file bytes : List ℕ) (frames : List FrameValue) (fault : TextFault) → read ≡ Audit settings
-    → given.capture ≡ Some file → CaptureFileHasFrames file frames → given.text ≡ Some bytes → HasSessionTextFault bytes fault
-    → EndsWithStatus rules keeping read given AsBefore (InputsWereRead read given) (HappenedToDiskAtEnding read DiskRose) DiskSame read_before read_now sink
-    written old new write_before write_now status
-    → (status ≡ BadReport fault) ⊎ ((status ≡ ReadFault) ⊎ (status ≡ OutOfMemory))
-asked_audit_finding_is_fault never_both one_fault no_fault rules keeping settings read given AsBefore DiskRose DiskSame
-    read_before read_now sink written old new write_before write_now status file bytes frames fault same is_file capture
-    is_text has ends =
-    audit_finding_is_text_fault never_both one_fault no_fault rules keeping settings given AsBefore (InputsWereRead (Audit settings) given)
-    DiskSame read_before read_now sink written old new write_before write_now status file bytes frames fault is_file
-    capture is_text has
-    (subst (λ c. EndsWithStatus rules keeping c given AsBefore (InputsWereRead c given) (HappenedToDiskAtEnding c DiskRose) DiskSame read_before read_now
-    sink written old new write_before write_now status) same ends)
+  -- the text of a session that was refused
+  audit_finding_refuses_text : (words : List (List ℕ)) (command : Command) (fault : TextFault) → AskForCommand words command
+      → AuditFindsAtEnding command rules given (k.taken old.sink) (k.taken new.sink) (BadReport fault)
+      → LeavesUnwritten s t k d old new → RefusesText s t k d old new words fault
+  audit_finding_refuses_text words (Weigh prefix settings) fault asked finds nothing = absurd finds
+  audit_finding_refuses_text words (ToReport settings) fault asked finds nothing = absurd finds
+  audit_finding_refuses_text words (Format settings) fault asked finds nothing = absurd finds
+  audit_finding_refuses_text words (Make seed frames) fault asked finds nothing = absurd finds
+  audit_finding_refuses_text words (Demo seed frames settings) fault asked finds nothing = absurd finds
+  audit_finding_refuses_text words (Audit settings) fault asked finds nothing = record {
+    settings = settings;
+    asked = asked;
+    refusal = finds;
+    nothing = nothing;
+  }
 
-pub asked_audit_finding_is_unsound : {K : Type 0} → CaptureStatusIsFaultless → SessionStatusIsFaultless → AuditFindingIsUnique
-    → (rules : SessionRules) (keeping : SessionKeeping) (settings : Settings) (read : Command) (given : InputBytes)
-    (AsBefore : Type 0) (DiskRose DiskSame : Type 0)
-    (read_before read_now : EndingSourceFaults) (sink written : K) (old new : Option (List ℕ)) (write_before write_now : ℕ)
-    (status : Status) (file bytes : List ℕ) (frames : List FrameValue) (known : Session) (report : ℕ) (verdict : Verdict)
-    → read ≡ Audit settings → given.capture ≡ Some file → CaptureFileHasFrames file frames → given.text ≡ Some bytes
-    → IsSessionText bytes known → length bytes ≤ longest_session_text_length
-    → ((lists : List (List RecordValue)) (session : Session) → AreAudited settings rules file bytes lists session
-    → IsAuditedAsFirstUnsound settings lists session.reports report verdict)
-    → EndsWithStatus rules keeping read given AsBefore (InputsWereRead read given) (HappenedToDiskAtEnding read DiskRose) DiskSame read_before read_now sink
-    written old new write_before write_now status
-    → (status ≡ AuditNo report verdict) ⊎ ((status ≡ ReadFault) ⊎ ((status ≡ WriteFault) ⊎ (status ≡ OutOfMemory)))
-asked_audit_finding_is_unsound never_both no_fault one rules keeping settings read given AsBefore DiskRose DiskSame read_before
-    read_now sink written old new write_before write_now status file bytes frames known report verdict same is_file capture
-    is_text is_session not_long first ends =
-    audit_finding_is_first_unsound never_both no_fault one rules keeping settings given AsBefore (InputsWereRead (Audit settings) given) DiskSame
-    read_before read_now sink written old new write_before write_now status file bytes frames known report verdict is_file
-    capture is_text is_session not_long first
-    (subst (λ c. EndsWithStatus rules keeping c given AsBefore (InputsWereRead c given) (HappenedToDiskAtEnding c DiskRose) DiskSame read_before read_now
-    sink written old new write_before write_now status) same ends)
+  pub audit_finding_refuses_by_status : (words : List (List ℕ)) (command : Command) (status : Status) (fault : TextFault)
+      → AskForCommand words command → status ≡ BadReport fault → Ended command status
+      → RefusesText s t k d old new words fault
+  audit_finding_refuses_by_status words command status fault asked is ends =
+      let now = subst (Ended command) is ends in
+      audit_finding_refuses_text words command fault asked now.0 (record { unwritten = now.1; untouched = now.2 })

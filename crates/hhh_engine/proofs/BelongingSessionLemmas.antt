@@ -7,6 +7,7 @@ use Rattle.prefix_lattice.specs.{RecordValue, shard_limit}
 use Rattle.shard_state.specs.{AreCoreShards, CutRepresents, CutValue, ShardValue}
 use Rattle.hhh_report.specs.declared.reports.Reported.{Reported}
 use Rattle.slot_disk.specs.{CrashLeavesAtAnyMoment-weaker}
+use Rattle.slot_disk.specs.declared.disk.Disk.{Ghosts as DiskOf}
 use Rattle.checkpoint.specs.{StoreBelongs, IsStoreOfLists, SavedValue, StoresOpenToOneThing, digest_of_lists}
 use Rattle.checkpoint.specs.{store_sequence}
 use Rattle.checkpoint.specs.declared.settings.StoreSettings.{StoreSettings}
@@ -57,18 +58,17 @@ belonging_session_saves_of_lists settings lists opened sequence (cut ∷ cuts) i
     (All-tail (λ (c : CutValue). CutRepresents c lists) cut cuts all)
 
 -- a store that belonged to the lists still does after saves of cuts that represent them
-belonging_session_keeps_belonging : StoresOpenToOneThing → {D : Type 0} (reads : D → Option (List ℕ)) (image_now : D → List ℕ → Type 0)
-    (moment : D → ℕ) (image_since : D → ℕ → List ℕ → Type 0)
-    → ((disk : D) (bytes : List ℕ) → reads disk ≡ Some bytes → image_now disk bytes) → (settings : Settings)
+belonging_session_keeps_belonging : StoresOpenToOneThing → {D : Type 0} (d : DiskOf D)
+    → ((disk : D) (bytes : List ℕ) → d.reads disk ≡ Some bytes → d.image_now disk bytes) → (settings : Settings)
     (lists : List (List RecordValue)) (base : Option CutValue) (saved unfinished : List CutValue) (old new : D)
-    → AreLimitedSettings settings → settings.store ≡ true → SessionGoesOnFrom settings lists (reads old) base
+    → AreLimitedSettings settings → settings.store ≡ true → SessionGoesOnFrom settings lists (d.reads old) base
     → (IfSome base (λ cut. CutRepresents cut lists) → All (λ cut. CutRepresents cut lists) saved)
     → (IfSome base (λ cut. CutRepresents cut lists) → All (λ cut. CutRepresents cut lists) unfinished)
-    → (store : List ℕ) → reads old ≡ Some store
-    → ((image : List ℕ) → image_now old image → StoreBelongs (store_settings_for_saves settings) lists image)
-    → SavesAreKeptOnDisk reads image_now moment image_since old new (store_settings_for_saves settings) lists saved unfinished
-    → SavesBelongThroughout image_now moment image_since (store_settings_for_saves settings) lists base old new
-belonging_session_keeps_belonging one reads image_now moment image_since read_is_image settings lists base saved unfinished old new limited used
+    → (store : List ℕ) → d.reads old ≡ Some store
+    → ((image : List ℕ) → d.image_now old image → StoreBelongs (store_settings_for_saves settings) lists image)
+    → SavesAreKeptOnDisk d old new (store_settings_for_saves settings) lists saved unfinished
+    → SavesBelongThroughout d (store_settings_for_saves settings) lists base old new
+belonging_session_keeps_belonging one d read_is_image settings lists base saved unfinished old new limited used
     begins of_saved of_unfinished store known belonged kept =
     let of_store : StoreSettings = store_settings_for_saves settings in
     let digest : List ℕ = digest_of_lists of_store lists in
@@ -89,7 +89,7 @@ belonging_session_keeps_belonging one reads image_now moment image_since read_is
     (of_unfinished represents) in
     record {
       base_represents = represents;
-      any_moment = CrashLeavesAtAnyMoment-weaker moment image_since old new _ (StoreBelongs of_store lists) keeps.any_moment
+      any_moment = CrashLeavesAtAnyMoment-weaker d.moment d.image_since old new _ (StoreBelongs of_store lists) keeps.any_moment
           (λ image was. ⊎_elim (belonged image)
           (saved_store_belongs of_store lists opened sequence (saved ++ unfinished) image is all) was);
       afterwards = λ image possible.
@@ -124,37 +124,35 @@ belonging_session_kept_cuts store opening lists reports used all =
     subst (λ b. All (λ (cut : CutValue). CutRepresents cut lists) (session_saved_cuts b opening reports)) (sym used) all
 
 -- a whole session
-pub belonging_session_completed : StoresOpenToOneThing → SavedStoreCutsRepresent → {D : Type 0} (reads : D → Option (List ℕ))
-    (image_now : D → List ℕ → Type 0) (moment : D → ℕ) (image_since : D → ℕ → List ℕ → Type 0)
-    → ((disk : D) (bytes : List ℕ) → reads disk ≡ Some bytes → image_now disk bytes) → (rules : SessionRules)
+pub belonging_session_completed : StoresOpenToOneThing → SavedStoreCutsRepresent → {D : Type 0} (d : DiskOf D)
+    → ((disk : D) (bytes : List ℕ) → d.reads disk ≡ Some bytes → d.image_now disk bytes) → (rules : SessionRules)
     (settings : Settings) (old new : D) (store file text : List ℕ)
-    (is : IsSession settings rules (SavesAreKeptOnDisk reads image_now moment image_since old new) (reads old) file text)
-    → AreLimitedSettings settings → settings.store ≡ true → reads old ≡ Some store
-    → ((image : List ℕ) → image_now old image → StoreBelongs (store_settings_for_saves settings) is.lists image)
-    → SavesBelongThroughout image_now moment image_since (store_settings_for_saves settings) is.lists is.base old new
-belonging_session_completed one represent reads image_now moment image_since read_is_image rules settings old new store file text is limited
+    (is : IsSession settings rules (SavesAreKeptOnDisk d old new) (d.reads old) file text)
+    → AreLimitedSettings settings → settings.store ≡ true → d.reads old ≡ Some store
+    → ((image : List ℕ) → d.image_now old image → StoreBelongs (store_settings_for_saves settings) is.lists image)
+    → SavesBelongThroughout d (store_settings_for_saves settings) is.lists is.base old new
+belonging_session_completed one represent d read_is_image rules settings old new store file text is limited
     used known belonged =
     let opening : List ShardValue = session_opening settings.capacity is.lists is.base in
     let many : length is.lists ≡ settings.shards =
     own_session_lists_match_shards settings.deal (rules settings.deal) settings.shards is.records.list is.lists is.dealt.dealt in
     let reports : List Reported = session_reports_of_calling_thread is.spelled.reports in
-    belonging_session_keeps_belonging one reads image_now moment image_since read_is_image settings is.lists is.base
+    belonging_session_keeps_belonging one d read_is_image settings is.lists is.base
     (session_saved_cuts settings.store opening reports) [] old new limited used is.begins
     (λ standing. belonging_session_kept_cuts settings.store opening is.lists reports used
-    (belonging_session_cuts_represent represent settings is.lists (reads old) is.base reports limited many is.begins is.represents
+    (belonging_session_cuts_represent represent settings is.lists (d.reads old) is.base reports limited many is.begins is.represents
     is.spelled.are_reports.calling.shown standing))
     (λ standing. All-nil (λ (cut : CutValue). CutRepresents cut is.lists)) store known belonged (is.spelled.kept used)
 
 -- a session that broke off
-pub belonging_session_broken_off : StoresOpenToOneThing → SavedStoreCutsRepresent → {D : Type 0} (reads : D → Option (List ℕ))
-    (image_now : D → List ℕ → Type 0) (moment : D → ℕ) (image_since : D → ℕ → List ℕ → Type 0)
-    → ((disk : D) (bytes : List ℕ) → reads disk ≡ Some bytes → image_now disk bytes) → (rules : SessionRules)
+pub belonging_session_broken_off : StoresOpenToOneThing → SavedStoreCutsRepresent → {D : Type 0} (d : DiskOf D)
+    → ((disk : D) (bytes : List ℕ) → d.reads disk ≡ Some bytes → d.image_now disk bytes) → (rules : SessionRules)
     (settings : Settings) (old new : D) (store file front : List ℕ)
-    (is : IsSessionInPart settings rules (SavesAreKeptOnDisk reads image_now moment image_since old new) (reads old) file front)
-    → AreLimitedSettings settings → settings.store ≡ true → reads old ≡ Some store
-    → ((image : List ℕ) → image_now old image → StoreBelongs (store_settings_for_saves settings) is.lists image)
-    → SavesBelongThroughout image_now moment image_since (store_settings_for_saves settings) is.lists is.base old new
-belonging_session_broken_off one represent reads image_now moment image_since read_is_image rules settings old new store file front is limited
+    (is : IsSessionInPart settings rules (SavesAreKeptOnDisk d old new) (d.reads old) file front)
+    → AreLimitedSettings settings → settings.store ≡ true → d.reads old ≡ Some store
+    → ((image : List ℕ) → d.image_now old image → StoreBelongs (store_settings_for_saves settings) is.lists image)
+    → SavesBelongThroughout d (store_settings_for_saves settings) is.lists is.base old new
+belonging_session_broken_off one represent d read_is_image rules settings old new store file front is limited
     used known belonged =
     let lists : List (List RecordValue) = is.lists in
     let base : Option CutValue = is.base in
@@ -164,13 +162,13 @@ belonging_session_broken_off one represent reads image_now moment image_since re
     let Stand : List CutValue → Type 0 = All (λ cut. CutRepresents cut lists) in
     let Standing : Type 0 = IfSome base (λ cut. CutRepresents cut lists) in
     let Kept : SessionSaving = λ saved unfinished. settings.store ≡ true
-    → SavesAreKeptOnDisk reads image_now moment image_since old new (store_settings_for_saves settings) lists saved unfinished in
-    let Belonging : Type 0 = SavesBelongThroughout image_now moment image_since (store_settings_for_saves settings) lists base old new in
+    → SavesAreKeptOnDisk d old new (store_settings_for_saves settings) lists saved unfinished in
+    let Belonging : Type 0 = SavesBelongThroughout d (store_settings_for_saves settings) lists base old new in
     let cuts : List Reported → List CutValue = session_saved_cuts settings.store opening in
     let no_cut : Stand [] = All-nil (λ (cut : CutValue). CutRepresents cut lists) in
     let of : (reports : List Reported) → All (IsShownInSession opening settings) reports → Standing → Stand (cuts reports) =
     λ reports shown standing. belonging_session_kept_cuts settings.store opening lists reports used
-    (belonging_session_cuts_represent represent settings lists (reads old) base reports limited many is.begins is.represents shown
+    (belonging_session_cuts_represent represent settings lists (d.reads old) base reports limited many is.begins is.represents shown
     standing) in
     let of_rounds : (rounds : List Reported) (next : Reported) (count : ℕ)
     → AreSessionReportsOfCaller opening settings count (rounds ++ next ∷ []) → Standing → Stand (cuts rounds) = λ rounds next count are.
@@ -184,7 +182,7 @@ belonging_session_broken_off one represent reads image_now moment image_since re
     λ first second. All-append (λ (cut : CutValue). CutRepresents cut lists) first second in
     let belongs : (saved unfinished : List CutValue) → (Standing → Stand saved) → (Standing → Stand unfinished)
     → Kept saved unfinished → Belonging = λ saved unfinished of_saved of_unfinished kept.
-    belonging_session_keeps_belonging one reads image_now moment image_since read_is_image settings lists base saved unfinished old new limited
+    belonging_session_keeps_belonging one d read_is_image settings lists base saved unfinished old new limited
     used is.begins of_saved of_unfinished store known belonged (kept used) in
     session_text_whatever_was_saved opening settings Belonging (report_tail_text is.records) front
     (session_text_begins_saying_less opening settings Kept (λ saved unfinished. Belonging) (report_tail_text is.records) front

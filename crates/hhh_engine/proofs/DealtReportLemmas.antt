@@ -8,6 +8,7 @@ use Rattle.prefix_lattice.specs.{RecordValue}
 use Rattle.shard_state.specs.{CutValue}
 use Rattle.slot_disk.specs.{IfImageKnown, CrashLeavesAtAnyMoment, CrashLeavesAtAnyMoment-trans}
 use Rattle.slot_disk.specs.{CrashLeavesAtAnyMoment-weaker}
+use Rattle.slot_disk.specs.declared.disk.Disk.{Ghosts as DiskOf}
 use Rattle.checkpoint.specs.{SaverState, digest_of_lists, store_sequence}
 use Rattle.recovery.specs.{IsRefusedAtOpening}
 use Rattle.recovery.specs.declared.fault.OpenFault.{OpenFault}
@@ -31,33 +32,32 @@ use Rattle.hhh_engine.proofs.SessionTextLemmas.{session_text_begins_weaker, sess
 use Rattle.hhh_engine.proofs.SessionTextLemmas.{spelled_session_text_says_less}
 
 -- what a run keeps of its store, from the opening of the store and the saves after it
-pub dealt_report_keeps_saves : {D : Type 0} (reads : D → Option (List ℕ)) (image_now : D → List ℕ → Type 0) (moment : D → ℕ)
-    (image_since : D → ℕ → List ℕ → Type 0) (settings : Settings) (lists : List (List RecordValue))
+pub dealt_report_keeps_saves : {D : Type 0} (d : DiskOf D) (settings : Settings) (lists : List (List RecordValue))
     (positions : List ℕ) (saver : Option SaverState) (saved unfinished : List CutValue) (old mid new : D)
     → is_some saver ≡ settings.store → IfSome saver (IsDealtFeedSaver settings lists positions)
-    → CrashLeavesAtAnyMoment moment image_since old mid (image_now old) → reads mid ≡ reads old
-    → SavesInPart reads image_now moment image_since saver mid new saved unfinished → settings.store ≡ true
-    → SavesAreKeptOnDisk reads image_now moment image_since old new (store_settings_for_saves settings) lists saved unfinished
-dealt_report_keeps_saves reads image_now moment image_since settings lists positions None saved unfinished old mid new has is leaves same saves
+    → CrashLeavesAtAnyMoment d.moment d.image_since old mid (d.image_now old) → d.reads mid ≡ d.reads old
+    → SavesInPart d saver mid new saved unfinished → settings.store ≡ true
+    → SavesAreKeptOnDisk d old new (store_settings_for_saves settings) lists saved unfinished
+dealt_report_keeps_saves d settings lists positions None saved unfinished old mid new has is leaves same saves
     used = absurd (false≢true (has ∙ used))
-dealt_report_keeps_saves reads image_now moment image_since settings lists positions (Some saver) saved unfinished old mid new has is leaves
+dealt_report_keeps_saves d settings lists positions (Some saver) saved unfinished old mid new has is leaves
     same saves used = λ bytes known.
-    let kept : KeepsSaves image_now moment image_since (store_settings_for_saves settings)
+    let kept : KeepsSaves d (store_settings_for_saves settings)
     (digest_of_lists (store_settings_for_saves settings) lists) (λ image. ⊥) saved unfinished mid new bytes =
-    subst (λ s. KeepsSaves image_now moment image_since s (digest_of_lists (store_settings_for_saves settings) lists) (λ image. ⊥)
+    subst (λ s. KeepsSaves d s (digest_of_lists (store_settings_for_saves settings) lists) (λ image. ⊥)
     saved unfinished mid new bytes) is.settings_are
-    (subst (λ d. KeepsSaves image_now moment image_since saver.settings d (λ image. ⊥) saved unfinished mid new bytes)
+    (subst (λ digest. KeepsSaves d saver.settings digest (λ image. ⊥) saved unfinished mid new bytes)
     is.digest_is (saves.kept bytes (same ∙ known))) in
     let among : List ℕ → Type 0 = λ image. OpensAsBeforeOrToSaves (store_settings_for_saves settings) kept.opened
     (saves_after (store_sequence kept.opened) (digest_of_lists (store_settings_for_saves settings) lists) (saved ++ unfinished)) image in
     record {
       opened = kept.opened;
       opens = kept.opens;
-      any_moment = CrashLeavesAtAnyMoment-trans moment image_since old mid new (λ image. image_now old image ⊎ among image)
-          (CrashLeavesAtAnyMoment-weaker moment image_since old mid (image_now old) (λ image. image_now old image ⊎ among image) leaves
+      any_moment = CrashLeavesAtAnyMoment-trans d.moment d.image_since old mid new (λ image. d.image_now old image ⊎ among image)
+          (CrashLeavesAtAnyMoment-weaker d.moment d.image_since old mid (d.image_now old) (λ image. d.image_now old image ⊎ among image) leaves
           (λ image was. inl was))
-          (CrashLeavesAtAnyMoment-weaker moment image_since mid new (λ image. ⊥ ⊎ among image)
-          (λ image. image_now old image ⊎ among image) kept.any_moment
+          (CrashLeavesAtAnyMoment-weaker d.moment d.image_since mid new (λ image. ⊥ ⊎ among image)
+          (λ image. d.image_now old image ⊎ among image) kept.any_moment
           (λ image. ⊎_elim (λ never. absurd never) (λ held. inr held)));
       afterwards = kept.afterwards;
     }

@@ -1,5 +1,5 @@
 -- Worked examples of what commands write and read, of what may happen instead, and of what each status says.
-use Rattle.std.proofs.Common.{◌≡◌, ℕ, List, [], ◌∷◌, ◌++◌, Some, None, inl, inr, ⊎_elim, refl, ap}
+use Rattle.std.proofs.Common.{◌≡◌, ◌≤◌, ℕ, List, [], ◌∷◌, ◌++◌, Some, None, inl, inr, ⊎_elim, refl, ap}
 use Rattle.std.proofs.Common.{codes, arith, get_or, length, replicate, true}
 use Rattle.std.specs.Prelude.{⊤}
 use Rattle.std.proofs.lemmas.List.Elements.{All-nil}
@@ -16,11 +16,14 @@ use Rattle.hhh_engine.specs.Answer.{IsUnfinishedAnswer, formatted_answer}
 use Rattle.hhh_engine.specs.Inputs.{AskedCommandAvoidsInput, AskedCommandUsesInput, InputsCanBeAnswered}
 use Rattle.hhh_engine.specs.Inputs.{HasKnownInputCapture, UsesInputCapture, UsesInputSession}
 use Rattle.hhh_engine.specs.Inputs.{UsesInputStore, InputsWereAccepted, InputsWereRead, inputs}
-use Rattle.hhh_engine.specs.Ending.{Ends, EndsWithFailedDisk, EndsFailingToRead, EndsFailingToWrite, FormatEnds}
-use Rattle.hhh_engine.specs.Ending.{EndsRefusingCapture, EndsAtFailedSource}
-use Rattle.hhh_engine.specs.Ending.{HappenedToDiskAtEnding, SourceFaultsRoseAtEnding, EndsRefusingWords}
-use Rattle.hhh_engine.specs.Ending.{RefusesAtEnding, RefusesStoreAtEnding, EndsAnswered, EndsWritingInPart}
-use Rattle.hhh_engine.specs.Ending.{EndsAsBeforeUnlessFormat, EndsTearingFront, ending_source_faults}
+use Rattle.hhh_engine.specs.Ending.{Ends, EndsAnswered, EndsAsBeforeUnlessFormat, EndsAtFailedSource, EndsTearingFront}
+use Rattle.hhh_engine.specs.Ending.{FormatEnds, HappenedToDiskAtEnding, RefusesAtEnding, RefusesStoreAtEnding}
+use Rattle.hhh_engine.specs.Ending.{SourceFaultsRoseAtEnding, ending_source_faults}
+use Rattle.hhh_engine.specs.TopCall.{FailsToRead, FailsToStore, FailsToWrite, RefusesCapture, RefusesWords, RunEnds}
+use Rattle.hhh_engine.specs.TopCall.{Streams, WritesNothing, WritesPart, streams}
+use Rattle.outside_io.specs.declared.source.Source.{Ghosts as SourceOf}
+use Rattle.outside_io.specs.declared.sink.Sink.{Ghosts as SinkOf}
+use Rattle.slot_disk.specs.declared.disk.Disk.{Ghosts as DiskOf}
 use Rattle.recovery.specs.declared.fault.OpenFault.{OpenFault}
 use Rattle.recovery.specs.declared.fault.OpenFault.TheVariants as opening
 use Rattle.hhh_engine.specs.Saves.{store_settings_for_saves}
@@ -155,7 +158,7 @@ session_was_written_in_part = record {
   command = report_command settings;
   asked = asks_for_a_report;
   read_to_end = refl;
-  answer = record { text = codes "opened 0 0 0"; is_text = session_in_part; written = refl };
+  answer = record { text = codes "opened 0 0 0"; is_text = session_in_part keeps_nothing None; written = refl };
 }
 
 -- a text follows what the sink held
@@ -218,55 +221,83 @@ memory_may_want_at_any_time = tt
 pub success_has_a_text : HasNoText (Some header) 3 3 Done → ⊥
 success_has_a_text no_text = no_text
 
--- ---- what a status says, of sources, sinks and disks that are lists of bytes
+-- ---- what a status says, of streams of which all is known: their bytes, and how many calls failed
+
+-- a stream
+pub record Known : Type 0 where
+  pub bytes : List ℕ
+  pub faults : ℕ
+
+abbrev known : List ℕ → ℕ → Known
+known bytes faults = record { bytes = bytes; faults = faults }
+
+abbrev source : SourceOf Known
+source = record { left = λ stream. Some stream.bytes; faults = λ stream. stream.faults }
+
+abbrev sink : SinkOf Known
+sink = record { taken = λ stream. Some stream.bytes; faults = λ stream. stream.faults }
+
+-- a disk, of which a crash at any moment leaves what it reads
+abbrev disk : DiskOf Known
+disk = record {
+  reads = λ stream. Some stream.bytes;
+  image_now = λ stream image. image ≡ stream.bytes;
+  moment = λ stream. 0;
+  image_since = λ stream moment image. image ≡ stream.bytes;
+  faults = λ stream. stream.faults;
+}
+
+-- the streams of a run with these sources, with a sink that took these bytes, and a disk with these
+abbrev run_with : (capture text sink disk : Known) → Streams Known Known Known Known
+run_with = streams
+
+-- nothing is there, and nothing failed
+abbrev nothing : Known
+nothing = known [] 0
 
 -- the first byte was read before the missing command was seen
 pub no_command_before_a_read :
-    EndsRefusingWords {S = List ℕ} {T = List ℕ} {K = List ℕ} {D = List ℕ} [] NoCommand (1 ∷ 2 ∷ []) (2 ∷ []) [] [] [] []
-    [] [] → ⊥
+    RefusesWords source source sink disk (run_with (known (1 ∷ 2 ∷ []) 0) nothing nothing nothing)
+    (run_with (known (2 ∷ []) 0) nothing nothing nothing) [] NoCommand → ⊥
 no_command_before_a_read refused =
-    let same : 2 ≡ 1 = ap (λ bytes. get_or bytes 0 0) refused.nothing.unread in omega (arith, same)
+    let same : 2 ≡ 1 = ap (λ (now : Streams Known Known Known Known). get_or now.capture.bytes 0 0) refused.nothing in
+    omega (arith, same)
 
 pub no_command :
-    EndsRefusingWords {S = List ℕ} {T = List ℕ} {K = List ℕ} {D = List ℕ} [] NoCommand (1 ∷ 2 ∷ []) (1 ∷ 2 ∷ []) (3 ∷ [])
-    (3 ∷ []) [] [] (7 ∷ []) (7 ∷ [])
-no_command = record {
-  first_fault = refl;
-  nothing = record { unread = refl; text_unread = refl; unwritten = refl; untouched = refl };
-}
+    RefusesWords source source sink disk (run_with (known (1 ∷ 2 ∷ []) 0) nothing nothing nothing)
+    (run_with (known (1 ∷ 2 ∷ []) 0) nothing nothing nothing) [] NoCommand
+no_command = record { first_fault = refl; nothing = refl }
 
 pub empty_file_is_refused :
-    EndsRefusingCapture {T = List ℕ} {K = List ℕ} {D = List ℕ} words (Some []) (header_fault_at ShortHeader 0) (3 ∷ []) (3 ∷ []) [] []
-    (7 ∷ []) (7 ∷ [])
+    RefusesCapture source source sink disk (run_with nothing (known (3 ∷ []) 0) nothing (known (7 ∷ []) 0))
+    (run_with nothing (known (3 ∷ []) 0) nothing (known (7 ∷ []) 0)) words (header_fault_at ShortHeader 0)
 empty_file_is_refused = record {
   asked = report_asks_to_read;
   first_fault = empty_file_has_no_text;
   text_unread = refl;
-  unwritten = refl;
-  untouched = refl;
+  nothing = record { unwritten = refl; untouched = refl };
 }
 
 -- a disk that changed isn't untouched
 pub capture_refused_after_a_save :
-    EndsRefusingCapture {T = List ℕ} {K = List ℕ} {D = List ℕ} words (Some []) (header_fault_at ShortHeader 0) [] [] [] [] (7 ∷ [])
-    (8 ∷ []) → ⊥
+    RefusesCapture source source sink disk (run_with nothing nothing nothing (known (7 ∷ []) 0))
+    (run_with nothing nothing nothing (known (8 ∷ []) 0)) words (header_fault_at ShortHeader 0) → ⊥
 capture_refused_after_a_save refused =
-    let same : 8 ≡ 7 = ap (λ bytes. get_or bytes 0 0) refused.untouched in omega (arith, same)
+    let same : 8 ≡ 7 = ap (λ (stream : Known). get_or stream.bytes 0 0) refused.nothing.untouched in omega (arith, same)
 
 -- nor is a text of which a byte was read before the capture was refused
 pub capture_refused_after_the_text_was_read :
-    EndsRefusingCapture {T = List ℕ} {K = List ℕ} {D = List ℕ} words (Some []) (header_fault_at ShortHeader 0) (3 ∷ 4 ∷ []) (4 ∷ []) [] []
-    [] [] → ⊥
+    RefusesCapture source source sink disk (run_with nothing (known (3 ∷ 4 ∷ []) 0) nothing nothing)
+    (run_with nothing (known (4 ∷ []) 0) nothing nothing) words (header_fault_at ShortHeader 0) → ⊥
 capture_refused_after_the_text_was_read refused =
-    let same : 4 ≡ 3 = ap (λ bytes. get_or bytes 0 0) refused.text_unread in omega (arith, same)
+    let same : 4 ≡ 3 = ap (λ (stream : Known). get_or stream.bytes 0 0) refused.text_unread in omega (arith, same)
 
 pub source_failed :
-    EndsFailingToRead {T = List ℕ} {K = List ℕ} {D = List ℕ} words (inputs (Some header) (Some []) None None None)
-    (ending_source_faults 3 0) (ending_source_faults 4 0) [] [] [] [] (7 ∷ []) (7 ∷ [])
+    FailsToRead source source sink disk (run_with (known header 3) nothing nothing (known (7 ∷ []) 0))
+    (run_with (known header 4) nothing nothing (known (7 ∷ []) 0)) words
 source_failed = record {
   failed = inl (record { reads = report_asks_to_read; rose = omega arith; text_unread = refl });
-  unwritten = refl;
-  untouched = refl;
+  nothing = record { unwritten = refl; untouched = refl };
 }
 
 -- the source of a text fails only once the capture was read to its end
@@ -285,34 +316,64 @@ text_failed = inr (omega arith)
 pub no_source_failed : SourceFaultsRoseAtEnding (ending_source_faults 3 0) (ending_source_faults 3 0) → ⊥
 no_source_failed rose = ⊎_elim (λ capture. omega (arith, capture)) (λ text. omega (arith, text)) rose
 
+-- a run over a header that wrote a part of the session, or nothing, to a sink that failed so often
+abbrev wrote : (written : List ℕ) → (sink_faults disk_faults : ℕ) → Streams Known Known Known Known
+wrote written sink_faults disk_faults = run_with (known [] 0) nothing (known written sink_faults) (known [] disk_faults)
+
+abbrev began : (sink_faults disk_faults : ℕ) → Streams Known Known Known Known
+began sink_faults disk_faults = run_with (known header 0) nothing (known [] sink_faults) (known [] disk_faults)
+
+sessions_part : WritesPart source source sink disk (began 3 3) (wrote (codes "opened 0 0 0") 4 4) words in_turn
+sessions_part = record {
+  command = report_command settings;
+  asked = asks_for_a_report;
+  read_to_end = refl;
+  answer = record { text = codes "opened 0 0 0"; is_text = session_in_part _ _; written = refl };
+}
+
 pub sink_failed_in_the_session :
-    EndsFailingToWrite in_turn keeps_nothing words (inputs (Some header) (Some []) None None None) (Some [])
-    (Some (codes "opened 0 0 0")) 3 4
-sink_failed_in_the_session = record { rose = omega arith; in_part = session_was_written_in_part }
+    FailsToWrite source source sink disk (began 3 3) (wrote (codes "opened 0 0 0") 4 4) words in_turn
+sink_failed_in_the_session = record { rose = omega arith; in_part = sessions_part }
 
--- a disk fails before anything is written, or after a part
-pub nothing_was_written_in_part :
-    EndsWritingInPart {K = List ℕ} in_turn keeps_nothing [] (inputs None None None None None) ⊤ [] [] (Some []) (Some [])
-nothing_was_written_in_part = inl (refl, tt)
-
--- then the disk is as before
+-- where nothing was written, the disk is as before
 pub disk_changed_before_the_first_byte :
-    EndsWritingInPart {K = List ℕ} in_turn keeps_nothing [] (inputs None None None None None) ⊥ [] (codes "o") (Some [])
-    (Some (codes "o")) → AnswersInPart in_turn keeps_nothing [] (inputs None None None None None) (Some [])
-    (Some (codes "o"))
-disk_changed_before_the_first_byte (inl nothing) = absurd nothing.1
-disk_changed_before_the_first_byte (inr part) = part
+    WritesNothing source source sink disk (run_with nothing nothing nothing (known (7 ∷ []) 0))
+    (run_with nothing nothing nothing (known (8 ∷ []) 0)) → ⊥
+disk_changed_before_the_first_byte nothing =
+    let same : Some (8 ∷ []) ≡ Some (7 ∷ []) = nothing.1.same_reads in cc same
 
 pub disk_failed_in_the_session :
-    EndsWithFailedDisk {K = List ℕ} in_turn keeps_nothing words (inputs (Some header) (Some []) None None None) ⊥ []
-    (codes "opened 0 0 0") (Some []) (Some (codes "opened 0 0 0")) 3 4
+    FailsToStore source source sink disk (began 3 3) (wrote (codes "opened 0 0 0") 4 4) words in_turn
 disk_failed_in_the_session = record {
   command = report_command settings;
   asked = asks_for_a_report;
   may_use = tt;
   rose = omega arith;
-  in_part = inr session_was_written_in_part;
+  in_part = inr sessions_part;
 }
+
+-- a run without arguments that took nothing and gave nothing, with these counts of faults of its source and its disk
+abbrev idle_run : (source_faults disk_faults : ℕ) → Status → Type 0
+idle_run source_faults disk_faults status =
+    RunEnds source source sink disk (run_with nothing nothing nothing nothing)
+    (run_with (known [] source_faults) nothing nothing (known [] disk_faults)) [] in_turn status
+
+-- it doesn't end with a read fault that no source had
+pub read_fault_of_no_source : idle_run 0 0 ReadFault → ⊥
+read_fault_of_no_source ends = ⊎_elim
+    (λ capture. let rose : 1 ≤ 0 = capture.rose in omega (arith, rose))
+    (λ text. let rose : 1 ≤ 0 = text.rose in omega (arith, rose)) (ends.read_fault refl).failed
+
+-- nor with Done, after a fault of a source or of the disk
+pub read_fault_reported_as_done : idle_run 1 0 Done → ⊥
+read_fault_reported_as_done ends =
+    let same : 1 ≡ 0 = ap (λ faults. faults.capture) (ends.read_fault_reported (λ is. cc is)) in
+    omega (arith, same)
+
+pub disk_fault_reported_as_done : idle_run 0 1 Done → ⊥
+disk_fault_reported_as_done ends =
+    let same : 1 ≡ 0 = ends.disk_fault_reported (λ is. cc is) in
+    omega (arith, same)
 
 -- where no store is asked for, none is refused
 pub no_store_is_refused : (fault : OpenFault)
@@ -325,28 +386,23 @@ format_refuses_no_store fault refuses = refuses
 
 -- where the disk fails, `format` writes nothing, and changes no more than the front; where memory runs out, the disk is as
 -- before too
-pub format_on_a_disk_that_failed :
-    FormatEnds {K = List ℕ} {D = List ℕ} (store_settings_for_saves settings) None (λ image. ⊤) ⊤ [] [] [] (8 ∷ []) DiskFault
-format_on_a_disk_that_failed = (refl, tt)
-
 pub format_without_memory :
-    FormatEnds {K = List ℕ} {D = List ℕ} (store_settings_for_saves settings) None (λ image. ⊤) ⊤ [] [] [] (8 ∷ []) OutOfMemory → ⊥
+    FormatEnds {K = Known} disk (store_settings_for_saves settings) nothing nothing nothing (known (8 ∷ []) 0) OutOfMemory → ⊥
 format_without_memory ended =
-    let same : 1 ≡ 0 = ap (λ (bytes : List ℕ). length bytes) ended.1 in omega (arith, same)
+    let same : 1 ≡ 0 = ap (λ (stream : Known). length stream.bytes) ended.1 in omega (arith, same)
 
 -- a disk of 65 bytes, of which the last one is behind the front
-abbrev disk_ending_in : ℕ → List ℕ
-disk_ending_in last = replicate 64 0 ++ last ∷ []
+abbrev disk_ending_in : ℕ → Known
+disk_ending_in last = known (replicate 64 0 ++ last ∷ []) 0
 
-pub byte_behind_the_front_was_torn : EndsTearingFront {D = List ℕ} (λ disk. Some disk) (λ disk image. image ≡ disk) (λ disk. 0)
-    (λ disk moment image. image ≡ disk) (disk_ending_in 1) (disk_ending_in 2) → ⊥
+pub byte_behind_the_front_was_torn : EndsTearingFront disk (disk_ending_in 1) (disk_ending_in 2) → ⊥
 byte_behind_the_front_was_torn torn =
-    let last : 2 ≡ 1 = (torn.reading (disk_ending_in 1) (disk_ending_in 2) refl refl).after 64 (omega arith) (omega arith) in
+    let last : 2 ≡ 1 = (torn.reading (disk_ending_in 1).bytes (disk_ending_in 2).bytes refl refl).after 64 (omega arith) (omega arith) in
     omega (arith, last)
 
 -- `format` reads no capture that could be refused
 pub format_refuses_no_capture :
-    FormatEnds {K = List ℕ} {D = List ℕ} (store_settings_for_saves settings) None (λ image. ⊤) ⊤ [] [] [] []
+    FormatEnds {K = Known} disk (store_settings_for_saves settings) nothing nothing nothing nothing
     (BadCapture (header_fault_at ShortHeader 0)) → ⊥
 format_refuses_no_capture ended = ended
 

@@ -17,6 +17,7 @@ use Rattle.frame_records.specs.declared.records.Records.{Records}
 use Rattle.frame_records.specs.declared.weigh.Weigh.TheVariants.{Bytes}
 use Rattle.report_text.specs.{report_tail_text}
 use Rattle.slot_disk.specs.{CrashLeavesAtAnyMoment-none, known_slots_of}
+use Rattle.slot_disk.specs.declared.disk.Disk.{Ghosts as DiskOf}
 use Rattle.checkpoint.specs.{StoreBelongs, StoreOpensTo, SavedValue, SaverState, StoreHolds, digest_of_lists}
 use Rattle.checkpoint.specs.{header_of_settings, saver_of}
 use Rattle.checkpoint.specs.declared.settings.StoreSettings.{StoreSettings}
@@ -119,29 +120,46 @@ pub disk_was_emptied : OpensAsBeforeOrToSaves one None (saves_after 0 (9 ∷ [])
 disk_was_emptied (inl opens) = omega (arith, opens.2.long)
 disk_was_emptied (inr opens) = omega (arith, opens.2.long)
 
--- a disk whose images are all the formatted store; its moments are numbers
-abbrev image_since : ℕ → ℕ → List ℕ → Type 0
-image_since disk moment image = image ≡ formatted
+-- a disk is a number, its moment. One whose images are all these bytes, and one of which nothing is known
+abbrev disk_of : List ℕ → DiskOf ℕ
+disk_of bytes = record {
+  reads = λ disk. Some bytes;
+  image_now = λ disk image. image ≡ bytes;
+  moment = λ disk. disk;
+  image_since = λ disk moment image. image ≡ bytes;
+  faults = λ disk. 0;
+}
+
+abbrev unknown_disk : DiskOf ℕ
+unknown_disk = record {
+  reads = λ disk. None;
+  image_now = λ disk image. ⊤;
+  moment = λ disk. disk;
+  image_since = λ disk moment image. ⊤;
+  faults = λ disk. 0;
+}
+
+-- what the first disk may hold since a moment
+abbrev formatted_since : ℕ → ℕ → List ℕ → Type 0
+formatted_since disk moment image = image ≡ formatted
 
 pub no_saves_keep_the_store :
-    KeepsSaves {D = ℕ} (λ disk image. image ≡ formatted) (λ disk. disk) image_since one (9 ∷ []) (λ image. ⊥) [] [] 7 7
-    formatted
+    KeepsSaves (disk_of formatted) one (9 ∷ []) (λ image. ⊥) [] [] 7 7 formatted
 no_saves_keep_the_store = record {
   opened = None;
   opens = formatted_opens_to_nothing;
-  any_moment = CrashLeavesAtAnyMoment-none (λ disk. disk) image_since 7 (λ image. ⊥ ⊎ OpensAsBeforeOrToSaves one None [] image)
+  any_moment = CrashLeavesAtAnyMoment-none (λ disk. disk) formatted_since 7 (λ image. ⊥ ⊎ OpensAsBeforeOrToSaves one None [] image)
       (λ image is. inr (subst (λ bytes. StoreOpensTo one bytes None) (sym is) formatted_opens_to_nothing));
   afterwards = λ image is. subst (λ bytes. StoreOpensTo one bytes None) (sym is) formatted_opens_to_nothing;
 }
 
 -- an unfinished save may have left the store as it was
 pub unfinished_save_left_nothing :
-    KeepsSaves {D = ℕ} (λ disk image. image ≡ formatted) (λ disk. disk) image_since one (9 ∷ []) (λ image. ⊥) []
-    (none_counted ∷ []) 7 7 formatted
+    KeepsSaves (disk_of formatted) one (9 ∷ []) (λ image. ⊥) [] (none_counted ∷ []) 7 7 formatted
 unfinished_save_left_nothing = record {
   opened = None;
   opens = formatted_opens_to_nothing;
-  any_moment = CrashLeavesAtAnyMoment-none (λ disk. disk) image_since 7
+  any_moment = CrashLeavesAtAnyMoment-none (λ disk. disk) formatted_since 7
       (λ image. ⊥ ⊎ OpensAsBeforeOrToSaves one None (saves_after 0 (9 ∷ []) (none_counted ∷ [])) image)
       (λ image is. inr (inl (subst (λ bytes. StoreOpensTo one bytes None) (sym is) formatted_opens_to_nothing)));
   afterwards = λ image is. inl (subst (λ bytes. StoreOpensTo one bytes None) (sym is) formatted_opens_to_nothing);
@@ -170,8 +188,7 @@ formatted_reopens unfinished = record {
 pub empty_disk_reopens : SavesReopen one None [] [] → ⊥
 empty_disk_reopens reopens = omega (arith, reopens.opens.2.long)
 
-pub first_save_may_be_unfinished : SavesAreReopenedFromDisk {D = ℕ} (λ disk. Some formatted) (λ disk image. image ≡ formatted) 7 7 one [] []
-    (none_counted ∷ [])
+pub first_save_may_be_unfinished : SavesAreReopenedFromDisk (disk_of formatted) 7 7 one [] [] (none_counted ∷ [])
 first_save_may_be_unfinished store known = record {
   opened = None;
   opens = subst (λ bytes. StoreOpensTo one bytes None) (cc known) formatted_opens_to_nothing;
@@ -179,31 +196,28 @@ first_save_may_be_unfinished store known = record {
 }
 
 -- where nothing is known of a disk, nothing is said of how it opens again
-pub unknown_disk_reopens : SavesAreReopenedFromDisk {D = ℕ} (λ disk. None) (λ disk image. ⊤) 7 8 one [] (none_counted ∷ []) []
+pub unknown_disk_reopens : SavesAreReopenedFromDisk unknown_disk 7 8 one [] (none_counted ∷ []) []
 unknown_disk_reopens store told = absurd (cc told)
 
 -- a formatted store belongs to any lists, and does so throughout a session that saves nothing; an empty disk is no store
-pub formatted_store_belongs_throughout : SavesBelongThroughout {D = ℕ} (λ disk image. image ≡ formatted) (λ disk. disk)
-    image_since one lists None 7 7
+pub formatted_store_belongs_throughout : SavesBelongThroughout (disk_of formatted) one lists None 7 7
 formatted_store_belongs_throughout =
     let belongs : (image : List ℕ) → image ≡ formatted → StoreBelongs one lists image = λ image is.
     subst (StoreBelongs one lists) (sym is) (None, formatted_opens_to_nothing, tt) in
     record {
       base_represents = tt;
-      any_moment = CrashLeavesAtAnyMoment-none (λ disk. disk) image_since 7 (StoreBelongs one lists) belongs;
+      any_moment = CrashLeavesAtAnyMoment-none (λ disk. disk) formatted_since 7 (StoreBelongs one lists) belongs;
       afterwards = belongs;
     }
 
-pub empty_disk_belongs_to_no_lists : SavesBelongThroughout {D = ℕ} (λ disk image. image ≡ []) (λ disk. disk) image_since one lists
-    None 7 7 → ⊥
+pub empty_disk_belongs_to_no_lists : SavesBelongThroughout (disk_of []) one lists None 7 7 → ⊥
 empty_disk_belongs_to_no_lists belongs = omega (arith, (belongs.afterwards [] refl).1.2.long)
 
 -- without a save a crash leaves what it could have left before
-pub disk_is_as_before : IsAsBeforeSaves {D = ℕ} (λ disk. Some formatted) (λ disk image. image ≡ formatted) (λ disk. disk)
-    image_since 7 7
+pub disk_is_as_before : IsAsBeforeSaves (disk_of formatted) 7 7
 disk_is_as_before = record {
   same_reads = refl;
-  any_moment = CrashLeavesAtAnyMoment-none (λ disk. disk) image_since 7 (λ image. image ≡ formatted) (λ image is. is);
+  any_moment = CrashLeavesAtAnyMoment-none (λ disk. disk) formatted_since 7 (λ image. image ≡ formatted) (λ image is. is);
 }
 
 -- the saver of the formatted store, after two saves
@@ -219,7 +233,7 @@ no_saver_after_an_unfinished_save = refl
 
 -- nothing was saved, and the saver is lost all the same
 pub saver_was_dropped :
-    SavesBreakOff {D = ℕ} (λ disk. None) (λ disk image. ⊤) (λ disk. disk) image_since (Some saver) None 7 7 [] [] → ⊥
+    SavesBreakOff unknown_disk (Some saver) None 7 7 [] [] → ⊥
 saver_was_dropped broke = cc broke.saver
 
 pub two_saves_use_two_sequences : (after_saves saver (none_counted ∷ one_counted ∷ [])).sequence ≡ 2
@@ -230,16 +244,16 @@ two_saves_end_at_the_later_cut = refl
 
 -- without a saver the disk stays
 pub nothing_is_saved_without_a_saver :
-    Saves {D = ℕ} (λ disk. None) (λ disk image. ⊤) (λ disk. disk) image_since None [] 7 8 → ⊥
+    Saves unknown_disk None [] 7 8 → ⊥
 nothing_is_saved_without_a_saver same = omega (arith, same)
 
 pub nothing_is_begun_without_a_saver :
-    SavesInPart {D = ℕ} (λ disk. None) (λ disk image. ⊤) (λ disk. disk) image_since None 7 8 [] (none_counted ∷ []) → ⊥
+    SavesInPart unknown_disk None 7 8 [] (none_counted ∷ []) → ⊥
 nothing_is_begun_without_a_saver part = let same = part.unused refl in omega (arith, same)
 
 -- where nothing is known of a disk, nothing is said of what it keeps
 pub unknown_disk_keeps_anything :
-    SavesAreKeptOnDisk {D = ℕ} (λ disk. None) (λ disk image. ⊤) (λ disk. disk) image_since 7 8 one [] (none_counted ∷ []) []
+    SavesAreKeptOnDisk unknown_disk 7 8 one [] (none_counted ∷ []) []
 unknown_disk_keeps_anything bytes told = absurd (cc told)
 
 -- what `format` leaves

@@ -498,14 +498,15 @@ pub most_bytes_of_the_session : BeginsSession opening settings saves_nothing (re
     (codes "opened 0 0 0 0\nreport\nat 0 0 0 0\ntotal 0\nthreshold 1\ndone\nframes")
 most_bytes_of_the_session = inr (inr broken_off_in_the_last_lines)
 
-pub session_in_part : IsSessionInPart settings in_turn keeps_nothing None header (codes "opened 0 0 0")
+pub session_in_part : (keeping : SessionKeeping) (store : Option (List ℕ))
+    → IsSessionInPart settings in_turn keeping store header (codes "opened 0 0 0")
 unfolding digits
-session_in_part = record {
+session_in_part keeping store = record {
   records = records;
   lists = lists;
   dealt = dealt_from_the_header;
   base = None;
-  begins = begins_anew None;
+  begins = begins_anew store;
   represents = new_shards_represent;
   begun = inl (((codes " 0\n", refl), omega arith), λ used. absurd (cc used));
 }

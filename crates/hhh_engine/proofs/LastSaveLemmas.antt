@@ -23,6 +23,7 @@ use Rattle.hhh_engine.proofs.SeenPositionLemmas.{seen_positions_of_cut, seen_pos
 use Rattle.hhh_engine.proofs.SeenPositionLemmas.{seen_positions_are_not_past, seen_positions_same_length}
 use Rattle.hhh_engine.proofs.SessionThreadLemmas.{first_session_thread_sees_starts}
 use Rattle.hhh_engine.proofs.SessionTextLemmas.{SessionTextFollowsSaves, session_text_within_ends}
+use Rattle.slot_disk.specs.declared.disk.Disk.{Ghosts as DiskOf}
 
 -- a saver that may make more saves may make fewer
 pub last_save_after_fewer_saves : (reads : Option (List ℕ)) (possible : List ℕ → Type 0) (opening : List ShardValue)
@@ -74,24 +75,23 @@ last_save_count : (opening : List ShardValue) (reports : List Reported)
 last_save_count opening reports = length-map reports _
 
 -- after the rounds of a session its last cut may be saved
-pub last_save_is_possible : {D : Type 0} (reads : D → Option (List ℕ)) (image_now : D → List ℕ → Type 0) (moment : D → ℕ)
-    (image_since : D → ℕ → List ℕ → Type 0) (board : PositionWordsValue) (settings : Settings) (called : List Called)
+pub last_save_is_possible : {D : Type 0} (d : DiskOf D) (board : PositionWordsValue) (settings : Settings) (called : List Called)
     (tail : List ℕ) (rest : Rest) (rounds : List Reported) (saver now : Option SaverState) (old new : D)
-    → IfSome saver (CanMakeSaves (reads old) (image_now old) board.opening (first_view board.opening) (settings.rounds + 1))
+    → IfSome saver (CanMakeSaves (d.reads old) (d.image_now old) board.opening (first_view board.opening) (settings.rounds + 1))
     → is_some saver ≡ settings.store → DealtFeedStartsBeforeEnds board.opening
     → AreSessionReportsOfCaller board.opening settings settings.rounds rounds
-    → SavesInTurn reads image_now moment image_since saver now old new (session_saved_cuts settings.store board.opening rounds)
+    → SavesInTurn d saver now old new (session_saved_cuts settings.store board.opening rounds)
     → IsDealtFeedRest board settings called tail rest
     → HasCoreShape (length board.opening) (core_capacity board.opening) rest.cut
-    → IfSome now (DealtFeedCanSaveCut (reads new) (image_now new) rest.cut)
-last_save_is_possible reads image_now moment image_since board settings called tail rest rounds None now old new can used starts
-    are saves end shape = subst (λ o. IfSome o (DealtFeedCanSaveCut (reads new) (image_now new) rest.cut)) (sym saves.saver) tt
-last_save_is_possible reads image_now moment image_since board settings called tail rest rounds (Some saver) now old new can used
+    → IfSome now (DealtFeedCanSaveCut (d.reads new) (d.image_now new) rest.cut)
+last_save_is_possible d board settings called tail rest rounds None now old new can used starts
+    are saves end shape = subst (λ o. IfSome o (DealtFeedCanSaveCut (d.reads new) (d.image_now new) rest.cut)) (sym saves.saver) tt
+last_save_is_possible d board settings called tail rest rounds (Some saver) now old new can used
     starts are saves end shape =
     let opening : List ShardValue = board.opening in
     let cuts : List CutValue = session_saved_cuts true opening rounds in
-    let done : SavesInTurn reads image_now moment image_since (Some saver) now old new cuts =
-    subst (λ store. SavesInTurn reads image_now moment image_since (Some saver) now old new
+    let done : SavesInTurn d (Some saver) now old new cuts =
+    subst (λ store. SavesInTurn d (Some saver) now old new
     (session_saved_cuts store opening rounds)) (sym used) saves in
     let after : SaverState = after_saves saver cuts in
     let sequence : after.sequence ≡ saver.sequence + length cuts = saves_raise_sequence saver cuts in
@@ -104,7 +104,7 @@ last_save_is_possible reads image_now moment image_since board settings called t
     let positions : cut_positions rest.cut ≡ session_ends opening =
     ap cut_positions end.cut_is ∙ seen_positions_of_cut opening end.last.report.positions at.as_many ∙ end.at_ends in
     let same : after.settings ≡ saver.settings = saves_leave_settings saver cuts in
-    subst (λ o. IfSome o (DealtFeedCanSaveCut (reads new) (image_now new) rest.cut)) (sym done.saver)
+    subst (λ o. IfSome o (DealtFeedCanSaveCut (d.reads new) (d.image_now new) rest.cut)) (sym done.saver)
     (record {
       settings = subst AreHeaderSettings (sym same) can.fits.settings;
       stands = done.saves.stands;
@@ -117,54 +117,52 @@ last_save_is_possible reads image_now moment image_since board settings called t
     })
 
 -- all saves of a session
-pub last_save_completes_session : {D : Type 0} (reads : D → Option (List ℕ)) (image_now : D → List ℕ → Type 0) (moment : D → ℕ)
-    (image_since : D → ℕ → List ℕ → Type 0) (opening : List ShardValue) (store : Bool) (rounds : List Reported)
+pub last_save_completes_session : {D : Type 0} (d : DiskOf D) (opening : List ShardValue) (store : Bool) (rounds : List Reported)
     (last : Reported) (cut : CutValue) (saver after : Option SaverState) (old new : D) → is_some saver ≡ store
     → cut ≡ cut_at_call opening last.report.positions
-    → SavesInTurn reads image_now moment image_since saver after old new (session_saved_cuts store opening rounds ++ cut ∷ [])
-    → Saves reads image_now moment image_since saver (session_saved_cuts store opening (rounds ++ last ∷ [])) old new
-last_save_completes_session reads image_now moment image_since opening store rounds last cut None after old new used is saves = saves.saves
-last_save_completes_session reads image_now moment image_since opening store rounds last cut (Some saver) after old new used is saves =
+    → SavesInTurn d saver after old new (session_saved_cuts store opening rounds ++ cut ∷ [])
+    → Saves d saver (session_saved_cuts store opening (rounds ++ last ∷ [])) old new
+last_save_completes_session d opening store rounds last cut None after old new used is saves = saves.saves
+last_save_completes_session d opening store rounds last cut (Some saver) after old new used is saves =
     let position : Reported → CutValue = λ reported. cut_at_call opening reported.report.positions in
-    subst (λ b. Saves reads image_now moment image_since (Some saver) (session_saved_cuts b opening (rounds ++ last ∷ [])) old new)
+    subst (λ b. Saves d (Some saver) (session_saved_cuts b opening (rounds ++ last ∷ [])) old new)
     used
-    (subst (λ cuts. Saves reads image_now moment image_since (Some saver) cuts old new)
+    (subst (λ cuts. Saves d (Some saver) cuts old new)
     (sym (map-append position rounds (last ∷ [])))
-    (subst (λ c. Saves reads image_now moment image_since (Some saver) (map position rounds ++ c ∷ []) old new) is
-    (subst (λ b. SavesInTurn reads image_now moment image_since (Some saver) after old new
+    (subst (λ c. Saves d (Some saver) (map position rounds ++ c ∷ []) old new) is
+    (subst (λ b. SavesInTurn d (Some saver) after old new
     (session_saved_cuts b opening rounds ++ cut ∷ [])) (sym used) saves).saves))
 
 -- what became of all cuts of a session whose last save, or what follows it, broke off
-pub last_save_broken_off : StoresOpenToOneThing → {D : Type 0} (reads : D → Option (List ℕ)) (image_now : D → List ℕ → Type 0)
-    (moment : D → ℕ) (image_since : D → ℕ → List ℕ → Type 0) (opening : List ShardValue) (store : Bool)
+pub last_save_broken_off : StoresOpenToOneThing → {D : Type 0} (d : DiskOf D) (opening : List ShardValue) (store : Bool)
     (rounds : List Reported) (last : Reported) (cut : CutValue) (saver between : Option SaverState) (old mid new : D)
     → is_some saver ≡ store → cut ≡ cut_at_call opening last.report.positions
     → IfSome saver (λ saver. AreHeaderSettings saver.settings)
-    → ((disk : D) (bytes : List ℕ) → reads disk ≡ Some bytes → image_now disk bytes)
-    → SavesInTurn reads image_now moment image_since saver between old mid (session_saved_cuts store opening rounds)
-    → SessionTextFollowsSaves store opening rounds last cut (SavesInPart reads image_now moment image_since between mid new)
-    (SavesInPart reads image_now moment image_since saver old new)
-last_save_broken_off one reads image_now moment image_since opening store rounds last cut None between old mid new used is are
+    → ((disk : D) (bytes : List ℕ) → d.reads disk ≡ Some bytes → d.image_now disk bytes)
+    → SavesInTurn d saver between old mid (session_saved_cuts store opening rounds)
+    → SessionTextFollowsSaves store opening rounds last cut (SavesInPart d between mid new)
+    (SavesInPart d saver old new)
+last_save_broken_off one d opening store rounds last cut None between old mid new used is are
     is_image saves =
-    let same : (saved unfinished : List CutValue) → SavesInPart reads image_now moment image_since between mid new saved unfinished
+    let same : (saved unfinished : List CutValue) → SavesInPart d between mid new saved unfinished
     → new ≡ old = λ saved unfinished part. part.unused saves.saver ∙ saves.saves in (
       λ part. record { unused = λ none. same [] [] part; kept = tt },
       λ part. record { unused = λ none. same [] (cut ∷ []) part; kept = tt },
       λ part. record { unused = λ none. same (cut ∷ []) [] part; kept = tt },
     )
-last_save_broken_off one reads image_now moment image_since opening store rounds last cut (Some saver) between old mid new used is
+last_save_broken_off one d opening store rounds last cut (Some saver) between old mid new used is
     are is_image saves =
     let cuts : List CutValue = session_saved_cuts store opening rounds in
     let same : cut ∷ [] ≡ session_saved_cuts store opening (last ∷ []) =
     ap (λ c. c ∷ []) is ∙ ap (λ b. session_saved_cuts b opening (last ∷ [])) used in
-    let all : (saved unfinished : List CutValue) → SavesInPart reads image_now moment image_since between mid new saved unfinished
-    → SavesInPart reads image_now moment image_since (Some saver) old new (cuts ++ saved) unfinished =
+    let all : (saved unfinished : List CutValue) → SavesInPart d between mid new saved unfinished
+    → SavesInPart d (Some saver) old new (cuts ++ saved) unfinished =
     λ saved unfinished.
-    broken_off_save_follows one reads image_now moment image_since (Some saver) between cuts saved unfinished old mid new are is_image
+    broken_off_save_follows one d (Some saver) between cuts saved unfinished old mid new are is_image
     saves in (
       all [] [],
-      λ part. subst (SavesInPart reads image_now moment image_since (Some saver) old new (cuts ++ [])) same
+      λ part. subst (SavesInPart d (Some saver) old new (cuts ++ [])) same
           (all [] (cut ∷ []) part),
-      λ part. subst (λ list. SavesInPart reads image_now moment image_since (Some saver) old new (cuts ++ list) []) same
+      λ part. subst (λ list. SavesInPart d (Some saver) old new (cuts ++ list) []) same
           (all (cut ∷ []) [] part),
     )

@@ -18,6 +18,7 @@ pub mod DemoLemmas
 pub mod AuditFindingLemmas
 pub mod AuditEndLemmas
 pub mod SoundSessionLemmas
+pub mod RunEndLemmas
 pub mod WiderRulesLemmas
 pub mod LastReportLemmas
 pub mod DemoTextLemmas

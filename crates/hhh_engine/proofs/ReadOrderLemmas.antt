@@ -14,18 +14,24 @@ use Rattle.command_words.specs.declared.command.Command.{Command}
 use Rattle.command_words.specs.declared.command.Command.TheVariants.{Weigh, Report, Format, Audit, Make, Demo}
 use Rattle.command_words.specs.declared.settings.Settings.{Settings}
 use Rattle.hhh_engine.specs.Auditing.{AuditingHasNoBytes, AuditingSays}
-use Rattle.hhh_engine.specs.Ending.{Ends, EndsWithFailedDisk, EndsFailingToRead, HappenedToDiskAtEnding}
-use Rattle.hhh_engine.specs.Ending.{EndsRefusingCapture, EndsAtFailedSource, EndingSourceFaults}
+use Rattle.hhh_engine.specs.Ending.{Ends, HappenedToDiskAtEnding}
+use Rattle.hhh_engine.specs.Ending.{EndsAtFailedSource, EndingSourceFaults}
 use Rattle.hhh_engine.specs.Ending.{EndsInOrder, EndsAsBeforeUnlessFormat, ending_source_faults}
 use Rattle.hhh_engine.specs.Inputs.{AskedCommandUsesInput, InputBytes, IsInputCapture, MayUseInputStore}
-use Rattle.hhh_engine.specs.Inputs.{UsesInputCapture, UsesInputSession, InputsWereRead}
-use Rattle.hhh_engine.specs.Session.{SessionKeeping, SessionRules}
+use Rattle.hhh_engine.specs.Inputs.{UsesInputCapture, UsesInputSession}
+use Rattle.hhh_engine.specs.Session.{SessionRules}
 use Rattle.hhh_engine.specs.Status.{status_of_session}
 use Rattle.hhh_engine.specs.declared.status.Status.{Status}
 use Rattle.hhh_engine.specs.declared.status.Status.TheVariants.{Done, BadWords, BadCapture, ReadFault, WriteFault}
 use Rattle.hhh_engine.specs.declared.status.Status.TheVariants.{DiskFault, NotFormatted, Damaged, OtherSettings}
 use Rattle.hhh_engine.specs.declared.status.Status.TheVariants.{OtherCapture, AuditNo, BadReport, OutOfMemory}
-use Rattle.hhh_engine.proofs.StatusLemmas.{EndsWithStatus}
+use Rattle.outside_io.specs.declared.source.Source.{Ghosts as SourceOf}
+use Rattle.outside_io.specs.declared.sink.Sink.{Ghosts as SinkOf}
+use Rattle.slot_disk.specs.declared.disk.Disk.{Ghosts as DiskOf}
+use Rattle.hhh_engine.specs.CommandEnding.{CommandEnds, CommandEndsInOrder}
+use Rattle.hhh_engine.specs.TopCall.{FailsToRead, FailsToStore, RefusesCapture, Streams, faults_after}
+use Rattle.hhh_engine.specs.TopCall.{faults_before, run_inputs}
+use Rattle.hhh_engine.specs.Saves.{IsAsBeforeSaves}
 
 -- ---- the steps of an audit
 
@@ -163,51 +169,6 @@ read_order_as_asked : (Uses : Command → Type 0) (words : List (List ℕ)) (com
     → Uses command → AskedCommandUsesInput Uses words
 read_order_as_asked Uses words command asked uses = record { command = command; asked = asked; uses = uses }
 
--- the capture was refused
-pub read_order_at_refused_capture : {T K D : Type 0} (rules : SessionRules) (keeping : SessionKeeping) (words : List (List ℕ))
-    (command : Command) (given : InputBytes) (AsBefore : Type 0) (ReadToEnd DiskRose : Type 0)
-    (before now : EndingSourceFaults) (text text_read : T) (sink written : K) (disk stands : D) (old new : Option (List ℕ))
-    (write_before write_now : ℕ) (status : Status) (fault : CaptureFault) → AskForCommand words command
-    → status ≡ BadCapture fault
-    → EndsInOrder (UsesInputCapture command) (UsesInputSession command) given before now text text_read status
-    → EndsWithStatus rules keeping command given AsBefore ReadToEnd DiskRose (stands ≡ disk) before now sink written old new
-    write_before write_now status
-    → EndsRefusingCapture words given.capture fault text text_read sink written disk stands
-read_order_at_refused_capture rules keeping words command given AsBefore ReadToEnd DiskRose before now text text_read sink written
-    disk stands old new write_before write_now status fault asked is stops ends =
-    let order = subst (EndsInOrder (UsesInputCapture command) (UsesInputSession command) given before now text text_read) is stops in
-    let ended = subst (EndsWithStatus rules keeping command given AsBefore ReadToEnd DiskRose (stands ≡ disk) before now sink
-    written old new write_before write_now) is ends in
-    record {
-      asked = read_order_as_asked UsesInputCapture words command asked order.0;
-      first_fault = ended.0;
-      text_unread = order.1;
-      unwritten = ended.1;
-      untouched = ended.2;
-    }
-
--- a source failed
-pub read_order_at_read_failure : {T K D : Type 0} (rules : SessionRules) (keeping : SessionKeeping) (words : List (List ℕ))
-    (command : Command) (given : InputBytes) (AsBefore : Type 0) (ReadToEnd DiskRose : Type 0)
-    (before now : EndingSourceFaults) (text text_read : T) (sink written : K) (disk stands : D) (old new : Option (List ℕ))
-    (write_before write_now : ℕ) (status : Status) → AskForCommand words command → status ≡ ReadFault
-    → EndsInOrder (UsesInputCapture command) (UsesInputSession command) given before now text text_read status
-    → EndsWithStatus rules keeping command given AsBefore ReadToEnd DiskRose (stands ≡ disk) before now sink written old new
-    write_before write_now status
-    → EndsFailingToRead words given before now text text_read sink written disk stands
-read_order_at_read_failure rules keeping words command given AsBefore ReadToEnd DiskRose before now text text_read sink written
-    disk stands old new write_before write_now status asked is stops ends =
-    let order = subst (EndsInOrder (UsesInputCapture command) (UsesInputSession command) given before now text text_read) is stops in
-    let ended = subst (EndsWithStatus rules keeping command given AsBefore ReadToEnd DiskRose (stands ≡ disk) before now sink
-    written old new write_before write_now) is ends in
-    record {
-      failed = read_order_in_other_terms (UsesInputCapture command) (UsesInputSession command) (AskedCommandUsesInput UsesInputCapture words)
-          (AskedCommandUsesInput UsesInputSession words) given before now text text_read
-          (read_order_as_asked UsesInputCapture words command asked) (read_order_as_asked UsesInputSession words command asked) order;
-      unwritten = ended.1;
-      untouched = ended.2;
-    }
-
 -- only a command that may use a store has a disk that fails
 read_order_lets_use_store : (command : Command) (Happened : Type 0) → HappenedToDiskAtEnding command Happened → MayUseInputStore command × Happened
 read_order_lets_use_store (Weigh prefix settings) Happened happened = absurd happened
@@ -217,25 +178,58 @@ read_order_lets_use_store (Audit settings) Happened happened = absurd happened
 read_order_lets_use_store (Make seed frames) Happened happened = absurd happened
 read_order_lets_use_store (Demo seed frames settings) Happened happened = absurd happened
 
--- the disk failed
-pub read_order_at_failed_disk : {K : Type 0} (rules : SessionRules) (keeping : SessionKeeping) (words : List (List ℕ)) (command : Command)
-    (given : InputBytes) (AsBefore : Type 0) (DiskSame : Type 0) (disk_before disk_now : ℕ)
-    (before now : EndingSourceFaults) (sink written : K) (old new : Option (List ℕ)) (write_before write_now : ℕ)
-    (status : Status) → AskForCommand words command → status ≡ DiskFault
-    → EndsWithStatus rules keeping command given AsBefore (InputsWereRead command given)
-    (HappenedToDiskAtEnding command (FaultCountRose disk_before disk_now)) DiskSame before now sink written old new write_before write_now status
-    → EndsWithFailedDisk rules keeping words given AsBefore sink written old new disk_before disk_now
-read_order_at_failed_disk rules keeping words command given AsBefore DiskSame disk_before disk_now before now sink written old new
-    write_before write_now status asked is ends =
-    let ended = subst (EndsWithStatus rules keeping command given AsBefore (InputsWereRead command given)
-    (HappenedToDiskAtEnding command (FaultCountRose disk_before disk_now)) DiskSame before now sink written old new write_before write_now) is ends in
-    let used = read_order_lets_use_store command (FaultCountRose disk_before disk_now) ended.3 in
-    record {
-      command = command;
-      asked = asked;
-      may_use = used.0;
-      rose = used.1;
-      in_part = ⊎_elim
-          (λ (nothing : (written ≡ sink) × EndsAsBeforeUnlessFormat command AsBefore). inl nothing)
-          (λ part. inr (record { command = command; asked = asked; read_to_end = ended.0; answer = part })) ended.2;
-    }
+-- a run, whose command ended so
+module _ {S T K D : Type 0} (s : SourceOf S) (t : SourceOf T) (k : SinkOf K) (d : DiskOf D) (old new : Streams S T K D)
+    (rules : SessionRules) where
+  -- its inputs, and how a command of it ends
+  abbrev given : InputBytes
+  given = run_inputs s t k d old new
+
+  abbrev Ended : Command → Status → Type 0
+  Ended = CommandEnds s t k d old new rules
+
+  abbrev EndedInOrder : Command → Status → Type 0
+  EndedInOrder = CommandEndsInOrder s t k d old new rules
+
+  -- the capture was refused
+  pub read_order_at_refused_capture : (words : List (List ℕ)) (command : Command) (status : Status) (fault : CaptureFault)
+      → AskForCommand words command → status ≡ BadCapture fault → EndedInOrder command status → Ended command status
+      → RefusesCapture s t k d old new words fault
+  read_order_at_refused_capture words command status fault asked is stops ends =
+      let order = subst (EndedInOrder command) is stops in
+      let ended = subst (Ended command) is ends in
+      record {
+        asked = read_order_as_asked UsesInputCapture words command asked order.0;
+        first_fault = ended.0;
+        text_unread = order.1;
+        nothing = record { unwritten = ended.1; untouched = ended.2 };
+      }
+
+  -- a source failed
+  pub read_order_at_read_failure : (words : List (List ℕ)) (command : Command) (status : Status) → AskForCommand words command
+      → status ≡ ReadFault → EndedInOrder command status → Ended command status → FailsToRead s t k d old new words
+  read_order_at_read_failure words command status asked is stops ends =
+      let order = subst (EndedInOrder command) is stops in
+      let ended = subst (Ended command) is ends in
+      record {
+        failed = read_order_in_other_terms (UsesInputCapture command) (UsesInputSession command) (AskedCommandUsesInput UsesInputCapture words)
+            (AskedCommandUsesInput UsesInputSession words) given (faults_before s t k d old new) (faults_after s t k d old new) old.text new.text
+            (read_order_as_asked UsesInputCapture words command asked) (read_order_as_asked UsesInputSession words command asked) order;
+        nothing = record { unwritten = ended.1; untouched = ended.2 };
+      }
+
+  -- the disk failed
+  pub read_order_at_failed_disk : (words : List (List ℕ)) (command : Command) (status : Status) → AskForCommand words command
+      → status ≡ DiskFault → Ended command status → FailsToStore s t k d old new words rules
+  read_order_at_failed_disk words command status asked is ends =
+      let ended = subst (Ended command) is ends in
+      let used = read_order_lets_use_store command (FaultCountRose (d.faults old.disk) (d.faults new.disk)) ended.3 in
+      record {
+        command = command;
+        asked = asked;
+        may_use = used.0;
+        rose = used.1;
+        in_part = ⊎_elim
+            (λ (nothing : (new.sink ≡ old.sink) × EndsAsBeforeUnlessFormat command (IsAsBeforeSaves d old.disk new.disk)). inl nothing)
+            (λ part. inr (record { command = command; asked = asked; read_to_end = ended.0; answer = part })) ended.2;
+      }

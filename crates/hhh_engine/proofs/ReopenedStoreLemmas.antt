@@ -29,6 +29,7 @@ use Rattle.hhh_engine.proofs.OwnSessionLemmas.{own_session_lists_match_shards}
 use Rattle.hhh_engine.proofs.SessionTextLemmas.{session_text_begins_saying_less, spelled_session_text_says_less}
 use Rattle.hhh_engine.proofs.SeenPositionLemmas.{seen_positions_of_cut, seen_positions_are_not_past}
 use Rattle.hhh_engine.proofs.SeenPositionLemmas.{seen_positions_not_past_self}
+use Rattle.slot_disk.specs.declared.disk.Disk.{Ghosts as DiskOf}
 
 -- from these positions on, those of these reports never fall, and each report has one for each shard
 record RisesInReopenedStore (shards : ℕ) (positions : List ℕ) (reports : List Reported) : Type 0 where
@@ -108,11 +109,10 @@ reopened_store_start_positions one settings lists store base opened limited many
     ∙ base_starts settings lists base many fits
 
 -- after whole saves alone the store opens to the last of them
-reopened_store_after_whole_saves : {D : Type 0} (reads : D → Option (List ℕ)) (image_now : D → List ℕ → Type 0) (moment : D → ℕ)
-    (image_since : D → ℕ → List ℕ → Type 0) (settings : StoreSettings) (lists : List (List RecordValue))
-    (saved : List CutValue) (old new : D) → SavesAreKeptOnDisk reads image_now moment image_since old new settings lists saved []
-    → SavesAreReopenedFromDisk reads image_now old new settings lists saved []
-reopened_store_after_whole_saves reads image_now moment image_since settings lists saved old new kept = λ store known.
+reopened_store_after_whole_saves : {D : Type 0} (d : DiskOf D) (settings : StoreSettings) (lists : List (List RecordValue))
+    (saved : List CutValue) (old new : D) → SavesAreKeptOnDisk d old new settings lists saved []
+    → SavesAreReopenedFromDisk d old new settings lists saved []
+reopened_store_after_whole_saves d settings lists saved old new kept = λ store known.
     let keeps = kept store known in
     let last : Option SavedValue =
     last_of_saves keeps.opened (saves_after (store_sequence keeps.opened) (digest_of_lists settings lists) saved) in
@@ -128,18 +128,17 @@ reopened_store_after_whole_saves reads image_now moment image_since settings lis
     }
 
 -- where the save of the next report is unfinished, the store opens to the last one before it, or to it
-reopened_store_after_broken_save : StoresOpenToOneThing → {D : Type 0} (reads : D → Option (List ℕ)) (image_now : D → List ℕ → Type 0)
-    (moment : D → ℕ) (image_since : D → ℕ → List ℕ → Type 0) (settings : Settings) (lists : List (List RecordValue))
+reopened_store_after_broken_save : StoresOpenToOneThing → {D : Type 0} (d : DiskOf D) (settings : Settings) (lists : List (List RecordValue))
     (base : Option CutValue) (count : ℕ) (rounds : List Reported) (next : Reported) (old new : D) → AreLimitedSettings settings
-    → length lists ≡ settings.shards → settings.store ≡ true → SessionGoesOnFrom settings lists (reads old) base
+    → length lists ≡ settings.shards → settings.store ≡ true → SessionGoesOnFrom settings lists (d.reads old) base
     → AreSessionReportsOfCaller (session_opening settings.capacity lists base) settings count (rounds ++ next ∷ [])
-    → SavesAreKeptOnDisk reads image_now moment image_since old new (store_settings_for_saves settings) lists
+    → SavesAreKeptOnDisk d old new (store_settings_for_saves settings) lists
     (session_saved_cuts true (session_opening settings.capacity lists base) rounds)
     (session_saved_cuts true (session_opening settings.capacity lists base) (next ∷ []))
-    → SavesAreReopenedFromDisk reads image_now old new (store_settings_for_saves settings) lists
+    → SavesAreReopenedFromDisk d old new (store_settings_for_saves settings) lists
     (session_saved_cuts true (session_opening settings.capacity lists base) rounds)
     (session_saved_cuts true (session_opening settings.capacity lists base) (next ∷ []))
-reopened_store_after_broken_save one reads image_now moment image_since settings lists base count rounds next old new limited many used begins
+reopened_store_after_broken_save one d settings lists base count rounds next old new limited many used begins
     are kept = λ store known.
     let keeps = kept store known in
     let opening : List ShardValue = session_opening settings.capacity lists base in
@@ -189,39 +188,37 @@ reopened_store_after_broken_save one reads image_now moment image_since settings
     }
 
 -- the same of what a session keeps, with or without a store
-reopened_store_of_session : StoresOpenToOneThing → {D : Type 0} (reads : D → Option (List ℕ)) (image_now : D → List ℕ → Type 0)
-    (moment : D → ℕ) (image_since : D → ℕ → List ℕ → Type 0) (settings : Settings) (lists : List (List RecordValue))
+reopened_store_of_session : StoresOpenToOneThing → {D : Type 0} (d : DiskOf D) (settings : Settings) (lists : List (List RecordValue))
     (base : Option CutValue) (count : ℕ) (rounds : List Reported) (next : Reported) (old new : D) → AreLimitedSettings settings
-    → length lists ≡ settings.shards → SessionGoesOnFrom settings lists (reads old) base
+    → length lists ≡ settings.shards → SessionGoesOnFrom settings lists (d.reads old) base
     → AreSessionReportsOfCaller (session_opening settings.capacity lists base) settings count (rounds ++ next ∷ [])
     → session_after_saves settings.store (session_opening settings.capacity lists base) rounds (λ saved unfinished.
     settings.store ≡ true
-    → SavesAreKeptOnDisk reads image_now moment image_since old new (store_settings_for_saves settings) lists saved unfinished)
+    → SavesAreKeptOnDisk d old new (store_settings_for_saves settings) lists saved unfinished)
     [] (session_saved_cuts settings.store (session_opening settings.capacity lists base) (next ∷ []))
     → session_after_saves settings.store (session_opening settings.capacity lists base) rounds (λ saved unfinished.
-    settings.store ≡ true → SavesAreReopenedFromDisk reads image_now old new (store_settings_for_saves settings) lists saved unfinished)
+    settings.store ≡ true → SavesAreReopenedFromDisk d old new (store_settings_for_saves settings) lists saved unfinished)
     [] (session_saved_cuts settings.store (session_opening settings.capacity lists base) (next ∷ []))
-reopened_store_of_session one reads image_now moment image_since settings lists base count rounds next old new limited many begins are
+reopened_store_of_session one d settings lists base count rounds next old new limited many begins are
     kept = λ used.
     let opening : List ShardValue = session_opening settings.capacity lists base in
     let Kept : List CutValue → List CutValue → Type 0 =
-    SavesAreKeptOnDisk reads image_now moment image_since old new (store_settings_for_saves settings) lists in
-    let Less : List CutValue → List CutValue → Type 0 = SavesAreReopenedFromDisk reads image_now old new (store_settings_for_saves settings) lists in
+    SavesAreKeptOnDisk d old new (store_settings_for_saves settings) lists in
+    let Less : List CutValue → List CutValue → Type 0 = SavesAreReopenedFromDisk d old new (store_settings_for_saves settings) lists in
     let cuts : List CutValue = session_saved_cuts true opening rounds in
     let one_more : List CutValue = session_saved_cuts true opening (next ∷ []) in
     subst (λ b. Less (session_saved_cuts b opening rounds ++ []) (session_saved_cuts b opening (next ∷ []))) (sym used)
     (subst (λ list. Less list one_more) (sym (append-nil cuts))
-    (reopened_store_after_broken_save one reads image_now moment image_since settings lists base count rounds next old new limited many used
+    (reopened_store_after_broken_save one d settings lists base count rounds next old new limited many used
     begins are
     (subst (λ list. Kept list one_more) (append-nil cuts)
     (subst (λ b. Kept (session_saved_cuts b opening rounds ++ []) (session_saved_cuts b opening (next ∷ []))) used (kept used)))))
 
 -- a whole session
-pub reopened_store_after_completion : {D : Type 0} (reads : D → Option (List ℕ)) (image_now : D → List ℕ → Type 0) (moment : D → ℕ)
-    (image_since : D → ℕ → List ℕ → Type 0) (rules : SessionRules) (settings : Settings) (old new : D) (file text : List ℕ)
-    → IsSession settings rules (SavesAreKeptOnDisk reads image_now moment image_since old new) (reads old) file text
-    → IsSession settings rules (SavesAreReopenedFromDisk reads image_now old new) (reads old) file text
-reopened_store_after_completion reads image_now moment image_since rules settings old new file text session = record {
+pub reopened_store_after_completion : {D : Type 0} (d : DiskOf D) (rules : SessionRules) (settings : Settings) (old new : D) (file text : List ℕ)
+    → IsSession settings rules (SavesAreKeptOnDisk d old new) (d.reads old) file text
+    → IsSession settings rules (SavesAreReopenedFromDisk d old new) (d.reads old) file text
+reopened_store_after_completion d rules settings old new file text session = record {
   records = session.records;
   lists = session.lists;
   dealt = session.dealt;
@@ -230,31 +227,30 @@ reopened_store_after_completion reads image_now moment image_since rules setting
   represents = session.represents;
   spelled = spelled_session_text_says_less (session_opening settings.capacity session.lists session.base) settings
       (λ cuts. settings.store ≡ true
-      → SavesAreKeptOnDisk reads image_now moment image_since old new (store_settings_for_saves settings) session.lists cuts [])
-      (λ cuts. settings.store ≡ true → SavesAreReopenedFromDisk reads image_now old new (store_settings_for_saves settings) session.lists cuts [])
+      → SavesAreKeptOnDisk d old new (store_settings_for_saves settings) session.lists cuts [])
+      (λ cuts. settings.store ≡ true → SavesAreReopenedFromDisk d old new (store_settings_for_saves settings) session.lists cuts [])
       (report_tail_text session.records) text
-      (λ cuts kept used. reopened_store_after_whole_saves reads image_now moment image_since (store_settings_for_saves settings) session.lists cuts
+      (λ cuts kept used. reopened_store_after_whole_saves d (store_settings_for_saves settings) session.lists cuts
       old new (kept used)) session.spelled;
 }
 
 -- a session that broke off
-pub reopened_store_after_breaking_off : StoresOpenToOneThing → {D : Type 0} (reads : D → Option (List ℕ)) (image_now : D → List ℕ → Type 0)
-    (moment : D → ℕ) (image_since : D → ℕ → List ℕ → Type 0) (rules : SessionRules) (settings : Settings) (old new : D)
+pub reopened_store_after_breaking_off : StoresOpenToOneThing → {D : Type 0} (d : DiskOf D) (rules : SessionRules) (settings : Settings) (old new : D)
     (file front : List ℕ) → AreLimitedSettings settings
-    → IsSessionInPart settings rules (SavesAreKeptOnDisk reads image_now moment image_since old new) (reads old) file front
-    → IsSessionInPart settings rules (SavesAreReopenedFromDisk reads image_now old new) (reads old) file front
-reopened_store_after_breaking_off one reads image_now moment image_since rules settings old new file front limited session =
+    → IsSessionInPart settings rules (SavesAreKeptOnDisk d old new) (d.reads old) file front
+    → IsSessionInPart settings rules (SavesAreReopenedFromDisk d old new) (d.reads old) file front
+reopened_store_after_breaking_off one d rules settings old new file front limited session =
     let lists : List (List RecordValue) = session.lists in
     let base : Option CutValue = session.base in
     let opening : List ShardValue = session_opening settings.capacity lists base in
     let many : length lists ≡ settings.shards =
     own_session_lists_match_shards settings.deal (rules settings.deal) settings.shards session.records.list lists session.dealt.dealt in
     let Kept : SessionSaving = λ saved unfinished. settings.store ≡ true
-    → SavesAreKeptOnDisk reads image_now moment image_since old new (store_settings_for_saves settings) lists saved unfinished in
+    → SavesAreKeptOnDisk d old new (store_settings_for_saves settings) lists saved unfinished in
     let Less : SessionSaving = λ saved unfinished. settings.store ≡ true
-    → SavesAreReopenedFromDisk reads image_now old new (store_settings_for_saves settings) lists saved unfinished in
+    → SavesAreReopenedFromDisk d old new (store_settings_for_saves settings) lists saved unfinished in
     let finished : (saved : List CutValue) → Kept saved [] → Less saved [] = λ saved kept used.
-    reopened_store_after_whole_saves reads image_now moment image_since (store_settings_for_saves settings) lists saved old new (kept used) in
+    reopened_store_after_whole_saves d (store_settings_for_saves settings) lists saved old new (kept used) in
     let cuts : List Reported → List CutValue = session_saved_cuts settings.store opening in
     record {
       records = session.records;
@@ -269,7 +265,7 @@ reopened_store_after_breaking_off one reads image_now moment image_since rules s
             between = λ rounds are. finished (cuts rounds);
             before = λ count rounds next are. finished (cuts rounds ++ []);
             unfinished = λ count rounds next are.
-                reopened_store_of_session one reads image_now moment image_since settings lists base count rounds next old new
+                reopened_store_of_session one d settings lists base count rounds next old new
                 limited many session.begins are;
             saved = λ count rounds next are. finished (cuts rounds ++ cuts (next ∷ []));
           }) session.begun;

@@ -10,6 +10,7 @@ use Rattle.hhh_report.specs.declared.reports.Reported.{Reported}
 use Rattle.gate_workers.specs.{cut_at_call}
 use Rattle.slot_disk.specs.{IfImageKnown, CrashLeavesAtAnyMoment, CrashLeavesAtAnyMoment-none}
 use Rattle.slot_disk.specs.{CrashLeavesAtAnyMoment-trans, CrashLeavesAtAnyMoment-weaker}
+use Rattle.slot_disk.specs.declared.disk.Disk.{Ghosts as DiskOf}
 use Rattle.checkpoint.specs.{AreHeaderSettings, IsKnownToSaver, StoreOpensAsOldOrNew, StoreOpensTo, SavedValue}
 use Rattle.checkpoint.specs.{SaverState, DiskMatchesSaver, StoresOpenToOneThing}
 use Rattle.checkpoint.specs.{saver_after_save, newest_in_store, next_saved, store_sequence}
@@ -65,13 +66,12 @@ save_leaves_bytes_known old None bytes known is = cc (known, is)
 save_leaves_bytes_known old (Some now) bytes known is = (now, refl)
 
 -- saves that follow others, into the store that these left
-kept_saves_follow : StoresOpenToOneThing → {D : Type 0} (image_now : D → List ℕ → Type 0) (moment : D → ℕ)
-    (image_since : D → ℕ → List ℕ → Type 0) (settings : StoreSettings) (digest : List ℕ) (Earlier : List ℕ → Type 0)
+kept_saves_follow : StoresOpenToOneThing → {D : Type 0} (d : DiskOf D) (settings : StoreSettings) (digest : List ℕ) (Earlier : List ℕ → Type 0)
     (cuts later unfinished : List CutValue) (old mid new : D) (store between : List ℕ) → AreHeaderSettings settings
-    → image_now mid between → KeepsSaves image_now moment image_since settings digest Earlier cuts [] old mid store
-    → KeepsSaves image_now moment image_since settings digest (λ image. ⊥) later unfinished mid new between
-    → KeepsSaves image_now moment image_since settings digest Earlier (cuts ++ later) unfinished old new store
-kept_saves_follow one {D} image_now moment image_since settings digest Earlier cuts later unfinished old mid new store between are now
+    → d.image_now mid between → KeepsSaves d settings digest Earlier cuts [] old mid store
+    → KeepsSaves d settings digest (λ image. ⊥) later unfinished mid new between
+    → KeepsSaves d settings digest Earlier (cuts ++ later) unfinished old new store
+kept_saves_follow one {D} d settings digest Earlier cuts later unfinished old mid new store between are now
     first second =
     let opened : Option SavedValue = first.opened in
     let start : ℕ = store_sequence opened in
@@ -94,16 +94,16 @@ kept_saves_follow one {D} image_now moment image_since settings digest Earlier c
     record {
       opened = opened;
       opens = first.opens;
-      any_moment = CrashLeavesAtAnyMoment-trans moment image_since old mid new
+      any_moment = CrashLeavesAtAnyMoment-trans d.moment d.image_since old mid new
           (λ image. Earlier image ⊎ OpensAsBeforeOrToSaves settings opened all image)
-          (CrashLeavesAtAnyMoment-weaker moment image_since old mid
+          (CrashLeavesAtAnyMoment-weaker d.moment d.image_since old mid
           (λ image. Earlier image ⊎ OpensAsBeforeOrToSaves settings opened (saves_after start digest (cuts ++ [])) image)
           (λ image. Earlier image ⊎ OpensAsBeforeOrToSaves settings opened all image) first.any_moment
           (λ image. ⊎_elim (λ earlier. inl earlier)
           (λ among. inr (subst (λ list. OpensAsBeforeOrToSaves settings opened list image) (sym parted)
           (opens_at_earlier_saves settings opened saves next image
           (subst (λ list. OpensAsBeforeOrToSaves settings opened (saves_after start digest list) image) (append-nil cuts) among))))))
-          (CrashLeavesAtAnyMoment-weaker moment image_since mid new
+          (CrashLeavesAtAnyMoment-weaker d.moment d.image_since mid new
           (λ image. ⊥ ⊎ OpensAsBeforeOrToSaves settings second.opened next image)
           (λ image. Earlier image ⊎ OpensAsBeforeOrToSaves settings opened all image) second.any_moment
           (λ image. ⊎_elim (λ never. absurd never)
@@ -119,19 +119,19 @@ kept_saves_follow one {D} image_now moment image_since settings digest Earlier c
     }
 
 -- what a save may leave at any moment
-save_leaves : StoresOpenToOneThing → {D : Type 0} (moment : D → ℕ) (image_since : D → ℕ → List ℕ → Type 0)
+save_leaves : StoresOpenToOneThing → {D : Type 0} (d : DiskOf D)
     (saver : SaverState) (cut : CutValue) (old new : D) (bytes : List ℕ) → AreHeaderSettings saver.settings
     → (store : IsKnownToSaver saver bytes)
-    → CrashLeavesAtAnyMoment moment image_since old new (StoreOpensAsOldOrNew saver.settings bytes (next_saved saver cut))
-    → CrashLeavesAtAnyMoment moment image_since old new (λ image. ⊥ ⊎ OpensAsBeforeOrToSaves saver.settings (newest_in_store store.first store.second)
+    → CrashLeavesAtAnyMoment d.moment d.image_since old new (StoreOpensAsOldOrNew saver.settings bytes (next_saved saver cut))
+    → CrashLeavesAtAnyMoment d.moment d.image_since old new (λ image. ⊥ ⊎ OpensAsBeforeOrToSaves saver.settings (newest_in_store store.first store.second)
     (saves_after (store_sequence (newest_in_store store.first store.second)) saver.digest (cut ∷ [])) image)
-save_leaves one moment image_since saver cut old new bytes are store any_moment =
+save_leaves one d saver cut old new bytes are store any_moment =
     let opened : Option SavedValue = newest_in_store store.first store.second in
     let saved : SavedValue = next_saved saver cut in
     let same : saved ≡ record { sequence = store_sequence opened + 1; digest = saver.digest; cut = cut } =
     ap (λ n. record { sequence = n + 1; digest = saver.digest; cut = cut }) store.sequence_is in
     let was : StoreOpensTo saver.settings bytes opened = (store.first, store.second, store.holds, refl) in
-    CrashLeavesAtAnyMoment-weaker moment image_since old new (StoreOpensAsOldOrNew saver.settings bytes saved)
+    CrashLeavesAtAnyMoment-weaker d.moment d.image_since old new (StoreOpensAsOldOrNew saver.settings bytes saved)
     (λ image. ⊥ ⊎ OpensAsBeforeOrToSaves saver.settings opened
     (saves_after (store_sequence opened) saver.digest (cut ∷ [])) image) any_moment
     (λ image. ⊎_elim
@@ -140,17 +140,16 @@ save_leaves one moment image_since saver cut old new bytes are store any_moment 
     (λ is_new. inr (inr (subst (λ s. StoreOpensTo saver.settings image (Some s)) same is_new))))
 
 -- one save, as its contract states it
-pub one_save : StoresOpenToOneThing → {D : Type 0} (reads : D → Option (List ℕ)) (image_now : D → List ℕ → Type 0)
-    (moment : D → ℕ) (image_since : D → ℕ → List ℕ → Type 0) (saver : SaverState) (cut : CutValue) (old new : D)
-    → AreHeaderSettings saver.settings → DiskMatchesSaver (reads old) (image_now old) saver
-    → is_some (reads new) ≡ is_some (reads old)
-    → DiskMatchesSaver (reads new) (image_now new) (saver_after_save saver cut)
-    → IfImageKnown (reads new) (λ bytes. (image : List ℕ) → image_now new image
+pub one_save : StoresOpenToOneThing → {D : Type 0} (d : DiskOf D) (saver : SaverState) (cut : CutValue) (old new : D)
+    → AreHeaderSettings saver.settings → DiskMatchesSaver (d.reads old) (d.image_now old) saver
+    → is_some (d.reads new) ≡ is_some (d.reads old)
+    → DiskMatchesSaver (d.reads new) (d.image_now new) (saver_after_save saver cut)
+    → IfImageKnown (d.reads new) (λ bytes. (image : List ℕ) → d.image_now new image
     → StoreOpensTo saver.settings image (Some (next_saved saver cut)))
-    → IfImageKnown (reads old)
-    (λ bytes. CrashLeavesAtAnyMoment moment image_since old new (StoreOpensAsOldOrNew saver.settings bytes (next_saved saver cut)))
-    → SavesCuts reads image_now moment image_since saver (cut ∷ []) old new
-one_save one reads image_now moment image_since saver cut old new are before known stands opens any_moment = record {
+    → IfImageKnown (d.reads old)
+    (λ bytes. CrashLeavesAtAnyMoment d.moment d.image_since old new (StoreOpensAsOldOrNew saver.settings bytes (next_saved saver cut)))
+    → SavesCuts d saver (cut ∷ []) old new
+one_save one d saver cut old new are before known stands opens any_moment = record {
   known = known;
   stands = stands;
   kept = λ bytes is.
@@ -161,27 +160,26 @@ one_save one reads image_now moment image_since saver cut old new are before kno
       record {
         opened = opened;
         opens = (store.first, store.second, store.holds, refl);
-        any_moment = save_leaves one moment image_since saver cut old new bytes are store (any_moment bytes is);
+        any_moment = save_leaves one d saver cut old new bytes are store (any_moment bytes is);
         afterwards = λ image now.
-            let bytes_now = save_leaves_bytes_known (reads old) (reads new) bytes known is in
+            let bytes_now = save_leaves_bytes_known (d.reads old) (d.reads new) bytes known is in
             subst (λ s. StoreOpensTo saver.settings image (Some s)) same (opens bytes_now.0 bytes_now.1 image now);
       };
 }
 
 -- an unfinished save, as its contract states it
-unfinished_save : StoresOpenToOneThing → {D : Type 0} (reads : D → Option (List ℕ)) (image_now : D → List ℕ → Type 0)
-    (moment : D → ℕ) (image_since : D → ℕ → List ℕ → Type 0) (saver : SaverState) (cut : CutValue) (old new : D)
-    → AreHeaderSettings saver.settings → DiskMatchesSaver (reads old) (image_now old) saver
-    → ((disk : D) (t : ℕ) (image : List ℕ) → t ≤ moment disk → image_now disk image → image_since disk t image)
-    → IfImageKnown (reads old)
-    (λ bytes. CrashLeavesAtAnyMoment moment image_since old new (StoreOpensAsOldOrNew saver.settings bytes (next_saved saver cut)))
-    → SavesInPart reads image_now moment image_since (Some saver) old new [] (cut ∷ [])
-unfinished_save one reads image_now moment image_since saver cut old new are before now_is_since any_moment = record {
+unfinished_save : StoresOpenToOneThing → {D : Type 0} (d : DiskOf D) (saver : SaverState) (cut : CutValue) (old new : D)
+    → AreHeaderSettings saver.settings → DiskMatchesSaver (d.reads old) (d.image_now old) saver
+    → ((disk : D) (t : ℕ) (image : List ℕ) → t ≤ d.moment disk → d.image_now disk image → d.image_since disk t image)
+    → IfImageKnown (d.reads old)
+    (λ bytes. CrashLeavesAtAnyMoment d.moment d.image_since old new (StoreOpensAsOldOrNew saver.settings bytes (next_saved saver cut)))
+    → SavesInPart d (Some saver) old new [] (cut ∷ [])
+unfinished_save one d saver cut old new are before now_is_since any_moment = record {
   unused = λ none. cc none;
   kept = λ bytes is.
       let store = (before bytes is).is_known in
       let opened : Option SavedValue = newest_in_store store.first store.second in
-      let leaves = save_leaves one moment image_since saver cut old new bytes are store (any_moment bytes is) in
+      let leaves = save_leaves one d saver cut old new bytes are store (any_moment bytes is) in
       record {
         opened = opened;
         opens = (store.first, store.second, store.holds, refl);
@@ -189,33 +187,31 @@ unfinished_save one reads image_now moment image_since saver cut old new are bef
         afterwards = λ image now.
             subst (λ n. OpensAsBeforeOrToSaves saver.settings opened (saves_after n saver.digest (cut ∷ [])) image) (omega arith)
             (⊎_elim (λ never. absurd never) (λ among. among)
-            (leaves.each image (now_is_since new (moment old) image leaves.later now)));
+            (leaves.each image (now_is_since new (d.moment old) image leaves.later now)));
       };
 }
 
 -- and by whichever saver is there
-pub unfinished_save_of : StoresOpenToOneThing → {D : Type 0} (reads : D → Option (List ℕ)) (image_now : D → List ℕ → Type 0)
-    (moment : D → ℕ) (image_since : D → ℕ → List ℕ → Type 0) (before : Option SaverState) (saver : SaverState)
+pub unfinished_save_of : StoresOpenToOneThing → {D : Type 0} (d : DiskOf D) (before : Option SaverState) (saver : SaverState)
     (cut : CutValue) (old new : D) → before ≡ Some saver
-    → IfSome before (DealtFeedCanSaveCut (reads old) (image_now old) cut)
-    → ((disk : D) (t : ℕ) (image : List ℕ) → t ≤ moment disk → image_now disk image → image_since disk t image)
-    → IfImageKnown (reads old)
-    (λ bytes. CrashLeavesAtAnyMoment moment image_since old new (StoreOpensAsOldOrNew saver.settings bytes (next_saved saver cut)))
-    → SavesInPart reads image_now moment image_since before old new [] (cut ∷ [])
-unfinished_save_of one reads image_now moment image_since before saver cut old new is can now_is_since any_moment =
-    let may : DealtFeedCanSaveCut (reads old) (image_now old) cut saver =
-    subst (λ s. IfSome s (DealtFeedCanSaveCut (reads old) (image_now old) cut)) is can in
-    subst (λ s. SavesInPart reads image_now moment image_since s old new [] (cut ∷ [])) (sym is)
-    (unfinished_save one reads image_now moment image_since saver cut old new may.settings may.stands now_is_since any_moment)
+    → IfSome before (DealtFeedCanSaveCut (d.reads old) (d.image_now old) cut)
+    → ((disk : D) (t : ℕ) (image : List ℕ) → t ≤ d.moment disk → d.image_now disk image → d.image_since disk t image)
+    → IfImageKnown (d.reads old)
+    (λ bytes. CrashLeavesAtAnyMoment d.moment d.image_since old new (StoreOpensAsOldOrNew saver.settings bytes (next_saved saver cut)))
+    → SavesInPart d before old new [] (cut ∷ [])
+unfinished_save_of one d before saver cut old new is can now_is_since any_moment =
+    let may : DealtFeedCanSaveCut (d.reads old) (d.image_now old) cut saver =
+    subst (λ s. IfSome s (DealtFeedCanSaveCut (d.reads old) (d.image_now old) cut)) is can in
+    subst (λ s. SavesInPart d s old new [] (cut ∷ [])) (sym is)
+    (unfinished_save one d saver cut old new may.settings may.stands now_is_since any_moment)
 
 -- no save
-pub no_save : {D : Type 0} (reads : D → Option (List ℕ)) (image_now : D → List ℕ → Type 0) (moment : D → ℕ)
-    (image_since : D → ℕ → List ℕ → Type 0) (before : Option SaverState) (disk : D)
-    → ((image : List ℕ) → image_since disk (moment disk) image → image_now disk image)
-    → IfSome before (DiskMatchesSaver (reads disk) (image_now disk))
-    → SavesInTurn reads image_now moment image_since before before disk disk []
-no_save reads image_now moment image_since None disk only_now stands = record { saver = refl; saves = refl }
-no_save reads image_now moment image_since (Some saver) disk only_now stands = record {
+pub no_save : {D : Type 0} (d : DiskOf D) (before : Option SaverState) (disk : D)
+    → ((image : List ℕ) → d.image_since disk (d.moment disk) image → d.image_now disk image)
+    → IfSome before (DiskMatchesSaver (d.reads disk) (d.image_now disk))
+    → SavesInTurn d before before disk disk []
+no_save d None disk only_now stands = record { saver = refl; saves = refl }
+no_save d (Some saver) disk only_now stands = record {
   saver = refl;
   saves = record {
     known = refl;
@@ -228,7 +224,7 @@ no_save reads image_now moment image_since (Some saver) disk only_now stands = r
         record {
           opened = newest_in_store first second;
           opens = was;
-          any_moment = CrashLeavesAtAnyMoment-none moment image_since disk
+          any_moment = CrashLeavesAtAnyMoment-none d.moment d.image_since disk
               (λ image. ⊥ ⊎ StoreOpensTo saver.settings image (newest_in_store first second))
               (λ image since. inr (subst (λ i. StoreOpensTo saver.settings i (newest_in_store first second))
               (sym (store.only image (only_now image since))) was));
@@ -258,79 +254,75 @@ saves_raise_sequence saver [] = omega arith
 saves_raise_sequence saver (cut ∷ cuts) = saves_raise_sequence (saver_after_save saver cut) cuts ∙ omega arith
 
 -- what is kept by the saver after these saves is kept by the one before them
-saves_kept_as_before : {D : Type 0} (image_now : D → List ℕ → Type 0) (moment : D → ℕ) (image_since : D → ℕ → List ℕ → Type 0)
+saves_kept_as_before : {D : Type 0} (d : DiskOf D)
     (saver : SaverState) (cuts saved unfinished : List CutValue) (mid new : D) (store : List ℕ)
-    → KeepsSaves image_now moment image_since (after_saves saver cuts).settings (after_saves saver cuts).digest (λ image. ⊥)
+    → KeepsSaves d (after_saves saver cuts).settings (after_saves saver cuts).digest (λ image. ⊥)
     saved unfinished mid new store
-    → KeepsSaves image_now moment image_since saver.settings saver.digest (λ image. ⊥) saved unfinished mid new store
-saves_kept_as_before image_now moment image_since saver cuts saved unfinished mid new store kept =
-    subst (λ settings. KeepsSaves image_now moment image_since settings saver.digest (λ image. ⊥) saved unfinished mid new store)
+    → KeepsSaves d saver.settings saver.digest (λ image. ⊥) saved unfinished mid new store
+saves_kept_as_before d saver cuts saved unfinished mid new store kept =
+    subst (λ settings. KeepsSaves d settings saver.digest (λ image. ⊥) saved unfinished mid new store)
     (saves_leave_settings saver cuts)
-    (subst (λ digest. KeepsSaves image_now moment image_since (after_saves saver cuts).settings digest (λ image. ⊥) saved
+    (subst (λ digest. KeepsSaves d (after_saves saver cuts).settings digest (λ image. ⊥) saved
     unfinished mid new store) (saves_leave_digest saver cuts) kept)
 
-saves_of_cuts_follow : StoresOpenToOneThing → {D : Type 0} (reads : D → Option (List ℕ)) (image_now : D → List ℕ → Type 0)
-    (moment : D → ℕ) (image_since : D → ℕ → List ℕ → Type 0) (saver : SaverState) (cuts later : List CutValue)
+saves_of_cuts_follow : StoresOpenToOneThing → {D : Type 0} (d : DiskOf D) (saver : SaverState) (cuts later : List CutValue)
     (old mid new : D) → AreHeaderSettings saver.settings
-    → ((disk : D) (bytes : List ℕ) → reads disk ≡ Some bytes → image_now disk bytes)
-    → SavesCuts reads image_now moment image_since saver cuts old mid
-    → SavesCuts reads image_now moment image_since (after_saves saver cuts) later mid new
-    → SavesCuts reads image_now moment image_since saver (cuts ++ later) old new
-saves_of_cuts_follow one reads image_now moment image_since saver cuts later old mid new are is_image first second = record {
+    → ((disk : D) (bytes : List ℕ) → d.reads disk ≡ Some bytes → d.image_now disk bytes)
+    → SavesCuts d saver cuts old mid
+    → SavesCuts d (after_saves saver cuts) later mid new
+    → SavesCuts d saver (cuts ++ later) old new
+saves_of_cuts_follow one d saver cuts later old mid new are is_image first second = record {
   known = second.known ∙ first.known;
   stands =
-      subst (DiskMatchesSaver (reads new) (image_now new)) (sym (fold-append_saves saver_after_save saver cuts later)) second.stands;
+      subst (DiskMatchesSaver (d.reads new) (d.image_now new)) (sym (fold-append_saves saver_after_save saver cuts later)) second.stands;
   kept = λ bytes is.
-      let between = save_leaves_bytes_known (reads old) (reads mid) bytes first.known is in
-      kept_saves_follow one image_now moment image_since saver.settings saver.digest (λ image. ⊥) cuts later [] old mid new bytes
+      let between = save_leaves_bytes_known (d.reads old) (d.reads mid) bytes first.known is in
+      kept_saves_follow one d saver.settings saver.digest (λ image. ⊥) cuts later [] old mid new bytes
       between.0 are (is_image mid between.0 between.1) (first.kept bytes is)
-      (saves_kept_as_before image_now moment image_since saver cuts later [] mid new between.0
+      (saves_kept_as_before d saver cuts later [] mid new between.0
       (second.kept between.0 between.1));
 }
 
 -- saves after saves
-pub saves_follow : StoresOpenToOneThing → {D : Type 0} (reads : D → Option (List ℕ)) (image_now : D → List ℕ → Type 0)
-    (moment : D → ℕ) (image_since : D → ℕ → List ℕ → Type 0) (before between after : Option SaverState)
+pub saves_follow : StoresOpenToOneThing → {D : Type 0} (d : DiskOf D) (before between after : Option SaverState)
     (cuts later : List CutValue) (old mid new : D) → IfSome before (λ saver. AreHeaderSettings saver.settings)
-    → ((disk : D) (bytes : List ℕ) → reads disk ≡ Some bytes → image_now disk bytes)
-    → SavesInTurn reads image_now moment image_since before between old mid cuts
-    → SavesInTurn reads image_now moment image_since between after mid new later
-    → SavesInTurn reads image_now moment image_since before after old new (cuts ++ later)
-saves_follow one reads image_now moment image_since None between after cuts later old mid new are is_image first second =
+    → ((disk : D) (bytes : List ℕ) → d.reads disk ≡ Some bytes → d.image_now disk bytes)
+    → SavesInTurn d before between old mid cuts
+    → SavesInTurn d between after mid new later
+    → SavesInTurn d before after old new (cuts ++ later)
+saves_follow one d None between after cuts later old mid new are is_image first second =
     let none : between ≡ None = first.saver in
-    let then : SavesInTurn reads image_now moment image_since None after mid new later =
-    subst (λ s. SavesInTurn reads image_now moment image_since s after mid new later) none second in
+    let then : SavesInTurn d None after mid new later =
+    subst (λ s. SavesInTurn d s after mid new later) none second in
     record { saver = then.saver; saves = then.saves ∙ first.saves }
-saves_follow one reads image_now moment image_since (Some saver) between after cuts later old mid new are is_image first
+saves_follow one d (Some saver) between after cuts later old mid new are is_image first
     second =
-    let then : SavesInTurn reads image_now moment image_since (Some (after_saves saver cuts)) after mid new later =
-    subst (λ s. SavesInTurn reads image_now moment image_since s after mid new later) first.saver second in
+    let then : SavesInTurn d (Some (after_saves saver cuts)) after mid new later =
+    subst (λ s. SavesInTurn d s after mid new later) first.saver second in
     record {
       saver = then.saver ∙ ap Some (sym (fold-append_saves saver_after_save saver cuts later));
-      saves = saves_of_cuts_follow one reads image_now moment image_since saver cuts later old mid new are is_image first.saves
+      saves = saves_of_cuts_follow one d saver cuts later old mid new are is_image first.saves
           then.saves;
     }
 
 -- saves that were made leave none unfinished
-pub part_of_saves : {D : Type 0} (reads : D → Option (List ℕ)) (image_now : D → List ℕ → Type 0) (moment : D → ℕ)
-    (image_since : D → ℕ → List ℕ → Type 0) (before : Option SaverState) (old new : D) (cuts : List CutValue)
-    → Saves reads image_now moment image_since before cuts old new
-    → SavesInPart reads image_now moment image_since before old new cuts []
-part_of_saves reads image_now moment image_since None old new cuts saves =
+pub part_of_saves : {D : Type 0} (d : DiskOf D) (before : Option SaverState) (old new : D) (cuts : List CutValue)
+    → Saves d before cuts old new
+    → SavesInPart d before old new cuts []
+part_of_saves d None old new cuts saves =
     record { unused = λ none. saves; kept = tt }
-part_of_saves reads image_now moment image_since (Some saver) old new cuts saves =
+part_of_saves d (Some saver) old new cuts saves =
     record { unused = λ none. cc none; kept = saves.kept }
 
 -- nothing was saved into a disk that is untouched
-pub no_save_into_untouched_disk : {D : Type 0} (reads : D → Option (List ℕ)) (image_now : D → List ℕ → Type 0) (moment : D → ℕ)
-    (image_since : D → ℕ → List ℕ → Type 0) (before : Option SaverState) (old new : D)
-    → ((disk : D) (image : List ℕ) → image_since disk (moment disk) image → image_now disk image)
-    → IfSome before (DiskMatchesSaver (reads old) (image_now old)) → new ≡ old
-    → SavesInPart reads image_now moment image_since before old new [] []
-no_save_into_untouched_disk reads image_now moment image_since before old new only_now stands same =
-    subst (λ disk. SavesInPart reads image_now moment image_since before old disk [] []) (sym same)
-    (part_of_saves reads image_now moment image_since before old old []
-    (no_save reads image_now moment image_since before old (only_now old) stands).saves)
+pub no_save_into_untouched_disk : {D : Type 0} (d : DiskOf D) (before : Option SaverState) (old new : D)
+    → ((disk : D) (image : List ℕ) → d.image_since disk (d.moment disk) image → d.image_now disk image)
+    → IfSome before (DiskMatchesSaver (d.reads old) (d.image_now old)) → new ≡ old
+    → SavesInPart d before old new [] []
+no_save_into_untouched_disk d before old new only_now stands same =
+    subst (λ disk. SavesInPart d before old disk [] []) (sym same)
+    (part_of_saves d before old old []
+    (no_save d before old (only_now old) stands).saves)
 
 -- the saver after no save
 no_save_keeps_saver : (saver : Option SaverState) → saver ≡ saver_after_broken_saves saver [] []
@@ -338,24 +330,22 @@ no_save_keeps_saver None = refl
 no_save_keeps_saver (Some saver) = refl
 
 -- saves that broke off before the first, into a disk that is untouched, and with the saver as it was
-pub no_save_broke_off : {D : Type 0} (reads : D → Option (List ℕ)) (image_now : D → List ℕ → Type 0) (moment : D → ℕ)
-    (image_since : D → ℕ → List ℕ → Type 0) (before after : Option SaverState) (old new : D)
-    → ((disk : D) (image : List ℕ) → image_since disk (moment disk) image → image_now disk image)
-    → IfSome before (DiskMatchesSaver (reads old) (image_now old)) → after ≡ before → new ≡ old
-    → SavesBreakOff reads image_now moment image_since before after old new [] []
-no_save_broke_off reads image_now moment image_since before after old new only_now stands same_saver same = record {
+pub no_save_broke_off : {D : Type 0} (d : DiskOf D) (before after : Option SaverState) (old new : D)
+    → ((disk : D) (image : List ℕ) → d.image_since disk (d.moment disk) image → d.image_now disk image)
+    → IfSome before (DiskMatchesSaver (d.reads old) (d.image_now old)) → after ≡ before → new ≡ old
+    → SavesBreakOff d before after old new [] []
+no_save_broke_off d before after old new only_now stands same_saver same = record {
   saver = same_saver ∙ no_save_keeps_saver before;
-  saves = no_save_into_untouched_disk reads image_now moment image_since before old new only_now stands same;
+  saves = no_save_into_untouched_disk d before old new only_now stands same;
 }
 
 -- saves that were made before what broke off
-pub whole_saves_broke_off : {D : Type 0} (reads : D → Option (List ℕ)) (image_now : D → List ℕ → Type 0) (moment : D → ℕ)
-    (image_since : D → ℕ → List ℕ → Type 0) (before after : Option SaverState) (old new : D) (cuts : List CutValue)
-    → SavesInTurn reads image_now moment image_since before after old new cuts
-    → SavesBreakOff reads image_now moment image_since before after old new cuts []
-whole_saves_broke_off reads image_now moment image_since before after old new cuts saves = record {
+pub whole_saves_broke_off : {D : Type 0} (d : DiskOf D) (before after : Option SaverState) (old new : D) (cuts : List CutValue)
+    → SavesInTurn d before after old new cuts
+    → SavesBreakOff d before after old new cuts []
+whole_saves_broke_off d before after old new cuts saves = record {
   saver = saves.saver;
-  saves = part_of_saves reads image_now moment image_since before old new cuts saves.saves;
+  saves = part_of_saves d before old new cuts saves.saves;
 }
 
 -- the saver after saves, and then after saves that broke off
@@ -368,50 +358,47 @@ saver_after_more_saves (Some saver) between cuts saved [] is =
     ap (option_map (λ saver. after_saves saver saved)) is ∙ ap Some (sym (fold-append_saves saver_after_save saver cuts saved))
 
 -- what broke off after saves
-pub broken_off_save_follows : StoresOpenToOneThing → {D : Type 0} (reads : D → Option (List ℕ)) (image_now : D → List ℕ → Type 0)
-    (moment : D → ℕ) (image_since : D → ℕ → List ℕ → Type 0) (before between : Option SaverState)
+pub broken_off_save_follows : StoresOpenToOneThing → {D : Type 0} (d : DiskOf D) (before between : Option SaverState)
     (cuts saved unfinished : List CutValue) (old mid new : D) → IfSome before (λ saver. AreHeaderSettings saver.settings)
-    → ((disk : D) (bytes : List ℕ) → reads disk ≡ Some bytes → image_now disk bytes)
-    → SavesInTurn reads image_now moment image_since before between old mid cuts
-    → SavesInPart reads image_now moment image_since between mid new saved unfinished
-    → SavesInPart reads image_now moment image_since before old new (cuts ++ saved) unfinished
-broken_off_save_follows one reads image_now moment image_since None between cuts saved unfinished old mid new are is_image first second =
+    → ((disk : D) (bytes : List ℕ) → d.reads disk ≡ Some bytes → d.image_now disk bytes)
+    → SavesInTurn d before between old mid cuts
+    → SavesInPart d between mid new saved unfinished
+    → SavesInPart d before old new (cuts ++ saved) unfinished
+broken_off_save_follows one d None between cuts saved unfinished old mid new are is_image first second =
     record { unused = λ none. second.unused first.saver ∙ first.saves; kept = tt }
-broken_off_save_follows one reads image_now moment image_since (Some saver) between cuts saved unfinished old mid new are is_image first
+broken_off_save_follows one d (Some saver) between cuts saved unfinished old mid new are is_image first
     second = record {
       unused = λ none. cc none;
       kept = λ bytes is.
-          let known = save_leaves_bytes_known (reads old) (reads mid) bytes first.saves.known is in
-          let then : SavesInPart reads image_now moment image_since (Some (after_saves saver cuts)) mid new saved unfinished =
-          subst (λ s. SavesInPart reads image_now moment image_since s mid new saved unfinished) first.saver second in
-          kept_saves_follow one image_now moment image_since saver.settings saver.digest (λ image. ⊥) cuts saved unfinished old mid
+          let known = save_leaves_bytes_known (d.reads old) (d.reads mid) bytes first.saves.known is in
+          let then : SavesInPart d (Some (after_saves saver cuts)) mid new saved unfinished =
+          subst (λ s. SavesInPart d s mid new saved unfinished) first.saver second in
+          kept_saves_follow one d saver.settings saver.digest (λ image. ⊥) cuts saved unfinished old mid
           new bytes known.0 are (is_image mid known.0 known.1) (first.saves.kept bytes is)
-          (saves_kept_as_before image_now moment image_since saver cuts saved unfinished mid new known.0 (then.kept known.0 known.1));
+          (saves_kept_as_before d saver cuts saved unfinished mid new known.0 (then.kept known.0 known.1));
     }
 
 -- and the saver after it
-pub broken_saves_follow : StoresOpenToOneThing → {D : Type 0} (reads : D → Option (List ℕ)) (image_now : D → List ℕ → Type 0)
-    (moment : D → ℕ) (image_since : D → ℕ → List ℕ → Type 0) (before between after : Option SaverState)
+pub broken_saves_follow : StoresOpenToOneThing → {D : Type 0} (d : DiskOf D) (before between after : Option SaverState)
     (cuts saved unfinished : List CutValue) (old mid new : D) → IfSome before (λ saver. AreHeaderSettings saver.settings)
-    → ((disk : D) (bytes : List ℕ) → reads disk ≡ Some bytes → image_now disk bytes)
-    → SavesInTurn reads image_now moment image_since before between old mid cuts
-    → SavesBreakOff reads image_now moment image_since between after mid new saved unfinished
-    → SavesBreakOff reads image_now moment image_since before after old new (cuts ++ saved) unfinished
-broken_saves_follow one reads image_now moment image_since before between after cuts saved unfinished old mid new are is_image first
+    → ((disk : D) (bytes : List ℕ) → d.reads disk ≡ Some bytes → d.image_now disk bytes)
+    → SavesInTurn d before between old mid cuts
+    → SavesBreakOff d between after mid new saved unfinished
+    → SavesBreakOff d before after old new (cuts ++ saved) unfinished
+broken_saves_follow one d before between after cuts saved unfinished old mid new are is_image first
     second = record {
       saver = second.saver ∙ saver_after_more_saves before between cuts saved unfinished first.saver;
-      saves = broken_off_save_follows one reads image_now moment image_since before between cuts saved unfinished old mid new are
+      saves = broken_off_save_follows one d before between cuts saved unfinished old mid new are
           is_image first second.saves;
     }
 
 -- a disk that is untouched is as before
-pub disk_without_save_is_unchanged : {D : Type 0} (reads : D → Option (List ℕ)) (image_now : D → List ℕ → Type 0)
-    (moment : D → ℕ) (image_since : D → ℕ → List ℕ → Type 0) (old new : D)
-    → ((disk : D) (image : List ℕ) → image_since disk (moment disk) image → image_now disk image) → new ≡ old
-    → IsAsBeforeSaves reads image_now moment image_since old new
-disk_without_save_is_unchanged reads image_now moment image_since old new only_now same =
-    subst (IsAsBeforeSaves reads image_now moment image_since old) (sym same)
-    (record { same_reads = refl; any_moment = CrashLeavesAtAnyMoment-none moment image_since old (image_now old) (only_now old) })
+pub disk_without_save_is_unchanged : {D : Type 0} (d : DiskOf D) (old new : D)
+    → ((disk : D) (image : List ℕ) → d.image_since disk (d.moment disk) image → d.image_now disk image) → new ≡ old
+    → IsAsBeforeSaves d old new
+disk_without_save_is_unchanged d old new only_now same =
+    subst (IsAsBeforeSaves d old) (sym same)
+    (record { same_reads = refl; any_moment = CrashLeavesAtAnyMoment-none d.moment d.image_since old (d.image_now old) (only_now old) })
 
 -- the cuts saved after some reports and more
 pub session_saved_cuts-append_saves : (store : Bool) (opening : List ShardValue) (reports later : List Reported)
@@ -420,13 +407,12 @@ session_saved_cuts-append_saves false opening reports later = refl
 session_saved_cuts-append_saves true opening reports later = map-append (λ (r : Reported). cut_at_call opening r.report.positions) reports later
 
 -- without a saver there are no cuts
-pub no_saver_no_save : {D : Type 0} (reads : D → Option (List ℕ)) (image_now : D → List ℕ → Type 0) (moment : D → ℕ)
-    (image_since : D → ℕ → List ℕ → Type 0) (before after : Option SaverState) (old new : D) (cuts : List CutValue)
-    → is_some before ≡ false → SavesInTurn reads image_now moment image_since before after old new cuts
-    → SavesInTurn reads image_now moment image_since before after old new []
-no_saver_no_save reads image_now moment image_since None after old new cuts none saves =
+pub no_saver_no_save : {D : Type 0} (d : DiskOf D) (before after : Option SaverState) (old new : D) (cuts : List CutValue)
+    → is_some before ≡ false → SavesInTurn d before after old new cuts
+    → SavesInTurn d before after old new []
+no_saver_no_save d None after old new cuts none saves =
     record { saver = saves.saver; saves = saves.saves }
-no_saver_no_save reads image_now moment image_since (Some saver) after old new cuts none saves = cc none
+no_saver_no_save d (Some saver) after old new cuts none saves = cc none
 
 -- the cut that is saved after one report
 pub save_of_reported_cut : (store : Bool) (opening : List ShardValue) (report : Report) (cut : CutValue)
@@ -437,9 +423,8 @@ save_of_reported_cut false opening report cut Kept is none kept = none refl kept
 save_of_reported_cut true opening report cut Kept is none kept = subst (λ c. Kept (c ∷ [])) is kept
 
 -- without a saver nothing was done
-pub save_needs_saver : {D : Type 0} (reads : D → Option (List ℕ)) (image_now : D → List ℕ → Type 0) (moment : D → ℕ)
-    (image_since : D → ℕ → List ℕ → Type 0) (before after : Option SaverState) (old new : D) (cuts : List CutValue)
-    → SavesInTurn reads image_now moment image_since before after old new cuts → before ≡ None
+pub save_needs_saver : {D : Type 0} (d : DiskOf D) (before after : Option SaverState) (old new : D) (cuts : List CutValue)
+    → SavesInTurn d before after old new cuts → before ≡ None
     → (after ≡ None) × (new ≡ old)
-save_needs_saver reads image_now moment image_since None after old new cuts saves none = (saves.saver, saves.saves)
-save_needs_saver reads image_now moment image_since (Some saver) after old new cuts saves none = cc none
+save_needs_saver d None after old new cuts saves none = (saves.saver, saves.saves)
+save_needs_saver d (Some saver) after old new cuts saves none = cc none

@@ -18,6 +18,7 @@ use Rattle.hhh_engine.specs.Saves.{CanMakeSaves, SavesFitBoard, SavesInTurn, aft
 use Rattle.hhh_engine.specs.Session.{session_saved_cuts}
 use Rattle.hhh_engine.proofs.RoundLemmas.{round_makes_report}
 use Rattle.hhh_engine.proofs.SaveLemmas.{saves_raise_sequence}
+use Rattle.slot_disk.specs.declared.disk.Disk.{Ghosts as DiskOf}
 
 -- the positions of the cut of the pure core
 pub seen_positions_of_cut : (opening : List ShardValue) (positions : List ℕ) → length positions ≡ length opening
@@ -195,23 +196,22 @@ seen_position_saved_count : (opening : List ShardValue) (reports : List Reported
 seen_position_saved_count opening reports = length-map reports _
 
 -- after some rounds the saver may make the saves of the remaining ones
-pub seen_positions_allow_more_saves : {D : Type 0} (reads : D → Option (List ℕ)) (image_now : D → List ℕ → Type 0) (moment : D → ℕ)
-    (image_since : D → ℕ → List ℕ → Type 0) (opening : List ShardValue) (view : View)
+pub seen_positions_allow_more_saves : {D : Type 0} (d : DiskOf D) (opening : List ShardValue) (view : View)
     (before saver : Option SaverState) (reports : List Reported) (old new : D) (made count rounds : ℕ)
     → length reports ≡ made → made + count ≤ rounds → IfSome saver (SavesFitBoard opening view)
-    → SavesInTurn reads image_now moment image_since before saver old new (session_saved_cuts (is_some before) opening reports)
+    → SavesInTurn d before saver old new (session_saved_cuts (is_some before) opening reports)
     → IfSome before (λ saver. saver.sequence + rounds ≤ greatest_body_sequence)
-    → IfSome saver (CanMakeSaves (reads new) (image_now new) opening view count)
-seen_positions_allow_more_saves reads image_now moment image_since opening view None saver reports old new made count rounds many few fits
+    → IfSome saver (CanMakeSaves (d.reads new) (d.image_now new) opening view count)
+seen_positions_allow_more_saves d opening view None saver reports old new made count rounds many few fits
     saves early =
-    subst (λ o. IfSome o (CanMakeSaves (reads new) (image_now new) opening view count)) (sym saves.saver) tt
-seen_positions_allow_more_saves reads image_now moment image_since opening view (Some first) saver reports old new made count rounds many few
+    subst (λ o. IfSome o (CanMakeSaves (d.reads new) (d.image_now new) opening view count)) (sym saves.saver) tt
+seen_positions_allow_more_saves d opening view (Some first) saver reports old new made count rounds many few
     fits saves early =
     let cuts : List CutValue = session_saved_cuts true opening reports in
     let now : SaverState = after_saves first cuts in
     let sequence : now.sequence ≡ first.sequence + length cuts = saves_raise_sequence first cuts in
     let as_many : length cuts ≡ length reports = seen_position_saved_count opening reports in
-    subst (λ o. IfSome o (CanMakeSaves (reads new) (image_now new) opening view count)) (sym saves.saver)
+    subst (λ o. IfSome o (CanMakeSaves (d.reads new) (d.image_now new) opening view count)) (sym saves.saver)
     (record {
       fits = subst (λ o. IfSome o (SavesFitBoard opening view)) saves.saver fits;
       stands = saves.saves.stands;

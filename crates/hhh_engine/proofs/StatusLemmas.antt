@@ -2,6 +2,9 @@
 use Rattle.std.proofs.Common.{◌≡◌, ◌⊎◌, ◌≤◌, ℕ, true, List, [], length, Option, Some, IfSome, inl, inr, ⊎_elim, refl}
 use Rattle.std.proofs.Common.{sym, ap, subst}
 use Rattle.outside_io.specs.{FaultCountRose}
+use Rattle.outside_io.specs.declared.source.Source.{Ghosts as SourceOf}
+use Rattle.outside_io.specs.declared.sink.Sink.{Ghosts as SinkOf}
+use Rattle.slot_disk.specs.declared.disk.Disk.{Ghosts as DiskOf}
 use Rattle.prefix_lattice.specs.{RecordValue}
 use Rattle.pcap_frames.specs.{FrameValue}
 use Rattle.frame_records.specs.{CaptureFileHasFrames, IsRefusedCaptureFile}
@@ -10,8 +13,6 @@ use Rattle.pcap_frames.specs.declared.fault.CaptureFault.{CaptureFault}
 use Rattle.recovery.specs.{BelongingStoresAreOpened, IsRefusedAtOpening, IsShownByOpening, OpeningsAreDecided}
 use Rattle.recovery.specs.declared.fault.OpenFault.{OpenFault}
 use Rattle.recovery.specs.declared.fault.OpenFault.TheVariants as opening
-use Rattle.std.specs.declared.result.Result.{Result}
-use Rattle.std.proofs.Common.{Ok, Err}
 use Rattle.shard_state.specs.{CutValue}
 use Rattle.command_words.specs.{AreLimitedSettings, AskForCommand, IsLimitedCommand}
 use Rattle.command_words.specs.declared.command.Command.{Command}
@@ -25,12 +26,14 @@ use Rattle.exact_audit.specs.declared.verdict.Verdict.{Verdict}
 use Rattle.hhh_engine.specs.Audit.{IsAuditText, IsSoundAudit, IsUnsoundAudit}
 use Rattle.hhh_engine.specs.Answer.{IsAnswer, IsAnswerInPart, IsUnfinishedAnswer, IsWeighAnswerInPart}
 use Rattle.hhh_engine.specs.Ending.{Ends, AuditFindsAtEnding, IsRefusedStoreAtEnding, HappenedToDiskAtEnding}
-use Rattle.hhh_engine.specs.Ending.{SourceFaultsRoseAtEnding, EndsRefusingStore, RefusesAtEnding}
-use Rattle.hhh_engine.specs.Ending.{RefusesStoreAtEnding, EndingSourceFaults, EndsAsBeforeUnlessFormat, EndsAnswered}
+use Rattle.hhh_engine.specs.Ending.{SourceFaultsRoseAtEnding, RefusesAtEnding}
+use Rattle.hhh_engine.specs.Ending.{RefusesStoreAtEnding, EndingSourceFaults, EndsAnswered}
 use Rattle.hhh_engine.specs.Inputs.{InputsCanBeAnswered, HasKnownInputCapture, HasKnownInputStore, IsInputCapture}
 use Rattle.hhh_engine.specs.Inputs.{UsesInputCapture}
 use Rattle.hhh_engine.specs.Inputs.{InputBytes, InputsWereAccepted, InputsWereRead}
-use Rattle.hhh_engine.specs.Saves.{store_settings_for_saves}
+use Rattle.hhh_engine.specs.CommandEnding.{CommandEnds}
+use Rattle.hhh_engine.specs.TopCall.{RefusesStore, Streams, faults_after, faults_before, run_inputs, run_keeping}
+use Rattle.hhh_engine.specs.Saves.{IsAsBeforeSaves, store_settings_for_saves}
 use Rattle.hhh_engine.specs.Session.{AreDealtInSession, SessionGoesOnFrom, IsSession, IsSessionInPart, SessionKeeping}
 use Rattle.hhh_engine.specs.Session.{SessionRules}
 use Rattle.command_words.specs.declared.words_kind.WordsRefusal.{WordsRefusal}
@@ -141,75 +144,6 @@ status_tells_accepted_capture (Audit settings) given file reads known was = stat
 status_tells_accepted_capture (Make seed frames) given file reads known was = absurd reads
 status_tells_accepted_capture (Demo seed frames settings) given file reads known was = absurd reads
 
--- how a command over these inputs ended
-abbrev pub EndsWithStatus : {K : Type 0} → SessionRules → SessionKeeping → Command → (given : InputBytes) (AsBefore : Type 0)
-    → (ReadToEnd DiskRose DiskSame : Type 0) → (read_before read_now : EndingSourceFaults) → (sink written : K)
-    → (old new : Option (List ℕ)) → (write_before write_now : ℕ) → Status → Type 0
-EndsWithStatus rules keeping command given AsBefore ReadToEnd DiskRose DiskSame read_before read_now sink written old
-    new write_before write_now status =
-    Ends (IsAnswer rules keeping command given) (IsAnswerInPart rules keeping command given)
-    ReadToEnd (InputsWereAccepted command given) DiskRose DiskSame (EndsAsBeforeUnlessFormat command AsBefore)
-    (RefusesAtEnding command rules given AsBefore) (AuditFindsAtEnding command rules given old new) given.capture read_before read_now
-    sink written old new write_before write_now status
-
--- a command that reads a capture over a file with a fault is refused for it, unless the source fails or memory runs out
-pub status_of_refused_capture : {K : Type 0} → CaptureStatusIsFaultless → FaultStatusIsUnique
-    → (rules : SessionRules) (keeping : SessionKeeping) (command : Command) (given : InputBytes) (AsBefore : Type 0)
-    (ReadToEnd DiskRose DiskSame : Type 0) (read_before read_now : EndingSourceFaults)
-    (sink written : K) (old new : Option (List ℕ)) (write_before write_now : ℕ) (status : Status) (file : List ℕ)
-    (fault : CaptureFault) → UsesInputCapture command → given.capture ≡ Some file → IsRefusedCaptureFile file fault
-    → EndsWithStatus rules keeping command given AsBefore ReadToEnd DiskRose DiskSame read_before read_now sink written
-    old new write_before write_now status
-    → (status ≡ BadCapture fault) ⊎ ((status ≡ ReadFault) ⊎ (status ≡ OutOfMemory))
-status_of_refused_capture never_both one_fault rules keeping command given AsBefore ReadToEnd DiskRose DiskSame read_before
-    read_now sink written old new write_before write_now Done file fault reads known has ends =
-    let capture = status_tells_capture rules keeping command given file ends.1.text reads known ends.1.is_text in
-    absurd (never_both file capture.0 fault capture.1 has)
-status_of_refused_capture never_both one_fault rules keeping command given AsBefore ReadToEnd DiskRose DiskSame read_before
-    read_now sink written old new write_before write_now (BadWords kind) file fault reads known has ends =
-    absurd ends
-status_of_refused_capture never_both one_fault rules keeping command given AsBefore ReadToEnd DiskRose DiskSame read_before
-    read_now sink written old new write_before write_now (BadCapture other) file fault reads known has ends =
-    inl (ap BadCapture (one_fault file fault other has (status_of_known_file given.capture file (λ f. IsRefusedCaptureFile f other) known ends.0)))
-status_of_refused_capture never_both one_fault rules keeping command given AsBefore ReadToEnd DiskRose DiskSame read_before
-    read_now sink written old new write_before write_now ReadFault file fault reads known has ends =
-    inr (inl refl)
-status_of_refused_capture never_both one_fault rules keeping command given AsBefore ReadToEnd DiskRose DiskSame read_before
-    read_now sink written old new write_before write_now WriteFault file fault reads known has ends =
-    let capture = status_tells_capture_in_part rules keeping command given file ends.1.text reads known ends.1.is_text in
-    absurd (never_both file capture.0 fault capture.1 has)
-status_of_refused_capture never_both one_fault rules keeping command given AsBefore ReadToEnd DiskRose DiskSame read_before
-    read_now sink written old new write_before write_now DiskFault file fault reads known has ends =
-    let capture = status_tells_accepted_capture command given file reads known ends.1 in
-    absurd (never_both file capture.0 fault capture.1 has)
-status_of_refused_capture never_both one_fault rules keeping command given AsBefore ReadToEnd DiskRose DiskSame read_before
-    read_now sink written old new write_before write_now NotFormatted file fault reads known has ends =
-    let capture = status_tells_capture_if_refused rules command given AsBefore file opening.NotFormatted known ends.0 in
-    absurd (never_both file capture.0 fault capture.1 has)
-status_of_refused_capture never_both one_fault rules keeping command given AsBefore ReadToEnd DiskRose DiskSame read_before
-    read_now sink written old new write_before write_now (Damaged slot) file fault reads known has ends =
-    let capture = status_tells_capture_if_refused rules command given AsBefore file (opening.Damaged slot) known ends.0 in
-    absurd (never_both file capture.0 fault capture.1 has)
-status_of_refused_capture never_both one_fault rules keeping command given AsBefore ReadToEnd DiskRose DiskSame read_before
-    read_now sink written old new write_before write_now (OtherSettings stored asked) file fault reads known has ends =
-    let capture = status_tells_capture_if_refused rules command given AsBefore file (opening.OtherSettings stored asked) known ends.0 in
-    absurd (never_both file capture.0 fault capture.1 has)
-status_of_refused_capture never_both one_fault rules keeping command given AsBefore ReadToEnd DiskRose DiskSame read_before
-    read_now sink written old new write_before write_now (OtherCapture stored asked) file fault reads known has ends =
-    let capture = status_tells_capture_if_refused rules command given AsBefore file (opening.OtherCapture stored asked) known ends.0 in
-    absurd (never_both file capture.0 fault capture.1 has)
-status_of_refused_capture never_both one_fault rules keeping command given AsBefore ReadToEnd DiskRose DiskSame read_before
-    read_now sink written old new write_before write_now (AuditNo report verdict) file fault reads known has ends =
-    let capture = status_tells_capture_if_audited rules command given old new file report verdict known ends.1 in
-    absurd (never_both file capture.0 fault capture.1 has)
-status_of_refused_capture never_both one_fault rules keeping command given AsBefore ReadToEnd DiskRose DiskSame read_before
-    read_now sink written old new write_before write_now (BadReport wrong) file fault reads known has ends =
-    let capture = status_tells_capture_if_faulty rules command given old new file wrong known ends.0 in
-    absurd (never_both file capture.0 fault capture.1 has)
-status_of_refused_capture never_both one_fault rules keeping command given AsBefore ReadToEnd DiskRose DiskSame read_before
-    read_now sink written old new write_before write_now OutOfMemory file fault reads known has ends =
-    inr (inr refl)
-
 -- what each command that reads a capture needs of it
 status_of_known_capture : (rules : SessionRules) (command : Command) (given : InputBytes) (file : List ℕ)
     (fault : CaptureFault) → CaptureStatusIsFaultless → UsesInputCapture command → InputsCanBeAnswered rules command given
@@ -297,128 +231,6 @@ status_found_answers rules (Make seed frames) given old new report verdict finds
 status_found_answers rules (Demo seed frames settings) given old new report verdict finds = absurd finds
 status_found_answers rules (Audit settings) given old new report verdict finds = inr (report, verdict, refl)
 
--- over known inputs in their formats and with no fault of source, sink or disk, a command is answered unless memory runs
--- out. BadCapture comes of commands alone that read a capture
-status_of_answered_command : {K : Type 0} → CaptureStatusIsFaultless → OpeningsAreDecided → BelongingStoresAreOpened → SessionStatusIsFaultless
-    → (rules : SessionRules) (keeping : SessionKeeping) (command : Command) (given : InputBytes) (AsBefore : Type 0)
-    (ReadToEnd DiskRose DiskSame : Type 0) (read_before read_now : EndingSourceFaults)
-    (sink written : K) (old new : Option (List ℕ)) (write_before write_now : ℕ) (status : Status)
-    → IsLimitedCommand command → InputsCanBeAnswered rules command given → (SourceFaultsRoseAtEnding read_before read_now → ⊥)
-    → (FaultCountRose write_before write_now → ⊥) → (DiskRose → ⊥)
-    → ((fault : CaptureFault) → status ≡ BadCapture fault → UsesInputCapture command)
-    → EndsWithStatus rules keeping command given AsBefore ReadToEnd DiskRose DiskSame read_before read_now sink written
-    old new write_before write_now status
-    → EndsAnswered command status ⊎ (status ≡ OutOfMemory)
-status_of_answered_command never_both decided opened no_fault rules keeping command given AsBefore ReadToEnd DiskRose DiskSame
-    read_before read_now sink written old new write_before write_now Done limited can no_read no_write no_disk reads ends =
-    inl (status_done_answers command)
-status_of_answered_command never_both decided opened no_fault rules keeping command given AsBefore ReadToEnd DiskRose DiskSame
-    read_before read_now sink written old new write_before write_now (BadWords kind) limited can no_read no_write no_disk reads ends =
-    absurd ends
-status_of_answered_command never_both decided opened no_fault rules keeping command given AsBefore ReadToEnd DiskRose DiskSame
-    read_before read_now sink written old new write_before write_now (BadCapture fault) limited can no_read no_write no_disk reads ends =
-    absurd (status_of_known_capture rules command given [] fault never_both (reads fault refl) can ends.0)
-status_of_answered_command never_both decided opened no_fault rules keeping command given AsBefore ReadToEnd DiskRose DiskSame
-    read_before read_now sink written old new write_before write_now ReadFault limited can no_read no_write no_disk reads ends =
-    absurd (no_read ends.0)
-status_of_answered_command never_both decided opened no_fault rules keeping command given AsBefore ReadToEnd DiskRose DiskSame
-    read_before read_now sink written old new write_before write_now WriteFault limited can no_read no_write no_disk reads ends =
-    absurd (no_write ends.2)
-status_of_answered_command never_both decided opened no_fault rules keeping command given AsBefore ReadToEnd DiskRose DiskSame
-    read_before read_now sink written old new write_before write_now DiskFault limited can no_read no_write no_disk reads ends =
-    absurd (no_disk ends.3)
-status_of_answered_command never_both decided opened no_fault rules keeping command given AsBefore ReadToEnd DiskRose DiskSame
-    read_before read_now sink written old new write_before write_now NotFormatted limited can no_read no_write no_disk reads ends =
-    absurd (command_status_is_never_refusal decided opened rules command given AsBefore opening.NotFormatted limited can
-    (record { not_of_disk = λ is. cc is; not_of_memory = λ is. cc is }) ends.0)
-status_of_answered_command never_both decided opened no_fault rules keeping command given AsBefore ReadToEnd DiskRose DiskSame
-    read_before read_now sink written old new write_before write_now (Damaged slot) limited can no_read no_write no_disk reads ends =
-    absurd (command_status_is_never_refusal decided opened rules command given AsBefore (opening.Damaged slot) limited can
-    (record { not_of_disk = λ is. cc is; not_of_memory = λ is. cc is }) ends.0)
-status_of_answered_command never_both decided opened no_fault rules keeping command given AsBefore ReadToEnd DiskRose DiskSame
-    read_before read_now sink written old new write_before write_now (OtherSettings stored asked) limited can no_read no_write no_disk reads ends =
-    absurd (command_status_is_never_refusal decided opened rules command given AsBefore (opening.OtherSettings stored asked) limited can
-    (record { not_of_disk = λ is. cc is; not_of_memory = λ is. cc is }) ends.0)
-status_of_answered_command never_both decided opened no_fault rules keeping command given AsBefore ReadToEnd DiskRose DiskSame
-    read_before read_now sink written old new write_before write_now (OtherCapture stored asked) limited can no_read no_write no_disk reads ends =
-    absurd (command_status_is_never_refusal decided opened rules command given AsBefore (opening.OtherCapture stored asked) limited can
-    (record { not_of_disk = λ is. cc is; not_of_memory = λ is. cc is }) ends.0)
-status_of_answered_command never_both decided opened no_fault rules keeping command given AsBefore ReadToEnd DiskRose DiskSame
-    read_before read_now sink written old new write_before write_now (AuditNo report verdict) limited can no_read no_write no_disk reads ends =
-    inl (status_found_answers rules command given old new report verdict ends.1)
-status_of_answered_command never_both decided opened no_fault rules keeping command given AsBefore ReadToEnd DiskRose DiskSame
-    read_before read_now sink written old new write_before write_now (BadReport fault) limited can no_read no_write no_disk reads ends =
-    absurd (status_is_never_bad_report no_fault rules command given old new fault can ends.0)
-status_of_answered_command never_both decided opened no_fault rules keeping command given AsBefore ReadToEnd DiskRose DiskSame
-    read_before read_now sink written old new write_before write_now OutOfMemory limited can no_read no_write no_disk reads ends =
-    inr refl
-
--- the command that was asked for is the one that was read
-pub status_of_same_command : {E : Type 0} (result : Result Command E) (error : E) (command read : Command)
-    → (result ≡ Ok command) ⊎ (result ≡ Err error) → result ≡ Ok read → read ≡ command
-status_of_same_command result error command read (inl is) was = cc (is, was)
-status_of_same_command result error command read (inr is) was = cc (is, was)
-
--- a report whose store is refused
-status_of_refused_opening : {K : Type 0} (rules : SessionRules) (words : List (List ℕ)) (command : Command)
-    (given : InputBytes) (AsBefore : Type 0) (fault : OpenFault) (sink written : K) → AskForCommand words command
-    → InputsWereRead command given → RefusesAtEnding command rules given AsBefore fault
-    → written ≡ sink → EndsRefusingStore rules words given fault sink written AsBefore
-status_of_refused_opening rules words (Weigh prefix settings) given AsBefore fault sink written asked read refuses same =
-    absurd refuses
-status_of_refused_opening rules words (Report settings) given AsBefore fault sink written asked read refuses same = record {
-  settings = settings;
-  asked = asked;
-  used = refuses.0;
-  read_to_end = read;
-  refused = refuses.2;
-  unwritten = same;
-  as_before = refuses.1;
-}
-status_of_refused_opening rules words (Format settings) given AsBefore fault sink written asked read refuses same =
-    absurd refuses
-status_of_refused_opening rules words (Audit settings) given AsBefore fault sink written asked read refuses same =
-    absurd refuses
-status_of_refused_opening rules words (Make seed frames) given AsBefore fault sink written asked read refuses same =
-    absurd refuses
-status_of_refused_opening rules words (Demo seed frames settings) given AsBefore fault sink written asked read refuses same =
-    absurd refuses
-
--- what a status that names a fault of a store says
-pub status_names_refusal : {K : Type 0} (rules : SessionRules) (keeping : SessionKeeping) (words : List (List ℕ)) (command : Command)
-    (given : InputBytes) (AsBefore : Type 0) (DiskRose DiskSame : Type 0) (read_before read_now : EndingSourceFaults)
-    (sink written : K) (old new : Option (List ℕ)) (write_before write_now : ℕ) (status : Status) (fault : OpenFault)
-    → AskForCommand words command → IsShownByOpening fault → status ≡ status_of_opening fault
-    → EndsWithStatus rules keeping command given AsBefore (InputsWereRead command given) DiskRose DiskSame
-    read_before read_now sink written old new write_before write_now status
-    → EndsRefusingStore rules words given fault sink written AsBefore
-status_names_refusal rules keeping words command given AsBefore DiskRose DiskSame read_before read_now sink written old
-    new write_before write_now status opening.NotFormatted asked shown is ends =
-    let now = subst (EndsWithStatus rules keeping command given AsBefore (InputsWereRead command given)
-    DiskRose DiskSame read_before read_now sink written old new write_before write_now) is ends in
-    status_of_refused_opening rules words command given AsBefore opening.NotFormatted sink written asked now.1 now.0 now.2
-status_names_refusal rules keeping words command given AsBefore DiskRose DiskSame read_before read_now sink written old
-    new write_before write_now status (opening.Damaged slot) asked shown is ends =
-    let now = subst (EndsWithStatus rules keeping command given AsBefore (InputsWereRead command given)
-    DiskRose DiskSame read_before read_now sink written old new write_before write_now) is ends in
-    status_of_refused_opening rules words command given AsBefore (opening.Damaged slot) sink written asked now.1 now.0 now.2
-status_names_refusal rules keeping words command given AsBefore DiskRose DiskSame read_before read_now sink written old
-    new write_before write_now status (opening.OtherSettings stored asked_for) asked shown is ends =
-    let now = subst (EndsWithStatus rules keeping command given AsBefore (InputsWereRead command given)
-    DiskRose DiskSame read_before read_now sink written old new write_before write_now) is ends in
-    status_of_refused_opening rules words command given AsBefore (opening.OtherSettings stored asked_for) sink written asked now.1 now.0 now.2
-status_names_refusal rules keeping words command given AsBefore DiskRose DiskSame read_before read_now sink written old
-    new write_before write_now status (opening.OtherCapture stored asked_for) asked shown is ends =
-    let now = subst (EndsWithStatus rules keeping command given AsBefore (InputsWereRead command given)
-    DiskRose DiskSame read_before read_now sink written old new write_before write_now) is ends in
-    status_of_refused_opening rules words command given AsBefore (opening.OtherCapture stored asked_for) sink written asked now.1 now.0 now.2
-status_names_refusal rules keeping words command given AsBefore DiskRose DiskSame read_before read_now sink written old
-    new write_before write_now status opening.DiskFault asked shown is ends =
-    absurd (shown.not_of_disk refl)
-status_names_refusal rules keeping words command given AsBefore DiskRose DiskSame read_before read_now sink written old
-    new write_before write_now status opening.OutOfMemory asked shown is ends =
-    absurd (shown.not_of_memory refl)
-
 -- the session over a capture whose store is refused however its records are dealt
 status_never_of_begun_session : OpeningsAreDecided → (rules : SessionRules) (settings : Settings) (store : Option (List ℕ))
     (file image : List ℕ) (fault : OpenFault) (records : Records) (lists : List (List RecordValue))
@@ -444,84 +256,6 @@ status_names_same_refusal decided rules settings given AsBefore file image fault
     (decided (store_settings_for_saves settings) is.lists image (base_settings_are_allowed settings limited)).one_fault other fault is_shown
     shown (is.refused image is_store) (refused is.records is.lists is.dealt)
 
--- a report whose store is refused, however the records are dealt, ends so, unless source or disk fail or memory runs out
-status_is_store_refusal : {K : Type 0} → CaptureStatusIsFaultless → OpeningsAreDecided
-    → (rules : SessionRules) (keeping : SessionKeeping) (settings : Settings) (given : InputBytes) (AsBefore : Type 0)
-    (ReadToEnd DiskRose DiskSame : Type 0) (read_before read_now : EndingSourceFaults)
-    (sink written : K) (old new : Option (List ℕ)) (write_before write_now : ℕ) (status : Status)
-    (file image : List ℕ) (frames : List FrameValue) (fault : OpenFault) → AreLimitedSettings settings → settings.store ≡ true
-    → given.capture ≡ Some file → CaptureFileHasFrames file frames → given.store ≡ Some image → IsShownByOpening fault
-    → ((records : Records) (lists : List (List RecordValue)) → AreDealtInSession settings rules file records lists
-    → IsRefusedAtOpening (store_settings_for_saves settings) lists image fault)
-    → EndsWithStatus rules keeping (Report settings) given AsBefore ReadToEnd DiskRose DiskSame read_before read_now sink
-    written old new write_before write_now status
-    → (status ≡ status_of_opening fault)
-    ⊎ ((status ≡ ReadFault) ⊎ ((status ≡ DiskFault) ⊎ (status ≡ OutOfMemory)))
-status_is_store_refusal never_both decided rules keeping settings given AsBefore ReadToEnd DiskRose DiskSame
-    read_before read_now sink written old new write_before write_now Done file image frames fault limited used known
-    capture is_store shown refused ends =
-    let is = status_of_known_file given.capture file (λ f. IsSession settings rules keeping given.store f ends.1.text) known ends.1.is_text in
-    absurd (status_never_of_begun_session decided rules settings given.store file image fault is.records is.lists is.base limited used is_store
-    shown refused is.dealt is.begins)
-status_is_store_refusal never_both decided rules keeping settings given AsBefore ReadToEnd DiskRose DiskSame
-    read_before read_now sink written old new write_before write_now (BadWords kind) file image frames fault limited used known
-    capture is_store shown refused ends =
-    absurd ends
-status_is_store_refusal never_both decided rules keeping settings given AsBefore ReadToEnd DiskRose DiskSame
-    read_before read_now sink written old new write_before write_now (BadCapture other) file image frames fault limited used known
-    capture is_store shown refused ends =
-    absurd (never_both file frames other capture (status_of_known_file given.capture file (λ f. IsRefusedCaptureFile f other) known ends.0))
-status_is_store_refusal never_both decided rules keeping settings given AsBefore ReadToEnd DiskRose DiskSame
-    read_before read_now sink written old new write_before write_now ReadFault file image frames fault limited used known
-    capture is_store shown refused ends =
-    inr (inl refl)
-status_is_store_refusal never_both decided rules keeping settings given AsBefore ReadToEnd DiskRose DiskSame
-    read_before read_now sink written old new write_before write_now WriteFault file image frames fault limited used known
-    capture is_store shown refused ends =
-    let is = status_of_known_file given.capture file (λ f. IsSessionInPart settings rules keeping given.store f ends.1.text) known ends.1.is_text in
-    absurd (status_never_of_begun_session decided rules settings given.store file image fault is.records is.lists is.base limited used is_store
-    shown refused is.dealt is.begins)
-status_is_store_refusal never_both decided rules keeping settings given AsBefore ReadToEnd DiskRose DiskSame
-    read_before read_now sink written old new write_before write_now DiskFault file image frames fault limited used known
-    capture is_store shown refused ends =
-    inr (inr (inl refl))
-status_is_store_refusal never_both decided rules keeping settings given AsBefore ReadToEnd DiskRose DiskSame
-    read_before read_now sink written old new write_before write_now (AuditNo report verdict) file image frames fault limited used known
-    capture is_store shown refused ends =
-    absurd ends.1
-status_is_store_refusal never_both decided rules keeping settings given AsBefore ReadToEnd DiskRose DiskSame
-    read_before read_now sink written old new write_before write_now (BadReport wrong) file image frames fault limited used known
-    capture is_store shown refused ends =
-    absurd ends.0
-status_is_store_refusal never_both decided rules keeping settings given AsBefore ReadToEnd DiskRose DiskSame
-    read_before read_now sink written old new write_before write_now OutOfMemory file image frames fault limited used known
-    capture is_store shown refused ends =
-    inr (inr (inr refl))
-status_is_store_refusal never_both decided rules keeping settings given AsBefore ReadToEnd DiskRose DiskSame
-    read_before read_now sink written old new write_before write_now NotFormatted file image frames fault limited used known
-    capture is_store shown refused ends =
-    inl (ap status_of_opening (status_names_same_refusal decided rules settings given AsBefore file image fault
-    opening.NotFormatted limited known is_store shown
-    (record { not_of_disk = λ is. cc is; not_of_memory = λ is. cc is }) refused ends.0))
-status_is_store_refusal never_both decided rules keeping settings given AsBefore ReadToEnd DiskRose DiskSame
-    read_before read_now sink written old new write_before write_now (Damaged slot) file image frames fault limited used known
-    capture is_store shown refused ends =
-    inl (ap status_of_opening (status_names_same_refusal decided rules settings given AsBefore file image fault
-    (opening.Damaged slot) limited known is_store shown
-    (record { not_of_disk = λ is. cc is; not_of_memory = λ is. cc is }) refused ends.0))
-status_is_store_refusal never_both decided rules keeping settings given AsBefore ReadToEnd DiskRose DiskSame
-    read_before read_now sink written old new write_before write_now (OtherSettings stored asked) file image frames fault limited used known
-    capture is_store shown refused ends =
-    inl (ap status_of_opening (status_names_same_refusal decided rules settings given AsBefore file image fault
-    (opening.OtherSettings stored asked) limited known is_store shown
-    (record { not_of_disk = λ is. cc is; not_of_memory = λ is. cc is }) refused ends.0))
-status_is_store_refusal never_both decided rules keeping settings given AsBefore ReadToEnd DiskRose DiskSame
-    read_before read_now sink written old new write_before write_now (OtherCapture stored asked) file image frames fault limited used known
-    capture is_store shown refused ends =
-    inl (ap status_of_opening (status_names_same_refusal decided rules settings given AsBefore file image fault
-    (opening.OtherCapture stored asked) limited known is_store shown
-    (record { not_of_disk = λ is. cc is; not_of_memory = λ is. cc is }) refused ends.0))
-
 -- arguments that are refused name no fault of a store
 pub argument_status_is_no_refusal : {A : Type 0} (refusal : WordsRefusal) (status : Status) (fault : OpenFault) → IsShownByOpening fault
     → status ≡ status_of_words refusal → status ≡ status_of_opening fault → A
@@ -537,48 +271,6 @@ argument_status_is_no_refusal (words.Bad kind) status opening.DiskFault shown is
 argument_status_is_no_refusal (words.Bad kind) status opening.OutOfMemory shown is was = absurd (shown.not_of_memory refl)
 argument_status_is_no_refusal words.OutOfMemory status opening.DiskFault shown is was = absurd (shown.not_of_disk refl)
 argument_status_is_no_refusal words.OutOfMemory status opening.OutOfMemory shown is was = absurd (shown.not_of_memory refl)
-
--- the same of the command that was asked for
-pub status_of_asked_command : {K : Type 0} → CaptureStatusIsFaultless → OpeningsAreDecided → BelongingStoresAreOpened → SessionStatusIsFaultless
-    → (rules : SessionRules) (keeping : SessionKeeping) (command read : Command) (given : InputBytes) (AsBefore : Type 0)
-    (ReadToEnd DiskRose DiskSame : Type 0) (read_before read_now : EndingSourceFaults)
-    (sink written : K) (old new : Option (List ℕ)) (write_before write_now : ℕ) (status : Status)
-    → read ≡ command → IsLimitedCommand read → InputsCanBeAnswered rules command given
-    → (SourceFaultsRoseAtEnding read_before read_now → ⊥) → (FaultCountRose write_before write_now → ⊥) → (DiskRose → ⊥)
-    → ((fault : CaptureFault) → status ≡ BadCapture fault → UsesInputCapture read)
-    → EndsWithStatus rules keeping read given AsBefore ReadToEnd DiskRose DiskSame read_before read_now sink written
-    old new write_before write_now status
-    → EndsAnswered command status ⊎ (status ≡ OutOfMemory)
-status_of_asked_command never_both decided opened no_fault rules keeping command read given AsBefore ReadToEnd DiskRose DiskSame
-    read_before read_now sink written old new write_before write_now status same limited can no_read no_write no_disk reads
-    ends =
-    subst (λ c. EndsAnswered c status ⊎ (status ≡ OutOfMemory)) same
-    (status_of_answered_command never_both decided opened no_fault rules keeping read given AsBefore ReadToEnd DiskRose DiskSame
-    read_before read_now sink written old new write_before write_now status limited
-    (subst (λ c. InputsCanBeAnswered rules c given) (sym same) can) no_read no_write no_disk reads ends)
-
-pub asked_status_is_store_refusal : {K : Type 0} → CaptureStatusIsFaultless → OpeningsAreDecided
-    → (rules : SessionRules) (keeping : SessionKeeping) (settings : Settings) (read : Command)
-    (given : InputBytes) (AsBefore : Type 0)
-    (ReadToEnd DiskRose DiskSame : Type 0) (read_before read_now : EndingSourceFaults)
-    (sink written : K) (old new : Option (List ℕ)) (write_before write_now : ℕ) (status : Status)
-    (file image : List ℕ) (frames : List FrameValue) (fault : OpenFault)
-    → read ≡ Report settings → IsLimitedCommand read → settings.store ≡ true
-    → given.capture ≡ Some file → CaptureFileHasFrames file frames → given.store ≡ Some image → IsShownByOpening fault
-    → ((records : Records) (lists : List (List RecordValue)) → AreDealtInSession settings rules file records lists
-    → IsRefusedAtOpening (store_settings_for_saves settings) lists image fault)
-    → EndsWithStatus rules keeping read given AsBefore ReadToEnd DiskRose DiskSame read_before read_now sink
-    written old new write_before write_now status
-    → (status ≡ status_of_opening fault)
-    ⊎ ((status ≡ ReadFault) ⊎ ((status ≡ DiskFault) ⊎ (status ≡ OutOfMemory)))
-asked_status_is_store_refusal never_both decided rules keeping settings read given AsBefore ReadToEnd DiskRose DiskSame
-    read_before read_now sink written old new write_before write_now status file image frames fault same limited used
-    known capture is_store shown refused ends =
-    status_is_store_refusal never_both decided rules keeping settings given AsBefore ReadToEnd DiskRose DiskSame
-    read_before read_now sink written old new write_before write_now status file image frames fault
-    (subst IsLimitedCommand same limited).0 used known capture is_store shown refused
-    (subst (λ c. EndsWithStatus rules keeping c given AsBefore ReadToEnd DiskRose DiskSame read_before read_now sink
-    written old new write_before write_now status) same ends)
 
 -- how a command that uses no disk ended, with a disk that is untouched
 pub status_beside_disk : {K : Type 0} (IsText IsPart : List ℕ → Type 0) (ReadToEnd Accepted DiskSame AsBefore : Type 0)
@@ -617,19 +309,6 @@ status_beside_disk IsText IsPart ReadToEnd Accepted DiskSame AsBefore Refused Au
     write_before write_now OutOfMemory same before ends =
     (⊎_elim (λ unwritten. inl (unwritten.0, before)) (λ part. inr part) ends.0, ends.1, ends.2)
 
--- how a command ended, by how the command that it is equal to ended
-pub status_as_named_command : {K : Type 0} (rules : SessionRules) (keeping : SessionKeeping) (command named : Command) (given : InputBytes)
-    (AsBefore : Type 0) (DiskRose DiskSame : Type 0) (read_before read_now : EndingSourceFaults)
-    (sink written : K) (old new : Option (List ℕ)) (write_before write_now : ℕ) (status : Status) → command ≡ named
-    → EndsWithStatus rules keeping named given AsBefore (InputsWereRead named given) (HappenedToDiskAtEnding named DiskRose) DiskSame read_before
-    read_now sink written old new write_before write_now status
-    → EndsWithStatus rules keeping command given AsBefore (InputsWereRead command given) (HappenedToDiskAtEnding command DiskRose) DiskSame read_before
-    read_now sink written old new write_before write_now status
-status_as_named_command rules keeping command named given AsBefore DiskRose DiskSame read_before read_now sink written old new
-    write_before write_now status is ends =
-    subst (λ c. EndsWithStatus rules keeping c given AsBefore (InputsWereRead c given) (HappenedToDiskAtEnding c DiskRose) DiskSame read_before
-    read_now sink written old new write_before write_now status) (sym is) ends
-
 -- what happened to the disk of a command happened
 pub status_tells_disk_happening : (command : Command) (Happened : Type 0) → HappenedToDiskAtEnding command Happened → Happened
 status_tells_disk_happening (Weigh prefix settings) Happened none = absurd none
@@ -639,10 +318,219 @@ status_tells_disk_happening (Audit settings) Happened none = absurd none
 status_tells_disk_happening (Make seed frames) Happened none = absurd none
 status_tells_disk_happening (Demo seed frames settings) Happened none = absurd none
 
--- arguments that ask for a command are refused only if memory ran out
-pub status_is_want_of_memory : (result : Result Command WordsRefusal) (command : Command) (refusal : WordsRefusal) (status : Status)
-    → (result ≡ Ok command) ⊎ (result ≡ Err words.OutOfMemory) → result ≡ Err refusal
-    → status ≡ status_of_words refusal → status ≡ OutOfMemory
-status_is_want_of_memory result command refusal status (inl is) was names = cc (is, was)
-status_is_want_of_memory result command (words.Bad kind) status (inr is) was names = cc (is, was)
-status_is_want_of_memory result command words.OutOfMemory status (inr is) was names = names
+-- a run, whose command ended so
+module _ {S T K D : Type 0} (s : SourceOf S) (t : SourceOf T) (k : SinkOf K) (d : DiskOf D) (old new : Streams S T K D)
+    (rules : SessionRules) where
+  -- its inputs, what it kept, and how a command of it ends
+  abbrev given : InputBytes
+  given = run_inputs s t k d old new
+
+  abbrev keeping : SessionKeeping
+  keeping = run_keeping s t k d old new
+
+  abbrev AsBefore : Type 0
+  AsBefore = IsAsBeforeSaves d old.disk new.disk
+
+  abbrev Ended : Command → Status → Type 0
+  Ended = CommandEnds s t k d old new rules
+
+  -- a command that reads a capture over a file with a fault is refused for it, unless the source fails or memory runs out
+  pub status_of_refused_capture : CaptureStatusIsFaultless → FaultStatusIsUnique
+      → (command : Command) (status : Status) (file : List ℕ)
+      (fault : CaptureFault) → UsesInputCapture command → given.capture ≡ Some file → IsRefusedCaptureFile file fault
+      → Ended command status
+      → (status ≡ BadCapture fault) ⊎ ((status ≡ ReadFault) ⊎ (status ≡ OutOfMemory))
+  status_of_refused_capture never_both one_fault command Done file fault reads known has ends =
+      let capture = status_tells_capture rules keeping command given file ends.1.text reads known ends.1.is_text in
+      absurd (never_both file capture.0 fault capture.1 has)
+  status_of_refused_capture never_both one_fault command (BadWords kind) file fault reads known has ends =
+      absurd ends
+  status_of_refused_capture never_both one_fault command (BadCapture other) file fault reads known has ends =
+      inl (ap BadCapture (one_fault file fault other has (status_of_known_file given.capture file (λ f. IsRefusedCaptureFile f other) known ends.0)))
+  status_of_refused_capture never_both one_fault command ReadFault file fault reads known has ends =
+      inr (inl refl)
+  status_of_refused_capture never_both one_fault command WriteFault file fault reads known has ends =
+      let capture = status_tells_capture_in_part rules keeping command given file ends.1.text reads known ends.1.is_text in
+      absurd (never_both file capture.0 fault capture.1 has)
+  status_of_refused_capture never_both one_fault command DiskFault file fault reads known has ends =
+      let capture = status_tells_accepted_capture command given file reads known ends.1 in
+      absurd (never_both file capture.0 fault capture.1 has)
+  status_of_refused_capture never_both one_fault command NotFormatted file fault reads known has ends =
+      let capture = status_tells_capture_if_refused rules command given AsBefore file opening.NotFormatted known ends.0 in
+      absurd (never_both file capture.0 fault capture.1 has)
+  status_of_refused_capture never_both one_fault command (Damaged slot) file fault reads known has ends =
+      let capture = status_tells_capture_if_refused rules command given AsBefore file (opening.Damaged slot) known ends.0 in
+      absurd (never_both file capture.0 fault capture.1 has)
+  status_of_refused_capture never_both one_fault command (OtherSettings stored asked) file fault reads known has ends =
+      let capture = status_tells_capture_if_refused rules command given AsBefore file (opening.OtherSettings stored asked) known ends.0 in
+      absurd (never_both file capture.0 fault capture.1 has)
+  status_of_refused_capture never_both one_fault command (OtherCapture stored asked) file fault reads known has ends =
+      let capture = status_tells_capture_if_refused rules command given AsBefore file (opening.OtherCapture stored asked) known ends.0 in
+      absurd (never_both file capture.0 fault capture.1 has)
+  status_of_refused_capture never_both one_fault command (AuditNo report verdict) file fault reads known has ends =
+      let capture = status_tells_capture_if_audited rules command given (k.taken old.sink) (k.taken new.sink) file report verdict known ends.1 in
+      absurd (never_both file capture.0 fault capture.1 has)
+  status_of_refused_capture never_both one_fault command (BadReport wrong) file fault reads known has ends =
+      let capture = status_tells_capture_if_faulty rules command given (k.taken old.sink) (k.taken new.sink) file wrong known ends.0 in
+      absurd (never_both file capture.0 fault capture.1 has)
+  status_of_refused_capture never_both one_fault command OutOfMemory file fault reads known has ends =
+      inr (inr refl)
+
+  -- over known inputs in their formats and with no fault of source, sink or disk, a command is answered unless memory runs
+  -- out. BadCapture comes of commands alone that read a capture
+  status_of_answered_command : CaptureStatusIsFaultless → OpeningsAreDecided → BelongingStoresAreOpened → SessionStatusIsFaultless
+      → (command : Command) (status : Status) → IsLimitedCommand command → InputsCanBeAnswered rules command given
+      → (SourceFaultsRoseAtEnding (faults_before s t k d old new) (faults_after s t k d old new) → ⊥)
+      → (FaultCountRose (k.faults old.sink) (k.faults new.sink) → ⊥) → (FaultCountRose (d.faults old.disk) (d.faults new.disk) → ⊥)
+      → ((fault : CaptureFault) → status ≡ BadCapture fault → UsesInputCapture command)
+      → Ended command status
+      → EndsAnswered command status ⊎ (status ≡ OutOfMemory)
+  status_of_answered_command never_both decided opened no_fault command Done limited can no_read no_write no_disk reads ends =
+      inl (status_done_answers command)
+  status_of_answered_command never_both decided opened no_fault command (BadWords kind) limited can no_read no_write no_disk reads ends =
+      absurd ends
+  status_of_answered_command never_both decided opened no_fault command (BadCapture fault) limited can no_read no_write no_disk reads ends =
+      absurd (status_of_known_capture rules command given [] fault never_both (reads fault refl) can ends.0)
+  status_of_answered_command never_both decided opened no_fault command ReadFault limited can no_read no_write no_disk reads ends =
+      absurd (no_read ends.0)
+  status_of_answered_command never_both decided opened no_fault command WriteFault limited can no_read no_write no_disk reads ends =
+      absurd (no_write ends.2)
+  status_of_answered_command never_both decided opened no_fault command DiskFault limited can no_read no_write no_disk reads ends =
+      absurd (no_disk (status_tells_disk_happening command _ ends.3))
+  status_of_answered_command never_both decided opened no_fault command NotFormatted limited can no_read no_write no_disk reads ends =
+      absurd (command_status_is_never_refusal decided opened rules command given AsBefore opening.NotFormatted limited can
+      (record { not_of_disk = λ is. cc is; not_of_memory = λ is. cc is }) ends.0)
+  status_of_answered_command never_both decided opened no_fault command (Damaged slot) limited can no_read no_write no_disk reads ends =
+      absurd (command_status_is_never_refusal decided opened rules command given AsBefore (opening.Damaged slot) limited can
+      (record { not_of_disk = λ is. cc is; not_of_memory = λ is. cc is }) ends.0)
+  status_of_answered_command never_both decided opened no_fault command (OtherSettings stored asked) limited can no_read no_write no_disk reads ends =
+      absurd (command_status_is_never_refusal decided opened rules command given AsBefore (opening.OtherSettings stored asked) limited can
+      (record { not_of_disk = λ is. cc is; not_of_memory = λ is. cc is }) ends.0)
+  status_of_answered_command never_both decided opened no_fault command (OtherCapture stored asked) limited can no_read no_write no_disk reads ends =
+      absurd (command_status_is_never_refusal decided opened rules command given AsBefore (opening.OtherCapture stored asked) limited can
+      (record { not_of_disk = λ is. cc is; not_of_memory = λ is. cc is }) ends.0)
+  status_of_answered_command never_both decided opened no_fault command (AuditNo report verdict) limited can no_read no_write no_disk reads ends =
+      inl (status_found_answers rules command given (k.taken old.sink) (k.taken new.sink) report verdict ends.1)
+  status_of_answered_command never_both decided opened no_fault command (BadReport fault) limited can no_read no_write no_disk reads ends =
+      absurd (status_is_never_bad_report no_fault rules command given (k.taken old.sink) (k.taken new.sink) fault can ends.0)
+  status_of_answered_command never_both decided opened no_fault command OutOfMemory limited can no_read no_write no_disk reads ends =
+      inr refl
+
+  -- a report whose store is refused
+  status_of_refused_opening : (words : List (List ℕ)) (command : Command) (fault : OpenFault) → AskForCommand words command
+      → InputsWereRead command given → RefusesAtEnding command rules given AsBefore fault → new.sink ≡ old.sink
+      → RefusesStore s t k d old new words rules fault
+  status_of_refused_opening words (Weigh prefix settings) fault asked read refuses same = absurd refuses
+  status_of_refused_opening words (Report settings) fault asked read refuses same = record {
+    settings = settings;
+    asked = asked;
+    used = refuses.0;
+    read_to_end = read;
+    refused = refuses.2;
+    nothing = (same, refuses.1);
+  }
+  status_of_refused_opening words (Format settings) fault asked read refuses same = absurd refuses
+  status_of_refused_opening words (Audit settings) fault asked read refuses same = absurd refuses
+  status_of_refused_opening words (Make seed frames) fault asked read refuses same = absurd refuses
+  status_of_refused_opening words (Demo seed frames settings) fault asked read refuses same = absurd refuses
+
+  -- what a status that names a fault of a store says
+  pub status_names_refusal : (words : List (List ℕ)) (command : Command) (status : Status) (fault : OpenFault)
+      → AskForCommand words command → IsShownByOpening fault → status ≡ status_of_opening fault → Ended command status
+      → RefusesStore s t k d old new words rules fault
+  status_names_refusal words command status opening.NotFormatted asked shown is ends =
+      let now = subst (Ended command) is ends in
+      status_of_refused_opening words command opening.NotFormatted asked now.1 now.0 now.2
+  status_names_refusal words command status (opening.Damaged slot) asked shown is ends =
+      let now = subst (Ended command) is ends in
+      status_of_refused_opening words command (opening.Damaged slot) asked now.1 now.0 now.2
+  status_names_refusal words command status (opening.OtherSettings stored asked_for) asked shown is ends =
+      let now = subst (Ended command) is ends in
+      status_of_refused_opening words command (opening.OtherSettings stored asked_for) asked now.1 now.0 now.2
+  status_names_refusal words command status (opening.OtherCapture stored asked_for) asked shown is ends =
+      let now = subst (Ended command) is ends in
+      status_of_refused_opening words command (opening.OtherCapture stored asked_for) asked now.1 now.0 now.2
+  status_names_refusal words command status opening.DiskFault asked shown is ends = absurd (shown.not_of_disk refl)
+  status_names_refusal words command status opening.OutOfMemory asked shown is ends = absurd (shown.not_of_memory refl)
+
+  -- a report whose store is refused, however the records are dealt, ends so, unless source or disk fail or memory runs out
+  pub status_is_store_refusal : CaptureStatusIsFaultless → OpeningsAreDecided
+      → (settings : Settings) (status : Status)
+      (file image : List ℕ) (frames : List FrameValue) (fault : OpenFault) → AreLimitedSettings settings → settings.store ≡ true
+      → given.capture ≡ Some file → CaptureFileHasFrames file frames → given.store ≡ Some image → IsShownByOpening fault
+      → ((records : Records) (lists : List (List RecordValue)) → AreDealtInSession settings rules file records lists
+      → IsRefusedAtOpening (store_settings_for_saves settings) lists image fault)
+      → Ended (Report settings) status
+      → (status ≡ status_of_opening fault)
+      ⊎ ((status ≡ ReadFault) ⊎ ((status ≡ DiskFault) ⊎ (status ≡ OutOfMemory)))
+  status_is_store_refusal never_both decided settings Done file image frames fault limited used known
+      capture is_store shown refused ends =
+      let is = status_of_known_file given.capture file (λ f. IsSession settings rules keeping given.store f ends.1.text) known ends.1.is_text in
+      absurd (status_never_of_begun_session decided rules settings given.store file image fault is.records is.lists is.base limited used is_store
+      shown refused is.dealt is.begins)
+  status_is_store_refusal never_both decided settings (BadWords kind) file image frames fault limited used known
+      capture is_store shown refused ends =
+      absurd ends
+  status_is_store_refusal never_both decided settings (BadCapture other) file image frames fault limited used known
+      capture is_store shown refused ends =
+      absurd (never_both file frames other capture (status_of_known_file given.capture file (λ f. IsRefusedCaptureFile f other) known ends.0))
+  status_is_store_refusal never_both decided settings ReadFault file image frames fault limited used known
+      capture is_store shown refused ends =
+      inr (inl refl)
+  status_is_store_refusal never_both decided settings WriteFault file image frames fault limited used known
+      capture is_store shown refused ends =
+      let is = status_of_known_file given.capture file (λ f. IsSessionInPart settings rules keeping given.store f ends.1.text) known ends.1.is_text in
+      absurd (status_never_of_begun_session decided rules settings given.store file image fault is.records is.lists is.base limited used is_store
+      shown refused is.dealt is.begins)
+  status_is_store_refusal never_both decided settings DiskFault file image frames fault limited used known
+      capture is_store shown refused ends =
+      inr (inr (inl refl))
+  status_is_store_refusal never_both decided settings (AuditNo report verdict) file image frames fault limited used known
+      capture is_store shown refused ends =
+      absurd ends.1
+  status_is_store_refusal never_both decided settings (BadReport wrong) file image frames fault limited used known
+      capture is_store shown refused ends =
+      absurd ends.0
+  status_is_store_refusal never_both decided settings OutOfMemory file image frames fault limited used known
+      capture is_store shown refused ends =
+      inr (inr (inr refl))
+  status_is_store_refusal never_both decided settings NotFormatted file image frames fault limited used known
+      capture is_store shown refused ends =
+      inl (ap status_of_opening (status_names_same_refusal decided rules settings given AsBefore file image fault
+      opening.NotFormatted limited known is_store shown
+      (record { not_of_disk = λ is. cc is; not_of_memory = λ is. cc is }) refused ends.0))
+  status_is_store_refusal never_both decided settings (Damaged slot) file image frames fault limited used known
+      capture is_store shown refused ends =
+      inl (ap status_of_opening (status_names_same_refusal decided rules settings given AsBefore file image fault
+      (opening.Damaged slot) limited known is_store shown
+      (record { not_of_disk = λ is. cc is; not_of_memory = λ is. cc is }) refused ends.0))
+  status_is_store_refusal never_both decided settings (OtherSettings stored asked) file image frames fault limited used known
+      capture is_store shown refused ends =
+      inl (ap status_of_opening (status_names_same_refusal decided rules settings given AsBefore file image fault
+      (opening.OtherSettings stored asked) limited known is_store shown
+      (record { not_of_disk = λ is. cc is; not_of_memory = λ is. cc is }) refused ends.0))
+  status_is_store_refusal never_both decided settings (OtherCapture stored asked) file image frames fault limited used known
+      capture is_store shown refused ends =
+      inl (ap status_of_opening (status_names_same_refusal decided rules settings given AsBefore file image fault
+      (opening.OtherCapture stored asked) limited known is_store shown
+      (record { not_of_disk = λ is. cc is; not_of_memory = λ is. cc is }) refused ends.0))
+
+  -- the same of the command that was asked for
+  pub status_of_asked_command : CaptureStatusIsFaultless → OpeningsAreDecided → BelongingStoresAreOpened → SessionStatusIsFaultless
+      → (command read : Command) (status : Status) → read ≡ command → IsLimitedCommand read
+      → InputsCanBeAnswered rules command given
+      → (SourceFaultsRoseAtEnding (faults_before s t k d old new) (faults_after s t k d old new) → ⊥)
+      → (FaultCountRose (k.faults old.sink) (k.faults new.sink) → ⊥) → (FaultCountRose (d.faults old.disk) (d.faults new.disk) → ⊥)
+      → ((fault : CaptureFault) → status ≡ BadCapture fault → UsesInputCapture read)
+      → Ended read status
+      → EndsAnswered command status ⊎ (status ≡ OutOfMemory)
+  status_of_asked_command never_both decided opened no_fault command read status same limited can no_read no_write no_disk reads
+      ends =
+      subst (λ c. EndsAnswered c status ⊎ (status ≡ OutOfMemory)) same
+      (status_of_answered_command never_both decided opened no_fault read status limited
+      (subst (λ c. InputsCanBeAnswered rules c given) (sym same) can) no_read no_write no_disk reads ends)
+
+  -- how a command ended, by how the command that it is equal to ended
+  pub status_as_named_command : (command named : Command) (status : Status) → command ≡ named → Ended named status
+      → Ended command status
+  status_as_named_command command named status is ends = subst (λ c. Ended c status) (sym is) ends

@@ -13,7 +13,12 @@ use Rattle.hhh_engine.specs.Session.{AreDealtInSession, IsSession, IsSessionInPa
 use Rattle.hhh_engine.specs.Audit.{AreAudited, IsAuditText, IsSoundAudit, IsUnsoundAudit}
 use Rattle.traffic_maker.specs.{made_capture}
 use Rattle.hhh_engine.specs.Demo.{IsDemoText}
-use Rattle.hhh_engine.specs.Ending.{EndsFindingUnsound, IsRefusedStoreAtEnding, EndsRefusingStore}
+use Rattle.outside_io.specs.declared.source.Source.{Ghosts as SourceOf}
+use Rattle.outside_io.specs.declared.sink.Sink.{Ghosts as SinkOf}
+use Rattle.slot_disk.specs.declared.disk.Disk.{Ghosts as DiskOf}
+use Rattle.hhh_engine.specs.Ending.{IsRefusedStoreAtEnding}
+use Rattle.hhh_engine.specs.TopCall.{FindsUnsound, RefusesStore, RunEnds, Streams, WritesPart, run_inputs, run_keeping}
+use Rattle.hhh_engine.specs.declared.status.Status.{Status}
 use Rattle.hhh_engine.specs.Inputs.{InputsCanBeAnswered, HasKnownInputStore, InputBytes}
 use Rattle.hhh_engine.proofs.AuditEndLemmas.{audit_end_inputs_imply_more}
 use Rattle.hhh_engine.proofs.CaptureReportLemmas.{capture_report_if_known}
@@ -37,7 +42,7 @@ wider_rules_allow_dealing narrow wide kind shards records lists widen dealing = 
       record { below = dealt.below; of_kind = dealt.of_kind; answered = widen place rec shards number dealt.answered };
 }
 
-pub wider_rules_allow_records : (narrow wide : SessionRules) (settings : Settings) (file : List ℕ) (records : Records)
+wider_rules_allow_records : (narrow wide : SessionRules) (settings : Settings) (file : List ℕ) (records : Records)
     (lists : List (List RecordValue))
     → ((kind : DealKind) (place : ℕ) (rec : RecordValue) (shards number : ℕ) → narrow kind place rec shards number
     → wide kind place rec shards number)
@@ -81,7 +86,7 @@ wider_rules_allow_partial_session narrow wide keeping settings store file front 
   begun = session.begun;
 }
 
-pub wider_rules_allow_audit : (narrow wide : SessionRules) (settings : Settings) (file text : List ℕ) (lists : List (List RecordValue))
+wider_rules_allow_audit : (narrow wide : SessionRules) (settings : Settings) (file text : List ℕ) (lists : List (List RecordValue))
     (session : Session)
     → ((kind : DealKind) (place : ℕ) (rec : RecordValue) (shards number : ℕ) → narrow kind place rec shards number
     → wide kind place rec shards number)
@@ -183,7 +188,7 @@ wider_rules_allow_answer_part narrow wide keeping (Demo seed frames settings) re
   cut = answer.cut;
 }
 
-pub wider_rules_allow_answers : (narrow wide : SessionRules) (keeping : SessionKeeping) (words : List (List ℕ)) (read : InputBytes)
+wider_rules_allow_answers : (narrow wide : SessionRules) (keeping : SessionKeeping) (words : List (List ℕ)) (read : InputBytes)
     (old new : Option (List ℕ))
     → ((kind : DealKind) (place : ℕ) (rec : RecordValue) (shards number : ℕ) → narrow kind place rec shards number
     → wide kind place rec shards number)
@@ -199,7 +204,7 @@ wider_rules_allow_answers narrow wide keeping words read old new widen answers =
   };
 }
 
-pub wider_rules_allow_partial_answers : (narrow wide : SessionRules) (keeping : SessionKeeping) (words : List (List ℕ)) (read : InputBytes)
+wider_rules_allow_partial_answers : (narrow wide : SessionRules) (keeping : SessionKeeping) (words : List (List ℕ)) (read : InputBytes)
     (old new : Option (List ℕ))
     → ((kind : DealKind) (place : ℕ) (rec : RecordValue) (shards number : ℕ) → narrow kind place rec shards number
     → wide kind place rec shards number)
@@ -215,21 +220,6 @@ wider_rules_allow_partial_answers narrow wide keeping words read old new widen a
   };
 }
 
-pub wider_rules_allow_finding : (narrow wide : SessionRules) (words : List (List ℕ)) (read : InputBytes) (report : ℕ) (verdict : Verdict)
-    (old new : Option (List ℕ))
-    → ((kind : DealKind) (place : ℕ) (rec : RecordValue) (shards number : ℕ) → narrow kind place rec shards number
-    → wide kind place rec shards number)
-    → EndsFindingUnsound narrow words read report verdict old new → EndsFindingUnsound wide words read report verdict old new
-wider_rules_allow_finding narrow wide words read report verdict old new widen found = record {
-  settings = found.settings;
-  asked = found.asked;
-  read_to_end = found.read_to_end;
-  found = audit_end_inputs_imply_more read (λ file text. IsUnsoundAudit found.settings narrow file text report verdict)
-      (λ file text. IsUnsoundAudit found.settings wide file text report verdict)
-      (λ file text is. wider_rules_allow_unsound_session narrow wide found.settings file text report verdict widen is) found.found;
-  written = found.written;
-}
-
 wider_rules_allow_refusal : (narrow wide : SessionRules) (settings : Settings) (store : Option (List ℕ)) (file : List ℕ) (fault : OpenFault)
     → ((kind : DealKind) (place : ℕ) (rec : RecordValue) (shards number : ℕ) → narrow kind place rec shards number
     → wide kind place rec shards number)
@@ -239,24 +229,6 @@ wider_rules_allow_refusal narrow wide settings store file fault widen is = recor
   lists = is.lists;
   dealt = wider_rules_allow_records narrow wide settings file is.records is.lists widen is.dealt;
   refused = is.refused;
-}
-
-pub wider_rules_allow_refused_store : {K : Type 0} → (narrow wide : SessionRules) (words : List (List ℕ)) (read : InputBytes)
-    (fault : OpenFault) (sink written : K) (AsBefore : Type 0)
-    → ((kind : DealKind) (place : ℕ) (rec : RecordValue) (shards number : ℕ) → narrow kind place rec shards number
-    → wide kind place rec shards number)
-    → EndsRefusingStore narrow words read fault sink written AsBefore
-    → EndsRefusingStore wide words read fault sink written AsBefore
-wider_rules_allow_refused_store narrow wide words read fault sink written AsBefore widen refused = record {
-  settings = refused.settings;
-  asked = refused.asked;
-  used = refused.used;
-  read_to_end = refused.read_to_end;
-  refused = capture_report_if_known read.capture (λ file. IsRefusedStoreAtEnding refused.settings narrow read.store file fault)
-      (λ file. IsRefusedStoreAtEnding refused.settings wide read.store file fault)
-      (λ file is. wider_rules_allow_refusal narrow wide refused.settings read.store file fault widen is) refused.refused;
-  unwritten = refused.unwritten;
-  as_before = refused.as_before;
 }
 
 wider_rules_imply_known_store : (narrow wide : SessionRules) (settings : Settings) (read : InputBytes)
@@ -271,7 +243,7 @@ wider_rules_imply_known_store narrow wide settings read widen store = record {
 }
 
 -- inputs in their formats stay so under rules that allow less, which deal the records in fewer ways
-pub wider_rules_imply_answerable : (narrow wide : SessionRules) (command : Command) (read : InputBytes)
+wider_rules_imply_answerable : (narrow wide : SessionRules) (command : Command) (read : InputBytes)
     → ((kind : DealKind) (place : ℕ) (rec : RecordValue) (shards number : ℕ) → narrow kind place rec shards number
     → wide kind place rec shards number)
     → InputsCanBeAnswered wide command read → InputsCanBeAnswered narrow command read
@@ -282,3 +254,92 @@ wider_rules_imply_answerable narrow wide (Format settings) read widen can = can
 wider_rules_imply_answerable narrow wide (Audit settings) read widen can = can
 wider_rules_imply_answerable narrow wide (Make seed frames) read widen can = can
 wider_rules_imply_answerable narrow wide (Demo seed frames settings) read widen can = can
+
+-- ---- a run
+
+module _ {S T K D : Type 0} (s : SourceOf S) (t : SourceOf T) (k : SinkOf K) (d : DiskOf D) (old new : Streams S T K D)
+    (words : List (List ℕ)) (narrow wide : SessionRules)
+    (widen : (kind : DealKind) (place : ℕ) (rec : RecordValue) (shards number : ℕ) → narrow kind place rec shards number
+    → wide kind place rec shards number) where
+  wider_rules_allow_finding : (report : ℕ) (verdict : Verdict) → FindsUnsound s t k d old new words narrow report verdict
+      → FindsUnsound s t k d old new words wide report verdict
+  wider_rules_allow_finding report verdict found = record {
+    settings = found.settings;
+    asked = found.asked;
+    read_to_end = found.read_to_end;
+    found = audit_end_inputs_imply_more (run_inputs s t k d old new) (λ file text. IsUnsoundAudit found.settings narrow file text report verdict)
+        (λ file text. IsUnsoundAudit found.settings wide file text report verdict)
+        (λ file text is. wider_rules_allow_unsound_session narrow wide found.settings file text report verdict widen is) found.found;
+    written = found.written;
+  }
+
+  wider_rules_allow_refused_store : (fault : OpenFault) → RefusesStore s t k d old new words narrow fault
+      → RefusesStore s t k d old new words wide fault
+  wider_rules_allow_refused_store fault refused = record {
+    settings = refused.settings;
+    asked = refused.asked;
+    used = refused.used;
+    read_to_end = refused.read_to_end;
+    refused = capture_report_if_known (s.left old.capture)
+        (λ file. IsRefusedStoreAtEnding refused.settings narrow (d.reads old.disk) file fault)
+        (λ file. IsRefusedStoreAtEnding refused.settings wide (d.reads old.disk) file fault)
+        (λ file is. wider_rules_allow_refusal narrow wide refused.settings (d.reads old.disk) file fault widen is) refused.refused;
+    nothing = refused.nothing;
+  }
+
+  wider_rules_allow_part : WritesPart s t k d old new words narrow → WritesPart s t k d old new words wide
+  wider_rules_allow_part part =
+      wider_rules_allow_partial_answers narrow wide (run_keeping s t k d old new) words (run_inputs s t k d old new) (k.taken old.sink)
+      (k.taken new.sink) widen part
+
+  pub wider_rules_allow_run : (status : Status) → RunEnds s t k d old new words narrow status
+      → RunEnds s t k d old new words wide status
+  wider_rules_allow_run status ends = record {
+    done = λ is.
+        wider_rules_allow_answers narrow wide (run_keeping s t k d old new) words (run_inputs s t k d old new) (k.taken old.sink)
+        (k.taken new.sink) widen (ends.done is);
+    bad_words = ends.bad_words;
+    refuses_words = ends.refuses_words;
+    bad_capture = ends.bad_capture;
+    refuses_capture = ends.refuses_capture;
+    bad_store = λ fault shown is. wider_rules_allow_refused_store fault (ends.bad_store fault shown is);
+    refuses_store = λ settings file image frames fault asks used known capture is_store shown refused.
+        ends.refuses_store settings file image frames fault asks used known capture is_store shown
+        (λ records lists dealt. refused records lists (wider_rules_allow_records narrow wide settings file records lists widen dealt));
+    bad_text = ends.bad_text;
+    refuses_text = ends.refuses_text;
+    audit_no = λ report verdict is. wider_rules_allow_finding report verdict (ends.audit_no report verdict is);
+    finds_unsound = λ settings file bytes frames known report verdict asks is_file capture is_text is_session not_long first.
+        ends.finds_unsound settings file bytes frames known report verdict asks is_file capture is_text is_session not_long
+        (λ lists session audited. first lists session
+        (wider_rules_allow_audit narrow wide settings file bytes lists session widen audited));
+    finds_sound = λ settings file bytes frames known asks is_file capture is_text is_session not_long sound.
+        ends.finds_sound settings file bytes frames known asks is_file capture is_text is_session not_long
+        (λ lists session audited. sound lists session
+        (wider_rules_allow_audit narrow wide settings file bytes lists session widen audited));
+    read_fault = ends.read_fault;
+    read_fault_reported = ends.read_fault_reported;
+    write_fault = λ is.
+        let fault = ends.write_fault is in
+        record { rose = fault.rose; in_part = wider_rules_allow_part fault.in_part };
+    write_fault_reported = ends.write_fault_reported;
+    disk_fault = λ is.
+        let fault = ends.disk_fault is in
+        record {
+          command = fault.command;
+          asked = fault.asked;
+          may_use = fault.may_use;
+          rose = fault.rose;
+          in_part = ⊎_elim (λ nothing. inl nothing) (λ part. inr (wider_rules_allow_part part)) fault.in_part;
+        };
+    disk_fault_reported = ends.disk_fault_reported;
+    formats = ends.formats;
+    unused_capture = ends.unused_capture;
+    unused_text = ends.unused_text;
+    unused_disk = ends.unused_disk;
+    out_of_memory = λ is.
+        ⊎_elim (λ nothing. inl nothing) (λ part. inr (wider_rules_allow_part part)) (ends.out_of_memory is);
+    complete = λ command asked can.
+        ends.complete command asked
+        (wider_rules_imply_answerable narrow wide command (run_inputs s t k d old new) widen can);
+  }

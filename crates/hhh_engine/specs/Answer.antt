@@ -67,7 +67,7 @@ pub record Answers (rules : SessionRules) (keeping : SessionKeeping) (words : Li
   pub read_to_end : InputsWereRead command read
   pub answer : WritesAnswer (IsAnswer rules keeping command read) old new
 
--- a strict prefix of such a text was written, after the inputs were read to their ends
+-- bytes with which such a text may begin were written, and not all of it, after the inputs were read to their ends
 pub record AnswersInPart (rules : SessionRules) (keeping : SessionKeeping) (words : List (List ℕ)) (read : InputBytes)
     (old new : Option (List ℕ)) : Type 0 where
   pub command : Command

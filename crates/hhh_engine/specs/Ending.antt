@@ -1,77 +1,34 @@
 -- What each status says of the arguments, of the source, of the sink and of the disk.
-use Rattle.std.specs.Prelude.{⊤, ℕ, ◌≡◌, ◌⊎◌, ◌≤◌, true, List, length, All, Option, None, Some, IfSome}
+use Rattle.std.specs.Prelude.{⊤, ℕ, ◌≡◌, ◌⊎◌, ◌≤◌, true, List, Option, None, IfSome}
 use Rattle.std.specs.Io.KnownBytes.{Appends, IsAtEnd}
 use Rattle.outside_io.specs.{FaultCountRose}
 use Rattle.prefix_lattice.specs.{RecordValue}
-use Rattle.frame_records.specs.{CaptureFileHasFrames, IsRefusedCaptureFile}
+use Rattle.frame_records.specs.{IsRefusedCaptureFile}
 use Rattle.frame_records.specs.declared.records.Records.{Records}
-use Rattle.pcap_frames.specs.{FrameValue}
-use Rattle.pcap_frames.specs.declared.fault.CaptureFault.{CaptureFault}
 use Rattle.slot_disk.specs.{CrashLeavesAtAnyMoment, IfBothImagesKnown, IfImageKnown, IsTornFromImage, IsTornImage}
 use Rattle.slot_disk.specs.{layout_front_bytes}
+use Rattle.slot_disk.specs.declared.disk.Disk.{Ghosts as DiskOf}
 use Rattle.checkpoint.specs.{StoreOpensTo}
 use Rattle.checkpoint.specs.declared.settings.StoreSettings.{StoreSettings}
-use Rattle.recovery.specs.{IsRefusedAtOpening, IsShownByOpening}
+use Rattle.recovery.specs.{IsRefusedAtOpening}
 use Rattle.recovery.specs.declared.fault.OpenFault.{OpenFault}
 use Rattle.recovery.specs.declared.fault.OpenFault.TheVariants as opening
-use Rattle.report_text.specs.{HasSessionTextFault, IsSessionText, longest_session_text_length}
-use Rattle.report_text.specs.declared.session.Session.{Session}
+use Rattle.report_text.specs.{HasSessionTextFault}
 use Rattle.report_text.specs.declared.session_fault.TextFault.{TextFault}
 use Rattle.exact_audit.specs.declared.verdict.Verdict.{Verdict}
-use Rattle.command_words.specs.{AskForCommand, HasWordsFault}
 use Rattle.command_words.specs.declared.command.Command.{Command}
 use Rattle.command_words.specs.declared.command.Command.TheVariants as command
 use Rattle.command_words.specs.declared.settings.Settings.{Settings}
-use Rattle.command_words.specs.declared.words_kind.WordsKind.{WordsKind}
-use Rattle.hhh_engine.specs.Answer.{AnswersInPart, WritesAnswer}
-use Rattle.hhh_engine.specs.Audit.{AreAudited, IsAuditedAsFirstUnsound, IsAuditedAsSound}
+use Rattle.hhh_engine.specs.Answer.{WritesAnswer}
 use Rattle.hhh_engine.specs.Audit.{IsUnsoundAudit, AuditReadOnFault, unsound_audit_text}
-use Rattle.hhh_engine.specs.Inputs.{AskedCommandUsesInput, InputBytes, IsInputCapture, MayUseInputStore}
-use Rattle.hhh_engine.specs.Inputs.{HoldsOfAuditInputs, InputsCanBeAnswered, UsesInputCapture, UsesInputSession, InputsWereRead}
+use Rattle.hhh_engine.specs.Inputs.{InputBytes, IsInputCapture}
+use Rattle.hhh_engine.specs.Inputs.{HoldsOfAuditInputs}
 use Rattle.hhh_engine.specs.Saves.{store_settings_for_saves}
-use Rattle.hhh_engine.specs.Session.{AreDealtInSession, SessionKeeping, SessionRules}
-use Rattle.hhh_engine.specs.Status.{status_of_opening}
+use Rattle.hhh_engine.specs.Session.{AreDealtInSession, SessionRules}
 use Rattle.hhh_engine.specs.declared.status.Status.{Status}
 use Rattle.hhh_engine.specs.declared.status.Status.TheVariants.{Done, BadWords, BadCapture, ReadFault, WriteFault}
 use Rattle.hhh_engine.specs.declared.status.Status.TheVariants.{DiskFault, NotFormatted, Damaged, OtherSettings}
 use Rattle.hhh_engine.specs.declared.status.Status.TheVariants.{OtherCapture, AuditNo, BadReport, OutOfMemory}
-
--- nothing was read or written: the sources, the sink and the disk are as before
-pub record EndsUntouched {S T K D : Type 0} (capture read : S) (text text_read : T) (sink written : K) (disk left : D)
-    : Type 0 where
-  pub unread : read ≡ capture
-  pub text_unread : text_read ≡ text
-  pub unwritten : written ≡ sink
-  pub untouched : left ≡ disk
-
--- BadWords: this is the first fault of the arguments, and nothing was read or written
-pub record EndsRefusingWords {S T K D : Type 0} (words : List (List ℕ)) (kind : WordsKind) (capture read : S)
-    (text text_read : T) (sink written : K) (disk left : D) : Type 0 where
-  pub first_fault : HasWordsFault words kind
-  pub nothing : EndsUntouched capture read text text_read sink written disk left
-
--- arguments with a fault are refused for it, unless memory runs out, and nothing is read or written
-abbrev pub MustEndRefusingWords : {S T K D : Type 0} → List (List ℕ) → (capture read : S) → (text text_read : T)
-    → (sink written : K) → (disk left : D) → Status → Type 0
-MustEndRefusingWords words capture read text text_read sink written disk left status =
-    (kind : WordsKind) → HasWordsFault words kind → (status ≡ BadWords kind)
-    ⊎ ((status ≡ OutOfMemory) × EndsUntouched capture read text text_read sink written disk left)
-
--- BadCapture: the command reads a capture; this is the first fault of the file, where its bytes are known; no text of a
--- session was read before, and nothing was written
-pub record EndsRefusingCapture {T K D : Type 0} (words : List (List ℕ)) (left : Option (List ℕ)) (fault : CaptureFault)
-    (text text_read : T) (sink written : K) (disk stands : D) : Type 0 where
-  pub asked : AskedCommandUsesInput UsesInputCapture words
-  pub first_fault : IfSome left (λ file. IsRefusedCaptureFile file fault)
-  pub text_unread : text_read ≡ text
-  pub unwritten : written ≡ sink
-  pub untouched : stands ≡ disk
-
--- a capture with a fault is refused for it, unless the source fails or memory runs out first
-abbrev pub MustEndRefusingCapture : List (List ℕ) → InputBytes → Status → Type 0
-MustEndRefusingCapture words read status =
-    (file : List ℕ) (fault : CaptureFault) → AskedCommandUsesInput UsesInputCapture words → read.capture ≡ Some file
-    → IsRefusedCaptureFile file fault → (status ≡ BadCapture fault) ⊎ ((status ≡ ReadFault) ⊎ (status ≡ OutOfMemory))
 
 -- the counts of faults of the two sources: that of the capture, and that of the text of a session
 pub record EndingSourceFaults : Type 0 where
@@ -107,25 +64,6 @@ abbrev pub EndsAtFailedSource : {T : Type 0} → (Reads ReadsText : Type 0) → 
 EndsAtFailedSource Reads ReadsText read before now text text_read =
     EndsAtFailedCapture Reads before now text text_read ⊎ EndsAtFailedText ReadsText read before now
 
--- ReadFault: the count of faults of a source rose, and nothing was written
-pub record EndsFailingToRead {T K D : Type 0} (words : List (List ℕ)) (read : InputBytes) (before now : EndingSourceFaults)
-    (text text_read : T) (sink written : K) (disk stands : D) : Type 0 where
-  pub failed : EndsAtFailedSource (AskedCommandUsesInput UsesInputCapture words) (AskedCommandUsesInput UsesInputSession words) read before now text text_read
-  pub unwritten : written ≡ sink
-  pub untouched : stands ≡ disk
-
--- WriteFault: the sink's count of faults rose, and bytes with which the text of the command begins were written
-pub record EndsFailingToWrite (rules : SessionRules) (keeping : SessionKeeping) (words : List (List ℕ)) (read : InputBytes)
-    (old new : Option (List ℕ)) (before now : ℕ) : Type 0 where
-  pub rose : FaultCountRose before now
-  pub in_part : AnswersInPart rules keeping words read old new
-
--- bytes with which the text of the command begins were written; or none were, and the disk is as before
-abbrev pub EndsWritingInPart : {K : Type 0} → SessionRules → SessionKeeping → List (List ℕ) → InputBytes → (AsBefore : Type 0)
-    → (sink written : K) → (old new : Option (List ℕ)) → Type 0
-EndsWritingInPart rules keeping words read AsBefore sink written old new =
-    ((written ≡ sink) × AsBefore) ⊎ AnswersInPart rules keeping words read old new
-
 -- where no byte was written: the disk is as before, unless the command is `format`, which may have begun a store
 abbrev pub EndsAsBeforeUnlessFormat : Command → (AsBefore : Type 0) → Type 0
 EndsAsBeforeUnlessFormat (command.Weigh prefix settings) AsBefore = AsBefore
@@ -135,16 +73,6 @@ EndsAsBeforeUnlessFormat (command.Audit settings) AsBefore = AsBefore
 EndsAsBeforeUnlessFormat (command.Make seed frames) AsBefore = AsBefore
 EndsAsBeforeUnlessFormat (command.Demo seed frames settings) AsBefore = AsBefore
 
--- DiskFault: the command may use a store; the disk's count of faults rose, and bytes with which the text begins were
--- written; or none were, and a store that was to be opened is as before
-pub record EndsWithFailedDisk {K : Type 0} (rules : SessionRules) (keeping : SessionKeeping) (words : List (List ℕ)) (read : InputBytes)
-    (AsBefore : Type 0) (sink written : K) (old new : Option (List ℕ)) (before now : ℕ) : Type 0 where
-  pub command : Command
-  pub asked : AskForCommand words command
-  pub may_use : MayUseInputStore command
-  pub rose : FaultCountRose before now
-  pub in_part : EndsWritingInPart rules keeping words read (EndsAsBeforeUnlessFormat command AsBefore) sink written old new
-
 -- over a capture, whose records are dealt, the store is refused for this fault, where the bytes of the disk are known
 pub record IsRefusedStoreAtEnding (settings : Settings) (rules : SessionRules) (store : Option (List ℕ)) (file : List ℕ)
     (fault : OpenFault) : Type 0 where
@@ -153,61 +81,6 @@ pub record IsRefusedStoreAtEnding (settings : Settings) (rules : SessionRules) (
   pub dealt : AreDealtInSession settings rules file records lists
   pub refused : IfImageKnown store (λ image. IsRefusedAtOpening (store_settings_for_saves settings) lists image fault)
 
--- NotFormatted, Damaged, OtherSettings, OtherCapture: a report with a store was asked for; the capture was read to its
--- end, the store was refused for this fault, nothing was written, and the disk is as before
-pub record EndsRefusingStore {K : Type 0} (rules : SessionRules) (words : List (List ℕ)) (read : InputBytes) (fault : OpenFault)
-    (sink written : K) (AsBefore : Type 0) : Type 0 where
-  pub settings : Settings
-  pub asked : AskForCommand words (command.Report settings)
-  pub used : settings.store ≡ true
-  pub read_to_end : IsAtEnd read.capture_left
-  pub refused : IfSome read.capture (λ file. IsRefusedStoreAtEnding settings rules read.store file fault)
-  pub unwritten : written ≡ sink
-  pub as_before : AsBefore
-
--- a store that is refused for a fault however the records of the capture are dealt is refused for it, unless the source or
--- the disk fails or memory runs out first
-abbrev pub MustEndRefusingStore : SessionRules → List (List ℕ) → InputBytes → Status → Type 0
-MustEndRefusingStore rules words read status =
-    (settings : Settings) (file image : List ℕ) (frames : List FrameValue) (fault : OpenFault)
-    → AskForCommand words (command.Report settings) → settings.store ≡ true → read.capture ≡ Some file
-    → CaptureFileHasFrames file frames → read.store ≡ Some image → IsShownByOpening fault
-    → ((records : Records) (lists : List (List RecordValue)) → AreDealtInSession settings rules file records lists
-    → IsRefusedAtOpening (store_settings_for_saves settings) lists image fault)
-    → (status ≡ status_of_opening fault) ⊎ ((status ≡ ReadFault) ⊎ ((status ≡ DiskFault) ⊎ (status ≡ OutOfMemory)))
-
--- AuditNo: an audit was asked for, and the inputs were read to their ends; this report is the first of the session that
--- is not sound, by this verdict, and the line that says so was written in full
-pub record EndsFindingUnsound (rules : SessionRules) (words : List (List ℕ)) (read : InputBytes) (report : ℕ) (verdict : Verdict)
-    (old new : Option (List ℕ)) : Type 0 where
-  pub settings : Settings
-  pub asked : AskForCommand words (command.Audit settings)
-  pub read_to_end : InputsWereRead (command.Audit settings) read
-  pub found : HoldsOfAuditInputs read (λ file text. IsUnsoundAudit settings rules file text report verdict)
-  pub written : Appends old new (unsound_audit_text report verdict)
-
--- a session is found unsound at the report that is the first that is not sound however the records are dealt, unless a
--- source or the sink fails or memory runs out first
-abbrev pub MustEndFindingUnsound : SessionRules → List (List ℕ) → InputBytes → Status → Type 0
-MustEndFindingUnsound rules words read status =
-    (settings : Settings) (file bytes : List ℕ) (frames : List FrameValue) (known : Session) (report : ℕ) (verdict : Verdict)
-    → AskForCommand words (command.Audit settings) → read.capture ≡ Some file → CaptureFileHasFrames file frames
-    → read.text ≡ Some bytes → IsSessionText bytes known → length bytes ≤ longest_session_text_length
-    → ((lists : List (List RecordValue)) (session : Session) → AreAudited settings rules file bytes lists session
-    → IsAuditedAsFirstUnsound settings lists session.reports report verdict)
-    → (status ≡ AuditNo report verdict) ⊎ ((status ≡ ReadFault) ⊎ ((status ≡ WriteFault) ⊎ (status ≡ OutOfMemory)))
-
--- a session whose reports are all sound however the records are dealt is found so, unless a source or the sink fails or
--- memory runs out
-abbrev pub MustEndFindingSound : SessionRules → List (List ℕ) → InputBytes → Status → Type 0
-MustEndFindingSound rules words read status =
-    (settings : Settings) (file bytes : List ℕ) (frames : List FrameValue) (known : Session)
-    → AskForCommand words (command.Audit settings) → read.capture ≡ Some file → CaptureFileHasFrames file frames
-    → read.text ≡ Some bytes → IsSessionText bytes known → length bytes ≤ longest_session_text_length
-    → ((lists : List (List RecordValue)) (session : Session) → AreAudited settings rules file bytes lists session
-    → All (IsAuditedAsSound settings lists) session.reports)
-    → (status ≡ Done) ⊎ ((status ≡ ReadFault) ⊎ ((status ≡ WriteFault) ⊎ (status ≡ OutOfMemory)))
-
 -- the text of a session was refused: the capture is one and was read to its end; this is the first fault of the text, where
 -- its bytes are known, which was read to its end, or to one byte past the longest one
 pub record TextRefusedAtEnding (read : InputBytes) (fault : TextFault) : Type 0 where
@@ -215,24 +88,6 @@ pub record TextRefusedAtEnding (read : InputBytes) (fault : TextFault) : Type 0 
   pub accepted : IfSome read.capture IsInputCapture
   pub first_fault : IfSome read.text (λ text. HasSessionTextFault text fault)
   pub read_to_limit : AuditReadOnFault fault read.text read.text_left
-
--- BadReport: an audit was asked for, and the text was refused for this fault; nothing was written
-pub record EndsRefusingText {K D : Type 0} (words : List (List ℕ)) (read : InputBytes) (fault : TextFault)
-    (sink written : K) (disk stands : D) : Type 0 where
-  pub settings : Settings
-  pub asked : AskForCommand words (command.Audit settings)
-  pub refusal : TextRefusedAtEnding read fault
-  pub unwritten : written ≡ sink
-  pub untouched : stands ≡ disk
-
--- the text of a session with a fault is refused for it, once the capture was accepted, unless a source fails or memory
--- runs out first
-abbrev pub MustEndRefusingText : List (List ℕ) → InputBytes → Status → Type 0
-MustEndRefusingText words read status =
-    (settings : Settings) (file bytes : List ℕ) (frames : List FrameValue) (fault : TextFault)
-    → AskForCommand words (command.Audit settings) → read.capture ≡ Some file → CaptureFileHasFrames file frames
-    → read.text ≡ Some bytes → HasSessionTextFault bytes fault
-    → (status ≡ BadReport fault) ⊎ ((status ≡ ReadFault) ⊎ (status ≡ OutOfMemory))
 
 -- the command was answered: its text was written, or an audit found a report that is not sound
 abbrev pub EndsAnswered : Command → Status → Type 0
@@ -244,15 +99,6 @@ EndsAnswered (command.Format settings) status = status ≡ Done
 EndsAnswered (command.Make seed frames) status = status ≡ Done
 EndsAnswered (command.Demo seed frames settings) status = status ≡ Done
 
--- with arguments that ask for a command, inputs that are known and in their formats, and no fault of a source, the sink or
--- the disk, the command is answered, unless memory runs out
-abbrev pub MustEndAnswered : SessionRules → List (List ℕ) → InputBytes → (read_before read_now : EndingSourceFaults)
-    → (write_before write_now disk_before disk_now : ℕ) → Status → Type 0
-MustEndAnswered rules words read read_before read_now write_before write_now disk_before disk_now status =
-    (command : Command) → AskForCommand words command → InputsCanBeAnswered rules command read
-    → (SourceFaultsRoseAtEnding read_before read_now → ⊥) → (FaultCountRose write_before write_now → ⊥)
-    → (FaultCountRose disk_before disk_now → ⊥) → EndsAnswered command status ⊎ (status ≡ OutOfMemory)
-
 -- the disk holds a store with no gate open, whatever a crash now leaves, where its bytes are known
 abbrev pub EndsWithEmptyStore : Option (List ℕ) → (List ℕ → Type 0) → StoreSettings → Type 0
 EndsWithEmptyStore reads possible settings =
@@ -260,20 +106,18 @@ EndsWithEmptyStore reads possible settings =
 
 -- of a disk no more than the 64 bytes of gates and header, and what is past its old end, has changed: in what a read gives,
 -- where that is known, and in what a crash leaves at any moment
-pub record EndsTearingFront {D : Type 0} (reads : D → Option (List ℕ)) (image_now : D → List ℕ → Type 0) (moment : D → ℕ)
-    (image_since : D → ℕ → List ℕ → Type 0) (old new : D) : Type 0 where
-  pub reading : IfBothImagesKnown (reads old) (reads new) (IsTornImage 0 layout_front_bytes)
-  pub any_moment : CrashLeavesAtAnyMoment moment image_since old new (IsTornFromImage (image_now old) 0 layout_front_bytes)
+pub record EndsTearingFront {D : Type 0} (d : DiskOf D) (old new : D) : Type 0 where
+  pub reading : IfBothImagesKnown (d.reads old) (d.reads new) (IsTornImage 0 layout_front_bytes)
+  pub any_moment : CrashLeavesAtAnyMoment d.moment d.image_since old new (IsTornFromImage (d.image_now old) 0 layout_front_bytes)
 
 -- how `format` ends: the store is formatted once its text is written, or the sink failed; nothing was written where the
--- disk failed, and of it no more than the front has changed (Torn); the disk is as before where memory ran out
-abbrev pub FormatEnds : {K D : Type 0} → StoreSettings → Option (List ℕ) → (List ℕ → Type 0) → (Torn : Type 0)
-    → (sink written : K) → (disk stands : D) → Status → Type 0
-FormatEnds settings reads possible Torn sink written disk stands Done = EndsWithEmptyStore reads possible settings
-FormatEnds settings reads possible Torn sink written disk stands WriteFault = EndsWithEmptyStore reads possible settings
-FormatEnds settings reads possible Torn sink written disk stands DiskFault = (written ≡ sink) × Torn
-FormatEnds settings reads possible Torn sink written disk stands OutOfMemory = (written ≡ sink) × (stands ≡ disk)
-FormatEnds settings reads possible Torn sink written disk stands _ = ⊥
+-- disk failed, and of it no more than the front has changed; the disk is as before where memory ran out
+abbrev pub FormatEnds : {K D : Type 0} → DiskOf D → StoreSettings → (sink written : K) → (disk stands : D) → Status → Type 0
+FormatEnds d settings sink written disk stands Done = EndsWithEmptyStore (d.reads stands) (d.image_now stands) settings
+FormatEnds d settings sink written disk stands WriteFault = EndsWithEmptyStore (d.reads stands) (d.image_now stands) settings
+FormatEnds d settings sink written disk stands DiskFault = (written ≡ sink) × EndsTearingFront d disk stands
+FormatEnds d settings sink written disk stands OutOfMemory = (written ≡ sink) × (stands ≡ disk)
+FormatEnds d settings sink written disk stands _ = ⊥
 
 -- within the crate: a report with a store was asked for, the store is refused for this fault, and the disk is as before
 abbrev pub RefusesStoreAtEnding : Settings → SessionRules → (capture store : Option (List ℕ)) → (AsBefore : Type 0) → OpenFault → Type 0

@@ -6,6 +6,7 @@ use Rattle.hhh_report.specs.{AreCutPositionsNotPast}
 use Rattle.shard_state.specs.{CutRepresents, CutValue, ShardValue, core_capacity}
 use Rattle.gate_workers.specs.{IsLaterView, View}
 use Rattle.slot_disk.specs.{IfImageKnown, CrashLeavesAtAnyMoment}
+use Rattle.slot_disk.specs.declared.disk.Disk.{Ghosts as DiskOf}
 use Rattle.checkpoint.specs.{AreHeaderSettings, StoreBelongs, StoreOpensTo, SavedValue, SaverState, DiskMatchesSaver}
 use Rattle.checkpoint.specs.{saver_after_save, digest_of_lists}
 use Rattle.checkpoint.specs.{greatest_body_sequence, store_positions, store_sequence}
@@ -42,25 +43,23 @@ OpensAsBeforeOrToSaves settings opened (saved ∷ later) image =
 -- saves of the cuts `saved`, and an unfinished one, if any: a crash at any moment leaves what was possible before (Earlier),
 -- or a sound store that opens as before or to one of them; afterwards, to the last saved one, as before without any, or to
 -- the unfinished one
-pub record KeepsSaves {D : Type 0} (image_now : D → List ℕ → Type 0) (moment : D → ℕ)
-    (image_since : D → ℕ → List ℕ → Type 0) (settings : StoreSettings) (digest : List ℕ) (Earlier : List ℕ → Type 0)
+pub record KeepsSaves {D : Type 0} (d : DiskOf D) (settings : StoreSettings) (digest : List ℕ) (Earlier : List ℕ → Type 0)
     (saved unfinished : List CutValue) (old new : D) (store : List ℕ) : Type 0 where
   pub opened : Option SavedValue
   pub opens : StoreOpensTo settings store opened
-  pub any_moment : CrashLeavesAtAnyMoment moment image_since old new (λ image. Earlier image
+  pub any_moment : CrashLeavesAtAnyMoment d.moment d.image_since old new (λ image. Earlier image
       ⊎ OpensAsBeforeOrToSaves settings opened (saves_after (store_sequence opened) digest (saved ++ unfinished)) image)
-  pub afterwards : (image : List ℕ) → image_now new image
+  pub afterwards : (image : List ℕ) → d.image_now new image
       → OpensAsBeforeOrToSaves settings (last_of_saves opened (saves_after (store_sequence opened) digest saved))
       (saves_after (store_sequence opened + length saved) digest unfinished) image
 
 -- what a run keeps of the store on its disk, where its bytes are known, for the store's settings, the dealt lists, the cuts
 -- that were saved of them, and one whose save is unfinished, if any
-abbrev pub SavesAreKeptOnDisk : {D : Type 0} → (D → Option (List ℕ)) → (D → List ℕ → Type 0) → (D → ℕ)
-    → (D → ℕ → List ℕ → Type 0) → (old new : D) → StoreSettings → List (List RecordValue)
+abbrev pub SavesAreKeptOnDisk : {D : Type 0} → DiskOf D → (old new : D) → StoreSettings → List (List RecordValue)
     → (saved unfinished : List CutValue) → Type 0
-SavesAreKeptOnDisk reads image_now moment image_since old new settings lists saved unfinished =
-    IfImageKnown (reads old)
-    (KeepsSaves image_now moment image_since settings (digest_of_lists settings lists) (image_now old) saved unfinished old new)
+SavesAreKeptOnDisk d old new settings lists saved unfinished =
+    IfImageKnown (d.reads old)
+    (KeepsSaves d settings (digest_of_lists settings lists) (d.image_now old) saved unfinished old new)
 
 -- of what a store opens to, `found` is no earlier than `opened`: neither its sequence nor the position of any shard is
 -- smaller
@@ -87,60 +86,54 @@ pub record SavesReopenFromStore (Possible : List ℕ → Type 0) (settings : Sto
 
 -- the store on a disk opens again after a run, where its bytes were known as the run began, for the store's settings, the
 -- dealt lists, the cuts that were saved of them, and one whose save is unfinished, if any
-abbrev pub SavesAreReopenedFromDisk : {D : Type 0} → (D → Option (List ℕ)) → (D → List ℕ → Type 0) → (old new : D)
+abbrev pub SavesAreReopenedFromDisk : {D : Type 0} → DiskOf D → (old new : D)
     → StoreSettings → List (List RecordValue) → (saved unfinished : List CutValue) → Type 0
-SavesAreReopenedFromDisk reads image_now old new settings lists saved unfinished =
-    IfImageKnown (reads old) (SavesReopenFromStore (image_now new) settings (digest_of_lists settings lists) saved unfinished)
+SavesAreReopenedFromDisk d old new settings lists saved unfinished =
+    IfImageKnown (d.reads old) (SavesReopenFromStore (d.image_now new) settings (digest_of_lists settings lists) saved unfinished)
 
 -- the saved cut that a session went on from, if any, represents these lists, and whatever a crash leaves of the store at any
 -- moment of the session, and after it, is a sound store that belongs to them
-pub record SavesBelongThroughout {D : Type 0} (image_now : D → List ℕ → Type 0) (moment : D → ℕ)
-    (image_since : D → ℕ → List ℕ → Type 0) (settings : StoreSettings) (lists : List (List RecordValue))
+pub record SavesBelongThroughout {D : Type 0} (d : DiskOf D) (settings : StoreSettings) (lists : List (List RecordValue))
     (base : Option CutValue) (old new : D) : Type 0 where
   pub base_represents : IfSome base (λ cut. CutRepresents cut lists)
-  pub any_moment : CrashLeavesAtAnyMoment moment image_since old new (StoreBelongs settings lists)
-  pub afterwards : (image : List ℕ) → image_now new image → StoreBelongs settings lists image
+  pub any_moment : CrashLeavesAtAnyMoment d.moment d.image_since old new (StoreBelongs settings lists)
+  pub afterwards : (image : List ℕ) → d.image_now new image → StoreBelongs settings lists image
 
 -- the disk reads as before, and a crash at any moment leaves what it could have left before
-pub record IsAsBeforeSaves {D : Type 0} (reads : D → Option (List ℕ)) (image_now : D → List ℕ → Type 0) (moment : D → ℕ)
-    (image_since : D → ℕ → List ℕ → Type 0) (old new : D) : Type 0 where
-  pub same_reads : reads new ≡ reads old
-  pub any_moment : CrashLeavesAtAnyMoment moment image_since old new (image_now old)
+pub record IsAsBeforeSaves {D : Type 0} (d : DiskOf D) (old new : D) : Type 0 where
+  pub same_reads : d.reads new ≡ d.reads old
+  pub any_moment : CrashLeavesAtAnyMoment d.moment d.image_since old new (d.image_now old)
 
 -- a saver after saves of these cuts
 abbrev pub after_saves : SaverState → List CutValue → SaverState
 after_saves saver cuts = fold saver_after_save saver cuts
 
 -- a saver saved these cuts, one after the other, and the disk matches what the saver then knows
-pub record SavesCuts {D : Type 0} (reads : D → Option (List ℕ)) (image_now : D → List ℕ → Type 0) (moment : D → ℕ)
-    (image_since : D → ℕ → List ℕ → Type 0) (saver : SaverState) (cuts : List CutValue) (old new : D) : Type 0 where
-  pub known : is_some (reads new) ≡ is_some (reads old)
-  pub stands : DiskMatchesSaver (reads new) (image_now new) (after_saves saver cuts)
-  pub kept : IfImageKnown (reads old)
-      (KeepsSaves image_now moment image_since saver.settings saver.digest (λ image. ⊥) cuts [] old new)
+pub record SavesCuts {D : Type 0} (d : DiskOf D) (saver : SaverState) (cuts : List CutValue) (old new : D) : Type 0 where
+  pub known : is_some (d.reads new) ≡ is_some (d.reads old)
+  pub stands : DiskMatchesSaver (d.reads new) (d.image_now new) (after_saves saver cuts)
+  pub kept : IfImageKnown (d.reads old)
+      (KeepsSaves d saver.settings saver.digest (λ image. ⊥) cuts [] old new)
 
 -- what a run with or without a saver did to the disk: the saver saved these cuts, or nothing was done
-abbrev pub Saves : {D : Type 0} → (D → Option (List ℕ)) → (D → List ℕ → Type 0) → (D → ℕ)
-    → (D → ℕ → List ℕ → Type 0) → Option SaverState → List CutValue → D → D → Type 0
-Saves reads image_now moment image_since None cuts old new = new ≡ old
-Saves reads image_now moment image_since (Some saver) cuts old new =
-    SavesCuts reads image_now moment image_since saver cuts old new
+abbrev pub Saves : {D : Type 0} → DiskOf D → Option SaverState → List CutValue → D → D → Type 0
+Saves d None cuts old new = new ≡ old
+Saves d (Some saver) cuts old new =
+    SavesCuts d saver cuts old new
 
 -- what a run that broke off did to the disk: the saver saved the cuts `saved`, and its save of `unfinished`, if any, is
 -- unfinished; without a saver nothing was done
-pub record SavesInPart {D : Type 0} (reads : D → Option (List ℕ)) (image_now : D → List ℕ → Type 0) (moment : D → ℕ)
-    (image_since : D → ℕ → List ℕ → Type 0) (saver : Option SaverState) (old new : D) (saved unfinished : List CutValue)
+pub record SavesInPart {D : Type 0} (d : DiskOf D) (saver : Option SaverState) (old new : D) (saved unfinished : List CutValue)
     : Type 0 where
   pub unused : saver ≡ None → new ≡ old
-  pub kept : IfSome saver (λ saver. IfImageKnown (reads old)
-      (KeepsSaves image_now moment image_since saver.settings saver.digest (λ image. ⊥) saved unfinished old new))
+  pub kept : IfSome saver (λ saver. IfImageKnown (d.reads old)
+      (KeepsSaves d saver.settings saver.digest (λ image. ⊥) saved unfinished old new))
 
 -- such saves, and this is the saver after them
-pub record SavesInTurn {D : Type 0} (reads : D → Option (List ℕ)) (image_now : D → List ℕ → Type 0) (moment : D → ℕ)
-    (image_since : D → ℕ → List ℕ → Type 0) (before after : Option SaverState) (old new : D) (cuts : List CutValue)
+pub record SavesInTurn {D : Type 0} (d : DiskOf D) (before after : Option SaverState) (old new : D) (cuts : List CutValue)
     : Type 0 where
   pub saver : after ≡ option_map (λ saver. after_saves saver cuts) before
-  pub saves : Saves reads image_now moment image_since before cuts old new
+  pub saves : Saves d before cuts old new
 
 -- the saver after saves that broke off: none where a save is unfinished, else the one after those that were made
 abbrev pub saver_after_broken_saves : Option SaverState → (saved unfinished : List CutValue) → Option SaverState
@@ -148,11 +141,10 @@ saver_after_broken_saves before saved [] = option_map (λ saver. after_saves sav
 saver_after_broken_saves before saved (cut ∷ cuts) = None
 
 -- saves that broke off, and this is the saver after them
-pub record SavesBreakOff {D : Type 0} (reads : D → Option (List ℕ)) (image_now : D → List ℕ → Type 0) (moment : D → ℕ)
-    (image_since : D → ℕ → List ℕ → Type 0) (before after : Option SaverState) (old new : D) (saved unfinished : List CutValue)
+pub record SavesBreakOff {D : Type 0} (d : DiskOf D) (before after : Option SaverState) (old new : D) (saved unfinished : List CutValue)
     : Type 0 where
   pub saver : after ≡ saver_after_broken_saves before saved unfinished
-  pub saves : SavesInPart reads image_now moment image_since before old new saved unfinished
+  pub saves : SavesInPart d before old new saved unfinished
 
 -- a saver for a board that may save what a pass with this view reads: no position that it saved is past what the view
 -- has seen

@@ -7,22 +7,18 @@ ghost use Rattle.deal_rules.specs.{dealer_of};
 ghost use Rattle.deal_rules.specs.declared.deal_kind.DealKind.{DealKind};
 ghost use Rattle.hhh_report.specs.declared.reports.Reported.{Reported};
 ghost use Rattle.hhh_report.specs.{AreCutPositionsNotPast};
-ghost use Rattle.hhh_engine.specs.Answer.{Answers, AnswersInPart};
 ghost use Rattle.hhh_engine.specs.Audit.{AreAudited, IsAuditedAsFirstUnsound, IsAuditedAsSound, IsSoundAudit};
 ghost use Rattle.hhh_engine.specs.Audit.{IsUnsoundAudit, sound_audit_text};
 ghost use Rattle.hhh_engine.specs.Demo.{IsDemoText};
-ghost use Rattle.hhh_engine.specs.Ending.{EndsFindingUnsound, EndsRefusingStore};
-ghost use Rattle.hhh_engine.specs.Inputs.{InputsCanBeAnswered, InputBytes};
+ghost use Rattle.hhh_engine.specs.TopCall.{RunEnds, Streams};
+ghost use Rattle.hhh_engine.specs.declared.status.Status.{Status};
 ghost use Rattle.pcap_frames.specs.{FrameValue};
 ghost use Rattle.frame_records.specs.{CaptureFileHasFrames};
-ghost use Rattle.frame_records.specs.declared.records.Records.{Records};
-ghost use Rattle.recovery.specs.declared.fault.OpenFault.{OpenFault};
 ghost use Rattle.traffic_maker.specs.{made_capture, most_made_capture_frames};
 ghost use Rattle.exact_audit.specs.{IsVerdict};
 ghost use Rattle.exact_audit.specs.declared.verdict.Verdict.{Verdict};
 ghost use Rattle.exact_audit.specs.declared.verdict.Verdict.TheVariants.{Good};
 ghost use Rattle.command_words.specs.{AreLimitedSettings};
-ghost use Rattle.command_words.specs.declared.command.Command.{Command};
 ghost use Rattle.command_words.specs.declared.settings.Settings.{Settings};
 ghost use Rattle.report_text.specs.{IsSessionText, longest_session_text_length, report_mark_text, report_text};
 ghost use Rattle.report_text.specs.declared.mark.Mark.TheVariants.{Opened};
@@ -32,12 +28,12 @@ ghost use Rattle.shard_state.specs.{ShardValue, core_capacity, core_lists, cut_p
 ghost use Rattle.checkpoint.specs.declared.settings.StoreSettings.{StoreSettings};
 ghost use Rattle.checkpoint.specs.{StoreBelongs, IsStoreOfLists, StoreOpensTo, SavedValue, digest_of_lists};
 ghost use Rattle.checkpoint.specs.{store_positions, store_sequence};
-ghost use Rattle.hhh_engine.specs.Session.{AreDealtInSession, AreSessionReportsOfCaller, AreSessionReports, IsSession};
+ghost use Rattle.hhh_engine.specs.Session.{AreSessionReportsOfCaller, AreSessionReports, IsSession};
 ghost use Rattle.hhh_engine.specs.Session.{IsSessionInPart, IsShownInSession, SessionReports, session_rules_by_formula};
 ghost use Rattle.hhh_engine.specs.Session.{session_reports_of_calling_thread, session_ends, last_session_positions};
 ghost use Rattle.hhh_engine.specs.Session.{new_session_shards, session_part, session_reports_in, session_saved_cuts};
 ghost use Rattle.hhh_engine.specs.Session.{session_saves, session_text_of_reports, session_start};
-ghost use Rattle.hhh_engine.specs.Saves.{SavesBelongThroughout, IsAsBeforeSaves, OpensAsBeforeOrToSaves};
+ghost use Rattle.hhh_engine.specs.Saves.{SavesBelongThroughout, OpensAsBeforeOrToSaves};
 ghost use Rattle.hhh_engine.specs.Saves.{SavesAreKeptOnDisk, last_of_saves, SavesAreReopenedFromDisk};
 ghost use Rattle.hhh_engine.specs.Saves.{store_settings_for_saves};
 
@@ -47,59 +43,21 @@ use exact_audit::a_report_has_one_verdict;
 use frame_records::files_are_read_or_refused;
 use gate_workers::reported_cuts_represent;
 use hhh_output::{a_cut_has_one_report, standing_cuts_have_one_report};
-use outside_io::Sink;
+use outside_io::{Sink, Source};
 use report_text::{
     printed_sessions_read_back, same_reports_have_one_text, session_texts_have_one_reading,
 };
 use slot_disk::Disk;
 
-/// If each dealer answers by a formula, one for each kind of dealing, then an answer under what the dealers may
-/// answer is also an answer under the formulas: the records are dealt by them. So is the refusal of a store. What can be
-/// answered under the formulas can be under what the dealers may answer.
-pub fn answers_follow_formulas<K: Sink, D: Disk>(dealers: &Dealers)
-    ensures whole { (formula : DealKind → ℕ → RecordValue → ℕ → ℕ) (before now : D) (words : List (List ℕ)) (read : InputBytes) (old new : Option (List ℕ))
+/// If each dealer answers by a formula, one for each kind of dealing, then a run that ended under what the dealers may
+/// answer also ended so under the formulas: the records are dealt by them, and what must come of known inputs comes where
+/// these are dealt so.
+pub fn runs_follow_formulas<S: Source, T: Source, K: Sink, D: Disk>(dealers: &Dealers)
+    ensures { (formula : DealKind → ℕ → RecordValue → ℕ → ℕ) (old new : Streams S T K D) (words : List (List ℕ)) (status : Status)
         → ((kind : DealKind) (place : ℕ) (rec : RecordValue) (shards number : ℕ)
         → ⟦<Dealer as Deals>⟧.may_answer (dealer_of kind dealers.now) place rec shards number → number ≡ formula kind place rec shards)
-        → Answers (λ kind. ⟦<Dealer as Deals>⟧.may_answer (dealer_of kind dealers.now))
-        (SavesAreKeptOnDisk D.reads D.image_now D.moment D.image_since before now) words read old new
-        → Answers (session_rules_by_formula formula) (SavesAreKeptOnDisk D.reads D.image_now D.moment D.image_since before now) words read old new }
-    ensures part { (formula : DealKind → ℕ → RecordValue → ℕ → ℕ) (before now : D) (words : List (List ℕ)) (read : InputBytes) (old new : Option (List ℕ))
-        → ((kind : DealKind) (place : ℕ) (rec : RecordValue) (shards number : ℕ)
-        → ⟦<Dealer as Deals>⟧.may_answer (dealer_of kind dealers.now) place rec shards number → number ≡ formula kind place rec shards)
-        → AnswersInPart (λ kind. ⟦<Dealer as Deals>⟧.may_answer (dealer_of kind dealers.now))
-        (SavesAreKeptOnDisk D.reads D.image_now D.moment D.image_since before now) words read old new
-        → AnswersInPart (session_rules_by_formula formula) (SavesAreKeptOnDisk D.reads D.image_now D.moment D.image_since before now) words read old new }
-    ensures found { (formula : DealKind → ℕ → RecordValue → ℕ → ℕ) (words : List (List ℕ)) (read : InputBytes) (report : ℕ) (verdict : Verdict)
-        (old new : Option (List ℕ))
-        → ((kind : DealKind) (place : ℕ) (rec : RecordValue) (shards number : ℕ)
-        → ⟦<Dealer as Deals>⟧.may_answer (dealer_of kind dealers.now) place rec shards number → number ≡ formula kind place rec shards)
-        → EndsFindingUnsound (λ kind. ⟦<Dealer as Deals>⟧.may_answer (dealer_of kind dealers.now)) words read report verdict old new
-        → EndsFindingUnsound (session_rules_by_formula formula) words read report verdict old new }
-    ensures refused { (formula : DealKind → ℕ → RecordValue → ℕ → ℕ) (words : List (List ℕ)) (read : InputBytes) (fault : OpenFault)
-        (sink written : K) (before now : D)
-        → ((kind : DealKind) (place : ℕ) (rec : RecordValue) (shards number : ℕ)
-        → ⟦<Dealer as Deals>⟧.may_answer (dealer_of kind dealers.now) place rec shards number → number ≡ formula kind place rec shards)
-        → EndsRefusingStore (λ kind. ⟦<Dealer as Deals>⟧.may_answer (dealer_of kind dealers.now)) words read fault sink written
-        (IsAsBeforeSaves D.reads D.image_now D.moment D.image_since before now)
-        → EndsRefusingStore (session_rules_by_formula formula) words read fault sink written
-        (IsAsBeforeSaves D.reads D.image_now D.moment D.image_since before now) }
-    ensures dealt { (formula : DealKind → ℕ → RecordValue → ℕ → ℕ) (settings : Settings) (file : List ℕ) (records : Records)
-        (lists : List (List RecordValue))
-        → ((kind : DealKind) (place : ℕ) (rec : RecordValue) (shards number : ℕ)
-        → ⟦<Dealer as Deals>⟧.may_answer (dealer_of kind dealers.now) place rec shards number → number ≡ formula kind place rec shards)
-        → AreDealtInSession settings (λ kind. ⟦<Dealer as Deals>⟧.may_answer (dealer_of kind dealers.now)) file records lists
-        → AreDealtInSession settings (session_rules_by_formula formula) file records lists }
-    ensures audited { (formula : DealKind → ℕ → RecordValue → ℕ → ℕ) (settings : Settings) (file text : List ℕ) (lists : List (List RecordValue))
-        (session : Session)
-        → ((kind : DealKind) (place : ℕ) (rec : RecordValue) (shards number : ℕ)
-        → ⟦<Dealer as Deals>⟧.may_answer (dealer_of kind dealers.now) place rec shards number → number ≡ formula kind place rec shards)
-        → AreAudited settings (λ kind. ⟦<Dealer as Deals>⟧.may_answer (dealer_of kind dealers.now)) file text lists session
-        → AreAudited settings (session_rules_by_formula formula) file text lists session }
-    ensures can { (formula : DealKind → ℕ → RecordValue → ℕ → ℕ) (command : Command) (read : InputBytes)
-        → ((kind : DealKind) (place : ℕ) (rec : RecordValue) (shards number : ℕ)
-        → ⟦<Dealer as Deals>⟧.may_answer (dealer_of kind dealers.now) place rec shards number → number ≡ formula kind place rec shards)
-        → InputsCanBeAnswered (session_rules_by_formula formula) command read
-        → InputsCanBeAnswered (λ kind. ⟦<Dealer as Deals>⟧.may_answer (dealer_of kind dealers.now)) command read }
+        → RunEnds S.Source T.Source K.Sink D.Disk old new words (λ kind. ⟦<Dealer as Deals>⟧.may_answer (dealer_of kind dealers.now)) status
+        → RunEnds S.Source T.Source K.Sink D.Disk old new words (session_rules_by_formula formula) status }
 {}
 
 /// The text of the last report of a session depends on the dealt lists, the capacity and the share alone: whatever the
@@ -164,14 +122,14 @@ pub fn last_saves_are_at_the_ends()
 /// settings of a session that broke off have to be within their limits.
 pub fn sessions_lose_no_save<D: Disk>()
     ensures whole { (formula : DealKind → ℕ → RecordValue → ℕ → ℕ) (before now : D) (settings : Settings) (file text : List ℕ)
-        → IsSession settings (session_rules_by_formula formula) (SavesAreKeptOnDisk D.reads D.image_now D.moment D.image_since before now)
+        → IsSession settings (session_rules_by_formula formula) (SavesAreKeptOnDisk D.Disk before now)
         (D.reads before) file text
-        → IsSession settings (session_rules_by_formula formula) (SavesAreReopenedFromDisk D.reads D.image_now before now) (D.reads before) file text }
+        → IsSession settings (session_rules_by_formula formula) (SavesAreReopenedFromDisk D.Disk before now) (D.reads before) file text }
     ensures in_part { (formula : DealKind → ℕ → RecordValue → ℕ → ℕ) (before now : D) (settings : Settings) (file front : List ℕ)
         → AreLimitedSettings settings
         → IsSessionInPart settings (session_rules_by_formula formula)
-        (SavesAreKeptOnDisk D.reads D.image_now D.moment D.image_since before now) (D.reads before) file front
-        → IsSessionInPart settings (session_rules_by_formula formula) (SavesAreReopenedFromDisk D.reads D.image_now before now) (D.reads before) file front }
+        (SavesAreKeptOnDisk D.Disk before now) (D.reads before) file front
+        → IsSessionInPart settings (session_rules_by_formula formula) (SavesAreReopenedFromDisk D.Disk before now) (D.reads before) file front }
 {
     stores_open_to_one();
 }
@@ -186,16 +144,16 @@ pub fn stores_belong_throughout<D: Disk>()
         → StoreBelongs settings lists image }
     ensures whole { (formula : DealKind → ℕ → RecordValue → ℕ → ℕ) (before now : D) (settings : Settings) (store file text : List ℕ)
         (is : IsSession settings (session_rules_by_formula formula)
-        (SavesAreKeptOnDisk D.reads D.image_now D.moment D.image_since before now) (D.reads before) file text)
+        (SavesAreKeptOnDisk D.Disk before now) (D.reads before) file text)
         → AreLimitedSettings settings → settings.store ≡ true → D.reads before ≡ Some store
         → ((image : List ℕ) → D.image_now before image → StoreBelongs (store_settings_for_saves settings) is.lists image)
-        → SavesBelongThroughout D.image_now D.moment D.image_since (store_settings_for_saves settings) is.lists is.base before now }
+        → SavesBelongThroughout D.Disk (store_settings_for_saves settings) is.lists is.base before now }
     ensures in_part { (formula : DealKind → ℕ → RecordValue → ℕ → ℕ) (before now : D) (settings : Settings) (store file front : List ℕ)
         (is : IsSessionInPart settings (session_rules_by_formula formula)
-        (SavesAreKeptOnDisk D.reads D.image_now D.moment D.image_since before now) (D.reads before) file front)
+        (SavesAreKeptOnDisk D.Disk before now) (D.reads before) file front)
         → AreLimitedSettings settings → settings.store ≡ true → D.reads before ≡ Some store
         → ((image : List ℕ) → D.image_now before image → StoreBelongs (store_settings_for_saves settings) is.lists image)
-        → SavesBelongThroughout D.image_now D.moment D.image_since (store_settings_for_saves settings) is.lists is.base before now }
+        → SavesBelongThroughout D.Disk (store_settings_for_saves settings) is.lists is.base before now }
 {
     stores_open_to_one();
     reported_cuts_represent();
@@ -205,7 +163,7 @@ pub fn stores_belong_throughout<D: Disk>()
 /// session, also where the session went on from a saved cut, if the tables of this were those of its records.
 pub fn own_reports_are_good<D: Disk>()
     ensures { (formula : DealKind → ℕ → RecordValue → ℕ → ℕ) (before now : D) (settings : Settings) (store : Option (List ℕ)) (file text : List ℕ)
-        (is : IsSession settings (session_rules_by_formula formula) (SavesAreKeptOnDisk D.reads D.image_now D.moment D.image_since before now) store file text)
+        (is : IsSession settings (session_rules_by_formula formula) (SavesAreKeptOnDisk D.Disk before now) store file text)
         (verdict : Verdict) → IfSome is.base (λ cut. CutRepresents cut is.lists)
         → All (λ reported. IsVerdict is.lists settings.capacity settings.phi reported.report verdict → verdict ≡ Good) (session_reports_in is.spelled.reports) }
 {
@@ -219,10 +177,10 @@ pub fn own_reports_are_good<D: Disk>()
 /// to be those of its records.
 pub fn own_sessions_are_audited_good<D: Disk>()
     ensures is_text { (formula : DealKind → ℕ → RecordValue → ℕ → ℕ) (before now : D) (settings : Settings) (store : Option (List ℕ)) (file text : List ℕ)
-        (is : IsSession settings (session_rules_by_formula formula) (SavesAreKeptOnDisk D.reads D.image_now D.moment D.image_since before now) store file text)
+        (is : IsSession settings (session_rules_by_formula formula) (SavesAreKeptOnDisk D.Disk before now) store file text)
         → AreLimitedSettings settings → IfSome is.base (λ cut. CutRepresents cut is.lists) → (known : Session) × IsSessionText text known }
     ensures good { (formula : DealKind → ℕ → RecordValue → ℕ → ℕ) (before now : D) (settings other : Settings) (store : Option (List ℕ)) (file text : List ℕ)
-        (is : IsSession settings (session_rules_by_formula formula) (SavesAreKeptOnDisk D.reads D.image_now D.moment D.image_since before now) store file text)
+        (is : IsSession settings (session_rules_by_formula formula) (SavesAreKeptOnDisk D.Disk before now) store file text)
         → AreLimitedSettings settings → settings.shards ≡ other.shards → settings.capacity ≡ other.capacity → settings.phi ≡ other.phi
         → settings.deal ≡ other.deal → settings.weigh ≡ other.weigh → length text ≤ longest_session_text_length
         → IfSome is.base (λ cut. CutRepresents cut is.lists)

@@ -54,10 +54,10 @@ pub(crate) fn feed<'a, R: Threads + Wait + Sync, K: Sink, D: Disk, G: Gate + Syn
     requires can_save { IfSome saver.old (CanMakeSaves (D.reads disk.old) (D.image_now disk.old) board.now.opening (view pass) settings.now.rounds) }
     ensures ran { IfOk result (λ fed. DealtFeedRunsPlan board.now settings.now (view pass) fed.gathered) }
     ensures fed { IfOk result (IsDealtFeedResult board.now settings.now
-        (SavesInTurn D.reads D.image_now D.moment D.image_since saver.old saver.new disk.old disk.new) (K.taken sink.old) (K.taken sink.new)) }
+        (SavesInTurn D.Disk saver.old saver.new disk.old disk.new) (K.taken sink.old) (K.taken sink.new)) }
     ensures faults { OnOk result ((K.faults sink.new ≡ K.faults sink.old) × (D.faults disk.new ≡ D.faults disk.old)) }
     ensures part { OnErr result (DealtFeedBreaksOffInRounds board.now.opening settings.now
-        (SavesInPart D.reads D.image_now D.moment D.image_since saver.old disk.old disk.new) (K.taken sink.old) (K.taken sink.new)) }
+        (SavesInPart D.Disk saver.old disk.old disk.new) (K.taken sink.old) (K.taken sink.new)) }
     ensures fault { IfErr result (IsDealtFeedFault (record { sink = K.faults sink.old; disk = D.faults disk.old })
         (record { sink = K.faults sink.new; disk = D.faults disk.new })) }
     ensures unused { saver.old ≡ None → (saver.new ≡ None) × (disk.new ≡ disk.old) }
@@ -109,12 +109,12 @@ fn run_feed<R: Threads + Wait + Sync, K: Sink, D: Disk, G: Gate + Sync>(
     ensures shape { HasCoreShape (length board.now.opening) (core_capacity board.now.opening) rounds.new.cut.now }
     ensures ran { IfOk result (DealtFeedRunsPlan board.now settings.now (view pass)) }
     ensures fed { IfOk result (IsDealtFeedGathered board.now settings.now
-        (SavesInTurn D.reads D.image_now D.moment D.image_since rounds.old.saver.now rounds.new.saver.now rounds.old.disk.now rounds.new.disk.now)
+        (SavesInTurn D.Disk rounds.old.saver.now rounds.new.saver.now rounds.old.disk.now rounds.new.disk.now)
         (K.taken rounds.old.sink.now) (K.taken rounds.new.sink.now)) }
     ensures faults { OnOk result ((K.faults rounds.new.sink.now ≡ K.faults rounds.old.sink.now)
         × (D.faults rounds.new.disk.now ≡ D.faults rounds.old.disk.now)) }
     ensures part { OnErr result (DealtFeedBreaksOffInRounds board.now.opening settings.now
-        (SavesInPart D.reads D.image_now D.moment D.image_since rounds.old.saver.now rounds.old.disk.now rounds.new.disk.now)
+        (SavesInPart D.Disk rounds.old.saver.now rounds.old.disk.now rounds.new.disk.now)
         (K.taken rounds.old.sink.now) (K.taken rounds.new.sink.now)) }
     ensures fault { IfErr result (IsDealtFeedFault (record { sink = K.faults rounds.old.sink.now; disk = D.faults rounds.old.disk.now })
         (record { sink = K.faults rounds.new.sink.now; disk = D.faults rounds.new.disk.now })) }

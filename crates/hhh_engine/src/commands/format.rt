@@ -5,7 +5,7 @@ ghost use Rattle.outside_io.specs.{FaultCountRose};
 ghost use Rattle.pcap_frames.specs.declared.fault.CaptureFault.{CaptureFault};
 ghost use Rattle.command_words.specs.{AreLimitedSettings};
 ghost use Rattle.hhh_engine.specs.Answer.{IsUnfinishedAnswer, formatted_answer};
-ghost use Rattle.hhh_engine.specs.Ending.{Ends, EndsTearingFront, FormatEnds, EndingSourceFaults};
+ghost use Rattle.hhh_engine.specs.Ending.{Ends, FormatEnds, EndingSourceFaults};
 ghost use Rattle.hhh_engine.specs.Saves.{store_settings_for_saves};
 ghost use Rattle.hhh_engine.specs.declared.status.Status.TheVariants.{BadCapture, ReadFault, DiskFault};
 
@@ -24,8 +24,7 @@ pub(crate) fn format<K: Sink, D: Disk>(settings: &Settings, sink: &mut K, disk: 
         → Ends (λ text. text ≡ formatted_answer) (IsUnfinishedAnswer (λ text. text ≡ formatted_answer)) ⊤ ⊤
         (FaultCountRose (D.faults disk.old) (D.faults disk.new)) (disk.new ≡ disk.old) ⊤ (λ fault. ⊥) (λ status. ⊥) capture faults faults
         sink.old sink.new (K.taken sink.old) (K.taken sink.new) (K.faults sink.old) (K.faults sink.new) result }
-    ensures store { FormatEnds (store_settings_for_saves settings.now) (D.reads disk.new) (D.image_now disk.new)
-        (EndsTearingFront D.reads D.image_now D.moment D.image_since disk.old disk.new) sink.old sink.new disk.old disk.new result }
+    ensures store { FormatEnds D.Disk (store_settings_for_saves settings.now) sink.old sink.new disk.old disk.new result }
     ensures no_capture { (fault : CaptureFault) → result ≡ BadCapture fault → ⊥ }
     ensures no_read_fault { result ≡ ReadFault → ⊥ }
     ensures told { (result ≡ DiskFault → ⊥) → D.faults disk.new ≡ D.faults disk.old }

@@ -52,15 +52,15 @@ pub(crate) fn report<R: Threads + Wait + Sync, S: Source, K: Sink, D: Disk, G: G
     requires wide { AreWideSettings settings.now }
     ensures ends { (other : ℕ) → Ends (λ text. IfSome (S.left capture.old) (λ file. IsSession settings.now
         (λ kind. ⟦<Dealer as Deals>⟧.may_answer (dealer_of kind dealers.now))
-        (SavesAreKeptOnDisk D.reads D.image_now D.moment D.image_since disk.old disk.new) (D.reads disk.old) file text))
+        (SavesAreKeptOnDisk D.Disk disk.old disk.new) (D.reads disk.old) file text))
         (λ front. IfSome (S.left capture.old) (λ file. IsSessionInPart settings.now
         (λ kind. ⟦<Dealer as Deals>⟧.may_answer (dealer_of kind dealers.now))
-        (SavesAreKeptOnDisk D.reads D.image_now D.moment D.image_since disk.old disk.new) (D.reads disk.old) file front))
+        (SavesAreKeptOnDisk D.Disk disk.old disk.new) (D.reads disk.old) file front))
         (IsAtEnd (S.left capture.new)) (IfSome (S.left capture.old) IsInputCapture)
         (FaultCountRose (D.faults disk.old) (D.faults disk.new)) (disk.new ≡ disk.old)
-        (IsAsBeforeSaves D.reads D.image_now D.moment D.image_since disk.old disk.new)
+        (IsAsBeforeSaves D.Disk disk.old disk.new)
         (RefusesStoreAtEnding settings.now (λ kind. ⟦<Dealer as Deals>⟧.may_answer (dealer_of kind dealers.now)) (S.left capture.old) (D.reads disk.old)
-        (IsAsBeforeSaves D.reads D.image_now D.moment D.image_since disk.old disk.new))
+        (IsAsBeforeSaves D.Disk disk.old disk.new))
         (λ status. ⊥) (S.left capture.old) (ending_source_faults (S.faults capture.old) other) (ending_source_faults (S.faults capture.new) other)
         sink.old sink.new (K.taken sink.old) (K.taken sink.new) (K.faults sink.old) (K.faults sink.new) result }
     ensures told { (result ≡ DiskFault → ⊥) → D.faults disk.new ≡ D.faults disk.old }
@@ -88,8 +88,8 @@ fn report_dealt<R: Threads + Wait + Sync, K: Sink, D: Disk, G: Gate + Sync>(
     requires shards { length fed.dealt ≡ settings.now.shards }
     requires tail { 0 < length fed.tail.items }
     ensures ends { DealtFeedEnds settings.now fed.dealt fed.tail.items
-        (SavesAreKeptOnDisk D.reads D.image_now D.moment D.image_since disk.old disk.new) (D.reads disk.old)
-        (IsAsBeforeSaves D.reads D.image_now D.moment D.image_since disk.old disk.new)
+        (SavesAreKeptOnDisk D.Disk disk.old disk.new) (D.reads disk.old)
+        (IsAsBeforeSaves D.Disk disk.old disk.new)
         sink.old sink.new (K.taken sink.old) (K.taken sink.new) (record { sink = K.faults sink.old; disk = D.faults disk.old })
         (record { sink = K.faults sink.new; disk = D.faults disk.new }) result }
     ensures unused { settings.now.store ≡ false → disk.new ≡ disk.old }

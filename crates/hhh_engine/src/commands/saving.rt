@@ -25,8 +25,8 @@ pub(crate) fn save_cut<D: Disk>(
     cut: &Cut,
 ) -> Result<(), Status>
     requires { IfSome saver.old (DealtFeedCanSaveCut (D.reads disk.old) (D.image_now disk.old) cut.now) }
-    ensures saved { OnOk result (SavesInTurn D.reads D.image_now D.moment D.image_since saver.old saver.new disk.old disk.new (cut.now ∷ [])) }
-    ensures in_part { OnErr result (SavesInPart D.reads D.image_now D.moment D.image_since saver.old disk.old disk.new [] (cut.now ∷ [])) }
+    ensures saved { OnOk result (SavesInTurn D.Disk saver.old saver.new disk.old disk.new (cut.now ∷ [])) }
+    ensures in_part { OnErr result (SavesInPart D.Disk saver.old disk.old disk.new [] (cut.now ∷ [])) }
     ensures ran_out { IfErr result (λ status. status ≡ OutOfMemory → disk.new ≡ disk.old) }
     ensures saver_stays { IfErr result (λ status. status ≡ OutOfMemory → saver.new ≡ saver.old) }
     ensures saver_goes { IfErr result (λ status. status ≡ DiskFault → saver.new ≡ None) }

@@ -85,11 +85,11 @@ pub(crate) fn write_session<R: Threads + Wait + Sync, K: Sink, D: Disk, G: Gate 
     requires stands { IfSome base.saver (DiskMatchesSaver (D.reads disk.old) (D.image_now disk.old)) }
     requires tail { 0 < length tail.now }
     ensures whole { OnOk result (WritesAnswer (IsSessionOverShards (session_opening settings.now.capacity dealt base.cut) settings.now
-        (λ cuts. Saves D.reads D.image_now D.moment D.image_since base.saver cuts disk.old disk.new) tail.now) (K.taken sink.old) (K.taken sink.new)) }
+        (λ cuts. Saves D.Disk base.saver cuts disk.old disk.new) tail.now) (K.taken sink.old) (K.taken sink.new)) }
     ensures faults { OnOk result ((K.faults sink.new ≡ K.faults sink.old) × (D.faults disk.new ≡ D.faults disk.old)) }
     ensures part { OnErr result (((sink.new ≡ sink.old) × (disk.new ≡ disk.old))
         ⊎ WritesAnswer (BeginsSession (session_opening settings.now.capacity dealt base.cut) settings.now
-        (SavesInPart D.reads D.image_now D.moment D.image_since base.saver disk.old disk.new) tail.now) (K.taken sink.old) (K.taken sink.new)) }
+        (SavesInPart D.Disk base.saver disk.old disk.new) tail.now) (K.taken sink.old) (K.taken sink.new)) }
     ensures fault { IfErr result (IsDealtFeedFault (record { sink = K.faults sink.old; disk = D.faults disk.old })
         (record { sink = K.faults sink.new; disk = D.faults disk.new })) }
     ensures unused { base.saver ≡ None → disk.new ≡ disk.old }
@@ -226,10 +226,10 @@ fn write_feed<R: Threads + Wait + Sync, K: Sink, D: Disk, G: Gate + Sync>(
     requires can_save { IfSome saver (CanMakeSaves (D.reads disk.old) (D.image_now disk.old) opened.board.opening
         (first_view opened.board.opening) (settings.now.rounds + 1)) }
     ensures whole { OnOk result (WritesAnswer (IsSessionOverShards opened.board.opening settings.now
-        (λ cuts. Saves D.reads D.image_now D.moment D.image_since saver cuts disk.old disk.new) tail.now) (K.taken sink.old) (K.taken sink.new)) }
+        (λ cuts. Saves D.Disk saver cuts disk.old disk.new) tail.now) (K.taken sink.old) (K.taken sink.new)) }
     ensures faults { OnOk result ((K.faults sink.new ≡ K.faults sink.old) × (D.faults disk.new ≡ D.faults disk.old)) }
     ensures part { OnErr result (WritesAnswer (BeginsSession opened.board.opening settings.now
-        (SavesInPart D.reads D.image_now D.moment D.image_since saver disk.old disk.new) tail.now) (K.taken sink.old) (K.taken sink.new)) }
+        (SavesInPart D.Disk saver disk.old disk.new) tail.now) (K.taken sink.old) (K.taken sink.new)) }
     ensures fault { IfErr result (IsDealtFeedFault (record { sink = K.faults sink.old; disk = D.faults disk.old })
         (record { sink = K.faults sink.new; disk = D.faults disk.new })) }
     ensures unused { saver ≡ None → disk.new ≡ disk.old }
@@ -263,10 +263,10 @@ fn write_rest<K: Sink, D: Disk>(
 ) -> Result<(), Status>
     requires { IfSome saver.old (DealtFeedCanSaveCut (D.reads disk.old) (D.image_now disk.old) rest.now.cut) }
     ensures whole { OnOk result (Appends (K.taken sink.old) (K.taken sink.new) (rest.now.front.items ++ rest.now.back.items)) }
-    ensures saved { OnOk result (SavesInTurn D.reads D.image_now D.moment D.image_since saver.old saver.new disk.old disk.new (rest.now.cut ∷ [])) }
+    ensures saved { OnOk result (SavesInTurn D.Disk saver.old saver.new disk.old disk.new (rest.now.cut ∷ [])) }
     ensures faults { OnOk result ((K.faults sink.new ≡ K.faults sink.old) × (D.faults disk.new ≡ D.faults disk.old)) }
     ensures part { OnErr result (WritesAnswer (SessionBreaksOffAround rest.now.front.items rest.now.back.items (rest.now.cut ∷ [])
-        (SavesInPart D.reads D.image_now D.moment D.image_since saver.old disk.old disk.new)) (K.taken sink.old) (K.taken sink.new)) }
+        (SavesInPart D.Disk saver.old disk.old disk.new)) (K.taken sink.old) (K.taken sink.new)) }
     ensures fault { IfErr result (IsDealtFeedFault (record { sink = K.faults sink.old; disk = D.faults disk.old })
         (record { sink = K.faults sink.new; disk = D.faults disk.new })) }
     ensures unused { saver.old ≡ None → disk.new ≡ disk.old }

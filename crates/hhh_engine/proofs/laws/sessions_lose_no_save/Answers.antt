@@ -4,10 +4,10 @@ use Rattle.hhh_engine.proofs.laws.sessions_lose_no_save.Goals as goal
 
 pub returns-clause-whole : goal.returns-clause-whole
 returns-clause-whole g c = λ formula before now settings file text session.
-    reopened_store_after_completion g.D.Disk.reads g.D.Disk.image_now g.D.Disk.moment g.D.Disk.image_since (session_rules_by_formula formula) settings before
+    reopened_store_after_completion g.D.Disk (session_rules_by_formula formula) settings before
     now file text session
 
 pub returns-clause-in_part : goal.returns-clause-in_part
 returns-clause-in_part g c = λ formula before now settings file front limited session.
-    reopened_store_after_breaking_off c.stores_open_to_one.ensures g.D.Disk.reads g.D.Disk.image_now g.D.Disk.moment g.D.Disk.image_since
+    reopened_store_after_breaking_off c.stores_open_to_one.ensures g.D.Disk
     (session_rules_by_formula formula) settings before now file front limited session

@@ -8,12 +8,10 @@ returns-clause-formatted g c = λ settings lists image opens. (None, opens, tt)
 
 pub returns-clause-whole : goal.returns-clause-whole
 returns-clause-whole g c = λ formula before now settings store file text is limited used known belonged.
-    belonging_session_completed c.stores_open_to_one.ensures c.reported_cuts_represent.ensures g.D.Disk.reads g.D.Disk.image_now
-    g.D.Disk.moment g.D.Disk.image_since g.met.D.Disk.reading_is_image (session_rules_by_formula formula) settings before now store file text
-    is limited used known belonged
+    belonging_session_completed c.stores_open_to_one.ensures c.reported_cuts_represent.ensures g.D.Disk
+    g.met.D.Disk.reading_is_image (session_rules_by_formula formula) settings before now store file text is limited used known belonged
 
 pub returns-clause-in_part : goal.returns-clause-in_part
 returns-clause-in_part g c = λ formula before now settings store file front is limited used known belonged.
-    belonging_session_broken_off c.stores_open_to_one.ensures c.reported_cuts_represent.ensures g.D.Disk.reads g.D.Disk.image_now
-    g.D.Disk.moment g.D.Disk.image_since g.met.D.Disk.reading_is_image (session_rules_by_formula formula) settings before now store file
-    front is limited used known belonged
+    belonging_session_broken_off c.stores_open_to_one.ensures c.reported_cuts_represent.ensures g.D.Disk
+    g.met.D.Disk.reading_is_image (session_rules_by_formula formula) settings before now store file front is limited used known belonged

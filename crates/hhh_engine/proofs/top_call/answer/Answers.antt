@@ -1,8 +1,8 @@
 use Rattle.std.proofs.Common.{refl}
 use Rattle.command_words.specs.declared.command.Command.TheVariants.{Weigh, Report, Format, Audit, Make, Demo}
 use Rattle.hhh_engine.specs.Ending.{RefusesStoreAtEnding}
-use Rattle.hhh_engine.specs.Inputs.{inputs}
-use Rattle.hhh_engine.specs.Saves.{IsAsBeforeSaves, SavesAreKeptOnDisk}
+use Rattle.hhh_engine.specs.TopCall.{Streams, run_inputs, streams}
+use Rattle.hhh_engine.specs.Saves.{IsAsBeforeSaves}
 use Rattle.hhh_engine.proofs.AuditEndLemmas.{audit_ends_as}
 use Rattle.hhh_engine.proofs.ReadOrderLemmas.{read_order_of_capture_alone, read_order_of_neither, read_order_of_variant}
 use Rattle.hhh_engine.proofs.SaveLemmas.{disk_without_save_is_unchanged}
@@ -11,55 +11,45 @@ use Rattle.hhh_engine.proofs.top_call.answer.Goals as goal
 
 pub returns-in-Weigh-clause-ends : goal.returns-in-Weigh-clause-ends
 returns-in-Weigh-clause-ends g c =
-    status_as_named_command _ _ c.args.command.now (Weigh c.in-Weigh.prefix c.in-Weigh.settings)
-    (inputs (g.S.Source.left c.args.capture.now) (g.S.Source.left c.weigh.new.capture) (g.T.Source.left c.args.text.now)
-    (g.T.Source.left c.args.text.now) (g.D.Disk.reads c.args.disk.now)) _ _ _ _ _ _ _ _ _ _ _ c.weigh.result
-    c.in-Weigh.is (status_beside_disk _ _ _ _ _ _ (λ fault. ⊥) (λ status. ⊥) _ _ _ _ _ _ _ _ _ c.weigh.result refl
-    (disk_without_save_is_unchanged g.D.Disk.reads g.D.Disk.image_now g.D.Disk.moment g.D.Disk.image_since c.args.disk.now
-    c.args.disk.now g.met.D.Disk.only_now refl)
-    (c.weigh.ensures _))
+    status_as_named_command g.S.Source g.T.Source g.K.Sink g.D.Disk _ _ _ c.args.command.now
+    (Weigh c.in-Weigh.prefix c.in-Weigh.settings) c.weigh.result c.in-Weigh.is
+    (status_beside_disk _ _ _ _ _ _ (λ fault. ⊥) (λ status. ⊥) _ _ _ _ _ _ _ _ _ c.weigh.result refl
+    (disk_without_save_is_unchanged g.D.Disk c.args.disk.now c.args.disk.now g.met.D.Disk.only_now refl) (c.weigh.ensures _))
 
 pub returns-in-Report-clause-ends : goal.returns-in-Report-clause-ends
 returns-in-Report-clause-ends g c =
-    status_as_named_command _ _ c.args.command.now (Report c.in-Report.settings) _ _ _ _ _ _ _ _ _ _ _ _ c.report.result
-    c.in-Report.is (c.report.ensures.ends _)
+    status_as_named_command g.S.Source g.T.Source g.K.Sink g.D.Disk _ _ _ c.args.command.now (Report c.in-Report.settings)
+    c.report.result c.in-Report.is (c.report.ensures.ends _)
 
 pub returns-in-Format-clause-ends : goal.returns-in-Format-clause-ends
 returns-in-Format-clause-ends g c =
-    status_as_named_command _ _ c.args.command.now (Format c.in-Format.settings) _ _ _ _ _ _ _ _ _ _ _ _ c.format.result
-    c.in-Format.is (c.format.ensures.ends _ _)
+    status_as_named_command g.S.Source g.T.Source g.K.Sink g.D.Disk _ _ _ c.args.command.now (Format c.in-Format.settings)
+    c.format.result c.in-Format.is (c.format.ensures.ends _ _)
 
 pub returns-in-Audit-clause-ends : goal.returns-in-Audit-clause-ends
 returns-in-Audit-clause-ends g c =
-    let given = inputs (g.S.Source.left c.args.capture.now) (g.S.Source.left c.audit.new.capture)
-    (g.T.Source.left c.args.text.now) (g.T.Source.left c.audit.new.text) (g.D.Disk.reads c.args.disk.now) in
-    status_as_named_command _ _ c.args.command.now (Audit c.in-Audit.settings) given _ _ _ _ _ _ _ _ _ _ _ c.audit.result
-    c.in-Audit.is
-    (audit_ends_as c.in-Audit.settings _
-    (SavesAreKeptOnDisk g.D.Disk.reads g.D.Disk.image_now g.D.Disk.moment g.D.Disk.image_since c.args.disk.now c.args.disk.now) given
-    _ _ _ _ _ _ _ _ _ _ c.audit.result refl
-    (disk_without_save_is_unchanged g.D.Disk.reads g.D.Disk.image_now g.D.Disk.moment g.D.Disk.image_since c.args.disk.now
-    c.args.disk.now g.met.D.Disk.only_now refl)
+    status_as_named_command g.S.Source g.T.Source g.K.Sink g.D.Disk _ _ _ c.args.command.now (Audit c.in-Audit.settings)
+    c.audit.result c.in-Audit.is
+    (audit_ends_as g.S.Source g.T.Source g.K.Sink g.D.Disk
+    (streams c.args.capture.now c.args.text.now c.args.sink.now c.args.disk.now)
+    (streams c.audit.new.capture c.audit.new.text c.audit.new.sink c.args.disk.now) _ c.in-Audit.settings c.audit.result refl
+    (disk_without_save_is_unchanged g.D.Disk c.args.disk.now c.args.disk.now g.met.D.Disk.only_now refl)
     (c.audit.ensures.ends (g.D.Disk.reads c.args.disk.now)))
 
 pub returns-in-Make-clause-ends : goal.returns-in-Make-clause-ends
 returns-in-Make-clause-ends g c =
-    status_as_named_command _ _ c.args.command.now (Make c.in-Make.seed c.in-Make.frames)
-    (inputs (g.S.Source.left c.args.capture.now) (g.S.Source.left c.args.capture.now) (g.T.Source.left c.args.text.now)
-    (g.T.Source.left c.args.text.now) (g.D.Disk.reads c.args.disk.now)) _ _ _ _ _ _ _ _ _ _ _ c.make.result
-    c.in-Make.is (status_beside_disk _ _ _ _ _ _ (λ fault. ⊥) (λ status. ⊥) _ _ _ _ _ _ _ _ _ c.make.result refl
-    (disk_without_save_is_unchanged g.D.Disk.reads g.D.Disk.image_now g.D.Disk.moment g.D.Disk.image_since c.args.disk.now
-    c.args.disk.now g.met.D.Disk.only_now refl)
+    status_as_named_command g.S.Source g.T.Source g.K.Sink g.D.Disk _ _ _ c.args.command.now (Make c.in-Make.seed c.in-Make.frames)
+    c.make.result c.in-Make.is
+    (status_beside_disk _ _ _ _ _ _ (λ fault. ⊥) (λ status. ⊥) _ _ _ _ _ _ _ _ _ c.make.result refl
+    (disk_without_save_is_unchanged g.D.Disk c.args.disk.now c.args.disk.now g.met.D.Disk.only_now refl)
     (c.make.ensures.ends (g.S.Source.left c.args.capture.now) _))
 
 pub returns-in-Demo-clause-ends : goal.returns-in-Demo-clause-ends
 returns-in-Demo-clause-ends g c =
-    status_as_named_command _ _ c.args.command.now (Demo c.in-Demo.seed c.in-Demo.frames c.in-Demo.settings)
-    (inputs (g.S.Source.left c.args.capture.now) (g.S.Source.left c.args.capture.now) (g.T.Source.left c.args.text.now)
-    (g.T.Source.left c.args.text.now) (g.D.Disk.reads c.args.disk.now)) _ _ _ _ _ _ _ _ _ _ _ c.demo.result
-    c.in-Demo.is (status_beside_disk _ _ _ _ _ _ (λ fault. ⊥) (λ status. ⊥) _ _ _ _ _ _ _ _ _ c.demo.result refl
-    (disk_without_save_is_unchanged g.D.Disk.reads g.D.Disk.image_now g.D.Disk.moment g.D.Disk.image_since c.args.disk.now
-    c.args.disk.now g.met.D.Disk.only_now refl)
+    status_as_named_command g.S.Source g.T.Source g.K.Sink g.D.Disk _ _ _ c.args.command.now
+    (Demo c.in-Demo.seed c.in-Demo.frames c.in-Demo.settings) c.demo.result c.in-Demo.is
+    (status_beside_disk _ _ _ _ _ _ (λ fault. ⊥) (λ status. ⊥) _ _ _ _ _ _ _ _ _ c.demo.result refl
+    (disk_without_save_is_unchanged g.D.Disk c.args.disk.now c.args.disk.now g.met.D.Disk.only_now refl)
     (c.demo.ensures.ends (g.S.Source.left c.args.capture.now) _))
 
 pub returns-in-Weigh-clause-order : goal.returns-in-Weigh-clause-order
@@ -73,8 +63,7 @@ returns-in-Report-clause-order g c =
     read_order_of_variant c.args.command.now (Report c.in-Report.settings) _ _ _ _ _ c.report.result c.in-Report.is
     (read_order_of_capture_alone _ _ _ _ _ _ _
     (RefusesStoreAtEnding c.in-Report.settings _ (g.S.Source.left c.args.capture.now) (g.D.Disk.reads c.args.disk.now)
-    (IsAsBeforeSaves g.D.Disk.reads g.D.Disk.image_now g.D.Disk.moment g.D.Disk.image_since c.args.disk.now
-    c.report.new.disk)) (λ status. ⊥) _ _ _ _ _ _ _ _ _ _ c.report.result _ _ _ _ tt
+    (IsAsBeforeSaves g.D.Disk c.args.disk.now c.report.new.disk)) (λ status. ⊥) _ _ _ _ _ _ _ _ _ _ c.report.result _ _ _ _ tt
     (c.report.ensures.ends 0))
 
 pub returns-in-Format-clause-order : goal.returns-in-Format-clause-order

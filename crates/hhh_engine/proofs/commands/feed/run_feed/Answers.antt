@@ -18,10 +18,10 @@ returns-in-Some-clause-part g c =
     (session_thread_ended_as_set _ _ _ _ _ before now _ _ _ _ _ _ _ _ _ c.requires.share c.requires.count c.requires.used does.5)
     (λ saved unfinished kept. kept.saves))
     (c.calls_follow_calls.ensures.more c.args.board.now.opening)
-    (λ cuts saves. part_of_saves _ _ _ _ _ _ _ cuts saves.saves)
+    (λ cuts saves. part_of_saves g.D.Disk _ _ _ cuts saves.saves)
     (λ same. (
       ap (λ work. g.K.Sink.taken work.sink.now) same,
-      no_save_into_untouched_disk g.D.Disk.reads g.D.Disk.image_now g.D.Disk.moment g.D.Disk.image_since
+      no_save_into_untouched_disk g.D.Disk
           c.args.rounds.now.saver.now c.args.rounds.now.disk.now _ g.met.D.Disk.only_now
           (seen_positions_saver_stands _ _ c.args.board.now.opening _ _ c.args.rounds.now.saver.now c.requires.can_save)
           (ap (λ work. work.disk.now) same),
@@ -38,10 +38,10 @@ returns-in_err-gathered-clause-part g c =
     (session_thread_ended_as_set _ _ _ _ _ before now _ _ _ _ _ _ _ _ _ c.requires.share c.requires.count c.requires.used does.5)
     (λ saved unfinished kept. kept.saves))
     (c.calls_follow_calls.ensures.more c.args.board.now.opening)
-    (λ cuts saves. part_of_saves _ _ _ _ _ _ _ cuts saves.saves)
+    (λ cuts saves. part_of_saves g.D.Disk _ _ _ cuts saves.saves)
     (λ same. (
       ap (λ work. g.K.Sink.taken work.sink.now) same,
-      no_save_into_untouched_disk g.D.Disk.reads g.D.Disk.image_now g.D.Disk.moment g.D.Disk.image_since
+      no_save_into_untouched_disk g.D.Disk
           c.args.rounds.now.saver.now c.args.rounds.now.disk.now _ g.met.D.Disk.only_now
           (seen_positions_saver_stands _ _ c.args.board.now.opening _ _ c.args.rounds.now.saver.now c.requires.can_save)
           (ap (λ work. work.disk.now) same),

@@ -42,7 +42,7 @@ returns-in-Err-clause-broken g c =
       report = report;
       reports = record { calls = c.in_ok-report.ensures.calls; sound = c.in_ok-report.ensures.sound };
       written = subst (AppendsBeginning _ _) text c.in-Err.ensures.beginning;
-      kept = no_save_broke_off g.D.Disk.reads g.D.Disk.image_now g.D.Disk.moment g.D.Disk.image_since c.args.saver.now
+      kept = no_save_broke_off g.D.Disk c.args.saver.now
           c.args.saver.now c.args.disk.now c.args.disk.now g.met.D.Disk.only_now
           (seen_positions_saver_stands _ _ c.args.board.now.opening _ _ c.args.saver.now c.requires.can_save) refl refl;
     }))
@@ -60,7 +60,7 @@ returns-in-Err-save_cut-clause-broken g c =
       written = written;
       kept = record {
         saver = c.in-Err-save_cut.ensures.saver_goes is;
-        saves = subst (λ cut. SavesInPart g.D.Disk.reads g.D.Disk.image_now g.D.Disk.moment g.D.Disk.image_since
+        saves = subst (λ cut. SavesInPart g.D.Disk
             c.args.saver.now c.args.disk.now c.save_cut.new.disk [] (cut ∷ [])) c.in_ok-report.ensures.cut
             c.in-Err-save_cut.ensures.in_part;
       };
@@ -69,7 +69,7 @@ returns-in-Err-save_cut-clause-broken g c =
       report = report;
       reports = record { calls = c.in_ok-report.ensures.calls; sound = c.in_ok-report.ensures.sound };
       written = written;
-      kept = no_save_broke_off g.D.Disk.reads g.D.Disk.image_now g.D.Disk.moment g.D.Disk.image_since c.args.saver.now
+      kept = no_save_broke_off g.D.Disk c.args.saver.now
           c.save_cut.new.saver c.args.disk.now c.save_cut.new.disk g.met.D.Disk.only_now
           (seen_positions_saver_stands _ _ c.args.board.now.opening _ _ c.args.saver.now c.requires.can_save)
           (c.in-Err-save_cut.ensures.saver_stays is) (c.in-Err-save_cut.ensures.ran_out is);
@@ -88,11 +88,11 @@ returns-clause-broken g c =
       between = _;
       whole = subst (Appends _ _) text c.in_default.ensures.whole;
       written = subst (AppendsBeginning _ _) line c.in-Err-write.ensures.beginning;
-      kept = whole_saves_broke_off g.D.Disk.reads g.D.Disk.image_now g.D.Disk.moment g.D.Disk.image_since c.args.saver.now
+      kept = whole_saves_broke_off g.D.Disk c.args.saver.now
           c.save_cut.new.saver c.args.disk.now c.save_cut.new.disk _
-          (save_of_reported_cut (is_some c.args.saver.now) _ report _ (SavesInTurn g.D.Disk.reads g.D.Disk.image_now
-          g.D.Disk.moment g.D.Disk.image_since c.args.saver.now c.save_cut.new.saver c.args.disk.now c.save_cut.new.disk)
-          c.in_ok-report.ensures.cut (no_saver_no_save _ _ _ _ c.args.saver.now _ _ _ _)
+          (save_of_reported_cut (is_some c.args.saver.now) _ report _ (SavesInTurn g.D.Disk c.args.saver.now c.save_cut.new.saver
+          c.args.disk.now c.save_cut.new.disk)
+          c.in_ok-report.ensures.cut (no_saver_no_save g.D.Disk c.args.saver.now _ _ _ _)
           c.in_default-save_cut.ensures.saved);
     }))
 
@@ -104,9 +104,8 @@ returns-in-Ok-clause-whole g c =
     writes_one_round _ _ _ _ (is_some c.args.saver.now) _ _ _ report c.in_ok-report.ensures.calls c.in_ok-report.ensures.sound
     (Appends-trans _ _ _ (report_text report) (session_save_line (is_some c.args.saver.now) report.positions)
     (subst (Appends _ _) text c.in_default.ensures.whole) (subst (Appends _ _) line c.in-Ok.ensures.whole))
-    (save_of_reported_cut (is_some c.args.saver.now) _ report _ (SavesInTurn g.D.Disk.reads g.D.Disk.image_now g.D.Disk.moment
-    g.D.Disk.image_since c.args.saver.now c.save_cut.new.saver c.args.disk.now c.save_cut.new.disk)
-    c.in_ok-report.ensures.cut (no_saver_no_save _ _ _ _ c.args.saver.now _ _ _ _) c.in_default-save_cut.ensures.saved)
+    (save_of_reported_cut (is_some c.args.saver.now) _ report _ (SavesInTurn g.D.Disk c.args.saver.now c.save_cut.new.saver c.args.disk.now c.save_cut.new.disk)
+    c.in_ok-report.ensures.cut (no_saver_no_save g.D.Disk c.args.saver.now _ _ _ _) c.in_default-save_cut.ensures.saved)
 
 pub returns-in-Ok-clause-fits : goal.returns-in-Ok-clause-fits
 returns-in-Ok-clause-fits g c =
@@ -118,7 +117,7 @@ pub returns-in_err-report-clause-broken : goal.returns-in_err-report-clause-brok
 returns-in_err-report-clause-broken g c =
     round_broken_by_memory c.from_residual.result c.args.board.now.opening c.args.phi _ _ (is_some c.args.saver.now) _ _ _
     c.from_residual.ensures.1 c.report_once.ensures.reads
-    (no_save_broke_off g.D.Disk.reads g.D.Disk.image_now g.D.Disk.moment g.D.Disk.image_since c.args.saver.now c.args.saver.now
+    (no_save_broke_off g.D.Disk c.args.saver.now c.args.saver.now
     c.args.disk.now c.args.disk.now g.met.D.Disk.only_now
     (seen_positions_saver_stands _ _ c.args.board.now.opening _ _ c.args.saver.now c.requires.can_save) refl refl)
 
@@ -126,7 +125,7 @@ pub returns-in_err-print-clause-broken : goal.returns-in_err-print-clause-broken
 returns-in_err-print-clause-broken g c =
     round_broken_by_memory c.from_residual-in_err-print.result c.args.board.now.opening c.args.phi _ _ (is_some c.args.saver.now) _ _ _
     c.from_residual-in_err-print.ensures.1 c.report_once.ensures.reads
-    (no_save_broke_off g.D.Disk.reads g.D.Disk.image_now g.D.Disk.moment g.D.Disk.image_since c.args.saver.now c.args.saver.now
+    (no_save_broke_off g.D.Disk c.args.saver.now c.args.saver.now
     c.args.disk.now c.args.disk.now g.met.D.Disk.only_now
     (seen_positions_saver_stands _ _ c.args.board.now.opening _ _ c.args.saver.now c.requires.can_save) refl refl)
 
@@ -134,6 +133,6 @@ pub returns-in_err-line-clause-broken : goal.returns-in_err-line-clause-broken
 returns-in_err-line-clause-broken g c =
     round_broken_by_memory c.from_residual-in_err-line.result c.args.board.now.opening c.args.phi _ _ (is_some c.args.saver.now) _ _ _
     c.from_residual-in_err-line.ensures.1 c.report_once.ensures.reads
-    (no_save_broke_off g.D.Disk.reads g.D.Disk.image_now g.D.Disk.moment g.D.Disk.image_since c.args.saver.now c.args.saver.now
+    (no_save_broke_off g.D.Disk c.args.saver.now c.args.saver.now
     c.args.disk.now c.args.disk.now g.met.D.Disk.only_now
     (seen_positions_saver_stands _ _ c.args.board.now.opening _ _ c.args.saver.now c.requires.can_save) refl refl)

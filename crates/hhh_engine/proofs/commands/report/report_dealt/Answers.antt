@@ -29,18 +29,18 @@ pub returns-in-Ok-write_session-clause-ends : goal.returns-in-Ok-write_session-c
 returns-in-Ok-write_session-clause-ends g c =
     let base = c.in-Ok.ensures.base in (
       dealt_report_is_written c.args.settings.now c.args.fed.dealt c.args.fed.tail.items _ _ c.in-Ok.base.cut
-          (λ cuts. Saves g.D.Disk.reads g.D.Disk.image_now g.D.Disk.moment g.D.Disk.image_since c.in-Ok.base.saver cuts
+          (λ cuts. Saves g.D.Disk c.in-Ok.base.saver cuts
           c.open_base.new.disk c.write_session.new.disk) _ _ base.begins
           c.openings_stand.ensures.represents
-          (λ cuts saves used. dealt_report_keeps_saves g.D.Disk.reads g.D.Disk.image_now g.D.Disk.moment g.D.Disk.image_since
+          (λ cuts saves used. dealt_report_keeps_saves g.D.Disk
           c.args.settings.now c.args.fed.dealt c.in-Ok.base.positions c.in-Ok.base.saver cuts [] c.args.disk.now
           c.open_base.new.disk c.write_session.new.disk base.used base.saver c.open_base.ensures.any_moment
           c.open_base.ensures.reads
-          (part_of_saves g.D.Disk.reads g.D.Disk.image_now g.D.Disk.moment g.D.Disk.image_since c.in-Ok.base.saver
+          (part_of_saves g.D.Disk c.in-Ok.base.saver
           c.open_base.new.disk c.write_session.new.disk cuts saves) used)
           (subst (λ tail. WritesAnswer (IsSessionOverShards (session_opening c.args.settings.now.capacity c.args.fed.dealt c.in-Ok.base.cut)
           c.args.settings.now
-          (λ cuts. Saves g.D.Disk.reads g.D.Disk.image_now g.D.Disk.moment g.D.Disk.image_since c.in-Ok.base.saver cuts
+          (λ cuts. Saves g.D.Disk c.in-Ok.base.saver cuts
           c.open_base.new.disk c.write_session.new.disk) tail) (g.K.Sink.taken c.args.sink.now)
           (g.K.Sink.taken c.write_session.new.sink)) c.deref.ensures.value c.in-Ok-write_session.ensures.whole),
       ap₂ (λ s d. record { sink = s; disk = d }) c.in-Ok-write_session.ensures.faults.0
@@ -51,26 +51,26 @@ pub returns-clause-ends : goal.returns-clause-ends
 returns-clause-ends g c =
     let base = c.in-Ok.ensures.base in
     dealt_report_ends_broken_off c.args.settings.now c.args.fed.dealt c.args.fed.tail.items _ _
-    (IsAsBeforeSaves g.D.Disk.reads g.D.Disk.image_now g.D.Disk.moment g.D.Disk.image_since c.args.disk.now
+    (IsAsBeforeSaves g.D.Disk c.args.disk.now
     c.write_session.new.disk) c.in-Ok.base.cut
-    (SavesInPart g.D.Disk.reads g.D.Disk.image_now g.D.Disk.moment g.D.Disk.image_since c.in-Ok.base.saver
+    (SavesInPart g.D.Disk c.in-Ok.base.saver
     c.open_base.new.disk c.write_session.new.disk) (c.write_session.new.disk ≡ c.open_base.new.disk) _ _ _ _ _ _
     c.in-Err-write_session.status base.begins c.openings_stand.ensures.represents
-    (λ saved unfinished saves used. dealt_report_keeps_saves g.D.Disk.reads g.D.Disk.image_now g.D.Disk.moment g.D.Disk.image_since
+    (λ saved unfinished saves used. dealt_report_keeps_saves g.D.Disk
     c.args.settings.now c.args.fed.dealt c.in-Ok.base.positions c.in-Ok.base.saver saved unfinished c.args.disk.now
     c.open_base.new.disk c.write_session.new.disk base.used base.saver c.open_base.ensures.any_moment
     c.open_base.ensures.reads saves used)
     (λ same. ap g.K.Sink.taken same)
     (λ same. (
-      subst (IsAsBeforeSaves g.D.Disk.reads g.D.Disk.image_now g.D.Disk.moment g.D.Disk.image_since c.args.disk.now) (sym same)
+      subst (IsAsBeforeSaves g.D.Disk c.args.disk.now) (sym same)
           (record { same_reads = c.open_base.ensures.reads; any_moment = c.open_base.ensures.any_moment }),
-      no_save_into_untouched_disk g.D.Disk.reads g.D.Disk.image_now g.D.Disk.moment g.D.Disk.image_since c.in-Ok.base.saver
+      no_save_into_untouched_disk g.D.Disk c.in-Ok.base.saver
           c.open_base.new.disk c.write_session.new.disk g.met.D.Disk.only_now c.in-Ok.ensures.stands same,
     ))
     (subst (λ tail. ((c.write_session.new.sink ≡ c.args.sink.now) × (c.write_session.new.disk ≡ c.open_base.new.disk))
     ⊎ WritesAnswer (BeginsSession (session_opening c.args.settings.now.capacity c.args.fed.dealt c.in-Ok.base.cut)
     c.args.settings.now
-    (SavesInPart g.D.Disk.reads g.D.Disk.image_now g.D.Disk.moment g.D.Disk.image_since c.in-Ok.base.saver
+    (SavesInPart g.D.Disk c.in-Ok.base.saver
     c.open_base.new.disk c.write_session.new.disk) tail) (g.K.Sink.taken c.args.sink.now)
     (g.K.Sink.taken c.write_session.new.sink))
     c.deref.ensures.value c.in-Err-write_session.ensures.part)

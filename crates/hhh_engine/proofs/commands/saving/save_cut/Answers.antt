@@ -14,12 +14,11 @@ returns-in-Ok-clause-saved g c =
     subst (λ s. IfSome s (DealtFeedCanSaveCut (g.D.Disk.reads c.args.disk.now) (g.D.Disk.image_now c.args.disk.now)
     c.args.cut.now)) is c.requires in
     let done = c.in-Ok.ensures in
-    subst (λ before. SavesInTurn g.D.Disk.reads g.D.Disk.image_now g.D.Disk.moment g.D.Disk.image_since before
+    subst (λ before. SavesInTurn g.D.Disk before
     (Some c.in-Ok.next) c.args.disk.now c.save.new.disk (c.args.cut.now ∷ [])) (sym is)
     (record {
       saver = ap Some done.saved;
-      saves = one_save c.stores_open_to_one.ensures g.D.Disk.reads g.D.Disk.image_now g.D.Disk.moment
-          g.D.Disk.image_since saver c.args.cut.now c.args.disk.now c.save.new.disk can.settings can.stands
+      saves = one_save c.stores_open_to_one.ensures g.D.Disk saver c.args.cut.now c.args.disk.now c.save.new.disk can.settings can.stands
           done.known
           (subst (λ after. DiskMatchesSaver (g.D.Disk.reads c.save.new.disk) (g.D.Disk.image_now c.save.new.disk) after)
           done.saved done.stands) done.opens done.any_moment;
@@ -27,12 +26,12 @@ returns-in-Ok-clause-saved g c =
 
 pub returns-in-Err-DiskFault-clause-in_part : goal.returns-in-Err-DiskFault-clause-in_part
 returns-in-Err-DiskFault-clause-in_part g c =
-    unfinished_save_of c.stores_open_to_one.ensures g.D.Disk.reads g.D.Disk.image_now g.D.Disk.moment g.D.Disk.image_since
+    unfinished_save_of c.stores_open_to_one.ensures g.D.Disk
     c.args.saver.now c.in-Some.open c.args.cut.now c.args.disk.now c.save.new.disk (sym c.in-Some.ensures.value) c.requires
     g.met.D.Disk.now_is_since c.save.ensures.any_moment
 
 pub returns-in-Err-OutOfMemory-clause-in_part : goal.returns-in-Err-OutOfMemory-clause-in_part
 returns-in-Err-OutOfMemory-clause-in_part g c =
-    unfinished_save_of c.stores_open_to_one.ensures g.D.Disk.reads g.D.Disk.image_now g.D.Disk.moment g.D.Disk.image_since
+    unfinished_save_of c.stores_open_to_one.ensures g.D.Disk
     c.args.saver.now c.in-Some.open c.args.cut.now c.args.disk.now c.save.new.disk (sym c.in-Some.ensures.value) c.requires
     g.met.D.Disk.now_is_since c.save.ensures.any_moment

@@ -14,7 +14,7 @@ returns-in-Err-clause-part g c =
       text = begun.front;
       is_text = inl (
         begun.is_beginning,
-        no_save_into_untouched_disk g.D.Disk.reads g.D.Disk.image_now g.D.Disk.moment g.D.Disk.image_since c.args.saver.now
+        no_save_into_untouched_disk g.D.Disk c.args.saver.now
             c.args.disk.now c.args.disk.now g.met.D.Disk.only_now
             (seen_positions_cut_saver_stands _ _ c.args.rest.now.cut c.args.saver.now c.requires) refl,
       );
@@ -50,7 +50,7 @@ returns-in-Err-write-clause-part g c =
         begun.front,
         (begun.is_beginning, begun.cut),
         refl,
-        part_of_saves g.D.Disk.reads g.D.Disk.image_now g.D.Disk.moment g.D.Disk.image_since c.args.saver.now
+        part_of_saves g.D.Disk c.args.saver.now
             c.args.disk.now c.save_cut.new.disk _ c.in_default-save_cut.ensures.saved.saves,
       ));
       written = Appends-trans _ _ _ c.args.rest.now.front.items begun.front

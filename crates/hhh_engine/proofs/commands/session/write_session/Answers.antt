@@ -51,7 +51,7 @@ pub returns-clause-whole : goal.returns-clause-whole
 returns-clause-whole g c =
     session_thread_on_ok_implies c.write_feed.result _ _
     (subst (λ shards. WritesAnswer (IsSessionOverShards shards c.args.settings.now
-    (λ cuts. Saves g.D.Disk.reads g.D.Disk.image_now g.D.Disk.moment g.D.Disk.image_since c.args.base.saver cuts
+    (λ cuts. Saves g.D.Disk c.args.base.saver cuts
     c.args.disk.now c.write_feed.new.disk) c.args.tail.now) (g.K.Sink.taken c.args.sink.now)
     (g.K.Sink.taken c.write_feed.new.sink)) c.in_ok-opened.ensures.opening)
     c.write_feed.ensures.whole
@@ -60,7 +60,7 @@ pub returns-clause-part : goal.returns-clause-part
 returns-clause-part g c =
     session_thread_on_err_implies c.write_feed.result _ _
     (λ part. inr (subst (λ shards. WritesAnswer (BeginsSession shards c.args.settings.now
-    (SavesInPart g.D.Disk.reads g.D.Disk.image_now g.D.Disk.moment g.D.Disk.image_since c.args.base.saver c.args.disk.now
+    (SavesInPart g.D.Disk c.args.base.saver c.args.disk.now
     c.write_feed.new.disk) c.args.tail.now)
     (g.K.Sink.taken c.args.sink.now) (g.K.Sink.taken c.write_feed.new.sink)) c.in_ok-opened.ensures.opening part))
     c.write_feed.ensures.part

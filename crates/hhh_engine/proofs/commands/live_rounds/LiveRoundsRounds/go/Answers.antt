@@ -31,7 +31,7 @@ loop-round-init g c = record {
   fits = seen_positions_fit_saver _ _ c.args.board.now.opening _ _ c.args.self.now.saver.now c.requires.ready.5;
   written =
       writes_no_round _ _ _ _ _ _ (c.calls_follow_calls.ensures.none _ _ _)
-      (no_save g.D.Disk.reads g.D.Disk.image_now g.D.Disk.moment g.D.Disk.image_since c.args.self.now.saver.now
+      (no_save g.D.Disk c.args.self.now.saver.now
       c.args.self.now.disk.now (g.met.D.Disk.only_now c.args.self.now.disk.now)
       (seen_positions_saver_stands _ _ c.args.board.now.opening _ _ c.args.self.now.saver.now c.requires.ready.5));
 }
@@ -52,7 +52,7 @@ make_round-made-requires-clause-wide g c =
 pub make_round-made-requires-clause-can_save : goal.make_round-made-requires-clause-can_save
 make_round-made-requires-clause-can_save g c =
     let far = c.loop-round.invariant in
-    seen_positions_allow_more_saves g.D.Disk.reads g.D.Disk.image_now g.D.Disk.moment g.D.Disk.image_since c.args.board.now.opening
+    seen_positions_allow_more_saves g.D.Disk c.args.board.now.opening
     (view c.loop-round.pass) c.args.self.now.saver.now c.loop-round.self.saver.now far.written.reports
     c.args.self.now.disk.now c.loop-round.self.disk.now c.loop-round.round 1 c.args.self.now.rounds
     (seen_position_report_count _ _ _ _ _ _ far.written.calls) (omega (arith, c.loop-round-test.true)) far.fits far.written.kept
@@ -69,23 +69,22 @@ returns-in-Err-clause-does g c =
       subst (λ shards. HasCoreShape (length shards) (core_capacity shards) c.make_round-made.new.cut) (sym opening)
           c.in-Err.ensures.shape,
       one_round_broke_off _ _ _ _ _ _ _ _ _ _ _
-          (SavesInTurn g.D.Disk.reads g.D.Disk.image_now g.D.Disk.moment g.D.Disk.image_since c.args.self.now.saver.now
+          (SavesInTurn g.D.Disk c.args.self.now.saver.now
           c.loop-round.self.saver.now c.args.self.now.disk.now c.loop-round.self.disk.now)
-          (SavesBreakOff g.D.Disk.reads g.D.Disk.image_now g.D.Disk.moment g.D.Disk.image_since
+          (SavesBreakOff g.D.Disk
           c.loop-round.self.saver.now c.make_round-made.new.saver c.loop-round.self.disk.now c.make_round-made.new.disk)
-          (SavesBreakOff g.D.Disk.reads g.D.Disk.image_now g.D.Disk.moment g.D.Disk.image_since c.args.self.now.saver.now
+          (SavesBreakOff g.D.Disk c.args.self.now.saver.now
           c.make_round-made.new.saver c.args.self.now.disk.now c.make_round-made.new.disk) _ _ _ _ _ _ c.in-Err.status opening far.same_share
           (round_saver_stays_or_none c.args.self.now.saver.now c.loop-round.self.saver.now _ far.written.kept.saver)
           (ap₂ (λ s d. record { sink = s; disk = d }) far.sink_faults far.disk_faults) c.loop-round-test.true
           (λ cuts saved unfinished first second.
-          broken_saves_follow c.stores_open_to_one.ensures g.D.Disk.reads g.D.Disk.image_now g.D.Disk.moment
-          g.D.Disk.image_since c.args.self.now.saver.now c.loop-round.self.saver.now c.make_round-made.new.saver cuts saved
+          broken_saves_follow c.stores_open_to_one.ensures g.D.Disk c.args.self.now.saver.now c.loop-round.self.saver.now c.make_round-made.new.saver cuts saved
           unfinished c.args.self.now.disk.now c.loop-round.self.disk.now c.make_round-made.new.disk
           (seen_positions_allowed_settings _ _ c.args.board.now.opening _ _ c.args.self.now.saver.now c.requires.ready.5)
           g.met.D.Disk.reading_is_image first second)
           far.written c.in-Err.ensures.broken,
       λ none.
-          let done = save_needs_saver _ _ _ _ _ _ _ _ _ far.written.kept none in
+          let done = save_needs_saver g.D.Disk _ _ _ _ _ far.written.kept none in
           let round = c.in-Err.ensures.unused done.0 in (round.0, round.1 ∙ done.1),
       far.same_share,
       far.same_rounds,
@@ -113,11 +112,11 @@ loop-round-preserved g c =
       written =
           writes_more_rounds opening c.args.self.now.phi c.loop-round.round 1 (view c.args.pass.now) (view c.loop-round.pass)
           (view c.make_round-made.new.pass) (is_some c.args.self.now.saver.now)
-          (SavesInTurn g.D.Disk.reads g.D.Disk.image_now g.D.Disk.moment g.D.Disk.image_since c.args.self.now.saver.now
+          (SavesInTurn g.D.Disk c.args.self.now.saver.now
           c.loop-round.self.saver.now c.args.self.now.disk.now c.loop-round.self.disk.now)
-          (SavesInTurn g.D.Disk.reads g.D.Disk.image_now g.D.Disk.moment g.D.Disk.image_since
+          (SavesInTurn g.D.Disk
           c.loop-round.self.saver.now c.make_round-made.new.saver c.loop-round.self.disk.now c.make_round-made.new.disk)
-          (SavesInTurn g.D.Disk.reads g.D.Disk.image_now g.D.Disk.moment g.D.Disk.image_since c.args.self.now.saver.now
+          (SavesInTurn g.D.Disk c.args.self.now.saver.now
           c.make_round-made.new.saver c.args.self.now.disk.now c.make_round-made.new.disk)
           (g.K.Sink.taken c.args.self.now.sink.now) (g.K.Sink.taken c.loop-round.self.sink.now)
           (g.K.Sink.taken c.make_round-made.new.sink)
@@ -125,21 +124,20 @@ loop-round-preserved g c =
           c.calls_follow_calls.ensures.more opening phi rounds more (view c.args.pass.now) middle now reports later
           c.requires.pass.seat.trails)
           (λ cuts later first second.
-          saves_follow c.stores_open_to_one.ensures g.D.Disk.reads g.D.Disk.image_now g.D.Disk.moment
-          g.D.Disk.image_since c.args.self.now.saver.now c.loop-round.self.saver.now c.make_round-made.new.saver cuts later
+          saves_follow c.stores_open_to_one.ensures g.D.Disk c.args.self.now.saver.now c.loop-round.self.saver.now c.make_round-made.new.saver cuts later
           c.args.self.now.disk.now c.loop-round.self.disk.now c.make_round-made.new.disk
           (seen_positions_allowed_settings _ _ opening _ _ c.args.self.now.saver.now c.requires.ready.5) g.met.D.Disk.reading_is_image first
           second)
           far.written
           (subst (λ store. WritesRounds opening c.args.self.now.phi 1 (view c.loop-round.pass)
           (view c.make_round-made.new.pass) store
-          (SavesInTurn g.D.Disk.reads g.D.Disk.image_now g.D.Disk.moment g.D.Disk.image_since
+          (SavesInTurn g.D.Disk
           c.loop-round.self.saver.now c.make_round-made.new.saver c.loop-round.self.disk.now c.make_round-made.new.disk)
           (g.K.Sink.taken c.loop-round.self.sink.now) (g.K.Sink.taken c.make_round-made.new.sink))
           (round_saver_stays_or_none c.args.self.now.saver.now c.loop-round.self.saver.now _ far.written.kept.saver)
           (subst (λ phi. WritesRounds opening phi 1 (view c.loop-round.pass) (view c.make_round-made.new.pass)
           (is_some c.loop-round.self.saver.now)
-          (SavesInTurn g.D.Disk.reads g.D.Disk.image_now g.D.Disk.moment g.D.Disk.image_since
+          (SavesInTurn g.D.Disk
           c.loop-round.self.saver.now c.make_round-made.new.saver c.loop-round.self.disk.now c.make_round-made.new.disk)
           (g.K.Sink.taken c.loop-round.self.sink.now) (g.K.Sink.taken c.make_round-made.new.sink)) far.same_share made));
     }
@@ -156,7 +154,7 @@ returns-clause-does g c =
       all_rounds_were_made _ _ _ _ _ _ _ _ _ _ _ _ _ _ c.loop-round.self.stop opening far.unstopped
           (omega (arith, c.loop-round.auto.round-end, c.loop-round-test.false))
           (ap₂ (λ s d. record { sink = s; disk = d }) far.sink_faults far.disk_faults) far.written,
-      save_needs_saver _ _ _ _ _ _ _ _ _ far.written.kept,
+      save_needs_saver g.D.Disk _ _ _ _ _ far.written.kept,
       far.same_share,
       far.same_rounds,
       far.same_callers,

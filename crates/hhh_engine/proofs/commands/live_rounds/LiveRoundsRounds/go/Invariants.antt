@@ -23,7 +23,7 @@ invariant-loop-round g l = record {
   disk_faults : g.D.Disk.faults l.self.disk.now ≡ g.D.Disk.faults l.fn.self.disk.now;
   fits : IfSome l.self.saver.now (SavesFitBoard l.board.opening (view l.pass));
   written : WritesRounds l.board.opening l.fn.self.phi l.round (view l.fn.pass) (view l.pass) (is_some l.fn.self.saver.now)
-      (SavesInTurn g.D.Disk.reads g.D.Disk.image_now g.D.Disk.moment g.D.Disk.image_since l.fn.self.saver.now
+      (SavesInTurn g.D.Disk l.fn.self.saver.now
       l.self.saver.now l.fn.self.disk.now l.self.disk.now)
       (g.K.Sink.taken l.fn.self.sink.now) (g.K.Sink.taken l.self.sink.now);
 }

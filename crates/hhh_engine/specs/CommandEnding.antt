@@ -1,0 +1,55 @@
+-- Within the crate: how a command ended, in the words of its run.
+use Rattle.std.specs.Prelude.{◌≡◌}
+use Rattle.outside_io.specs.{FaultCountRose}
+use Rattle.outside_io.specs.declared.source.Source.{Ghosts as SourceOf}
+use Rattle.outside_io.specs.declared.sink.Sink.{Ghosts as SinkOf}
+use Rattle.slot_disk.specs.declared.disk.Disk.{Ghosts as DiskOf}
+use Rattle.pcap_frames.specs.declared.fault.CaptureFault.{CaptureFault}
+use Rattle.command_words.specs.declared.command.Command.{Command}
+use Rattle.command_words.specs.declared.command.Command.TheVariants.{Format}
+use Rattle.command_words.specs.declared.settings.Settings.{Settings}
+use Rattle.hhh_engine.specs.Answer.{IsAnswer, IsAnswerInPart}
+use Rattle.hhh_engine.specs.Ending.{AuditFindsAtEnding, Ends, EndsAsBeforeUnlessFormat, EndsInOrder, FormatEnds}
+use Rattle.hhh_engine.specs.Ending.{HappenedToDiskAtEnding, RefusesAtEnding}
+use Rattle.hhh_engine.specs.Inputs.{InputsWereAccepted, InputsWereRead, UsesInputCapture, UsesInputSession, UsesInputStore}
+use Rattle.hhh_engine.specs.TopCall.{Streams, faults_after, faults_before, run_inputs, run_keeping}
+use Rattle.hhh_engine.specs.Saves.{IsAsBeforeSaves, store_settings_for_saves}
+use Rattle.hhh_engine.specs.Session.{SessionRules}
+use Rattle.hhh_engine.specs.declared.status.Status.{Status}
+use Rattle.hhh_engine.specs.declared.status.Status.TheVariants.{BadCapture, DiskFault}
+
+-- a run, as in `RunEnds`
+module _ {S T K D : Type 0} (s : SourceOf S) (t : SourceOf T) (k : SinkOf K) (d : DiskOf D) (old new : Streams S T K D)
+    (rules : SessionRules) where
+  -- the command ended with this status
+  abbrev pub CommandEnds : Command → Status → Type 0
+  CommandEnds command status =
+      Ends (IsAnswer rules (run_keeping s t k d old new) command (run_inputs s t k d old new))
+      (IsAnswerInPart rules (run_keeping s t k d old new) command (run_inputs s t k d old new))
+      (InputsWereRead command (run_inputs s t k d old new)) (InputsWereAccepted command (run_inputs s t k d old new))
+      (HappenedToDiskAtEnding command (FaultCountRose (d.faults old.disk) (d.faults new.disk))) (new.disk ≡ old.disk)
+      (EndsAsBeforeUnlessFormat command (IsAsBeforeSaves d old.disk new.disk))
+      (RefusesAtEnding command rules (run_inputs s t k d old new) (IsAsBeforeSaves d old.disk new.disk))
+      (AuditFindsAtEnding command rules (run_inputs s t k d old new) (k.taken old.sink) (k.taken new.sink)) (s.left old.capture)
+      (faults_before s t k d old new) (faults_after s t k d old new) old.sink new.sink (k.taken old.sink) (k.taken new.sink)
+      (k.faults old.sink) (k.faults new.sink) status
+
+  -- a source that failed did so in the order in which the command reads them
+  abbrev pub CommandEndsInOrder : Command → Status → Type 0
+  CommandEndsInOrder command status =
+      EndsInOrder (UsesInputCapture command) (UsesInputSession command) (run_inputs s t k d old new) (faults_before s t k d old new)
+      (faults_after s t k d old new) old.text new.text status
+
+  -- the command was answered with this status
+  pub record AnswersCommand (command : Command) (status : Status) : Type 0 where
+    pub ends : CommandEnds command status
+    pub order : CommandEndsInOrder command status
+    -- a fault of the disk is never ignored
+    pub told : (status ≡ DiskFault → ⊥) → d.faults new.disk ≡ d.faults old.disk
+    -- what the command doesn't use is untouched
+    pub unused : (UsesInputStore command → ⊥) → new.disk ≡ old.disk
+    pub reads : (fault : CaptureFault) → status ≡ BadCapture fault → UsesInputCapture command
+    pub unread : (UsesInputCapture command → ⊥) → new.capture ≡ old.capture
+    pub text_unread : (UsesInputSession command → ⊥) → new.text ≡ old.text
+    pub formats : (settings : Settings) → command ≡ Format settings
+        → FormatEnds d (store_settings_for_saves settings) old.sink new.sink old.disk new.disk status
