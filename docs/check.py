@@ -20,7 +20,7 @@ noun, and no two crates have such files, or files of definitions, of the same no
 contract is longer than 160 characters.
 
 checks/commands.py: the manual page hhh.1 shows what each command takes as `command_words` has it, and explains each
-command and option. A command line in OPERATORS.md has options of its command alone. Neither document names a command or
+command and option; if it has a version, it is that of VERSION. A command line in OPERATORS.md has options of its command alone. Neither document names a command or
 an option that isn't there.
 """
 

@@ -23,6 +23,8 @@ def options_in(text):
 def check_manual(known):
     """The manual page shows what each command takes, explains each command and each option, and names no others."""
     text = (TOP / "hhh.1").read_text()
+    version = re.search(r"(?m)^\.Os \w+ (\S+)$", text)
+    check(not version or version[1] == (TOP / "VERSION").read_text().strip(), "the line .Os of hhh.1 has another version than VERSION")
     sections = dict(re.findall(r"(?m)^\.Sh (.+)\n((?:(?!\.Sh).*\n?)*)", text))
     shown = {}
     for part in sections["SYNOPSIS"].split(".Nm\n")[1:]:
