@@ -2,7 +2,7 @@
 
 import re
 
-from checks.repository import ALL_DEFINITIONS, CRATES, EDIT_FOLDERS, TOP, check, edits, faults, source_files
+from checks.repository import ALL_DEFINITIONS, CRATES, EDIT_FOLDERS, TOP, check, edits, faults, page_text, source_files
 
 # The longest line of definitions, proofs and contracts that is read in one go.
 LONGEST_STATEMENT = 160
@@ -67,7 +67,7 @@ def check_edits(crate):
         for line in path.read_text().splitlines():
             kind, _, rest = line.partition(": ")
             if kind == "file" and rest != file:
-                file, text = rest, (TOP / "crates" / crate / rest).read_text()
+                file, text = rest, page_text(f"crates/{crate}/{rest}")
             elif kind == "old":
                 old = rest
                 check(text.count(old) == 1, f"{path.relative_to(TOP)}: its old text stands {text.count(old)} times in {file}: {old}")

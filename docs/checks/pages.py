@@ -4,7 +4,7 @@ import re
 import textwrap
 
 from checks.promises import crate_page, promises
-from checks.repository import ALL_DEFINITIONS, ALL_WRONG_BODIES, CRATES, EDIT_FOLDERS, TOP, check, crates_below, edits, names, stands_on
+from checks.repository import ALL_DEFINITIONS, ALL_WRONG_BODIES, CRATES, EDIT_FOLDERS, TOP, check, crates_below, edits, names, page_text, stands_on
 
 # The most lines that a page may have, and the most characters of a row of a table and of any line.
 MOST_LINES = {"README.md": 200, "docs/GUARANTEES.md": 400, **{crate_page(crate): 80 for crate in CRATES}}
@@ -31,7 +31,7 @@ def listed(items):
 
 def title(crate):
     """What a crate is, from the first line of its page."""
-    first = (TOP / crate_page(crate)).read_text().split("\n")[0]
+    first = page_text(crate_page(crate)).split("\n")[0]
     check(first.startswith(f"# `{crate}`: "), f"{crate_page(crate)} doesn't begin with a title as '# `{crate}`: what it is'")
     return first.partition(": ")[2]
 
@@ -42,7 +42,7 @@ def is_of_tests(crate):
 
 def facts(crate):
     """What a crate stands on, where its definitions are, and how many wrong bodies it has."""
-    lower = stands_on()[crate]
+    lower = stands_on().get(crate, [])
     sentences = [f"Stands on {listed(lower)}." if lower else "Stands on no other crate."]
     if files := sorted(set(ALL_DEFINITIONS[crate].values())):
         sentences.append(f"Definitions, in `specs/`: {listed(files)}.")
@@ -61,7 +61,7 @@ def crate_rows():
         if is_of_tests(crate):
             tests.append(link)
         else:
-            count = len(promises((TOP / crate_page(crate)).read_text()))
+            count = len(promises(page_text(crate_page(crate))))
             rows.append(f"| {link} | {title(crate)} | {count} | {len(ALL_WRONG_BODIES[crate])} |")
     return "\n".join(rows) + "\n\n" + filled(f"Crates of tests alone: {', '.join(tests)}.")
 
@@ -75,20 +75,21 @@ def written(page, text):
 
 def check_written(may_write):
     for page in pages():
-        text = (TOP / page).read_text()
+        text = page_text(page)
         fresh = written(page, text)
         if may_write and fresh != text:
             (TOP / page).write_text(fresh)
         else:
             check(fresh == text, f"a part of {page} is stale: docs/check.py --write writes it")
     for crate in CRATES:
-        has_facts = "facts" in {part[1] for part in PART.findall((TOP / crate_page(crate)).read_text())}
-        check(has_facts, f"{crate_page(crate)} has no part 'facts' that is written by docs/check.py")
+        has_facts = "facts" in {part[1] for part in PART.findall(page_text(crate_page(crate)))}
+        check(has_facts, f"{crate_page(crate)} is missing, or has no part 'facts' that is written by docs/check.py")
+        check(crate in stands_on(), f"{crate} has no line in crates.txt")
 
 
 def check_sizes():
     for page in pages():
-        lines = (TOP / page).read_text().split("\n")
+        lines = page_text(page).split("\n")
         most = MOST_LINES.get(page)
         check(most is None or len(lines) - 1 <= most, f"{page} has {len(lines) - 1} lines, more than {most}")
         for number, line in enumerate(lines, 1):
@@ -98,20 +99,18 @@ def check_sizes():
 
 def check_map():
     """The map has one row for each crate, and the README says how many crates the program has."""
-    text = (TOP / "docs" / "ARCHITECTURE.md").read_text()
+    text = page_text("docs/ARCHITECTURE.md")
     table = re.search(r"(?s)\| Crate \|.*?\n\n", text)[0]
     mapped = [names(row)[0] for row in table.split("\n")[2:] if row]
     for crate in sorted({*CRATES, *mapped}):
         rows = mapped.count(crate)
         check(rows == (crate in CRATES), f"the map in ARCHITECTURE.md has {rows} rows for {crate}")
     count = len(crates_below("hhh"))
-    for number in re.findall(r"(\d+) crates", (TOP / "README.md").read_text()):
+    for number in re.findall(r"(\d+) crates", page_text("README.md")):
         check(int(number) == count, f"README.md speaks of {number} crates, and the program has {count}")
 
 
 def check_pages(may_write):
-    for crate in CRATES:
-        check((TOP / crate_page(crate)).exists(), f"{crate} has no README.md")
     check_written(may_write)
     check_sizes()
     check_map()

@@ -2,7 +2,7 @@
 
 import re
 
-from checks.repository import ALL_CLAUSES, ALL_DEFINITIONS, ALL_WRONG_BODIES, CRATES, TOP, check, faults, names, source_files
+from checks.repository import ALL_CLAUSES, ALL_DEFINITIONS, ALL_WRONG_BODIES, CRATES, TOP, check, faults, names, page_text, source_files
 
 # The page of the whole program, whose promises may name clauses and wrong bodies of any crate.
 PROGRAM_PAGE = "docs/GUARANTEES.md"
@@ -53,7 +53,7 @@ def check_clauses(page, homes, text):
 def check_page(page, homes):
     """Checks the promises of a page, and returns the wrong bodies that they name."""
     named = set()
-    for parts in promises((TOP / page).read_text()):
+    for parts in promises(page_text(page)):
         check_clauses(page, homes, parts["Clauses"])
         for name in names(parts.get("Wrong bodies", "")):
             named.add(name)
@@ -65,7 +65,7 @@ def check_page(page, homes):
 def check_places(page):
     """A place on a page is a file, as in `specs/File`, `crate/specs/File` or `specs/File` of `crate`; and as in `name` in
     `crate/specs/File`, or in a row | `name` | `crate`, `specs/File` |, that file has the definition."""
-    text = " ".join((TOP / page).read_text().split())
+    text = " ".join(page_text(page).split())
     for before, file, after in re.findall(r"`(?:(\w+)/)?specs/(\w+)`(?:(?: and `specs/\w+`)? of `(\w+)`)?", text):
         homes = [crate for crate in (before, after) if crate] or CRATES
         is_there = any((TOP / "crates" / crate / "specs" / f"{file}.antt").exists() for crate in homes)
@@ -80,7 +80,7 @@ def check_places(page):
 
 def check_names(page, known):
     """A name in the form of the code's, `two_words` or `TwoWords`, occurs in the crates."""
-    text = (TOP / page).read_text()
+    text = page_text(page)
     for name in sorted(set(re.findall(r"`(?:\w+::)?([a-z]\w*_\w+|[A-Z]\w*[a-z][A-Z]\w*)`", text)) - known):
         faults.append(f"{page} names {name}, which occurs in no crate")
 

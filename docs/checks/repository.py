@@ -19,6 +19,12 @@ def check(holds, text):
         faults.append(text)
 
 
+def page_text(page):
+    """The text of a page or a source; where there is none, nothing."""
+    path = TOP / page
+    return path.read_text() if path.exists() else ""
+
+
 def names(text):
     return re.findall(r"`([^`]+)`", text)
 
