@@ -5,12 +5,14 @@ usage: check.py            prints a line for each fault, and ends with 1 where t
        check.py --write    first writes the parts of pages that repeat the code
 
 checks/promises.py: in the promises of GUARANTEES.md and of crates/NAME/README.md each clause is on the function that is
-named before it, each wrong body in must-fail/ or more-wrong-bodies/ of its crate, and each wrong body in these on one of
-the pages. A file of specs/ that a page names is there; where it names the definition before it, the file has that one.
+named before it, each wrong body in must-fail/ or more-wrong-bodies/ of its crate, and each wrong body in these on one
+of the pages. A file of specs/ that a page names is there; where it names the definition before it, the file has that
+one.
 
 checks/pages.py: README.md, GUARANTEES.md and the crates' pages are no longer than they may be, and no row of a table is
-wider than it may be. The facts of a crate's page and the table of crates in GUARANTEES.md are those of the code. The map
-in ARCHITECTURE.md has a row for each crate, and the README the number of the program's crates.
+wider than it may be; links lead to files. The facts of a crate's page and the table of crates in GUARANTEES.md are
+those of the code. The map in ARCHITECTURE.md has a row for each crate, and the README the number of the program's
+crates.
 
 checks/code.py: a file takes definitions of another crate from its face alone, `Rattle.NAME.specs.{..}`, and its lemmas
 from two files; so do the programs of bench/, which nothing else reads; and a face passes on nothing that nobody takes
@@ -20,8 +22,8 @@ noun, and no two crates have such files, or files of definitions, of the same no
 contract is longer than 160 characters.
 
 checks/commands.py: the manual page hhh.1 shows what each command takes as `command_words` has it, and explains each
-command and option; if it has a version, it is that of VERSION. A command line in OPERATORS.md has options of its command alone. Neither document names a command or
-an option that isn't there.
+command and option; if it has a version, it is that of VERSION. A command line in OPERATORS.md has options of its
+command alone. Neither document names a command or an option that isn't there.
 """
 
 import sys

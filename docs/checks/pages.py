@@ -97,6 +97,13 @@ def check_sizes():
             check(len(line) <= limit or page in NOT_HELD, f"{page}:{number} has {len(line)} characters, more than {limit}")
 
 
+def check_links():
+    """A link on a page leads to a file or a folder that is there."""
+    for page in pages():
+        for link in re.findall(r"\]\(([^)#:]+)(?:#[^)]*)?\)", page_text(page)):
+            check((TOP / page).parent.joinpath(link).exists(), f"{page} has a link to {link}, and there is none")
+
+
 def check_map():
     """The map has one row for each crate, and the README says how many crates the program has."""
     text = page_text("docs/ARCHITECTURE.md")
@@ -113,4 +120,5 @@ def check_map():
 def check_pages(may_write):
     check_written(may_write)
     check_sizes()
+    check_links()
     check_map()
