@@ -25,9 +25,8 @@ def promises(text):
         elif line.startswith("  ") and items:
             items[-1][name] += " " + line.strip()
         elif line:
-            items.append({})
             name = ""
-            items[-1][name] = ""
+            items.append({name: ""})
     return [parts for parts in items if "Clauses" in parts]
 
 
