@@ -15,8 +15,8 @@ folders, and at most ten of a crate are in must-fail/. What a file of lemmas hol
 noun, and no two crates have such files, or files of definitions, of the same noun. A file of specs/ that a document
 names is there; where it names the definition before it, the file has that one. No line of specs/, proofs/ or a contract
 is longer than 160 characters. The manual page hhh.1 shows what each command takes as `command_words` has it, and
-explains each command and option. A command line in OPERATORS.md has options of its command alone. Neither document
-names a command or an option that isn't there.
+explains each command, option and line on standard error. A command line in OPERATORS.md has options of its command
+alone. Neither document names a command or an option that isn't there.
 """
 
 import re
@@ -319,11 +319,15 @@ def check_manual(known):
     check_same("hhh.1", "command ", explained | set(shown), set(known), explained)
     explained = set(re.findall(r"(?m)^\.It Fl -(\w+)", sections["OPTIONS"]))
     check_same("hhh.1", "option --", options_in(text), all_options(known), explained)
+    texts = (top / "crates" / "hhh_engine" / "specs" / "Status.antt").read_text()
+    for part in re.findall(r'(?m)^\w*status_text .* = codes "([^"]+)"', texts):
+        check(part == "done" or part.strip() in sections["DIAGNOSTICS"], f"DIAGNOSTICS of hhh.1 doesn't explain: {part}")
 
 
 def check_operators(known):
     """A command line of OPERATORS.md has options of its command alone, and the text names none that isn't there."""
-    text = (top / "docs" / "OPERATORS.md").read_text()
+    # Rows of refused arguments show what isn't taken.
+    text = re.sub(r"(?m)^\|.*`hhh: bad words: .*\n", "", (top / "docs" / "OPERATORS.md").read_text())
     code = " ".join(re.findall(r"(?s)```.*?```|`[^`]+`", text))
     for command, rest in sorted(set(re.findall(r"hhh (\w+)((?: [^|;&`\n]+)?)", code))):
         taken = set(known[command]["options"]) if command in known else all_options(known)
