@@ -28,7 +28,7 @@ top = Path(__file__).resolve().parent.parent
 MINUTES = 10
 PROGRAMS = ("tcpdump", "tshark", "editcap", "mergecap", "capinfos", "nfdump", "nfpcapd", "zcat", "flock", "man")
 # What begins the name of an input.
-INPUT = re.compile(r"(?:--capture[ =]|--report[ =]|(?<![<\d])<(?![<(])|(?:tcpdump|tshark|editcap|nfdump|nfpcapd) -r |zcat |^cp )\s*'?([^\s|;&)']+)")
+INPUT = re.compile(r"(?:--capture[ =]|--report[ =]|(?<![<\d])<(?![<(])|(?:tcpdump|tshark|editcap|nfdump|nfpcapd) -r |mergecap -F pcap -w - |zcat |^cp )\s*'?([^\s|;&)']+)")
 ROUNDS = re.compile(r"--rounds [1-9]")
 
 
@@ -79,8 +79,8 @@ def reason_against(prompt, command, folder):
         if re.search(rf"(?:^|[|;&(]\s*){program} ", command) and not shutil.which(program):
             return f"needs {program}"
     for name in INPUT.findall(command):
-        made = re.search(rf">\s*{re.escape(name)}(?:\s|;|$)", command.split(name)[0] + name)
-        if not made and not name.startswith("$") and "*" not in name and not (folder / name).exists():
+        is_made = re.search(rf">\s*{re.escape(name)}(?:\s|;|$)", command.split(name)[0] + name) or "*" in name and "&&" in command
+        if not is_made and not name.startswith("$") and not list(folder.glob(name) if name[0] != "/" else Path("/").glob(name[1:])):
             return f"needs {name}"
     return None
 
