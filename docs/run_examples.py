@@ -8,11 +8,14 @@ A command line is one after `$ ` in a fenced block, and goes on after a `\\`. It
 to what is at the top of the repository, so a file without a folder is made there. The lines below it, up to the next
 prompt or the end of the block, are what it writes to standard output, and then the lines on standard error that begin
 with `hhh`; `...` stands for any lines. Of a run with rounds the numbers aren't compared, since they differ from run to
-run. A command line without lines below it has to end with 0. In a table, a row | `hhh ARGUMENTS` | `hhh: LINE`, STATUS | is run on no input, and so is each further
-`hhh ARGUMENTS` of its first cell, or `--option value`, which follows the command before it.
+run. A command line without lines below it has to end with 0.
 
-Not run are lines after `# `, which need root, those that need a network or prove something, and those of which a
-program or an input is missing. They are listed with the reason. Ends with 1 where a line writes something else, or ends otherwise.
+In a table, a row | `hhh ARGUMENTS` | `hhh: LINE`, STATUS | is run on no input, and so is each further `hhh ARGUMENTS` of
+its first cell, or `--option value`, which follows the command before it; what comes after the word 'where' is not.
+
+Not run are lines after `# `, which need root, those that need a network, those that prove or build, and those of which a
+program or an input is missing. They are listed with the reason. Ends with 1 where a line writes something else, or ends
+otherwise.
 """
 
 import argparse
@@ -28,7 +31,7 @@ top = Path(__file__).resolve().parent.parent
 MINUTES = 10
 PROGRAMS = ("tcpdump", "tshark", "editcap", "mergecap", "capinfos", "nfdump", "nfpcapd", "zcat", "flock", "man")
 # What begins the name of an input.
-INPUT = re.compile(r"(?:--capture[ =]|--report[ =]|(?<![<\d])<(?![<(])|(?:tcpdump|tshark|editcap|nfdump|nfpcapd) -r |mergecap -F pcap -w - |zcat |^cp )\s*'?([^\s|;&)']+)")
+INPUT = re.compile(r"(?:--capture[ =]|--report[ =]|(?<![<\d])<(?![<(])|(?:tcpdump|tshark|editcap|nfdump|nfpcapd) -r |mergecap -F pcap -w - |zcat |^cp )\s*['\"]?([^\s|;&)'\"]+)")
 ROUNDS = re.compile(r"--rounds [1-9]")
 
 
@@ -74,7 +77,7 @@ def reason_against(prompt, command, folder):
     if "apt-get" in command or re.search(r"tcpdump [^|]*-i ", command):
         return "needs a network"
     if re.search(r"\.ci/|\brt |package/", command):
-        return "needs a proof"
+        return "proves or builds"
     for program in PROGRAMS:
         if re.search(rf"(?:^|[|;&(]\s*){program} ", command) and not shutil.which(program):
             return f"needs {program}"
