@@ -86,6 +86,9 @@ def prove(crate):
     nicely = [] if crate in longest_chain() else ["nice"]
     run_in(crate, [*nicely, kit / "bin/rattle", "build", *words_of(crate)])
     clock, used = time.monotonic() - begun, resource.getrusage(resource.RUSAGE_CHILDREN)
+    if sums_of(crates_of_the_program())[crate] != stale[crate][0]:
+        say(f"{crate}, or a crate below it, was changed while it was proved: start again")
+        sys.exit(1)
     (libraries / f"{crate}.sum").write_text(stale[crate][0])
     with open(logs / "seconds", "a") as seconds:
         seconds.write(f"{crate} {clock:.1f} {used.ru_utime + used.ru_stime:.1f} {used.ru_maxrss}\n")

@@ -1,0 +1,128 @@
+"""How crates are laid out: imports and faces, names of files and lemmas, lengths of lines, edits of wrong bodies."""
+
+import re
+
+from checks.repository import ALL_DEFINITIONS, CRATES, EDIT_FOLDERS, TOP, check, edits, faults, page_text, source_files
+
+# The longest line of definitions, proofs and contracts that is read in one go.
+LONGEST_STATEMENT = 160
+
+MOST_TRIED_BY_GATE = 10
+
+# Lemmas on lists and on places of nodes, which the standard library lacks.
+SHARED_LEMMAS = {("prefix_lattice", "ListLemmas"), ("prefix_lattice", "NodePlaceLemmas")}
+
+
+def passed_on(crate):
+    """What a crate's face passes on; a crate of tests alone has none."""
+    path = TOP / "crates" / crate / "specs" / "Lib.antt"
+    lines = re.findall(r"(?m)^(?:unfoldable )?pub use Rattle\.\S+\.\{(.*)\}", path.read_text() if path.exists() else "")
+    return {name.strip() for line in lines for name in line.split(",")}
+
+
+def check_imports(crate):
+    """A crate takes definitions of others from their faces, and no lemmas but the shared ones."""
+    for path in source_files(crate):
+        for other, folder, module in re.findall(r"use Rattle\.(\w+)\.(specs|proofs)\.(\w+)\.", path.read_text()):
+            if other in CRATES and other != crate and module != "declared" and (other, module) not in SHARED_LEMMAS:
+                faults.append(f"{path.relative_to(TOP)} names the inner file {folder}/{module} of {other}")
+
+
+def taken_from_faces():
+    """What files outside a crate take from its face: those of other crates, and the programs of bench/."""
+    paths = [path for crate in CRATES for path in source_files(crate)]
+    taken = {crate: set() for crate in CRATES}
+    for path in [*paths, *(TOP / "bench").glob("*_program/**/*.txt")]:
+        own = path.relative_to(TOP).parts[1]
+        for crate, names_taken in re.findall(r"use Rattle\.(\w+)\.specs\.\{([^}]*)\}", path.read_text()):
+            if crate in CRATES and crate != own:
+                taken[crate] |= {name.split(" as ")[0].strip() for name in names_taken.split(",")}
+    return taken
+
+
+def check_face(crate, taken):
+    """A face passes on nothing that no other crate takes from it."""
+    for name in sorted(passed_on(crate) - taken):
+        faults.append(f"the face of {crate} passes on {name}, which no other crate takes")
+
+
+def check_programs():
+    """The programs of bench/ take only what the faces of crates pass on, their own or that of a crate below."""
+    for path in sorted((TOP / "bench").glob("*_program/**/*.txt")):
+        for crate, taken in re.findall(r"use Rattle\.(\w+)\.specs\.\{(.*)\}", path.read_text()):
+            for name in taken.split(",") if crate in CRATES else ():
+                is_passed = name.strip() in passed_on(crate)
+                check(is_passed, f"{path.relative_to(TOP)} takes {name.strip()}, which the face of {crate} doesn't pass on")
+
+
+def check_edits(crate):
+    """The gate tries few wrong bodies, and none is in both folders. Each text that one replaces stands once in its file,
+    once the pairs before it are applied."""
+    tried, others = (edits(crate, folder) for folder in EDIT_FOLDERS)
+    check(len(tried) <= MOST_TRIED_BY_GATE, f"{crate} has {len(tried)} wrong bodies in must-fail/, more than {MOST_TRIED_BY_GATE}")
+    for name in sorted({path.stem for path in tried} & {path.stem for path in others}):
+        faults.append(f"{crate} has the wrong body {name} in both folders")
+    for path in tried + others:
+        file, old, text = None, None, ""
+        for line in path.read_text().splitlines():
+            kind, _, rest = line.partition(": ")
+            if kind == "file" and rest != file:
+                file, text = rest, page_text(f"crates/{crate}/{rest}")
+            elif kind == "old":
+                old = rest
+                check(text.count(old) == 1, f"{path.relative_to(TOP)}: its old text stands {text.count(old)} times in {file}: {old}")
+            elif kind == "new":
+                text = text.replace(old, rest)
+
+
+def words(name):
+    """The words of a name, each without the endings of a plural."""
+    parts = re.findall(r"[A-Z]?[a-z]+", name)
+    return {re.sub(r"(?<=...)ies$", "y", re.sub(r"(?<=...)(?<!s)(?:e|es|s)$", "", part.lower())) for part in parts}
+
+
+def check_lemmas(crate):
+    """A name leads to its file of lemmas: it shares a word with the file's noun."""
+    for path in sorted((TOP / "crates" / crate / "proofs").glob("*Lemmas.antt")):
+        noun = path.stem.removesuffix("Lemmas")
+        for name in sorted(set(re.findall(r"(?m)^(?:(?:pub|abbrev|record|data|unfoldable) )*([A-Za-z]\S*) [:(]", path.read_text()))):
+            check(words(name) & words(noun), f"{name} has no word of its file {path.relative_to(TOP)}")
+
+
+def check_lines(crate):
+    """Lines of definitions and proofs can be read in one go, and so can contracts: in src/ a text in quotes can't be
+    broken, nor what the layout joins in an attribute."""
+    for path in source_files(crate):
+        for number, line in enumerate(path.read_text().split("\n"), 1):
+            is_fixed = path.suffix == ".rt" and re.match(r'\s*(?:#\[|[^→]*"[^→]*$)', line) and "ensures" not in line
+            check(len(line) <= LONGEST_STATEMENT or is_fixed, f"{path.relative_to(TOP)}:{number} has {len(line)} characters")
+
+
+def check_nouns():
+    """No two crates have a file of lemmas, or of definitions, of the same noun."""
+    files = [path for part in ("proofs/*Lemmas", "specs/*") for path in (TOP / "crates").glob(f"*/{part}.antt") if path.stem != "Lib"]
+    files.sort(key=lambda path: path.stem)
+    for path, following in zip(files, files[1:]):
+        check(path.stem != following.stem, f"{path.relative_to(TOP)} and {following.relative_to(TOP)} have the same noun")
+
+
+def check_homes():
+    """No two crates define one name."""
+    defined = {}
+    for crate in CRATES:
+        for name in ALL_DEFINITIONS[crate]:
+            check(name not in defined, f"{crate} and {defined.get(name)} both define {name}")
+            defined[name] = crate
+
+
+def check_code():
+    check_programs()
+    check_nouns()
+    check_homes()
+    taken = taken_from_faces()
+    for crate in CRATES:
+        check_imports(crate)
+        check_face(crate, taken[crate])
+        check_edits(crate)
+        check_lemmas(crate)
+        check_lines(crate)

@@ -1,0 +1,99 @@
+"""Whether pages name clauses, wrong bodies and definitions that exist, and whether each wrong body has a promise."""
+
+import re
+
+from checks.repository import ALL_CLAUSES, ALL_DEFINITIONS, ALL_WRONG_BODIES, CRATES, TOP, check, faults, names, page_text, source_files
+
+# The page of the whole program, whose promises may name clauses and wrong bodies of any crate.
+PROGRAM_PAGE = "docs/GUARANTEES.md"
+
+
+def crate_page(crate):
+    return f"crates/{crate}/README.md"
+
+
+def promises(text):
+    """Each promise of a page as its parts by their names; a promise is an item of a list with a part `Clauses`."""
+    items, name = [], None
+    for line in text.split("\n"):
+        if part := re.match(r"  - (Clauses|Wrong bodies): (.*)", line):
+            name = part[1]
+            items[-1][name] = part[2]
+        elif line.startswith("- "):
+            name = "Promise"
+            items.append({name: line[2:]})
+        elif line.startswith("  ") and items:
+            items[-1][name] += " " + line.strip()
+        elif line:
+            name = ""
+            items.append({name: ""})
+    return [parts for parts in items if "Clauses" in parts]
+
+
+def elsewhere(name, known):
+    """Which crates have a name that a page looks for in vain."""
+    others = [crate for crate in CRATES if name in known[crate]]
+    return f"; {' and '.join(others)} has it" if others else ""
+
+
+def check_clauses(page, homes, text):
+    """A text as `f`, `g`: `a`, `b`; `h`, where `a` and `b` are clauses of `f` or of `g`, functions of these crates."""
+    for part in text.split(";"):
+        before, _, after = part.partition("`: ")
+        functions = re.findall(r"`([\w:]+)", before)
+        for function in functions:
+            is_there = any(function in ALL_CLAUSES[crate] for crate in homes)
+            check(is_there, f"{page} names the function {function}, and there is none{elsewhere(function, ALL_CLAUSES)}")
+        for clause in names(after):
+            is_there = any(clause in ALL_CLAUSES[crate].get(function, ()) for crate in homes for function in functions)
+            check(is_there, f"{page} names the clause {clause} on {functions}, and there is none")
+
+
+def check_page(page, homes):
+    """Checks the promises of a page, and returns the wrong bodies that they name."""
+    named = set()
+    for parts in promises(page_text(page)):
+        check_clauses(page, homes, parts["Clauses"])
+        for name in names(parts.get("Wrong bodies", "")):
+            named.add(name)
+            is_there = any(name in ALL_WRONG_BODIES[crate] for crate in homes)
+            check(is_there, f"{page} names the wrong body {name}, and there is none{elsewhere(name, ALL_WRONG_BODIES)}")
+    return named
+
+
+def check_places(page):
+    """A place on a page is a file, as in `specs/File`, `crate/specs/File` or `specs/File` of `crate`; and as in `name` in
+    `crate/specs/File`, or in a row | `name` | `crate`, `specs/File` |, that file has the definition."""
+    text = " ".join(page_text(page).split())
+    for before, file, after in re.findall(r"`(?:(\w+)/)?specs/(\w+)`(?:(?: and `specs/\w+`)? of `(\w+)`)?", text):
+        homes = [crate for crate in (before, after) if crate] or CRATES
+        is_there = any((TOP / "crates" / crate / "specs" / f"{file}.antt").exists() for crate in homes)
+        check(is_there, f"{page} names specs/{file} of {' or '.join(homes[:2])}, and there is none")
+    places = re.findall(r"`(\w+)` in `(\w+)/specs/(\w+)`", text) + re.findall(r"\| `(\S+)` \| `(\w+)`, `specs/(\w+)` \|", text)
+    if own := re.match(r"crates/(\w+)/", page):
+        places += [(name, own[1], file) for name, file in re.findall(r"`(\w+)` in `specs/(\w+)`", text)]
+    for definition, crate, file in places:
+        found = ALL_DEFINITIONS.get(crate, {}).get(definition, "")
+        check(found == file, f"{page}: {definition} isn't in specs/{file} of {crate}")
+
+
+def check_names(page, known):
+    """A name in the form of the code's, `two_words` or `TwoWords`, occurs in the crates."""
+    text = page_text(page)
+    for name in sorted(set(re.findall(r"`(?:\w+::)?([a-z]\w*_\w+|[A-Z]\w*[a-z][A-Z]\w*)`", text)) - known):
+        faults.append(f"{page} names {name}, which occurs in no crate")
+
+
+def check_promises(pages):
+    by_program = check_page(PROGRAM_PAGE, CRATES)
+    for crate in CRATES:
+        named = by_program | check_page(crate_page(crate), [crate])
+        for name in sorted(ALL_WRONG_BODIES[crate] - named):
+            faults.append(f"no page names the wrong body {name} of {crate}")
+    texts = [path.read_text() for crate in CRATES for path in source_files(crate)]
+    known = {word for text in [*texts, (TOP / "crates.txt").read_text()] for word in re.findall(r"\w+", text)}
+    known |= {name for crate in CRATES for name in {crate, *ALL_WRONG_BODIES[crate]}}
+    for page in pages:
+        check_places(page)
+        if page != "docs/DECISIONS.md":  # It also speaks of names of the toolchain, and of forms that aren't there.
+            check_names(page, known)
