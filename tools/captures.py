@@ -10,11 +10,12 @@ MOST_CAPTURED = 262_144
 TAGS = (b"\x81\x00", b"\x88\xa8")
 
 
-def rewrite(change):
+def rewrite(change, links, refusal):
     """Passes the capture on standard input on to standard output as one of Ethernet frames.
 
     `change` takes the link type, a frame's captured bytes and its length on the wire, and returns the two that it gets.
-    Its time stamps stay. The end of a pipe ends the tool, and so does a frame that is cut off, with a line and 1.
+    Its time stamps stay. The end of a pipe ends the tool. A link type that isn't in `links` ends it with a line and 1
+    before it writes anything, and a frame that is cut off after the frames before it.
     """
     signal.signal(signal.SIGPIPE, signal.SIG_DFL)
     source, sink = sys.stdin.buffer, sys.stdout.buffer
@@ -24,6 +25,8 @@ def rewrite(change):
         sys.exit(f"{sys.argv[0]}: not a capture; of pcapng, editcap -F pcap makes one")
     # The upper bits say whether a frame ends with a checksum.
     link = struct.unpack(order + "I", header[20:])[0] & 0xFFFF
+    if link not in links:
+        sys.exit(f"{sys.argv[0]}: link type {link} {refusal}")
     sink.write(header[:16] + struct.pack(order + "II", MOST_CAPTURED, ETHERNET))
     lengths = struct.Struct(order + "II")
     while head := source.read(16):

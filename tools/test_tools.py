@@ -2,6 +2,7 @@
 """Tests the tools beside it on small inputs of its own: test_tools.py. Outside the gate, since it proves nothing."""
 
 import json
+import re
 import struct
 import subprocess
 import sys
@@ -10,6 +11,7 @@ from pathlib import Path
 
 here = Path(__file__).resolve().parent
 ADDRESSES = bytes(12)
+LOGICAL = b"\xaa\xaa\x03\0\0\0\x08\x00"
 SESSION = """opened 0 0
 report
 at 1 1
@@ -21,6 +23,24 @@ done
 frames 4
 skipped 1 0 1
 end
+"""
+
+PROMETHEUS = """# TYPE hhh_total gauge
+hhh_total 300
+# TYPE hhh_threshold gauge
+hhh_threshold 3
+# TYPE hhh_frames gauge
+hhh_frames 4
+# TYPE hhh_skipped gauge
+hhh_skipped{reason="not_ipv4"} 1
+hhh_skipped{reason="short"} 0
+hhh_skipped{reason="bad_header"} 1
+# TYPE hhh_low gauge
+hhh_low{source="10.1.2.3/32",destination="20.1.2.3/32"} 200
+hhh_low{source="10.0.0.0/8",destination="20.1.0.0/16"} 290
+# TYPE hhh_high gauge
+hhh_high{source="10.1.2.3/32",destination="20.1.2.3/32"} 200
+hhh_high{source="10.0.0.0/8",destination="20.1.0.0/16"} 300
 """
 
 
@@ -47,10 +67,11 @@ def frames(text, order="<"):
     return found
 
 
-def run(tool, *words, text=b"", status=0):
-    """What a tool writes."""
-    ran = subprocess.run([here / tool, *words], input=text, capture_output=True, cwd="/")
-    assert ran.returncode == status, (tool, ran)
+def run(tool, *words, text=b"", status=0, said=b""):
+    """What a tool writes, once it has said on standard error what was expected, and no traceback."""
+    ran = subprocess.run([here / tool, *words], input=text, capture_output=True, cwd="/", timeout=60)
+    assert ran.returncode == status and said in ran.stderr and b"Traceback" not in ran.stderr, (tool, ran)
+    assert status or said or not ran.stderr, (tool, ran)
     return ran.stdout
 
 
@@ -60,14 +81,13 @@ class Ethernet(unittest.TestCase):
         self.assertEqual(found, [(ADDRESSES + kind + inner, 514)])
 
     def test_link_types(self):
-        logical = b"\xaa\xaa\x03\0\0\0\x08\x00"
         for link, header in [
-            (113, bytes(14) + b"\x08\x00"), (276, b"\x08\x00" + bytes(18)), (101, b""), (12, b""), (228, b""),
+            (113, bytes(14) + b"\x08\x00"), (276, b"\x08\x00" + bytes(18)), (101, b""), (12, b""), (14, b""), (228, b""),
             (9, b"\xff\x03\x00\x21"), (9, b"\x00\x21"), (50, b"\xff\x03\x21"), (50, b"\x0f\x00\x08\x00"),
-            (104, b"\x0f\x00\x08\x00"), (0, b"\x02\0\0\0"), (108, b"\0\0\0\x02"),
-            (105, b"\x08\x02" + bytes(22) + logical), (105, b"\x88\x01" + bytes(24) + logical),
-            (105, b"\x08\x03" + bytes(28) + logical), (105, b"\x88\x81" + bytes(28) + logical),
-            (127, b"\0\0\x0a\0" + bytes(6) + b"\x08\x02" + bytes(22) + logical),
+            (104, b"\x0f\x00\x08\x00"), (104, b"\x8f\x00\x08\x00"), (9, b"\x8f\x00\x08\x00"), (0, b"\x02\0\0\0"), (108, b"\0\0\0\x02"),
+            (105, b"\x08\x02" + bytes(22) + LOGICAL), (105, b"\x88\x01" + bytes(24) + LOGICAL),
+            (105, b"\x08\x03" + bytes(28) + LOGICAL), (105, b"\x88\x81" + bytes(28) + LOGICAL),
+            (127, b"\0\0\x0a\0" + bytes(6) + b"\x08\x02" + bytes(22) + LOGICAL),
         ]:  # fmt: skip
             with self.subTest(link=link, header=header):
                 self.becomes(link, header)
@@ -76,9 +96,16 @@ class Ethernet(unittest.TestCase):
         self.becomes(113, bytes(14) + b"\x86\xdd", b"\x86\xdd", b"\x60" + bytes(39))
         self.becomes(113, bytes(14) + b"\x81\x00", b"\x81\x00", b"\x00\x07\x08\x00" + packet())
         self.becomes(101, b"", b"\x86\xdd", b"\x60" + bytes(39))
+        self.becomes(229, b"", b"\x86\xdd", b"\x60" + bytes(39))
         self.becomes(9, b"\xff\x03\xc0\x21", b"\xff\xff", bytes(20))
         text = capture(105, [(b"\x08\x42" + bytes(40), 90), (b"\x80\x00" + bytes(40), 90), (b"", 90)])
         self.assertEqual([frame[12:14] for frame, _ in frames(run("hhh-ethernet", text=text))], [b"\xff\xff"] * 3)
+
+    def test_encrypted_802_11(self):
+        for control in (b"\x08\x42", b"\x88\x41"):
+            encrypted = control + bytes(24 if control[0] & 0x80 else 22) + LOGICAL + packet()
+            [(frame, wire)] = frames(run("hhh-ethernet", text=capture(105, [(encrypted, 500)])))
+            self.assertEqual((frame[12:14], wire), (b"\xff\xff", 514))
 
     def test_ethernet_stays_in_each_spelling(self):
         for order in "<>":
@@ -90,8 +117,32 @@ class Ethernet(unittest.TestCase):
     def test_faults(self):
         text = capture(101, [(packet(), 20)] * 2)
         self.assertEqual(len(frames(run("hhh-ethernet", text=text[:-1], status=1))), 1)
-        run("hhh-ethernet", text=b"\x0a\x0d\x0d\x0a" + bytes(40), status=1)
-        run("hhh-ethernet", text=capture(195, [(bytes(40), 40)]), status=1)
+        run("hhh-ethernet", text=b"\x0a\x0d\x0d\x0a" + bytes(40), status=1, said=b"not a capture")
+        for given in ([(bytes(40), 40)], []):
+            self.assertEqual(run("hhh-ethernet", text=capture(195, given), status=1, said=b"link type 195"), b"")
+        run("hhh-ethernet", "--help", status=1, said=b"hhh-ethernet <CAPTURE")
+
+    def test_cut_captures(self):
+        text = capture(1, [(ADDRESSES + b"\x08\x00" + packet(), 60)] * 2)
+        begin = 24 + (len(text) - 24) // 2
+        for length in (0, 3, 23, 24, 25, 39, 40, 41, begin - 1, begin, begin + 1, begin + 15, begin + 16, len(text) - 1):
+            said = b"not a capture" if length < 24 else b"cut off" if length not in (24, begin) else b""
+            written = run("hhh-ethernet", text=text[:length], status=1 if said else 0, said=said)
+            whole = 0 if length < 24 else 24 if length < begin else begin
+            self.assertEqual(written[24:], text[24:whole])
+
+    def test_upper_bits_of_the_link_type(self):
+        given = [(ADDRESSES + b"\x08\x00" + packet(), 60)]
+        for order in "<>":
+            text = run("hhh-ethernet", text=capture(0x24000001, given, order))
+            self.assertEqual(frames(text, order), given)
+        self.assertEqual(frames(run("hhh-ethernet", text=capture(0xF0000065, [(packet(), 20)])))[0][1], 34)
+
+    def test_longest_frame(self):
+        for length, status in ((262_144, 0), (262_145, 1)):
+            given = [(bytes(length), length)]
+            written = frames(run("hhh-ethernet", text=capture(1, given), status=status, said=b"too long" * status))
+            self.assertEqual(written, [] if status else given)
 
 
 class Mask(unittest.TestCase):
@@ -119,14 +170,25 @@ class Mask(unittest.TestCase):
 
     def test_faults(self):
         for words in ([], ["32"], ["33", "0"], ["-1", "0"], ["a", "0"]):
-            run("hhh-mask", *words, status=1)
+            run("hhh-mask", *words, status=1, said=b"hhh-mask SOURCE DESTINATION")
+
+    def test_other_link_types(self):
+        for given in ([(bytes(16) + packet(), 500)], []):
+            written = run("hhh-mask", "0", "32", text=capture(113, given), status=1, said=b"link type 113 isn't Ethernet")
+            self.assertEqual(written, b"")
 
 
 class Flows(unittest.TestCase):
     def test_frames(self):
         text = b" 10.1.2.3, 20.1.2.3, 1500\n::1,::2,7\n10.1.2.3,20.1.2.3,4294967296\n10.1.2.3,20.1.2.3,1.5 M\n\n"
         frame = ADDRESSES + b"\x08\x00" + packet()
-        self.assertEqual(frames(run("hhh-flows", text=text)), [(frame, 1500), (frame, 2**32 - 1), (frame, 1)])
+        written = frames(run("hhh-flows", text=text, said=b": 3 lines left out\n"))
+        self.assertEqual(written, [(frame, 1500), (frame, 2**32 - 1), (frame, 1)])
+
+    def test_nothing_left_out(self):
+        written = frames(run("hhh-flows", text=b"10.1.2.3,20.1.2.3,0\n10.1.2.3,20.1.2.3,33\n"))
+        self.assertEqual([wire for _, wire in written], [33])
+        run("hhh-flows", "--help", status=1, said=b"nfdump -r FILE")
 
 
 class Export(unittest.TestCase):
@@ -140,9 +202,7 @@ class Export(unittest.TestCase):
         rows = run("hhh-export", "csv", text=SESSION.encode()).decode().split("\n")
         self.assertEqual(rows, ["source,destination,low,high", "10.1.2.3/32,20.1.2.3/32,200,200", "10.0.0.0/8,20.1.0.0/16,290,300", ""])
         text = run("hhh-export", "prometheus", text=SESSION.encode()).decode()
-        self.assertIn('\nhhh_low{source="10.0.0.0/8",destination="20.1.0.0/16"} 290\n', text)
-        self.assertIn('\nhhh_skipped{reason="bad_header"} 1\n', text)
-        self.assertEqual(text.count("# TYPE "), 6)
+        self.assertEqual(text, PROMETHEUS)
 
     def test_last_report_counts(self):
         first = SESSION[: SESSION.index("frames")].replace("200", "100") + "saved 1 1\n"
@@ -150,17 +210,69 @@ class Export(unittest.TestCase):
         both = [run("hhh-export", "json", text=one.encode()) for one in (text, SESSION)]
         self.assertEqual(*both)
 
+    def test_text_after_the_end(self):
+        for rest in ("end of file\n", "report\n", "\n", "x"):
+            self.assertEqual(run("hhh-export", "csv", text=(SESSION + rest).encode(), status=1, said=b"no end"), b"")
+
+    def test_no_sessions(self):
+        without_report = "opened 0 0\nframes 4\nskipped 1 0 1\nend\n"
+        for text in ("end\n", without_report, SESSION.replace("200 200", "200 x"), SESSION.replace("skipped", "left")):
+            run("hhh-export", "json", text=text.encode(), status=1, said=b"no session")
+        run("hhh-export", "csv", "/no/such/file", status=1, said=b"No such file")
+
     def test_incomplete_sessions(self):
         for length in (0, 20, len(SESSION) - 1, len(SESSION) - 5):
             self.assertEqual(run("hhh-export", "csv", text=SESSION[:length].encode(), status=1), b"")
-        run("hhh-export", "xml", status=1)
+        run("hhh-export", "xml", status=1, said=b"json|csv|prometheus")
 
 
 class Lattice(unittest.TestCase):
+    def drawn(self, text):
+        """A drawing, its labels from dot to dot, its dots as places with a radius, and its edges as ends."""
+        drawing = run("hhh-lattice", "/dev/stdin", text=text.encode()).decode()
+        labels = re.findall(r'class="prefix"[^>]*>(\S+|to \S+) <tspan class="share">([^<]*)<', drawing)
+        dots = [tuple(map(float, dot)) for dot in re.findall(r'class="dot" cx="(\S+)" cy="(\S+)" r="(\S+)"', drawing)]
+        number = r"(-?[\d.]+)"
+        edges = re.findall(rf'class="edge" d="M{number} {number} (?:L|Q.*? .*? ){number} {number}"', drawing)
+        return drawing, labels, dots, [tuple(map(float, edge)) for edge in edges]
+
     def test_drawing(self):
-        text = run("hhh-lattice", "/dev/stdin", text=SESSION.encode()).decode()
-        self.assertEqual((text.count('class="dot"'), text.count('class="edge"')), (2, 1))
-        self.assertIn("lines 2, total 300, threshold 3", text)
+        drawing, labels, dots, edges = self.drawn(SESSION)
+        self.assertIn("lines 2, total 300, threshold 3", drawing)
+        narrow, wide = labels[2:], labels[:2]
+        self.assertEqual(narrow, [("10.1.2.3/32", "66.7 %"), ("to 20.1.2.3/32", "")])
+        self.assertEqual(wide, [("10.0.0.0/8", "96.7 to 100.0 %"), ("to 20.1.0.0/16", "")])
+        self.assertEqual([dot[2] for dot in dots], [15.0, 12.2])
+        # The kept source bytes rise to the right, the kept destination bytes upwards.
+        self.assertTrue(dots[0][0] < dots[1][0] and dots[0][1] > dots[1][1])
+        self.assertEqual(edges, [(*dots[1][:2], *dots[0][:2])])
+
+    def test_sides(self):
+        single = SESSION.replace("line 10.1.2.3/32 20.1.2.3/32 200 200\n", "")
+        _, labels, [(x, y, _)], _ = self.drawn(single.replace("20.1.0.0/16", "20.1.2.0/24"))
+        _, swapped, [(to_x, to_y, _)], _ = self.drawn(single.replace("10.0.0.0/8 20.1.0.0/16", "20.1.2.0/24 10.0.0.0/8"))
+        self.assertEqual((labels[0][0], labels[1][0]), ("10.0.0.0/8", "to 20.1.2.0/24"))
+        self.assertEqual((swapped[0][0], swapped[1][0]), ("20.1.2.0/24", "to 10.0.0.0/8"))
+        self.assertTrue(x < to_x and y < to_y)
+
+    def test_no_edge_past_a_third_line(self):
+        third = "line 10.1.0.0/16 20.1.2.0/24 250 250\n"
+        _, _, dots, edges = self.drawn(SESSION.replace("done", third + "done"))
+        lowest, middle, highest = sorted(dots)
+        self.assertEqual(sorted(edges), sorted([(*highest[:2], *middle[:2]), (*middle[:2], *lowest[:2])]))
+
+    def test_last_whole_report(self):
+        first = SESSION[: SESSION.index("frames")]
+        broken = "report\nat 2 2\ntotal 900\nthreshold 9\nline 10.1.2.3/32 20.1.2.3/32 700 700\n"
+        second = SESSION[SESSION.index("report") :].replace("300", "600").replace("200 200", "60 60")
+        self.assertEqual(self.drawn(first + second), self.drawn(second))
+        self.assertEqual(self.drawn(first + second[: second.index("frames")] + broken), self.drawn(second))
+
+    def test_faults(self):
+        for text in ("", "end\n", "done\n", SESSION.replace("10.0.0.0/8", "10.0.0.0/9"), SESSION.replace(" 290 300", "")):
+            self.assertEqual(run("hhh-lattice", "/dev/stdin", text=text.encode(), status=1, said=b"no whole report"), b"")
+        run("hhh-lattice", "/no/such/file", status=1, said=b"No such file")
+        run("hhh-lattice", "--help", status=1, said=b"hhh-lattice SESSION")
 
 
 if __name__ == "__main__":
