@@ -8,7 +8,7 @@ A command line is one after `$ ` in a fenced block, and goes on after a `\\`. It
 to what is at the top of the repository, so a file without a folder is made there. The lines below it, up to the next
 prompt or the end of the block, are what it writes to standard output, and then the lines on standard error that begin
 with `hhh`; `...` stands for any lines. Of a run with rounds the numbers aren't compared, since they differ from run to
-run. A command line without lines below it has to end with 0.
+run. A command line has to end with 0, unless a line that begins with `hhh: ` is shown.
 
 In a table, a row | `hhh ARGUMENTS` | `hhh: LINE`, STATUS | is run on no input, and so is each further `hhh ARGUMENTS` of
 its first cell, or `--option value`, which follows the command before it; what comes after the word 'where' is not.
@@ -129,7 +129,8 @@ class Runner:
             self.not_run.append(f"{command}: {reason}")
             return
         written, status = self.shell(command)
-        good = fits(command, shown, written) if shown else status == 0
+        is_fault = any(line.startswith("hhh: ") for line in shown)
+        good = (not shown or fits(command, shown, written)) and (status == 0 or is_fault)
         self.tell(good, command, "\n".join(["shown:", *shown, f"written, status {status}:", *written]))
 
     def refusal(self, words, line, status):
