@@ -3,6 +3,7 @@
 
 import json
 import re
+import signal
 import struct
 import subprocess
 import sys
@@ -101,10 +102,10 @@ class Ethernet(unittest.TestCase):
         text = capture(105, [(b"\x08\x42" + bytes(40), 90), (b"\x80\x00" + bytes(40), 90), (b"", 90)])
         self.assertEqual([frame[12:14] for frame, _ in frames(run("hhh-ethernet", text=text))], [b"\xff\xff"] * 3)
 
-    def test_encrypted_802_11(self):
-        for control in (b"\x08\x42", b"\x88\x41"):
-            encrypted = control + bytes(24 if control[0] & 0x80 else 22) + LOGICAL + packet()
-            [(frame, wire)] = frames(run("hhh-ethernet", text=capture(105, [(encrypted, 500)])))
+    def test_802_11_frames_that_are_encrypted_or_have_no_data(self):
+        for control in (b"\x08\x42", b"\x88\x41", b"\x48\x01", b"\xc8\x01"):
+            given = control + bytes(24 if control[0] & 0x80 else 22) + LOGICAL + packet()
+            [(frame, wire)] = frames(run("hhh-ethernet", text=capture(105, [(given, 500)])))
             self.assertEqual((frame[12:14], wire), (b"\xff\xff", 514))
 
     def test_ethernet_stays_in_each_spelling(self):
@@ -121,6 +122,15 @@ class Ethernet(unittest.TestCase):
         for given in ([(bytes(40), 40)], []):
             self.assertEqual(run("hhh-ethernet", text=capture(195, given), status=1, said=b"link type 195"), b"")
         run("hhh-ethernet", "--help", status=1, said=b"hhh-ethernet <CAPTURE")
+
+    def test_length_on_the_wire_below_the_header(self):
+        self.assertEqual(frames(run("hhh-ethernet", text=capture(113, [(bytes(14) + b"\x08\x00", 3)])))[0][1], 14)
+
+    def test_end_of_the_pipe(self):
+        text = capture(1, [(bytes(200), 200)] * 10_000)
+        tool = subprocess.Popen([here / "hhh-ethernet"], stdin=subprocess.PIPE, stdout=subprocess.PIPE, stderr=subprocess.PIPE)
+        tool.stdout.close()
+        self.assertEqual((tool.communicate(text)[1], tool.returncode), (b"", -signal.SIGPIPE))
 
     def test_cut_captures(self):
         text = capture(1, [(ADDRESSES + b"\x08\x00" + packet(), 60)] * 2)
@@ -146,6 +156,10 @@ class Ethernet(unittest.TestCase):
 
 
 class Mask(unittest.TestCase):
+    def test_frame_that_ends_with_the_addresses(self):
+        [(frame, _)] = frames(run("hhh-mask", "0", "0", text=capture(1, [(ADDRESSES + b"\x08\x00" + packet(), 60)])))
+        self.assertEqual(frame[14:], packet("0.0.0.0", "0.0.0.0"))
+
     def masked(self, source, destination, header=b"\x08\x00", inner=packet()):
         text = capture(1, [(ADDRESSES + header + inner + b"rest", 1500)])
         [(frame, wire)] = frames(run("hhh-mask", source, destination, text=text))
