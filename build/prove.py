@@ -33,7 +33,7 @@ logs = out / "logs"
 libraries = out / "rlib"
 
 # Little or nothing is left to be proved beside these, so they get more processors than one.
-JOBS_OF = {"gate_workers": 2, "hhh_engine": processors, "hhh": processors}
+JOBS_OF = {"gate_workers": 2, "report_session": processors, "hhh_engine": processors, "hhh": processors}
 
 
 def crates_of_the_program():

@@ -21,10 +21,11 @@ def passed_on(crate):
 
 
 def check_imports(crate):
-    """A crate takes definitions of others from their faces, and no lemmas but the shared ones."""
+    """A crate takes definitions of others from their faces, and no lemmas but the shared ones. Examples may go on from others."""
     for path in source_files(crate):
         for other, folder, module in re.findall(r"use Rattle\.(\w+)\.(specs|proofs)\.(\w+)\.", path.read_text()):
-            if other in CRATES and other != crate and module != "declared" and (other, module) not in SHARED_LEMMAS:
+            is_shared = (other, module) in SHARED_LEMMAS or module.startswith("Examples")
+            if other in CRATES and other != crate and module != "declared" and not is_shared:
                 faults.append(f"{path.relative_to(TOP)} names the inner file {folder}/{module} of {other}")
 
 

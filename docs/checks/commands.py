@@ -39,7 +39,7 @@ def check_manual(known):
     check_same("hhh.1", "command ", explained | set(shown), set(known), explained)
     explained = set(re.findall(r"(?m)^\.It Fl -(\w+)", sections["OPTIONS"]))
     check_same("hhh.1", "option --", options_in(text), all_options(known), explained)
-    texts = (TOP / "crates" / "hhh_engine" / "specs" / "Status.antt").read_text()
+    texts = (TOP / "crates" / "run_status" / "specs" / "Status.antt").read_text()
     for part in re.findall(r'(?m)^\w*status_text .* = codes "([^"]+)"', texts):
         check(part == "done" or part.strip() in sections["DIAGNOSTICS"], f"DIAGNOSTICS of hhh.1 doesn't explain: {part}")
 

@@ -3,7 +3,7 @@ use Rattle.std.specs.Prelude.{ℕ, ◌%◌, bit_xor}
 use Rattle.prefix_lattice.specs.{RecordValue}
 use Rattle.deal_rules.specs.declared.deal_kind.DealKind.{DealKind}
 use Rattle.deal_rules.specs.declared.deal_kind.DealKind.TheVariants.{RoundRobin, BySource, Free}
-use Rattle.hhh_engine.specs.{SessionRules, session_rules_by_formula}
+use Rattle.hhh_engine.specs.{DealingRules, rules_by_formula}
 
 -- the shard of a record: in turn, by its source address, or by both its addresses
 abbrev pub program_rule_shard : DealKind → ℕ → RecordValue → ℕ → ℕ
@@ -12,5 +12,5 @@ program_rule_shard BySource place rec shards = rec.src % shards
 program_rule_shard Free place rec shards = bit_xor rec.src rec.dst % shards
 
 -- these formulas, as the rules of a run
-abbrev pub program_rules : SessionRules
-program_rules = session_rules_by_formula program_rule_shard
+abbrev pub program_rules : DealingRules
+program_rules = rules_by_formula program_rule_shard

@@ -3,8 +3,8 @@ use Rattle.std.specs.Prelude.{ℕ, ◌≡◌, List, [], Option}
 use Rattle.std.specs.Io.KnownBytes.{Appends}
 use Rattle.outside_io.specs.{IsBeginning}
 use Rattle.hhh_engine.specs.{status_line}
-use Rattle.hhh_engine.specs.declared.status.Status.{Status}
-use Rattle.hhh_engine.specs.declared.status.Status.TheVariants.{Done}
+use Rattle.run_status.specs.declared.status.Status.{Status}
+use Rattle.run_status.specs.declared.status.Status.TheVariants.{Done}
 
 -- the known contents of a stream grew by a beginning of the text: by nothing, a part or all of it
 pub record AppendsFront (old new : Option (List ℕ)) (text : List ℕ) : Type 0 where

@@ -18,30 +18,30 @@ use Rattle.report_text.specs.declared.session_fault.TextFault.TheVariants.{BadLi
 use Rattle.command_words.specs.declared.command.Command.TheVariants.{Audit}
 use Rattle.command_words.specs.declared.settings.Settings.{Settings}
 use Rattle.hhh_engine.specs.Answer.{IsUnfinishedAnswer}
-use Rattle.hhh_engine.specs.Audit.{AreAudited, IsAuditText, IsSoundAudit, IsUnsoundAudit}
-use Rattle.hhh_engine.specs.Auditing.{AreAuditingInputs, HasNoAudit, IsAuditingAnswer, AuditingSays}
+use Rattle.session_audit.specs.{AreAudited, IsAuditText, IsSoundAudit, IsUnsoundAudit, IsAuditingAnswer, AuditingSays}
+use Rattle.hhh_engine.specs.Reading.{AreAuditingInputs, HasNoAudit}
 use Rattle.hhh_engine.specs.Ending.{EndsByAuditFinding, Ends, EndingSourceFaults}
-use Rattle.hhh_engine.specs.Inputs.{InputBytes, IsInputCapture, HoldsOfAuditInputs, inputs}
-use Rattle.hhh_engine.specs.Session.{SessionRules}
-use Rattle.hhh_engine.specs.Status.{status_of_session}
-use Rattle.hhh_engine.specs.declared.commands.audit.Answer.{Answer}
-use Rattle.hhh_engine.specs.declared.commands.audit.Audited.{Audited}
-use Rattle.hhh_engine.specs.declared.status.Status.{Status}
-use Rattle.hhh_engine.specs.declared.status.Status.TheVariants.{Done, BadWords, BadCapture, ReadFault, WriteFault}
-use Rattle.hhh_engine.specs.declared.status.Status.TheVariants.{DiskFault, NotFormatted, Damaged, OtherSettings}
-use Rattle.hhh_engine.specs.declared.status.Status.TheVariants.{OtherCapture, AuditNo, BadReport, OutOfMemory}
+use Rattle.hhh_engine.specs.Inputs.{InputBytes, HoldsOfAuditInputs, inputs}
+use Rattle.dealt_capture.specs.{IsCaptureFile, DealingRules}
+use Rattle.run_status.specs.{status_of_session}
+use Rattle.session_audit.specs.declared.audit.Answer.{Answer}
+use Rattle.session_audit.specs.declared.audit.Audited.{Audited}
+use Rattle.run_status.specs.declared.status.Status.{Status}
+use Rattle.run_status.specs.declared.status.Status.TheVariants.{Done, BadWords, BadCapture, ReadFault, WriteFault}
+use Rattle.run_status.specs.declared.status.Status.TheVariants.{DiskFault, NotFormatted, Damaged, OtherSettings}
+use Rattle.run_status.specs.declared.status.Status.TheVariants.{OtherCapture, AuditNo, BadReport, OutOfMemory}
 use Rattle.hhh_engine.proofs.CaptureReportLemmas.{capture_report_if_known}
 use Rattle.hhh_engine.specs.CommandEnding.{CommandEnds}
 use Rattle.hhh_engine.specs.TopCall.{Streams, faults_after, faults_before, run_inputs}
-use Rattle.hhh_engine.specs.Saves.{IsAsBeforeSaves}
+use Rattle.report_session.specs.{IsAsBeforeSaves}
 use Rattle.hhh_engine.proofs.StatusLemmas.{status_beside_disk}
 
 -- what follows of the inputs of an audit that may be known
 pub audit_end_inputs_imply_more : (read : InputBytes) (P Q : List ℕ → List ℕ → Type 0)
     → ((file text : List ℕ) → P file text → Q file text) → HoldsOfAuditInputs read P → HoldsOfAuditInputs read Q
 audit_end_inputs_imply_more read P Q follows has =
-    capture_report_if_known read.capture (λ file. IsInputCapture file × IfSome read.text (P file))
-    (λ file. IsInputCapture file × IfSome read.text (Q file))
+    capture_report_if_known read.capture (λ file. IsCaptureFile file × IfSome read.text (P file))
+    (λ file. IsCaptureFile file × IfSome read.text (Q file))
     (λ file holds. (holds.0, capture_report_if_known read.text (P file) (Q file) (follows file) holds.1)) has
 
 -- the fault of the bytes that were read is one of the text itself
@@ -63,7 +63,7 @@ audit_end_text_is_faulty (Some whole) (Some rest) bytes fault consumed at_end ha
 
 -- why the inputs of an audit were not accepted: the text of a session was refused
 pub audit_ends_at_refused_text : (capture capture_left text text_left store : Option (List ℕ)) (before now : EndingSourceFaults)
-    (bytes : List ℕ) (fault : SessionFault) → IsAtEnd capture_left → IfSome capture IsInputCapture
+    (bytes : List ℕ) (fault : SessionFault) → IsAtEnd capture_left → IfSome capture IsCaptureFile
     → Consumes text text_left bytes → length bytes ≤ longest_session_text_length + 1
     → (length bytes ≤ longest_session_text_length → IsAtEnd text_left) → HasSessionTextReadFault bytes fault
     → (longest_session_text_length < length bytes → fault ≡ session.Text TooLong)
@@ -93,17 +93,17 @@ audit_ends_at_refused_text capture capture_left text text_left store before now 
     limit at_end has too_long = tt
 
 -- how an audit ended
-abbrev pub EndsAudit : {K : Type 0} → Settings → SessionRules → InputBytes → (read_before read_now : EndingSourceFaults)
+abbrev pub EndsAudit : {K : Type 0} → Settings → DealingRules → InputBytes → (read_before read_now : EndingSourceFaults)
     → (sink written : K) → (old new : Option (List ℕ)) → (write_before write_now : ℕ) → Status → Type 0
 EndsAudit settings rules given read_before read_now sink written old new write_before write_now status =
     Ends (λ answer. HoldsOfAuditInputs given (λ file session. IsSoundAudit settings rules file session answer))
     (λ front. HoldsOfAuditInputs given (λ file session. IsUnfinishedAnswer (IsAuditText settings rules file session) front))
-    (IsAtEnd given.capture_left × IsAtEnd given.text_left) (IfSome given.capture IsInputCapture) ⊥ ⊤ ⊤ (λ fault. ⊥)
+    (IsAtEnd given.capture_left × IsAtEnd given.text_left) (IfSome given.capture IsCaptureFile) ⊥ ⊤ ⊤ (λ fault. ⊥)
     (EndsByAuditFinding settings rules given old new) given.capture read_before read_now sink written old new write_before
     write_now status
 
 -- an audit whose inputs were not accepted
-pub audit_ends_without_inputs : {K : Type 0} (settings : Settings) (rules : SessionRules) (given : InputBytes)
+pub audit_ends_without_inputs : {K : Type 0} (settings : Settings) (rules : DealingRules) (given : InputBytes)
     (read_before read_now : EndingSourceFaults) (sink : K) (old : Option (List ℕ)) (faults : ℕ) (status : Status)
     → HasNoAudit given read_before read_now status → ((status ≡ ReadFault → ⊥) → read_now ≡ read_before)
     → EndsAudit settings rules given read_before read_now sink sink old old faults faults status
@@ -135,7 +135,7 @@ audit_ends_without_inputs settings rules given read_before read_now sink old fau
     (inl (refl, tt), told (λ is. cc is), refl)
 
 -- what an audit says is its text, whether all reports are sound or not
-audit_end_says_its_text : (settings : Settings) (rules : SessionRules) (file bytes : List ℕ) (lists : List (List RecordValue))
+audit_end_says_its_text : (settings : Settings) (rules : DealingRules) (file bytes : List ℕ) (lists : List (List RecordValue))
     (said : Session) (text : List ℕ) (status : Status) → AreAudited settings rules file bytes lists said
     → AuditingSays settings lists said.reports text status → IsAuditText settings rules file bytes text
 audit_end_says_its_text settings rules file bytes lists said text Done audited says =
@@ -166,7 +166,7 @@ audit_end_says_its_text settings rules file bytes lists said text OutOfMemory au
     absurd says
 
 -- an audit whose answer was not written whole
-pub audit_ends_broken_off : {K : Type 0} (settings : Settings) (rules : SessionRules) (given : InputBytes)
+pub audit_ends_broken_off : {K : Type 0} (settings : Settings) (rules : DealingRules) (given : InputBytes)
     (read_before read_now : EndingSourceFaults) (sink written : K) (old new : Option (List ℕ)) (write_before write_now : ℕ)
     (audited : Audited) (answer : Answer) → AreAuditingInputs settings rules given audited
     → IsAuditingAnswer settings audited.dealt audited.session.reports answer → IsAtEnd given.capture_left
@@ -194,7 +194,7 @@ audit_ends_broken_off settings rules given read_before read_now sink written old
     )
 
 -- an audit whose answer was written
-audit_ends_in_written_text : {K : Type 0} (settings : Settings) (rules : SessionRules) (given : InputBytes)
+audit_ends_in_written_text : {K : Type 0} (settings : Settings) (rules : DealingRules) (given : InputBytes)
     (read_before read_now : EndingSourceFaults) (sink written : K) (old new : Option (List ℕ)) (write_before write_now : ℕ)
     (lists : List (List RecordValue)) (said : Session) (text : List ℕ) (status : Status)
     → HoldsOfAuditInputs given (λ file bytes. AreAudited settings rules file bytes lists said)
@@ -266,7 +266,7 @@ audit_ends_in_written_text settings rules given read_before read_now sink writte
     OutOfMemory are says capture_read text_read same appended same_sink =
     absurd says
 
-pub audit_ends_as_written : {K : Type 0} (settings : Settings) (rules : SessionRules) (given : InputBytes)
+pub audit_ends_as_written : {K : Type 0} (settings : Settings) (rules : DealingRules) (given : InputBytes)
     (read_before read_now : EndingSourceFaults) (sink written : K) (old new : Option (List ℕ)) (write_before write_now : ℕ)
     (audited : Audited) (answer : Answer) → AreAuditingInputs settings rules given audited
     → IsAuditingAnswer settings audited.dealt audited.session.reports answer → IsAtEnd given.capture_left
@@ -279,7 +279,7 @@ audit_ends_as_written settings rules given read_before read_now sink written old
 
 -- how an audit ended, as a command with a disk that is untouched
 pub audit_ends_as : {S T K D : Type 0} (s : SourceOf S) (t : SourceOf T) (k : SinkOf K) (d : DiskOf D) (old new : Streams S T K D)
-    (rules : SessionRules) (settings : Settings) (status : Status) → new.disk ≡ old.disk → IsAsBeforeSaves d old.disk new.disk
+    (rules : DealingRules) (settings : Settings) (status : Status) → new.disk ≡ old.disk → IsAsBeforeSaves d old.disk new.disk
     → EndsAudit settings rules (run_inputs s t k d old new) (faults_before s t k d old new) (faults_after s t k d old new) old.sink new.sink
     (k.taken old.sink) (k.taken new.sink) (k.faults old.sink) (k.faults new.sink) status
     → CommandEnds s t k d old new rules (Audit settings) status
@@ -287,7 +287,7 @@ audit_ends_as s t k d old new rules settings status same before ends =
     let given = run_inputs s t k d old new in
     status_beside_disk (λ answer. HoldsOfAuditInputs given (λ file session. IsSoundAudit settings rules file session answer))
     (λ front. HoldsOfAuditInputs given (λ file session. IsUnfinishedAnswer (IsAuditText settings rules file session) front))
-    (IsAtEnd given.capture_left × IsAtEnd given.text_left) (IfSome given.capture IsInputCapture) (new.disk ≡ old.disk)
+    (IsAtEnd given.capture_left × IsAtEnd given.text_left) (IfSome given.capture IsCaptureFile) (new.disk ≡ old.disk)
     (IsAsBeforeSaves d old.disk new.disk) (λ fault. ⊥)
     (EndsByAuditFinding settings rules given (k.taken old.sink) (k.taken new.sink)) given.capture (faults_before s t k d old new)
     (faults_after s t k d old new) old.sink new.sink (k.taken old.sink) (k.taken new.sink) (k.faults old.sink) (k.faults new.sink)

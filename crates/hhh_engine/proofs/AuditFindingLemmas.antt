@@ -1,38 +1,30 @@
 -- How an audit can end.
-use Rattle.std.proofs.Common.{◌≡◌, ◌⊎◌, ◌≤◌, ◌<◌, ◌+◌, ℕ, ◌≢◌, List, length, take, get_or, All, Some, IfSome}
-use Rattle.std.proofs.Common.{inl, inr, refl, ap, ap₂, ◌∙◌, subst, arith, ⊎_elim}
-use Rattle.std.specs.List.{slice_get}
-use Rattle.std.proofs.lemmas.Option.{get_or_from_slice_get, slice_get_read, slice_get_within}
-use Rattle.std.proofs.lemmas.List.{get_or-take, length-take}
-use Rattle.std.proofs.lemmas.List.Elements.{All-get_or, All-more}
+use Rattle.std.proofs.Common.{◌≡◌, ◌⊎◌, ◌≤◌, ℕ, List, length, All, Some, IfSome}
+use Rattle.std.proofs.Common.{inl, inr, refl, ap, ap₂, subst, ⊎_elim}
 use Rattle.prefix_lattice.specs.{RecordValue}
 use Rattle.pcap_frames.specs.{FrameValue}
 use Rattle.frame_records.specs.{CaptureFileHasFrames, IsRefusedCaptureFile}
-use Rattle.hhh_report.specs.declared.report.Report.{Report}
 use Rattle.hhh_report.specs.declared.reports.Reported.{Reported}
 use Rattle.report_text.specs.{HasSessionTextFault, IsSessionText, longest_session_text_length}
 use Rattle.report_text.specs.declared.session.Session.{Session}
 use Rattle.report_text.specs.declared.session_fault.TextFault.{TextFault}
-use Rattle.exact_audit.specs.{IsVerdict}
 use Rattle.exact_audit.specs.declared.verdict.Verdict.{Verdict}
-use Rattle.exact_audit.specs.declared.verdict.Verdict.TheVariants.{Good}
 use Rattle.command_words.specs.{AskForCommand}
 use Rattle.command_words.specs.declared.command.Command.{Command}
 use Rattle.command_words.specs.declared.command.Command.TheVariants.{Weigh, Report as ToReport, Format, Audit, Make}
 use Rattle.command_words.specs.declared.command.Command.TheVariants.{Demo}
 use Rattle.command_words.specs.declared.settings.Settings.{Settings}
-use Rattle.hhh_engine.specs.Audit.{AreAudited, IsAuditText, IsAuditedAsFirstUnsound, IsAuditedAsSound, IsSoundAudit}
-use Rattle.hhh_engine.specs.Audit.{IsUnsoundAudit}
+use Rattle.session_audit.specs.{AreAudited, IsAuditText, IsAuditedAsFirstUnsound, IsAuditedAsSound, IsSoundAudit}
+use Rattle.session_audit.specs.{IsUnsoundAudit}
 use Rattle.hhh_engine.specs.Answer.{IsUnfinishedAnswer}
 use Rattle.hhh_engine.specs.Ending.{AuditFindsAtEnding}
-use Rattle.hhh_engine.specs.Inputs.{InputBytes, IsInputCapture, HoldsOfAuditInputs, InputsWereRead}
-use Rattle.hhh_engine.specs.Session.{SessionRules}
-use Rattle.hhh_engine.specs.declared.status.Status.{Status}
-use Rattle.hhh_engine.specs.declared.status.Status.TheVariants.{Done, BadWords, BadCapture, ReadFault, WriteFault}
-use Rattle.hhh_engine.specs.declared.status.Status.TheVariants.{DiskFault, NotFormatted, Damaged, OtherSettings}
-use Rattle.hhh_engine.specs.declared.status.Status.TheVariants.{OtherCapture, AuditNo, BadReport, OutOfMemory}
-use Rattle.hhh_engine.proofs.StatusLemmas.{CaptureStatusIsFaultless, SessionStatusIsFaultless}
-use Rattle.hhh_engine.proofs.StatusLemmas.{status_of_known_file}
+use Rattle.hhh_engine.specs.Inputs.{InputBytes, HoldsOfAuditInputs, InputsWereRead}
+use Rattle.dealt_capture.specs.{IsCaptureFile, DealingRules}
+use Rattle.run_status.specs.declared.status.Status.{Status}
+use Rattle.run_status.specs.declared.status.Status.TheVariants.{Done, BadWords, BadCapture, ReadFault, WriteFault}
+use Rattle.run_status.specs.declared.status.Status.TheVariants.{DiskFault, NotFormatted, Damaged, OtherSettings}
+use Rattle.run_status.specs.declared.status.Status.TheVariants.{OtherCapture, AuditNo, BadReport, OutOfMemory}
+use Rattle.hhh_engine.proofs.StatusLemmas.{CaptureStatusIsFaultless, SessionStatusIsFaultless, status_of_known_file}
 use Rattle.outside_io.specs.declared.source.Source.{Ghosts as SourceOf}
 use Rattle.outside_io.specs.declared.sink.Sink.{Ghosts as SinkOf}
 use Rattle.slot_disk.specs.declared.disk.Disk.{Ghosts as DiskOf}
@@ -43,99 +35,23 @@ use Rattle.hhh_engine.specs.TopCall.{FindsUnsound, LeavesUnwritten, RefusesText,
 abbrev pub AuditFindingHasOneFault : Type 0
 AuditFindingHasOneFault = (text : List ℕ) (fault other : TextFault) → HasSessionTextFault text fault → HasSessionTextFault text other → fault ≡ other
 
--- a report has one verdict
-abbrev pub AuditFindingIsUnique : Type 0
-AuditFindingIsUnique =
-    (lists : List (List RecordValue)) (capacity phi : ℕ) (report : Report) (verdict other : Verdict)
-    → IsVerdict lists capacity phi report verdict → IsVerdict lists capacity phi report other → verdict ≡ other
+-- an audit finds one report first, and none where all are sound
+pub record AuditFindingIsUnique : Type 0 where
+  pub one_first : (settings : Settings) (lists : List (List RecordValue)) (reports : List Reported) (report number : ℕ)
+      (verdict other : Verdict) → IsAuditedAsFirstUnsound settings lists reports report verdict
+      → IsAuditedAsFirstUnsound settings lists reports number other → (number ≡ report) × (other ≡ verdict)
+  pub never_both : (settings : Settings) (lists : List (List RecordValue)) (reports : List Reported) (report : ℕ) (verdict : Verdict)
+      → IsAuditedAsFirstUnsound settings lists reports report verdict → All (IsAuditedAsSound settings lists) reports → ⊥
 
 -- what holds of known inputs
 pub audit_finding_of_known_inputs : (given : InputBytes) (file bytes : List ℕ) (Holds : List ℕ → List ℕ → Type 0)
     → given.capture ≡ Some file → given.text ≡ Some bytes → HoldsOfAuditInputs given Holds → Holds file bytes
 audit_finding_of_known_inputs given file bytes Holds is_file is_text holds =
     status_of_known_file given.text bytes (Holds file) is_text
-    (status_of_known_file given.capture file (λ f. IsInputCapture f × IfSome given.text (Holds f)) is_file holds).1
-
--- what holds of each element holds of the one at an index
-pub audit_finding_holds_at_index : {A : Type 0} (P : A → Type 0) (xs : List A) (place : ℕ) (x : A) → slice_get xs place ≡ Some x → All P xs
-    → P x
-audit_finding_holds_at_index P xs place x is all =
-    subst P (get_or_from_slice_get xs place x x is) (All-get_or P xs place x (slice_get_within xs place x is) all)
-
--- and of the one at an index below the number of the first ones
-audit_finding_holds_before : {A : Type 0} (P : A → Type 0) (xs : List A) (before place : ℕ) (x : A) → place < before
-    → slice_get xs place ≡ Some x → All P (take before xs) → P x
-audit_finding_holds_before P xs before place x early is all =
-    subst P (get_or-take before xs place x early ∙ get_or_from_slice_get xs place x x is)
-    (All-get_or P (take before xs) place x
-    (omega (arith, early, slice_get_within xs place x is, length-take before xs)) all)
-
--- one more report is sound
-pub audit_finding_next_is_sound : (settings : Settings) (lists : List (List RecordValue)) (reports : List Reported) (place : ℕ)
-    (reported : Reported) → place < length reports → reported ≡ get_or reports place reported
-    → IsAuditedAsSound settings lists reported → All (IsAuditedAsSound settings lists) (take place reports)
-    → All (IsAuditedAsSound settings lists) (take (place + 1) reports)
-audit_finding_next_is_sound settings lists reports place reported within at sound all =
-    All-more (IsAuditedAsSound settings lists) reports place reported within all
-    (subst (IsAuditedAsSound settings lists) at sound)
-
--- the next report is the first that is not sound
-pub audit_finding_next_is_unsound : (settings : Settings) (lists : List (List RecordValue)) (reports : List Reported) (place : ℕ)
-    (reported : Reported) (verdict : Verdict) → place < length reports → reported ≡ get_or reports place reported
-    → IsVerdict lists settings.capacity settings.phi reported.report verdict → verdict ≢ Good
-    → All (IsAuditedAsSound settings lists) (take place reports)
-    → IsAuditedAsFirstUnsound settings lists reports (place + 1) verdict
-audit_finding_next_is_unsound settings lists reports place reported verdict within at found not_good sound = record {
-  before = place;
-  counted = refl;
-  reported = reported;
-  is = slice_get_read reports (length reports) place reported refl within at;
-  found = found;
-  not_good = not_good;
-  sound = sound;
-}
-
--- a report with another verdict than good is not sound
-pub audit_finding_is_not_sound : AuditFindingIsUnique → (settings : Settings) (lists : List (List RecordValue)) (reports : List Reported)
-    (number : ℕ) (verdict : Verdict) (first : IsAuditedAsFirstUnsound settings lists reports number verdict)
-    → IsAuditedAsSound settings lists first.reported → ⊥
-audit_finding_is_not_sound one settings lists reports number verdict first sound =
-    first.not_good
-    (one lists settings.capacity settings.phi first.reported.report verdict Good first.found sound)
-
--- of two reports that are the first that is not sound, neither comes before the other
-audit_finding_is_not_earlier : AuditFindingIsUnique → (settings : Settings) (lists : List (List RecordValue)) (reports : List Reported)
-    (number later : ℕ) (verdict other : Verdict) (first : IsAuditedAsFirstUnsound settings lists reports number verdict)
-    (second : IsAuditedAsFirstUnsound settings lists reports later other) → first.before < second.before → ⊥
-audit_finding_is_not_earlier one settings lists reports number later verdict other first second early =
-    audit_finding_is_not_sound one settings lists reports number verdict first
-    (audit_finding_holds_before (IsAuditedAsSound settings lists) reports second.before first.before first.reported early first.is second.sound)
-
--- two at the same index have the same number and the same verdict
-audit_finding_at_one_place : AuditFindingIsUnique → (settings : Settings) (lists : List (List RecordValue)) (reports : List Reported)
-    (number other_number : ℕ) (verdict other : Verdict) (first : IsAuditedAsFirstUnsound settings lists reports number verdict)
-    (second : IsAuditedAsFirstUnsound settings lists reports other_number other) → first.before ≡ second.before
-    → AuditNo other_number other ≡ AuditNo number verdict
-audit_finding_at_one_place one settings lists reports number other_number verdict other first second place =
-    let is = subst (λ p. slice_get reports p ≡ Some first.reported) place first.is in
-    let same : first.reported ≡ second.reported = cc (is, second.is) in
-    ap₂ AuditNo (omega (arith, first.counted, second.counted, place))
-    (one lists settings.capacity settings.phi second.reported.report other verdict second.found
-    (subst (λ (r : Reported). IsVerdict lists settings.capacity settings.phi r.report verdict) same first.found))
-
--- so they are the same report
-pub audit_findings_agree : AuditFindingIsUnique → (settings : Settings) (lists : List (List RecordValue)) (reports : List Reported)
-    (number other_number : ℕ) (verdict other : Verdict) → IsAuditedAsFirstUnsound settings lists reports number verdict
-    → IsAuditedAsFirstUnsound settings lists reports other_number other
-    → AuditNo other_number other ≡ AuditNo number verdict
-audit_findings_agree one settings lists reports number other_number verdict other first second =
-    let no_less = audit_finding_is_not_earlier one settings lists reports number other_number verdict other first second in
-    let no_more = audit_finding_is_not_earlier one settings lists reports other_number number other verdict second first in
-    let place : first.before ≡ second.before = omega (arith, no_less, no_more) in
-    audit_finding_at_one_place one settings lists reports number other_number verdict other first second place
+    (status_of_known_file given.capture file (λ f. IsCaptureFile f × IfSome given.text (Holds f)) is_file holds).1
 
 -- the audit of a text with a fault says nothing
-audit_finding_excludes_bad_text : SessionStatusIsFaultless → (settings : Settings) (rules : SessionRules) (file bytes answer : List ℕ) (fault : TextFault)
+audit_finding_excludes_bad_text : SessionStatusIsFaultless → (settings : Settings) (rules : DealingRules) (file bytes answer : List ℕ) (fault : TextFault)
     → HasSessionTextFault bytes fault → IsAuditText settings rules file bytes answer → ⊥
 audit_finding_excludes_bad_text no_fault settings rules file bytes answer fault has =
     ⊎_elim
@@ -144,7 +60,7 @@ audit_finding_excludes_bad_text no_fault settings rules file bytes answer fault 
 
 -- a run, whose command ended so
 module _ {S T K D : Type 0} (s : SourceOf S) (t : SourceOf T) (k : SinkOf K) (d : DiskOf D) (old new : Streams S T K D)
-    (rules : SessionRules) where
+    (rules : DealingRules) where
   -- its inputs, and how a command of it ends
   abbrev given : InputBytes
   given = run_inputs s t k d old new
@@ -208,9 +124,7 @@ module _ {S T K D : Type 0} (s : SourceOf S) (t : SourceOf T) (k : SinkOf K) (d 
       not_long first ends =
       let is =
       audit_finding_of_known_inputs given file bytes (λ f t. IsSoundAudit settings rules f t ends.1.text) is_file is_text ends.1.is_text in
-      let unsound = first is.lists is.session is.audited in
-      absurd (audit_finding_is_not_sound one settings is.lists is.session.reports report verdict unsound
-      (audit_finding_holds_at_index (IsAuditedAsSound settings is.lists) is.session.reports unsound.before unsound.reported unsound.is is.sound))
+      absurd (one.never_both settings is.lists is.session.reports report verdict (first is.lists is.session is.audited) is.sound)
   audit_finding_is_first_unsound never_both no_fault one settings (BadWords kind) file bytes frames known report verdict is_file capture is_text is_session
       not_long first ends =
       absurd ends
@@ -242,8 +156,9 @@ module _ {S T K D : Type 0} (s : SourceOf S) (t : SourceOf T) (k : SinkOf K) (d 
       file bytes frames known report verdict is_file capture is_text is_session not_long first ends =
       let is =
       audit_finding_of_known_inputs given file bytes (λ f t. IsUnsoundAudit settings rules f t other_report other) is_file is_text ends.1.0 in
-      inl (audit_findings_agree one settings is.lists is.session.reports report other_report verdict other
-      (first is.lists is.session is.audited) is.first)
+      let same = one.one_first settings is.lists is.session.reports report other_report verdict other
+      (first is.lists is.session is.audited) is.first in
+      inl (ap₂ AuditNo same.0 same.1)
   audit_finding_is_first_unsound never_both no_fault one settings (BadReport wrong) file bytes frames known report verdict is_file capture is_text is_session
       not_long first ends =
       absurd (no_fault bytes known wrong is_session not_long

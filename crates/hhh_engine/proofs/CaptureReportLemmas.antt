@@ -6,19 +6,16 @@ use Rattle.prefix_lattice.specs.{RecordValue}
 use Rattle.recovery.specs.declared.fault.OpenFault.{OpenFault}
 use Rattle.recovery.specs.declared.fault.OpenFault.TheVariants as opening
 use Rattle.command_words.specs.declared.settings.Settings.{Settings}
-use Rattle.hhh_engine.specs.Answer.{WritesAnswer}
+use Rattle.report_session.specs.{WritesAnswer, DealtFeedEnds, DealtFeedRefusesStore, DealtFeedWrites}
+use Rattle.report_session.specs.{DealtFeedWritesInPart, RoundFaults, store_settings_for_saves, BeginsSession}
+use Rattle.report_session.specs.{IsSession, IsSessionInPart, SessionKeeping, IsSessionOverShards, session_opening}
 use Rattle.hhh_engine.specs.Ending.{Ends, IsRefusedStoreAtEnding, RefusesStoreAtEnding, EndingSourceFaults}
-use Rattle.hhh_engine.specs.DealtFeed.{DealtFeedEnds, IsDealtFeedCapture, DealtFeedRefusesStore, DealtFeedWrites}
-use Rattle.hhh_engine.specs.DealtFeed.{DealtFeedWritesInPart}
-use Rattle.hhh_engine.specs.Inputs.{IsInputCapture}
-use Rattle.hhh_engine.specs.Rounds.{RoundFaults}
-use Rattle.hhh_engine.specs.Saves.{store_settings_for_saves}
-use Rattle.hhh_engine.specs.Session.{BeginsSession, IsSession, IsSessionInPart, SessionKeeping, SessionRules}
-use Rattle.hhh_engine.specs.Session.{IsSessionOverShards, session_opening}
-use Rattle.hhh_engine.specs.declared.status.Status.{Status}
-use Rattle.hhh_engine.specs.declared.status.Status.TheVariants.{Done, BadWords, BadCapture, ReadFault, WriteFault}
-use Rattle.hhh_engine.specs.declared.status.Status.TheVariants.{DiskFault, NotFormatted, Damaged, OtherSettings}
-use Rattle.hhh_engine.specs.declared.status.Status.TheVariants.{OtherCapture, AuditNo, BadReport, OutOfMemory}
+use Rattle.report_session.specs.{IsDealtFeedCapture}
+use Rattle.dealt_capture.specs.{IsCaptureFile, DealingRules}
+use Rattle.run_status.specs.declared.status.Status.{Status}
+use Rattle.run_status.specs.declared.status.Status.TheVariants.{Done, BadWords, BadCapture, ReadFault, WriteFault}
+use Rattle.run_status.specs.declared.status.Status.TheVariants.{DiskFault, NotFormatted, Damaged, OtherSettings}
+use Rattle.run_status.specs.declared.status.Status.TheVariants.{OtherCapture, AuditNo, BadReport, OutOfMemory}
 
 -- what follows of each capture that may be known follows of the one that is
 pub capture_report_if_known : (left : Option (List ℕ)) (P Q : List ℕ → Type 0) → ((file : List ℕ) → P file → Q file) → IfSome left P
@@ -27,7 +24,7 @@ capture_report_if_known None P Q follows has = tt
 capture_report_if_known (Some file) P Q follows has = follows file has
 
 -- the whole session over a capture
-capture_report_writes_session : (settings : Settings) (rules : SessionRules) (keeping : SessionKeeping) (left store : Option (List ℕ))
+capture_report_writes_session : (settings : Settings) (rules : DealingRules) (keeping : SessionKeeping) (left store : Option (List ℕ))
     (lists : List (List RecordValue)) (tail : List ℕ) (old new : Option (List ℕ))
     → IfSome left (λ file. IsDealtFeedCapture settings rules file lists tail)
     → DealtFeedWrites settings lists tail keeping store old new
@@ -52,7 +49,7 @@ capture_report_writes_session settings rules keeping left store lists tail old n
 }
 
 -- the session in part
-capture_report_writes_in_part : (settings : Settings) (rules : SessionRules) (keeping : SessionKeeping) (left store : Option (List ℕ))
+capture_report_writes_in_part : (settings : Settings) (rules : DealingRules) (keeping : SessionKeeping) (left store : Option (List ℕ))
     (lists : List (List RecordValue)) (tail : List ℕ) (old new : Option (List ℕ))
     → IfSome left (λ file. IsDealtFeedCapture settings rules file lists tail)
     → DealtFeedWritesInPart settings lists tail keeping store old new
@@ -77,7 +74,7 @@ capture_report_writes_in_part settings rules keeping left store lists tail old n
 }
 
 -- the store is refused over the dealt lists of a capture
-capture_report_refuses_store : (settings : Settings) (rules : SessionRules) (left store : Option (List ℕ)) (AsBefore : Type 0)
+capture_report_refuses_store : (settings : Settings) (rules : DealingRules) (left store : Option (List ℕ)) (AsBefore : Type 0)
     (lists : List (List RecordValue)) (tail : List ℕ) (fault : OpenFault)
     → IfSome left (λ file. IsDealtFeedCapture settings rules file lists tail)
     → DealtFeedRefusesStore settings lists store AsBefore fault
@@ -96,7 +93,7 @@ capture_report_refuses_store settings rules left store AsBefore lists tail fault
 )
 
 -- nothing was written, or a part of the text was
-capture_report_nothing_or_part : (settings : Settings) (rules : SessionRules) (keeping : SessionKeeping) (left store : Option (List ℕ))
+capture_report_nothing_or_part : (settings : Settings) (rules : DealingRules) (keeping : SessionKeeping) (left store : Option (List ℕ))
     (lists : List (List RecordValue)) (tail : List ℕ) (ReadToEnd Nothing : Type 0) (old new : Option (List ℕ))
     → IfSome left (λ file. IsDealtFeedCapture settings rules file lists tail) → ReadToEnd
     → Nothing ⊎ DealtFeedWritesInPart settings lists tail keeping store old new
@@ -107,7 +104,7 @@ capture_report_nothing_or_part settings rules keeping left store lists tail Read
     (λ part. inr (read, capture_report_writes_in_part settings rules keeping left store lists tail old new dealt part))
 
 -- how a report over a capture ended, from how it ended over its dealt lists
-pub capture_report_ends : {K : Type 0} (settings : Settings) (rules : SessionRules) (keeping : SessionKeeping)
+pub capture_report_ends : {K : Type 0} (settings : Settings) (rules : DealingRules) (keeping : SessionKeeping)
     (left store : Option (List ℕ)) (AsBefore : Type 0) (lists : List (List RecordValue)) (tail : List ℕ)
     (ReadToEnd DiskSame : Type 0) (read_before read_now : EndingSourceFaults) (sink written : K) (old new : Option (List ℕ))
     (write_before write_now disk_before disk_now : ℕ) (status : Status)
@@ -116,7 +113,7 @@ pub capture_report_ends : {K : Type 0} (settings : Settings) (rules : SessionRul
     (record { sink = write_before; disk = disk_before }) (record { sink = write_now; disk = disk_now }) status
     → Ends (λ text. IfSome left (λ file. IsSession settings rules keeping store file text))
     (λ front. IfSome left (λ file. IsSessionInPart settings rules keeping store file front))
-    ReadToEnd (IfSome left IsInputCapture) (FaultCountRose disk_before disk_now) DiskSame AsBefore
+    ReadToEnd (IfSome left IsCaptureFile) (FaultCountRose disk_before disk_now) DiskSame AsBefore
     (RefusesStoreAtEnding settings rules left store AsBefore)
     (λ status. ⊥) left read_before read_now sink written old new write_before write_now status
 capture_report_ends settings rules keeping left store AsBefore lists tail ReadToEnd DiskSame read_before read_now sink
@@ -132,7 +129,7 @@ capture_report_ends settings rules keeping left store AsBefore lists tail ReadTo
 capture_report_ends settings rules keeping left store AsBefore lists tail ReadToEnd DiskSame read_before read_now sink
     written old new write_before write_now disk_before disk_now DiskFault dealt read same ends = (
       read,
-      capture_report_if_known left (λ file. IsDealtFeedCapture settings rules file lists tail) IsInputCapture
+      capture_report_if_known left (λ file. IsDealtFeedCapture settings rules file lists tail) IsCaptureFile
           (λ file capture. (capture.dealt.frames, capture.dealt.capture)) dealt,
       ⊎_elim (λ none. inl none)
           (λ part. inr (capture_report_writes_in_part settings rules keeping left store lists tail old new dealt part)) ends.0,

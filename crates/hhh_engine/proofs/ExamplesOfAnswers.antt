@@ -11,14 +11,15 @@ use Rattle.command_words.specs.declared.command.Command.{Command}
 use Rattle.command_words.specs.declared.command.Command.TheVariants.{Weigh, Report as report_command, Format, Audit}
 use Rattle.command_words.specs.declared.command.Command.TheVariants.{Make, Demo}
 use Rattle.command_words.specs.declared.words_kind.WordsKind.TheVariants.{NoCommand}
-use Rattle.hhh_engine.specs.Answer.{Answers, AnswersInPart, IsAnswer, IsAnswerInPart, IsWeighAnswerInPart, WritesAnswer}
+use Rattle.hhh_engine.specs.Answer.{Answers, AnswersInPart, IsAnswer, IsAnswerInPart, IsWeighAnswerInPart}
 use Rattle.hhh_engine.specs.Answer.{IsUnfinishedAnswer, formatted_answer}
+use Rattle.report_session.specs.{WritesAnswer, store_settings_for_saves}
 use Rattle.hhh_engine.specs.Inputs.{AskedCommandAvoidsInput, AskedCommandUsesInput, InputsCanBeAnswered}
-use Rattle.hhh_engine.specs.Inputs.{HasKnownInputCapture, UsesInputCapture, UsesInputSession}
-use Rattle.hhh_engine.specs.Inputs.{UsesInputStore, InputsWereAccepted, InputsWereRead, inputs}
-use Rattle.hhh_engine.specs.Ending.{Ends, EndsAnswered, EndsAsBeforeUnlessFormat, EndsAtFailedSource, EndsTearingFront}
-use Rattle.hhh_engine.specs.Ending.{FormatEnds, HappenedToDiskAtEnding, RefusesAtEnding, RefusesStoreAtEnding}
-use Rattle.hhh_engine.specs.Ending.{SourceFaultsRoseAtEnding, ending_source_faults}
+use Rattle.hhh_engine.specs.Inputs.{HasKnownInputCapture, UsesInputCapture, UsesInputSession, UsesInputStore}
+use Rattle.hhh_engine.specs.Inputs.{InputsWereAccepted, InputsWereRead, inputs}
+use Rattle.hhh_engine.specs.Ending.{Ends, EndsAnswered, EndsAsBeforeUnlessFormat, EndsAtFailedSource}
+use Rattle.hhh_engine.specs.Ending.{EndsTearingFront, FormatEnds, HappenedToDiskAtEnding, RefusesAtEnding}
+use Rattle.hhh_engine.specs.Ending.{RefusesStoreAtEnding, SourceFaultsRoseAtEnding, ending_source_faults}
 use Rattle.hhh_engine.specs.TopCall.{FailsToRead, FailsToStore, FailsToWrite, RefusesCapture, RefusesWords, RunEnds}
 use Rattle.hhh_engine.specs.TopCall.{Streams, WritesNothing, WritesPart, streams}
 use Rattle.outside_io.specs.declared.source.Source.{Ghosts as SourceOf}
@@ -26,17 +27,23 @@ use Rattle.outside_io.specs.declared.sink.Sink.{Ghosts as SinkOf}
 use Rattle.slot_disk.specs.declared.disk.Disk.{Ghosts as DiskOf}
 use Rattle.recovery.specs.declared.fault.OpenFault.{OpenFault}
 use Rattle.recovery.specs.declared.fault.OpenFault.TheVariants as opening
-use Rattle.hhh_engine.specs.Saves.{store_settings_for_saves}
-use Rattle.hhh_engine.specs.NoText.{HasNoText}
-use Rattle.hhh_engine.specs.declared.status.Status.{Status}
-use Rattle.hhh_engine.specs.declared.status.Status.TheVariants.{Done, BadCapture, BadWords, ReadFault}
-use Rattle.hhh_engine.specs.declared.status.Status.TheVariants.{WriteFault, DiskFault, NotFormatted, Damaged}
-use Rattle.hhh_engine.specs.declared.status.Status.TheVariants.{AuditNo, BadReport, OutOfMemory}
+use Rattle.hhh_engine.specs.Reading.{HasNoText}
+use Rattle.run_status.specs.declared.status.Status.{Status}
+use Rattle.run_status.specs.declared.status.Status.TheVariants.{Done, BadCapture, BadWords, ReadFault, WriteFault}
+use Rattle.run_status.specs.declared.status.Status.TheVariants.{DiskFault, NotFormatted, Damaged, AuditNo, BadReport}
+use Rattle.run_status.specs.declared.status.Status.TheVariants.{OutOfMemory}
 use Rattle.exact_audit.specs.declared.verdict.Verdict.TheVariants.{BadTotal}
 use Rattle.report_text.specs.declared.session_fault.TextFault.TheVariants.{TooLong}
-use Rattle.hhh_engine.proofs.Examples.{file, header, prefix, weight_of_the_file}
-use Rattle.hhh_engine.proofs.ExamplesOfSessions.{header_is_a_capture, in_turn, keeps_nothing, session_in_part}
-use Rattle.hhh_engine.proofs.ExamplesOfSessions.{session_over_the_header, settings, text}
+use Rattle.hhh_engine.proofs.ExamplesOfWeights.{file, prefix, weight_of_the_file}
+use Rattle.report_session.proofs.Examples.{header}
+use Rattle.report_session.proofs.ExamplesOfSessions.{header_is_a_capture, in_turn, keeps_nothing, session_in_part}
+use Rattle.report_session.proofs.ExamplesOfSessions.{session_over_the_header, settings, text}
+use Rattle.report_session.proofs.ExamplesOfSaves.{formatted, formatted_opens_to_nothing, one}
+use Rattle.checkpoint.specs.{StoreOpensTo}
+use Rattle.hhh_engine.specs.Ending.{EndsWithEmptyStore}
+use Rattle.prefix_lattice.specs.{RecordValue}
+use Rattle.std.proofs.Common.{subst}
+use Rattle.hhh_engine.specs.Inputs.{IsInputStore}
 
 abbrev words : List (List ℕ)
 words = codes "report" ∷ []
@@ -506,3 +513,14 @@ report_leaves_a_disk_as_before as_before = as_before
 
 pub format_may_have_begun_a_store : EndsAsBeforeUnlessFormat (Format settings) ⊥
 format_may_have_begun_a_store = tt
+
+-- ---- stores
+
+-- what `format` leaves
+pub formatted_store_is_empty : EndsWithEmptyStore (Some formatted) (λ image. image ≡ formatted) one
+formatted_store_is_empty bytes told image is =
+    subst (λ bytes. StoreOpensTo one bytes None) (sym is) formatted_opens_to_nothing
+
+-- a formatted store is one of any lists, and a run goes on from nothing
+pub formatted_store_is_of_any_lists : (lists : List (List RecordValue)) → IsInputStore one lists formatted
+formatted_store_is_of_any_lists lists = (None, formatted_opens_to_nothing, tt, omega arith)

@@ -10,18 +10,19 @@ use Rattle.exact_audit.specs.declared.verdict.Verdict.TheVariants.{BadPositions,
 use Rattle.pcap_frames.specs.declared.fault.FaultKind.TheVariants.{ShortHeader}
 use Rattle.report_text.specs.declared.session_fault.TextFault.TheVariants.{BadLine}
 use Rattle.pcap_frames.specs.{header_fault_at}
-use Rattle.hhh_engine.specs.Audit.{IsAuditedAsFirstUnsound, IsAuditedAsSound, AuditReadOnFault, AuditReadPastLimit}
-use Rattle.hhh_engine.specs.Audit.{sound_audit_text, unsound_audit_text}
-use Rattle.hhh_engine.specs.Audit.{audit_verdict_text}
-use Rattle.hhh_engine.specs.Auditing.{HasNoAudit, AuditingHasNoBytes, AuditingSays}
-use Rattle.hhh_engine.specs.Demo.{IsDemoReport, demo_text}
+use Rattle.session_audit.specs.{IsAuditedAsFirstUnsound, IsAuditedAsSound, AuditReadOnFault, AuditReadPastLimit}
+use Rattle.session_audit.specs.{sound_audit_text, unsound_audit_text, audit_verdict_text, AuditingHasNoBytes}
+use Rattle.session_audit.specs.{AuditingSays}
+use Rattle.hhh_engine.specs.Reading.{HasNoAudit}
+use Rattle.report_session.specs.{IsWholeReport}
+use Rattle.hhh_engine.specs.Demo.{demo_text}
 use Rattle.hhh_engine.specs.Ending.{ending_source_faults}
 use Rattle.hhh_engine.specs.Inputs.{inputs}
-use Rattle.hhh_engine.specs.declared.status.Status.TheVariants.{Done, BadCapture, ReadFault, OutOfMemory}
+use Rattle.run_status.specs.declared.status.Status.TheVariants.{Done, BadCapture, ReadFault, OutOfMemory}
 use Rattle.hhh_engine.proofs.ExamplesOfAnswers.{empty_file_has_no_text}
-use Rattle.hhh_engine.proofs.ExamplesOfSessions.{last, lists, nothing_is_sound, report, report_at_the_ends}
-use Rattle.hhh_engine.proofs.ExamplesOfSessions.{settings}
-use Rattle.hhh_engine.proofs.ShownSessionLemmas.{shown_session_report, shown_session_reports}
+use Rattle.report_session.proofs.ExamplesOfSessions.{last, nothing_is_sound, report, report_at_the_ends, settings}
+use Rattle.report_session.proofs.ExamplesOfSessions.{lists}
+use Rattle.report_session.proofs.ShownSessionLemmas.{shown_session_report, shown_session_reports}
 
 pub text_of_a_wide_line : audit_verdict_text (TooWide 12) ≡ codes "too wide in line 12"
 unfolding digits
@@ -106,7 +107,7 @@ pub text_of_a_demonstration :
 unfolding digits
 text_of_a_demonstration = refl
 
-pub report_of_no_records : IsDemoReport settings lists report
+pub report_of_no_records : IsWholeReport settings lists report
 report_of_no_records = record { is_report = report_at_the_ends; at_ends = refl; is_sound = nothing_is_sound }
 
 -- ---- the text of a session, as an audit reads it

@@ -1,159 +1,22 @@
--- The session that `report` writes, as an audit of its text sees it.
-use Rattle.std.proofs.Common.{◌≡◌, ◌∙◌, ◌+◌, ◌*◌, ◌^◌, ◌<◌, ◌≤◌, ℕ, Bool, false, List, [], ◌∷◌, ◌++◌, Option, IfSome}
-use Rattle.std.proofs.Common.{inl, inr, All, length, map, get_or, count_by, sym, ap, subst, arith}
-use Rattle.std.specs.List.{flat_map}
-use Rattle.std.proofs.lemmas.List.{length-append, length-map}
-use Rattle.std.proofs.lemmas.List.Elements.{All-from_get_or, All-get_or, All-map}
-use Rattle.std.proofs.lemmas.List.FromFn.{length-range_with_len}
-use Rattle.std.proofs.lemmas.List.Sums.{count_by-le-length}
-use Rattle.prefix_lattice.specs.{RecordValue, record_limit}
+-- The audit of the session that `report` writes.
+use Rattle.std.proofs.Common.{◌≡◌, ℕ, List}
+use Rattle.std.proofs.Common.{All, get_or, subst}
+use Rattle.prefix_lattice.specs.{RecordValue}
 use Rattle.deal_rules.specs.{IsDealing}
-use Rattle.deal_rules.specs.declared.deal_kind.DealKind.{DealKind}
-use Rattle.shard_state.specs.{CutRepresents, ShardValue}
-use Rattle.pcap_frames.specs.{FrameValue, frame_count_limit}
 use Rattle.frame_records.specs.{AreRecordsOf}
 use Rattle.frame_records.specs.declared.records.Records.{Records}
 use Rattle.frame_records.specs.declared.weigh.Weigh.{Weigh}
 use Rattle.hhh_report.specs.{IsSound}
 use Rattle.hhh_report.specs.declared.reports.Reported.{Reported}
-use Rattle.report_text.specs.{ReportTextShowsPositions, IsTextSession as IsShowableSession, IsSessionText}
-use Rattle.report_text.specs.{longest_session_text_length, printed_session_text}
-use Rattle.report_text.specs.{session_text}
-use Rattle.report_text.specs.declared.session.Session.{Session}
-use Rattle.command_words.specs.{AreLimitedSettings}
 use Rattle.command_words.specs.declared.settings.Settings.{Settings}
-use Rattle.hhh_engine.specs.Audit.{IsAuditedAsSound, IsSoundAudit, sound_audit_text}
-use Rattle.hhh_engine.specs.Session.{AreDealtInSession, IsSession, IsShownInSession, SessionKeeping, SessionRules}
-use Rattle.hhh_engine.specs.Session.{SessionReports, session_ends, session_opening, session_reports_in, session_start}
-use Rattle.hhh_engine.proofs.BaseLemmas.{base_goes_on}
-use Rattle.hhh_engine.proofs.LastReportLemmas.{last_report_is_among_all}
-use Rattle.hhh_engine.proofs.OpeningShardLemmas.{opening_shards_count, opening_shards_before_ends}
-use Rattle.hhh_engine.proofs.OwnReportLemmas.{own_report_lists_of_opening, own_reports_are_shown, own_reports_are_sound}
-use Rattle.hhh_engine.proofs.ShownSessionLemmas.{shown_session_prints_the_same, shown_session_reports_are_shown}
-use Rattle.hhh_engine.proofs.ShownSessionLemmas.{shown_session_report, shown_session_keeps_property}
-use Rattle.hhh_engine.proofs.ShownSessionLemmas.{shown_session_report_count}
-use Rattle.hhh_engine.proofs.ShownSessionLemmas.{shown_session_reports, shown_session}
-use Rattle.hhh_engine.proofs.BoundedReportLemmas.{IsBoundedReport, IsBoundedReportList, bounded_report_lists_if_kept}
-use Rattle.hhh_engine.proofs.BoundedReportLemmas.{bounded_report_if_sound}
-
--- a session is printed as its text
-abbrev pub PrintsOwnSession : Type 0
-PrintsOwnSession = (session : Session) → printed_session_text session ≡ session_text session
-
--- a count of some frames is a number of 64 bits
-own_session_count_is_bounded : (counts : FrameValue → Bool) (frames : List FrameValue) (count : ℕ) → length frames ≤ frame_count_limit
-    → count ≡ count_by counts frames → count < 2 ^ 64
-own_session_count_is_bounded counts frames count few is = omega (arith, few, is, count_by-le-length counts frames)
-
-own_session_shows_something : (store : Bool) (reports : SessionReports) → 1 ≤ length (shown_session_reports store reports)
-own_session_shows_something store reports =
-    let others = map (shown_session_report false) (flat_map (λ made. made) reports.callers) in
-    omega (
-      arith,
-      length-append (map (shown_session_report store) reports.rounds) (others ++ shown_session_report store reports.last ∷ []),
-      length-append others (shown_session_report store reports.last ∷ []),
-    )
-
--- what the text of a session says is a session that a text can show
-own_session_is_showable : (settings : Settings) (opened : List ℕ) (reports : SessionReports) (records : Records)
-    (frames : List FrameValue) → ReportTextShowsPositions opened → length opened ≡ settings.shards
-    → length frames ≤ frame_count_limit → AreRecordsOf settings.weigh frames records
-    → All (λ reported. IsBoundedReport settings.shards reported.report) (session_reports_in reports)
-    → IsShowableSession (shown_session settings.store opened reports records)
-own_session_is_showable settings opened reports records frames positions many few are fit =
-    let fits = shown_session_keeps_property (λ (reported : Reported). IsBoundedReport settings.shards reported.report) settings.store reports
-    (λ store reported has. has) fit in
-    record {
-      opened = positions;
-      some = own_session_shows_something settings.store reports;
-      reports = λ k d lt.
-          let here : IsBoundedReport settings.shards (get_or (shown_session_reports settings.store reports) k d).report =
-          fits k d lt in
-          record {
-            positions = record { are_positions = here.positions; as_many = here.as_many ∙ sym many };
-            total = here.total;
-            some = here.some;
-            threshold = here.threshold;
-            lines = λ j e inside. record {
-              is_prefix = (here.lines j e inside).0;
-              low = (here.lines j e inside).1;
-              high = (here.lines j e inside).2;
-            };
-            saved = elim (shown_session_reports_are_shown settings.store reports k d lt) [
-              | inl none ↦ rw none tt
-              | inr some ↦ rw some (record { are_positions = here.positions; as_many = here.as_many ∙ sym many })
-            ];
-          };
-      frames = omega (arith, few, are.frames);
-      not_ipv4 = own_session_count_is_bounded _ frames records.not_ipv4 few are.not_ipv4;
-      short = own_session_count_is_bounded _ frames records.short few are.short;
-      bad_header = own_session_count_is_bounded _ frames records.bad_header few are.bad_header;
-    }
-
--- as many lists as shards
-pub own_session_lists_match_shards : (kind : DealKind) (may_answer : ℕ → RecordValue → ℕ → ℕ → Type 0) (shards : ℕ)
-    (records : List RecordValue) (lists : List (List RecordValue)) → IsDealing kind may_answer shards records lists
-    → length lists ≡ shards
-own_session_lists_match_shards kind may_answer shards records lists dealing =
-    ap length dealing.dealt.parted ∙ length-map _ _ ∙ length-range_with_len 0 shards
-
--- the positions at which shards start, where their lists are small
-own_session_starts_are_positions : (opening : List ShardValue) (settings : Settings) → AreLimitedSettings settings
-    → length opening ≡ settings.shards
-    → ((shard : ℕ) → get_or (session_start opening) shard 0 ≤ get_or (session_ends opening) shard 0)
-    → All (λ shard. IsBoundedReportList shard.list) opening → ReportTextShowsPositions (session_start opening)
-own_session_starts_are_positions opening settings limited many before small =
-    let as_many : length (session_start opening) ≡ settings.shards = length-map opening _ ∙ many in
-    let ends : All (λ position. position ≤ record_limit) (session_ends opening) =
-    All-map (λ position. position ≤ record_limit) (λ (shard : ShardValue). length shard.list) opening
-    (λ k d lt. (small k d lt).few) in
-    record {
-      some = subst (λ n. 1 ≤ n) (sym as_many) limited.some_shards;
-      few = subst (λ n. n ≤ 16) (sym as_many) limited.few_shards;
-      within = All-from_get_or (λ position. position ≤ record_limit) (session_start opening) 0 (λ shard lt.
-          let end = All-get_or (λ position. position ≤ record_limit) (session_ends opening) shard 0
-          (omega (arith, lt, as_many, many, length-map opening (λ (shard : ShardValue). length shard.list))) ends in
-          omega (arith, before shard, end));
-    }
-
--- the session that `report` writes is one, if the saved cut that it went on from represents the lists
-pub own_session_is_valid : PrintsOwnSession → (settings : Settings) (rules : SessionRules) (keeping : SessionKeeping) (store : Option (List ℕ))
-    (file text : List ℕ) (is : IsSession settings rules keeping store file text) → AreLimitedSettings settings
-    → IfSome is.base (λ cut. CutRepresents cut is.lists)
-    → IsSessionText text (shown_session settings.store (session_start (session_opening settings.capacity is.lists is.base))
-    is.spelled.reports is.records)
-own_session_is_valid prints settings rules keeping store file text is limited represents =
-    let opening = session_opening settings.capacity is.lists is.base in
-    let reports = is.spelled.reports in
-    let known = shown_session settings.store (session_start opening) reports is.records in
-    let goes_on = base_goes_on settings is.lists is.base is.begins.fits in
-    let many_lists = own_session_lists_match_shards settings.deal (rules settings.deal) settings.shards is.records.list is.lists
-    is.dealt.dealt in
-    let many : length opening ≡ settings.shards =
-    opening_shards_count settings.capacity is.lists is.base goes_on ∙ many_lists in
-    let last : IsShownInSession opening settings reports.last =
-    last_report_is_among_all (IsShownInSession opening settings) reports.rounds reports.last is.spelled.are_reports.calling.shown in
-    let small = bounded_report_lists_if_kept opening reports.last.report.positions last.is_report.as_many last.is_report.kept in
-    let small_lists : All IsBoundedReportList is.lists =
-    subst (λ lists. All IsBoundedReportList lists) (own_report_lists_of_opening settings is.lists store is.base is.begins)
-    (All-map IsBoundedReportList (λ (shard : ShardValue). shard.list) opening small) in
-    let shown = own_reports_are_shown settings rules keeping store file text is in
-    let sound = own_reports_are_sound settings rules keeping store file text is represents in
-    let starts = own_session_starts_are_positions opening settings limited many
-    (opening_shards_before_ends settings.capacity is.lists is.base goes_on) small in
-    record {
-      is_session = own_session_is_showable settings (session_start opening) reports is.records is.dealt.frames starts
-          (length-map opening _ ∙ many) is.dealt.capture.1.limit is.dealt.are_records
-          (λ k d lt. bounded_report_if_sound opening settings is.lists (get_or (session_reports_in reports) k d) limited many many_lists
-          small_lists (shown k d lt) (sound k d lt));
-      spelled = is.spelled.spelled ∙ shown_session_prints_the_same settings.store (session_start opening) reports is.records ∙ prints known;
-    }
+use Rattle.session_audit.specs.{IsAuditedAsSound}
+use Rattle.dealt_capture.specs.{AreDealtRecords, DealingRules}
 
 -- records that are dealt for some settings are dealt for all that agree on this
-own_session_is_dealt_alike : (settings other : Settings) (rules : SessionRules) (file : List ℕ) (records : Records)
+pub own_session_is_dealt_alike : (settings other : Settings) (rules : DealingRules) (file : List ℕ) (records : Records)
     (lists : List (List RecordValue)) → settings.shards ≡ other.shards → settings.deal ≡ other.deal
-    → settings.weigh ≡ other.weigh → AreDealtInSession settings rules file records lists
-    → AreDealtInSession other rules file records lists
+    → settings.weigh ≡ other.weigh → AreDealtRecords settings rules file records lists
+    → AreDealtRecords other rules file records lists
 own_session_is_dealt_alike settings other rules file records lists shards deal weigh dealt = record {
   frames = dealt.frames;
   capture = dealt.capture;
@@ -162,30 +25,11 @@ own_session_is_dealt_alike settings other rules file records lists shards deal w
       (subst (λ n. IsDealing settings.deal (rules settings.deal) n records.list lists) shards dealt.dealt);
 }
 
--- an audit of it finds all its reports sound: as many as each caller made rounds, with the calling thread, and the last
-pub own_session_passes_audit : PrintsOwnSession → (settings other : Settings) (rules : SessionRules) (keeping : SessionKeeping)
-    (store : Option (List ℕ)) (file text : List ℕ) (is : IsSession settings rules keeping store file text)
-    → AreLimitedSettings settings → settings.shards ≡ other.shards → settings.capacity ≡ other.capacity
-    → settings.phi ≡ other.phi → settings.deal ≡ other.deal → settings.weigh ≡ other.weigh
-    → length text ≤ longest_session_text_length → IfSome is.base (λ cut. CutRepresents cut is.lists)
-    → IsSoundAudit other rules file text (sound_audit_text ((settings.callers + 1) * settings.rounds + 1))
-own_session_passes_audit prints settings other rules keeping store file text is limited shards capacity phi deal weigh short
-    represents =
-    let opening = session_opening settings.capacity is.lists is.base in
-    let reports = is.spelled.reports in
-    record {
-      lists = is.lists;
-      session = shown_session settings.store (session_start opening) reports is.records;
-      audited = record {
-        records = is.records;
-        dealt = own_session_is_dealt_alike settings other rules file is.records is.lists shards deal weigh is.dealt;
-        is_session = own_session_is_valid prints settings rules keeping store file text is limited represents;
-        not_long = short;
-      };
-      sound = shown_session_keeps_property (IsAuditedAsSound other is.lists) settings.store reports (λ store reported sound. sound)
-          (λ k d lt.
-          subst (λ n. IsSound (get_or (session_reports_in reports) k d).report is.lists n other.phi) capacity
-          (subst (λ n. IsSound (get_or (session_reports_in reports) k d).report is.lists settings.capacity n) phi
-          (own_reports_are_sound settings rules keeping store file text is represents k d lt)));
-      spelled = ap sound_audit_text (sym (shown_session_report_count opening settings settings.store reports is.spelled.are_reports));
-    }
+-- its reports are sound for all settings that agree on this
+pub own_session_is_sound_alike : (settings other : Settings) (lists : List (List RecordValue)) (reports : List Reported)
+    → settings.capacity ≡ other.capacity → settings.phi ≡ other.phi
+    → All (λ reported. IsSound reported.report lists settings.capacity settings.phi) reports
+    → All (IsAuditedAsSound other lists) reports
+own_session_is_sound_alike settings other lists reports capacity phi sound = λ k d lt.
+    subst (λ n. IsSound (get_or reports k d).report lists n other.phi) capacity
+    (subst (λ n. IsSound (get_or reports k d).report lists settings.capacity n) phi (sound k d lt))

@@ -13,31 +13,30 @@ use Rattle.command_words.specs.{AskForCommand}
 use Rattle.command_words.specs.declared.command.Command.{Command}
 use Rattle.command_words.specs.declared.command.Command.TheVariants.{Weigh, Report, Format, Audit, Make, Demo}
 use Rattle.command_words.specs.declared.settings.Settings.{Settings}
-use Rattle.hhh_engine.specs.Auditing.{AuditingHasNoBytes, AuditingSays}
-use Rattle.hhh_engine.specs.Ending.{Ends, HappenedToDiskAtEnding}
-use Rattle.hhh_engine.specs.Ending.{EndsAtFailedSource, EndingSourceFaults}
-use Rattle.hhh_engine.specs.Ending.{EndsInOrder, EndsAsBeforeUnlessFormat, ending_source_faults}
-use Rattle.hhh_engine.specs.Inputs.{AskedCommandUsesInput, InputBytes, IsInputCapture, MayUseInputStore}
-use Rattle.hhh_engine.specs.Inputs.{UsesInputCapture, UsesInputSession}
-use Rattle.hhh_engine.specs.Session.{SessionRules}
-use Rattle.hhh_engine.specs.Status.{status_of_session}
-use Rattle.hhh_engine.specs.declared.status.Status.{Status}
-use Rattle.hhh_engine.specs.declared.status.Status.TheVariants.{Done, BadWords, BadCapture, ReadFault, WriteFault}
-use Rattle.hhh_engine.specs.declared.status.Status.TheVariants.{DiskFault, NotFormatted, Damaged, OtherSettings}
-use Rattle.hhh_engine.specs.declared.status.Status.TheVariants.{OtherCapture, AuditNo, BadReport, OutOfMemory}
+use Rattle.session_audit.specs.{AuditingHasNoBytes, AuditingSays}
+use Rattle.hhh_engine.specs.Ending.{Ends, HappenedToDiskAtEnding, EndsAtFailedSource, EndingSourceFaults, EndsInOrder}
+use Rattle.hhh_engine.specs.Ending.{EndsAsBeforeUnlessFormat, ending_source_faults}
+use Rattle.hhh_engine.specs.Inputs.{AskedCommandUsesInput, InputBytes, MayUseInputStore, UsesInputCapture}
+use Rattle.hhh_engine.specs.Inputs.{UsesInputSession}
+use Rattle.dealt_capture.specs.{IsCaptureFile, DealingRules}
+use Rattle.run_status.specs.{status_of_session}
+use Rattle.run_status.specs.declared.status.Status.{Status}
+use Rattle.run_status.specs.declared.status.Status.TheVariants.{Done, BadWords, BadCapture, ReadFault, WriteFault}
+use Rattle.run_status.specs.declared.status.Status.TheVariants.{DiskFault, NotFormatted, Damaged, OtherSettings}
+use Rattle.run_status.specs.declared.status.Status.TheVariants.{OtherCapture, AuditNo, BadReport, OutOfMemory}
 use Rattle.outside_io.specs.declared.source.Source.{Ghosts as SourceOf}
 use Rattle.outside_io.specs.declared.sink.Sink.{Ghosts as SinkOf}
 use Rattle.slot_disk.specs.declared.disk.Disk.{Ghosts as DiskOf}
 use Rattle.hhh_engine.specs.CommandEnding.{CommandEnds, CommandEndsInOrder}
-use Rattle.hhh_engine.specs.TopCall.{FailsToRead, FailsToStore, RefusesCapture, Streams, faults_after}
-use Rattle.hhh_engine.specs.TopCall.{faults_before, run_inputs}
-use Rattle.hhh_engine.specs.Saves.{IsAsBeforeSaves}
+use Rattle.hhh_engine.specs.TopCall.{FailsToRead, FailsToStore, RefusesCapture, Streams, faults_after, faults_before}
+use Rattle.hhh_engine.specs.TopCall.{run_inputs}
+use Rattle.report_session.specs.{IsAsBeforeSaves}
 
 -- ---- the steps of an audit
 
 -- its text was not read
 pub read_order_without_text : {T : Type 0} (read : InputBytes) (before now : EndingSourceFaults) (text text_read : T) (status : Status)
-    → IsAtEnd read.capture_left → IfSome read.capture IsInputCapture → now.capture ≡ before.capture
+    → IsAtEnd read.capture_left → IfSome read.capture IsCaptureFile → now.capture ≡ before.capture
     → AuditingHasNoBytes before.text now.text status → EndsInOrder ⊤ ⊤ read before now text text_read status
 read_order_without_text read before now text text_read Done at_end is_capture same none = absurd none
 read_order_without_text read before now text text_read (BadWords kind) at_end is_capture same none = absurd none
@@ -180,7 +179,7 @@ read_order_lets_use_store (Demo seed frames settings) Happened happened = absurd
 
 -- a run, whose command ended so
 module _ {S T K D : Type 0} (s : SourceOf S) (t : SourceOf T) (k : SinkOf K) (d : DiskOf D) (old new : Streams S T K D)
-    (rules : SessionRules) where
+    (rules : DealingRules) where
   -- its inputs, and how a command of it ends
   abbrev given : InputBytes
   given = run_inputs s t k d old new

@@ -16,23 +16,22 @@ use Rattle.hhh_engine.specs.CommandEnding.{AnswersCommand, CommandEnds}
 use Rattle.hhh_engine.specs.Ending.{EndsAsBeforeUnlessFormat, FormatEnds}
 use Rattle.hhh_engine.specs.Inputs.{UsesInputCapture, UsesInputSession, UsesInputStore}
 use Rattle.hhh_engine.specs.TopCall.{RunEnds, Streams, faults_after, faults_before}
-use Rattle.hhh_engine.specs.Saves.{IsAsBeforeSaves, store_settings_for_saves}
-use Rattle.hhh_engine.specs.Session.{SessionRules}
-use Rattle.hhh_engine.specs.Status.{status_of_words}
-use Rattle.hhh_engine.specs.declared.status.Status.{Status}
-use Rattle.hhh_engine.specs.declared.status.Status.TheVariants.{Done, BadWords, BadCapture, ReadFault, WriteFault}
-use Rattle.hhh_engine.specs.declared.status.Status.TheVariants.{DiskFault, NotFormatted, Damaged, OtherSettings}
-use Rattle.hhh_engine.specs.declared.status.Status.TheVariants.{OtherCapture, AuditNo, BadReport, OutOfMemory}
-use Rattle.hhh_engine.proofs.AuditFindingLemmas.{AuditFindingHasOneFault, AuditFindingIsUnique, audit_finding_by_status}
-use Rattle.hhh_engine.proofs.AuditFindingLemmas.{audit_finding_is_first_unsound, audit_finding_is_text_fault}
-use Rattle.hhh_engine.proofs.AuditFindingLemmas.{audit_finding_refuses_by_status}
+use Rattle.report_session.specs.{IsAsBeforeSaves, store_settings_for_saves, IsAsBeforeSaves-untouched}
+use Rattle.dealt_capture.specs.{DealingRules}
+use Rattle.run_status.specs.{status_of_words}
+use Rattle.run_status.specs.declared.status.Status.{Status}
+use Rattle.run_status.specs.declared.status.Status.TheVariants.{Done, BadWords, BadCapture, ReadFault, WriteFault}
+use Rattle.run_status.specs.declared.status.Status.TheVariants.{DiskFault, NotFormatted, Damaged, OtherSettings}
+use Rattle.run_status.specs.declared.status.Status.TheVariants.{OtherCapture, AuditNo, BadReport, OutOfMemory}
+use Rattle.hhh_engine.proofs.AuditFindingLemmas.{AuditFindingHasOneFault, AuditFindingIsUnique}
+use Rattle.hhh_engine.proofs.AuditFindingLemmas.{audit_finding_by_status, audit_finding_is_first_unsound}
+use Rattle.hhh_engine.proofs.AuditFindingLemmas.{audit_finding_is_text_fault, audit_finding_refuses_by_status}
 use Rattle.hhh_engine.proofs.ReadOrderLemmas.{read_order_at_failed_disk, read_order_at_read_failure}
 use Rattle.hhh_engine.proofs.ReadOrderLemmas.{read_order_at_refused_capture}
-use Rattle.hhh_engine.proofs.SaveLemmas.{disk_without_save_is_unchanged}
 use Rattle.hhh_engine.proofs.SoundSessionLemmas.{sound_session_is_found}
 use Rattle.hhh_engine.proofs.StatusLemmas.{CaptureStatusIsFaultless, FaultStatusIsUnique, SessionStatusIsFaultless}
-use Rattle.hhh_engine.proofs.StatusLemmas.{argument_status_is_no_refusal, status_is_store_refusal, status_names_refusal}
-use Rattle.hhh_engine.proofs.StatusLemmas.{status_of_asked_command, status_of_refused_capture}
+use Rattle.hhh_engine.proofs.StatusLemmas.{argument_status_is_no_refusal, status_is_store_refusal}
+use Rattle.hhh_engine.proofs.StatusLemmas.{status_names_refusal, status_of_asked_command, status_of_refused_capture}
 
 -- what is known of the files, the stores and the texts that a run may read
 pub record RunLaws : Type 0 where
@@ -51,7 +50,7 @@ RunDiskIsNow {D = D} d = (disk : D) (image : List ℕ) → d.image_since disk (d
 -- ---- arguments that were refused
 
 module _ {S T K D : Type 0} (s : SourceOf S) (t : SourceOf T) (k : SinkOf K) (d : DiskOf D) (old : Streams S T K D)
-    (rules : SessionRules) (arguments : List (List ℕ)) where
+    (rules : DealingRules) (arguments : List (List ℕ)) where
   -- for a fault
   run_refuses_words : (kind : WordsKind) → HasWordsFault arguments kind
       → ((command : Command) → AskForCommand arguments command → ⊥)
@@ -115,7 +114,7 @@ module _ {S T K D : Type 0} (s : SourceOf S) (t : SourceOf T) (k : SinkOf K) (d 
     unused_capture = λ avoids. refl;
     unused_text = λ avoids. refl;
     unused_disk = λ avoids. refl;
-    out_of_memory = λ is. inl (refl, disk_without_save_is_unchanged d old.disk old.disk only_now refl);
+    out_of_memory = λ is. inl (refl, IsAsBeforeSaves-untouched d old.disk old.disk only_now refl);
     complete = λ command asks can no_capture no_text no_sink no_disk. inr refl;
   }
 
@@ -138,7 +137,7 @@ module _ {S T K D : Type 0} (s : SourceOf S) (t : SourceOf T) (k : SinkOf K) (d 
 -- ---- a command that was answered
 
 module _ {S T K D : Type 0} (s : SourceOf S) (t : SourceOf T) (k : SinkOf K) (d : DiskOf D) (old new : Streams S T K D)
-    (rules : SessionRules) where
+    (rules : DealingRules) where
   -- a fault of a source, or of the sink, is never ignored
   run_reports_read_fault : (command : Command) (status : Status) → (status ≡ ReadFault → ⊥)
       → CommandEnds s t k d old new rules command status → faults_after s t k d old new ≡ faults_before s t k d old new
@@ -180,7 +179,7 @@ module _ {S T K D : Type 0} (s : SourceOf S) (t : SourceOf T) (k : SinkOf K) (d 
   run_is_as_before only_now (Weigh prefix settings) as_before formats = as_before
   run_is_as_before only_now (Report settings) as_before formats = as_before
   run_is_as_before only_now (Format settings) as_before formats =
-      disk_without_save_is_unchanged d old.disk new.disk only_now (formats settings refl).1
+      IsAsBeforeSaves-untouched d old.disk new.disk only_now (formats settings refl).1
   run_is_as_before only_now (Audit settings) as_before formats = as_before
   run_is_as_before only_now (Make seed frames) as_before formats = as_before
   run_is_as_before only_now (Demo seed frames settings) as_before formats = as_before

@@ -8,17 +8,15 @@ use Rattle.report_text.specs.declared.session.Session.{Session}
 use Rattle.command_words.specs.declared.command.Command.{Command}
 use Rattle.command_words.specs.declared.command.Command.TheVariants.{Audit}
 use Rattle.command_words.specs.declared.settings.Settings.{Settings}
-use Rattle.hhh_engine.specs.Audit.{AreAudited, IsAuditedAsSound, IsUnsoundAudit}
+use Rattle.session_audit.specs.{AreAudited, IsAuditedAsSound, IsUnsoundAudit}
 use Rattle.hhh_engine.specs.Inputs.{InputBytes}
-use Rattle.hhh_engine.specs.Session.{SessionRules}
-use Rattle.hhh_engine.specs.declared.status.Status.{Status}
-use Rattle.hhh_engine.specs.declared.status.Status.TheVariants.{Done, BadWords, BadCapture, ReadFault, WriteFault}
-use Rattle.hhh_engine.specs.declared.status.Status.TheVariants.{DiskFault, NotFormatted, Damaged, OtherSettings}
-use Rattle.hhh_engine.specs.declared.status.Status.TheVariants.{OtherCapture, AuditNo, BadReport, OutOfMemory}
-use Rattle.hhh_engine.proofs.AuditFindingLemmas.{AuditFindingIsUnique, audit_finding_holds_at_index}
-use Rattle.hhh_engine.proofs.AuditFindingLemmas.{audit_finding_is_not_sound, audit_finding_of_known_inputs}
-use Rattle.hhh_engine.proofs.StatusLemmas.{CaptureStatusIsFaultless, SessionStatusIsFaultless}
-use Rattle.hhh_engine.proofs.StatusLemmas.{status_of_known_file}
+use Rattle.dealt_capture.specs.{DealingRules}
+use Rattle.run_status.specs.declared.status.Status.{Status}
+use Rattle.run_status.specs.declared.status.Status.TheVariants.{Done, BadWords, BadCapture, ReadFault, WriteFault}
+use Rattle.run_status.specs.declared.status.Status.TheVariants.{DiskFault, NotFormatted, Damaged, OtherSettings}
+use Rattle.run_status.specs.declared.status.Status.TheVariants.{OtherCapture, AuditNo, BadReport, OutOfMemory}
+use Rattle.hhh_engine.proofs.AuditFindingLemmas.{AuditFindingIsUnique, audit_finding_of_known_inputs}
+use Rattle.hhh_engine.proofs.StatusLemmas.{CaptureStatusIsFaultless, SessionStatusIsFaultless, status_of_known_file}
 use Rattle.outside_io.specs.declared.source.Source.{Ghosts as SourceOf}
 use Rattle.outside_io.specs.declared.sink.Sink.{Ghosts as SinkOf}
 use Rattle.slot_disk.specs.declared.disk.Disk.{Ghosts as DiskOf}
@@ -27,7 +25,7 @@ use Rattle.hhh_engine.specs.TopCall.{Streams, run_inputs}
 
 -- a run, whose command ended so
 module _ {S T K D : Type 0} (s : SourceOf S) (t : SourceOf T) (k : SinkOf K) (d : DiskOf D) (old new : Streams S T K D)
-    (rules : SessionRules) where
+    (rules : DealingRules) where
   -- its inputs, and how a command of it ends
   abbrev given : InputBytes
   given = run_inputs s t k d old new
@@ -79,10 +77,7 @@ module _ {S T K D : Type 0} (s : SourceOf S) (t : SourceOf T) (k : SinkOf K) (d 
       is_session not_long sound ends =
       let is =
       audit_finding_of_known_inputs given file bytes (λ f t. IsUnsoundAudit settings rules f t report verdict) is_file is_text ends.1.0 in
-      absurd
-      (audit_finding_is_not_sound one settings is.lists is.session.reports report verdict is.first
-      (audit_finding_holds_at_index (IsAuditedAsSound settings is.lists) is.session.reports is.first.before is.first.reported is.first.is
-      (sound is.lists is.session is.audited)))
+      absurd (one.never_both settings is.lists is.session.reports report verdict is.first (sound is.lists is.session is.audited))
   sound_session_is_found never_both no_fault one settings (BadReport wrong) file bytes frames known is_file capture is_text
       is_session not_long sound ends =
       absurd

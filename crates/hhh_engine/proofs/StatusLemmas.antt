@@ -23,28 +23,26 @@ use Rattle.report_text.specs.{HasSessionTextFault, IsSessionText, longest_sessio
 use Rattle.report_text.specs.declared.session.Session.{Session}
 use Rattle.report_text.specs.declared.session_fault.TextFault.{TextFault}
 use Rattle.exact_audit.specs.declared.verdict.Verdict.{Verdict}
-use Rattle.hhh_engine.specs.Audit.{IsAuditText, IsSoundAudit, IsUnsoundAudit}
+use Rattle.session_audit.specs.{IsAuditText, IsSoundAudit, IsUnsoundAudit}
 use Rattle.hhh_engine.specs.Answer.{IsAnswer, IsAnswerInPart, IsUnfinishedAnswer, IsWeighAnswerInPart}
 use Rattle.hhh_engine.specs.Ending.{Ends, AuditFindsAtEnding, IsRefusedStoreAtEnding, HappenedToDiskAtEnding}
-use Rattle.hhh_engine.specs.Ending.{SourceFaultsRoseAtEnding, RefusesAtEnding}
-use Rattle.hhh_engine.specs.Ending.{RefusesStoreAtEnding, EndingSourceFaults, EndsAnswered}
-use Rattle.hhh_engine.specs.Inputs.{InputsCanBeAnswered, HasKnownInputCapture, HasKnownInputStore, IsInputCapture}
-use Rattle.hhh_engine.specs.Inputs.{UsesInputCapture}
+use Rattle.hhh_engine.specs.Ending.{SourceFaultsRoseAtEnding, RefusesAtEnding, RefusesStoreAtEnding}
+use Rattle.hhh_engine.specs.Ending.{EndingSourceFaults, EndsAnswered}
+use Rattle.hhh_engine.specs.Inputs.{InputsCanBeAnswered, HasKnownInputCapture, HasKnownInputStore, UsesInputCapture}
 use Rattle.hhh_engine.specs.Inputs.{InputBytes, InputsWereAccepted, InputsWereRead}
+use Rattle.dealt_capture.specs.{IsCaptureFile, AreDealtRecords, DealingRules}
 use Rattle.hhh_engine.specs.CommandEnding.{CommandEnds}
 use Rattle.hhh_engine.specs.TopCall.{RefusesStore, Streams, faults_after, faults_before, run_inputs, run_keeping}
-use Rattle.hhh_engine.specs.Saves.{IsAsBeforeSaves, store_settings_for_saves}
-use Rattle.hhh_engine.specs.Session.{AreDealtInSession, SessionGoesOnFrom, IsSession, IsSessionInPart, SessionKeeping}
-use Rattle.hhh_engine.specs.Session.{SessionRules}
+use Rattle.report_session.specs.{IsAsBeforeSaves, store_settings_for_saves, SessionGoesOnFrom, IsSession}
+use Rattle.report_session.specs.{IsSessionInPart, SessionKeeping, store_settings_for_saves-allowed}
 use Rattle.command_words.specs.declared.words_kind.WordsRefusal.{WordsRefusal}
 use Rattle.command_words.specs.declared.words_kind.WordsRefusal.TheVariants as words
-use Rattle.hhh_engine.specs.Status.{status_of_opening, status_of_words}
+use Rattle.run_status.specs.{status_of_opening, status_of_words}
 use Rattle.hhh_engine.specs.WeightText.{IsWeightText}
-use Rattle.hhh_engine.specs.declared.status.Status.{Status}
-use Rattle.hhh_engine.specs.declared.status.Status.TheVariants.{Done, BadWords, BadCapture, ReadFault, WriteFault}
-use Rattle.hhh_engine.specs.declared.status.Status.TheVariants.{DiskFault, NotFormatted, Damaged, OtherSettings}
-use Rattle.hhh_engine.specs.declared.status.Status.TheVariants.{OtherCapture, AuditNo, BadReport, OutOfMemory}
-use Rattle.hhh_engine.proofs.BaseLemmas.{base_settings_are_allowed}
+use Rattle.run_status.specs.declared.status.Status.{Status}
+use Rattle.run_status.specs.declared.status.Status.TheVariants.{Done, BadWords, BadCapture, ReadFault, WriteFault}
+use Rattle.run_status.specs.declared.status.Status.TheVariants.{DiskFault, NotFormatted, Damaged, OtherSettings}
+use Rattle.run_status.specs.declared.status.Status.TheVariants.{OtherCapture, AuditNo, BadReport, OutOfMemory}
 
 -- no file is both a capture and a file with a fault
 abbrev pub CaptureStatusIsFaultless : Type 0
@@ -62,9 +60,9 @@ pub status_of_known_file : (left : Option (List ℕ)) (file : List ℕ) (P : Lis
 status_of_known_file left file P known holds = subst (λ o. IfSome o P) known holds
 
 -- a command that reads a capture has a text over captures alone
-status_tells_capture : (rules : SessionRules) (keeping : SessionKeeping) (command : Command) (given : InputBytes)
+status_tells_capture : (rules : DealingRules) (keeping : SessionKeeping) (command : Command) (given : InputBytes)
     (file text : List ℕ) → UsesInputCapture command → given.capture ≡ Some file
-    → IsAnswer rules keeping command given text → IsInputCapture file
+    → IsAnswer rules keeping command given text → IsCaptureFile file
 status_tells_capture rules keeping (Weigh prefix settings) given file text reads known answer =
     let is = status_of_known_file given.capture file (λ f. IsWeightText prefix settings.weigh f text) known answer in
     (is.frames, is.capture)
@@ -73,15 +71,15 @@ status_tells_capture rules keeping (Report settings) given file text reads known
     (is.dealt.frames, is.dealt.capture)
 status_tells_capture rules keeping (Format settings) given file text reads known answer = absurd reads
 status_tells_capture rules keeping (Audit settings) given file text reads known answer =
-    (status_of_known_file given.capture file (λ f. IsInputCapture f × IfSome given.text (λ session. IsSoundAudit settings rules f session text))
+    (status_of_known_file given.capture file (λ f. IsCaptureFile f × IfSome given.text (λ session. IsSoundAudit settings rules f session text))
     known answer).0
 status_tells_capture rules keeping (Make seed frames) given file text reads known answer = absurd reads
 status_tells_capture rules keeping (Demo seed frames settings) given file text reads known answer = absurd reads
 
 -- and a part of a text
-status_tells_capture_in_part : (rules : SessionRules) (keeping : SessionKeeping) (command : Command) (given : InputBytes) (file front : List ℕ)
+status_tells_capture_in_part : (rules : DealingRules) (keeping : SessionKeeping) (command : Command) (given : InputBytes) (file front : List ℕ)
     → UsesInputCapture command → given.capture ≡ Some file → IsAnswerInPart rules keeping command given front
-    → IsInputCapture file
+    → IsCaptureFile file
 status_tells_capture_in_part rules keeping (Weigh prefix settings) given file front reads known answer =
     let is = status_of_known_file given.capture file (λ f. IsWeighAnswerInPart prefix settings.weigh f front) known answer in
     (is.is_text.frames, is.is_text.capture)
@@ -91,15 +89,15 @@ status_tells_capture_in_part rules keeping (Report settings) given file front re
 status_tells_capture_in_part rules keeping (Format settings) given file front reads known answer = absurd reads
 status_tells_capture_in_part rules keeping (Audit settings) given file front reads known answer =
     (status_of_known_file given.capture file
-    (λ f. IsInputCapture f × IfSome given.text (λ session. IsUnfinishedAnswer (IsAuditText settings rules f session) front))
+    (λ f. IsCaptureFile f × IfSome given.text (λ session. IsUnfinishedAnswer (IsAuditText settings rules f session) front))
     known answer).0
 status_tells_capture_in_part rules keeping (Make seed frames) given file front reads known answer = absurd reads
 status_tells_capture_in_part rules keeping (Demo seed frames settings) given file front reads known answer = absurd reads
 
 -- and a store is refused over captures alone
-status_tells_capture_if_refused : (rules : SessionRules) (command : Command) (given : InputBytes) (AsBefore : Type 0) (file : List ℕ)
+status_tells_capture_if_refused : (rules : DealingRules) (command : Command) (given : InputBytes) (AsBefore : Type 0) (file : List ℕ)
     (fault : OpenFault) → given.capture ≡ Some file → RefusesAtEnding command rules given AsBefore fault
-    → IsInputCapture file
+    → IsCaptureFile file
 status_tells_capture_if_refused rules (Weigh prefix settings) given AsBefore file fault known refuses = absurd refuses
 status_tells_capture_if_refused rules (Report settings) given AsBefore file fault known refuses =
     let is = status_of_known_file given.capture file (λ f. IsRefusedStoreAtEnding settings rules given.store f fault) known refuses.2 in
@@ -110,9 +108,9 @@ status_tells_capture_if_refused rules (Make seed frames) given AsBefore file fau
 status_tells_capture_if_refused rules (Demo seed frames settings) given AsBefore file fault known refuses = absurd refuses
 
 -- and an audit that ends by what it found read a capture
-status_tells_capture_if_audited : (rules : SessionRules) (command : Command) (given : InputBytes) (old new : Option (List ℕ)) (file : List ℕ)
+status_tells_capture_if_audited : (rules : DealingRules) (command : Command) (given : InputBytes) (old new : Option (List ℕ)) (file : List ℕ)
     (report : ℕ) (verdict : Verdict) → given.capture ≡ Some file
-    → AuditFindsAtEnding command rules given old new (AuditNo report verdict) → IsInputCapture file
+    → AuditFindsAtEnding command rules given old new (AuditNo report verdict) → IsCaptureFile file
 status_tells_capture_if_audited rules (Weigh prefix settings) given old new file report verdict known finds = absurd finds
 status_tells_capture_if_audited rules (Report settings) given old new file report verdict known finds = absurd finds
 status_tells_capture_if_audited rules (Format settings) given old new file report verdict known finds = absurd finds
@@ -120,32 +118,32 @@ status_tells_capture_if_audited rules (Make seed frames) given old new file repo
 status_tells_capture_if_audited rules (Demo seed frames settings) given old new file report verdict known finds = absurd finds
 status_tells_capture_if_audited rules (Audit settings) given old new file report verdict known finds =
     (status_of_known_file given.capture file
-    (λ f. IsInputCapture f × IfSome given.text (λ text. IsUnsoundAudit settings rules f text report verdict))
+    (λ f. IsCaptureFile f × IfSome given.text (λ text. IsUnsoundAudit settings rules f text report verdict))
     known finds.0).0
 
-status_tells_capture_if_faulty : (rules : SessionRules) (command : Command) (given : InputBytes) (old new : Option (List ℕ)) (file : List ℕ)
+status_tells_capture_if_faulty : (rules : DealingRules) (command : Command) (given : InputBytes) (old new : Option (List ℕ)) (file : List ℕ)
     (fault : TextFault) → given.capture ≡ Some file → AuditFindsAtEnding command rules given old new (BadReport fault)
-    → IsInputCapture file
+    → IsCaptureFile file
 status_tells_capture_if_faulty rules (Weigh prefix settings) given old new file fault known finds = absurd finds
 status_tells_capture_if_faulty rules (Report settings) given old new file fault known finds = absurd finds
 status_tells_capture_if_faulty rules (Format settings) given old new file fault known finds = absurd finds
 status_tells_capture_if_faulty rules (Make seed frames) given old new file fault known finds = absurd finds
 status_tells_capture_if_faulty rules (Demo seed frames settings) given old new file fault known finds = absurd finds
 status_tells_capture_if_faulty rules (Audit settings) given old new file fault known finds =
-    status_of_known_file given.capture file IsInputCapture known finds.accepted
+    status_of_known_file given.capture file IsCaptureFile known finds.accepted
 
 -- an accepted capture is one
 status_tells_accepted_capture : (command : Command) (given : InputBytes) (file : List ℕ) → UsesInputCapture command
-    → given.capture ≡ Some file → InputsWereAccepted command given → IsInputCapture file
-status_tells_accepted_capture (Weigh prefix settings) given file reads known was = status_of_known_file given.capture file IsInputCapture known was
-status_tells_accepted_capture (Report settings) given file reads known was = status_of_known_file given.capture file IsInputCapture known was
+    → given.capture ≡ Some file → InputsWereAccepted command given → IsCaptureFile file
+status_tells_accepted_capture (Weigh prefix settings) given file reads known was = status_of_known_file given.capture file IsCaptureFile known was
+status_tells_accepted_capture (Report settings) given file reads known was = status_of_known_file given.capture file IsCaptureFile known was
 status_tells_accepted_capture (Format settings) given file reads known was = absurd reads
-status_tells_accepted_capture (Audit settings) given file reads known was = status_of_known_file given.capture file IsInputCapture known was
+status_tells_accepted_capture (Audit settings) given file reads known was = status_of_known_file given.capture file IsCaptureFile known was
 status_tells_accepted_capture (Make seed frames) given file reads known was = absurd reads
 status_tells_accepted_capture (Demo seed frames settings) given file reads known was = absurd reads
 
 -- what each command that reads a capture needs of it
-status_of_known_capture : (rules : SessionRules) (command : Command) (given : InputBytes) (file : List ℕ)
+status_of_known_capture : (rules : DealingRules) (command : Command) (given : InputBytes) (file : List ℕ)
     (fault : CaptureFault) → CaptureStatusIsFaultless → UsesInputCapture command → InputsCanBeAnswered rules command given
     → IfSome given.capture (λ f. IsRefusedCaptureFile f fault) → ⊥
 status_of_known_capture rules (Weigh prefix settings) given file fault never_both reads can has =
@@ -163,7 +161,7 @@ status_of_known_capture rules (Make seed frames) given file fault never_both rea
 status_of_known_capture rules (Demo seed frames settings) given file fault never_both reads can has = absurd reads
 
 -- a store of the records isn't refused
-status_is_never_refusal : OpeningsAreDecided → BelongingStoresAreOpened → (rules : SessionRules) (settings : Settings)
+status_is_never_refusal : OpeningsAreDecided → BelongingStoresAreOpened → (rules : DealingRules) (settings : Settings)
     (given : InputBytes) (AsBefore : Type 0) (fault : OpenFault) → AreLimitedSettings settings
     → HasKnownInputCapture given.capture → (settings.store ≡ true → HasKnownInputStore settings rules given)
     → IsShownByOpening fault → RefusesStoreAtEnding settings rules given.capture given.store AsBefore fault → ⊥
@@ -171,11 +169,11 @@ status_is_never_refusal decided opened rules settings given AsBefore fault limit
     let is_store = can refuses.0 in
     let is = status_of_known_file given.capture capture.file (λ f. IsRefusedStoreAtEnding settings rules given.store f fault) capture.told refuses.2 in
     let belongs = is_store.belongs capture.file is.records is.lists capture.told is.dealt in
-    (decided (store_settings_for_saves settings) is.lists is_store.image (base_settings_are_allowed settings limited)).not_both _ fault
+    (decided (store_settings_for_saves settings) is.lists is_store.image (store_settings_for_saves-allowed settings limited)).not_both _ fault
     (opened (store_settings_for_saves settings) is.lists is_store.image belongs.0 belongs.1 belongs.2 belongs.3) shown
     (is.refused is_store.image is_store.told)
 
-command_status_is_never_refusal : OpeningsAreDecided → BelongingStoresAreOpened → (rules : SessionRules) (command : Command)
+command_status_is_never_refusal : OpeningsAreDecided → BelongingStoresAreOpened → (rules : DealingRules) (command : Command)
     (given : InputBytes) (AsBefore : Type 0) (fault : OpenFault) → IsLimitedCommand command
     → InputsCanBeAnswered rules command given → IsShownByOpening fault
     → RefusesAtEnding command rules given AsBefore fault → ⊥
@@ -199,7 +197,7 @@ SessionStatusIsFaultless =
     → ¬ HasSessionTextFault text fault
 
 -- the text of a session is not refused
-status_is_never_bad_report : SessionStatusIsFaultless → (rules : SessionRules) (command : Command) (given : InputBytes) (old new : Option (List ℕ))
+status_is_never_bad_report : SessionStatusIsFaultless → (rules : DealingRules) (command : Command) (given : InputBytes) (old new : Option (List ℕ))
     (fault : TextFault) → InputsCanBeAnswered rules command given → AuditFindsAtEnding command rules given old new (BadReport fault) → ⊥
 status_is_never_bad_report no_fault rules (Weigh prefix settings) given old new fault can finds = finds
 status_is_never_bad_report no_fault rules (Report settings) given old new fault can finds = finds
@@ -221,7 +219,7 @@ status_done_answers (Demo seed frames settings) = refl
 status_done_answers (Audit settings) = inl refl
 
 -- and so was one that found a report that is not sound
-status_found_answers : (rules : SessionRules) (command : Command) (given : InputBytes) (old new : Option (List ℕ)) (report : ℕ)
+status_found_answers : (rules : DealingRules) (command : Command) (given : InputBytes) (old new : Option (List ℕ)) (report : ℕ)
     (verdict : Verdict) → AuditFindsAtEnding command rules given old new (AuditNo report verdict)
     → EndsAnswered command (AuditNo report verdict)
 status_found_answers rules (Weigh prefix settings) given old new report verdict finds = absurd finds
@@ -232,28 +230,28 @@ status_found_answers rules (Demo seed frames settings) given old new report verd
 status_found_answers rules (Audit settings) given old new report verdict finds = inr (report, verdict, refl)
 
 -- the session over a capture whose store is refused however its records are dealt
-status_never_of_begun_session : OpeningsAreDecided → (rules : SessionRules) (settings : Settings) (store : Option (List ℕ))
+status_never_of_begun_session : OpeningsAreDecided → (rules : DealingRules) (settings : Settings) (store : Option (List ℕ))
     (file image : List ℕ) (fault : OpenFault) (records : Records) (lists : List (List RecordValue))
     (base : Option CutValue) → AreLimitedSettings settings → settings.store ≡ true → store ≡ Some image → IsShownByOpening fault
-    → ((records : Records) (lists : List (List RecordValue)) → AreDealtInSession settings rules file records lists
+    → ((records : Records) (lists : List (List RecordValue)) → AreDealtRecords settings rules file records lists
     → IsRefusedAtOpening (store_settings_for_saves settings) lists image fault)
-    → AreDealtInSession settings rules file records lists → SessionGoesOnFrom settings lists store base → ⊥
+    → AreDealtRecords settings rules file records lists → SessionGoesOnFrom settings lists store base → ⊥
 status_never_of_begun_session decided rules settings store file image fault records lists base limited used known shown refused dealt
     begins =
-    (decided (store_settings_for_saves settings) lists image (base_settings_are_allowed settings limited)).not_both base fault
+    (decided (store_settings_for_saves settings) lists image (store_settings_for_saves-allowed settings limited)).not_both base fault
     (begins.opens used image known) shown (refused records lists dealt)
 
 -- the fault for which such a store is refused
-status_names_same_refusal : OpeningsAreDecided → (rules : SessionRules) (settings : Settings) (given : InputBytes) (AsBefore : Type 0)
+status_names_same_refusal : OpeningsAreDecided → (rules : DealingRules) (settings : Settings) (given : InputBytes) (AsBefore : Type 0)
     (file image : List ℕ) (fault other : OpenFault) → AreLimitedSettings settings → given.capture ≡ Some file → given.store ≡ Some image
     → IsShownByOpening fault → IsShownByOpening other
-    → ((records : Records) (lists : List (List RecordValue)) → AreDealtInSession settings rules file records lists
+    → ((records : Records) (lists : List (List RecordValue)) → AreDealtRecords settings rules file records lists
     → IsRefusedAtOpening (store_settings_for_saves settings) lists image fault)
     → RefusesStoreAtEnding settings rules given.capture given.store AsBefore other → other ≡ fault
 status_names_same_refusal decided rules settings given AsBefore file image fault other limited known is_store shown is_shown
     refused refuses =
     let is = status_of_known_file given.capture file (λ f. IsRefusedStoreAtEnding settings rules given.store f other) known refuses.2 in
-    (decided (store_settings_for_saves settings) is.lists image (base_settings_are_allowed settings limited)).one_fault other fault is_shown
+    (decided (store_settings_for_saves settings) is.lists image (store_settings_for_saves-allowed settings limited)).one_fault other fault is_shown
     shown (is.refused image is_store) (refused is.records is.lists is.dealt)
 
 -- arguments that are refused name no fault of a store
@@ -320,7 +318,7 @@ status_tells_disk_happening (Demo seed frames settings) Happened none = absurd n
 
 -- a run, whose command ended so
 module _ {S T K D : Type 0} (s : SourceOf S) (t : SourceOf T) (k : SinkOf K) (d : DiskOf D) (old new : Streams S T K D)
-    (rules : SessionRules) where
+    (rules : DealingRules) where
   -- its inputs, what it kept, and how a command of it ends
   abbrev given : InputBytes
   given = run_inputs s t k d old new
@@ -458,7 +456,7 @@ module _ {S T K D : Type 0} (s : SourceOf S) (t : SourceOf T) (k : SinkOf K) (d 
       → (settings : Settings) (status : Status)
       (file image : List ℕ) (frames : List FrameValue) (fault : OpenFault) → AreLimitedSettings settings → settings.store ≡ true
       → given.capture ≡ Some file → CaptureFileHasFrames file frames → given.store ≡ Some image → IsShownByOpening fault
-      → ((records : Records) (lists : List (List RecordValue)) → AreDealtInSession settings rules file records lists
+      → ((records : Records) (lists : List (List RecordValue)) → AreDealtRecords settings rules file records lists
       → IsRefusedAtOpening (store_settings_for_saves settings) lists image fault)
       → Ended (Report settings) status
       → (status ≡ status_of_opening fault)

@@ -9,16 +9,18 @@ use Rattle.command_words.specs.declared.command.Command.{Command}
 use Rattle.command_words.specs.declared.command.Command.TheVariants.{Weigh, Report, Format, Audit, Make, Demo}
 use Rattle.hhh_engine.specs.Answer.{IsAnswer, IsAnswerInPart, IsUnfinishedAnswer, Answers, AnswersInPart}
 use Rattle.frame_records.specs.declared.records.Records.{Records}
-use Rattle.hhh_engine.specs.Session.{AreDealtInSession, IsSession, IsSessionInPart, SessionKeeping, SessionRules}
-use Rattle.hhh_engine.specs.Audit.{AreAudited, IsAuditText, IsSoundAudit, IsUnsoundAudit}
+use Rattle.dealt_capture.specs.{AreDealtRecords, DealingRules}
+use Rattle.report_session.specs.{IsSession, IsSessionInPart, SessionKeeping}
+use Rattle.session_audit.specs.{AreAudited, IsAuditText, IsSoundAudit, IsUnsoundAudit}
 use Rattle.traffic_maker.specs.{made_capture}
 use Rattle.hhh_engine.specs.Demo.{IsDemoText}
 use Rattle.outside_io.specs.declared.source.Source.{Ghosts as SourceOf}
 use Rattle.outside_io.specs.declared.sink.Sink.{Ghosts as SinkOf}
 use Rattle.slot_disk.specs.declared.disk.Disk.{Ghosts as DiskOf}
 use Rattle.hhh_engine.specs.Ending.{IsRefusedStoreAtEnding}
-use Rattle.hhh_engine.specs.TopCall.{FindsUnsound, RefusesStore, RunEnds, Streams, WritesPart, run_inputs, run_keeping}
-use Rattle.hhh_engine.specs.declared.status.Status.{Status}
+use Rattle.hhh_engine.specs.TopCall.{FindsUnsound, RefusesStore, RunEnds, Streams, WritesPart, run_inputs}
+use Rattle.hhh_engine.specs.TopCall.{run_keeping}
+use Rattle.run_status.specs.declared.status.Status.{Status}
 use Rattle.hhh_engine.specs.Inputs.{InputsCanBeAnswered, HasKnownInputStore, InputBytes}
 use Rattle.hhh_engine.proofs.AuditEndLemmas.{audit_end_inputs_imply_more}
 use Rattle.hhh_engine.proofs.CaptureReportLemmas.{capture_report_if_known}
@@ -42,11 +44,11 @@ wider_rules_allow_dealing narrow wide kind shards records lists widen dealing = 
       record { below = dealt.below; of_kind = dealt.of_kind; answered = widen place rec shards number dealt.answered };
 }
 
-wider_rules_allow_records : (narrow wide : SessionRules) (settings : Settings) (file : List ℕ) (records : Records)
+wider_rules_allow_records : (narrow wide : DealingRules) (settings : Settings) (file : List ℕ) (records : Records)
     (lists : List (List RecordValue))
     → ((kind : DealKind) (place : ℕ) (rec : RecordValue) (shards number : ℕ) → narrow kind place rec shards number
     → wide kind place rec shards number)
-    → AreDealtInSession settings narrow file records lists → AreDealtInSession settings wide file records lists
+    → AreDealtRecords settings narrow file records lists → AreDealtRecords settings wide file records lists
 wider_rules_allow_records narrow wide settings file records lists widen dealt = record {
   frames = dealt.frames;
   capture = dealt.capture;
@@ -56,7 +58,7 @@ wider_rules_allow_records narrow wide settings file records lists widen dealt = 
       (widen settings.deal) dealt.dealt;
 }
 
-wider_rules_allow_session : (narrow wide : SessionRules) (keeping : SessionKeeping) (settings : Settings) (store : Option (List ℕ))
+wider_rules_allow_session : (narrow wide : DealingRules) (keeping : SessionKeeping) (settings : Settings) (store : Option (List ℕ))
     (file text : List ℕ)
     → ((kind : DealKind) (place : ℕ) (rec : RecordValue) (shards number : ℕ) → narrow kind place rec shards number
     → wide kind place rec shards number)
@@ -71,7 +73,7 @@ wider_rules_allow_session narrow wide keeping settings store file text widen ses
   spelled = session.spelled;
 }
 
-wider_rules_allow_partial_session : (narrow wide : SessionRules) (keeping : SessionKeeping) (settings : Settings) (store : Option (List ℕ))
+wider_rules_allow_partial_session : (narrow wide : DealingRules) (keeping : SessionKeeping) (settings : Settings) (store : Option (List ℕ))
     (file front : List ℕ)
     → ((kind : DealKind) (place : ℕ) (rec : RecordValue) (shards number : ℕ) → narrow kind place rec shards number
     → wide kind place rec shards number)
@@ -86,7 +88,7 @@ wider_rules_allow_partial_session narrow wide keeping settings store file front 
   begun = session.begun;
 }
 
-wider_rules_allow_audit : (narrow wide : SessionRules) (settings : Settings) (file text : List ℕ) (lists : List (List RecordValue))
+wider_rules_allow_audit : (narrow wide : DealingRules) (settings : Settings) (file text : List ℕ) (lists : List (List RecordValue))
     (session : Session)
     → ((kind : DealKind) (place : ℕ) (rec : RecordValue) (shards number : ℕ) → narrow kind place rec shards number
     → wide kind place rec shards number)
@@ -98,7 +100,7 @@ wider_rules_allow_audit narrow wide settings file text lists session widen audit
   not_long = audited.not_long;
 }
 
-wider_rules_allow_sound_session : (narrow wide : SessionRules) (settings : Settings) (file text answer : List ℕ)
+wider_rules_allow_sound_session : (narrow wide : DealingRules) (settings : Settings) (file text answer : List ℕ)
     → ((kind : DealKind) (place : ℕ) (rec : RecordValue) (shards number : ℕ) → narrow kind place rec shards number
     → wide kind place rec shards number)
     → IsSoundAudit settings narrow file text answer → IsSoundAudit settings wide file text answer
@@ -110,7 +112,7 @@ wider_rules_allow_sound_session narrow wide settings file text answer widen is =
   spelled = is.spelled;
 }
 
-wider_rules_allow_unsound_session : (narrow wide : SessionRules) (settings : Settings) (file text : List ℕ) (report : ℕ) (verdict : Verdict)
+wider_rules_allow_unsound_session : (narrow wide : DealingRules) (settings : Settings) (file text : List ℕ) (report : ℕ) (verdict : Verdict)
     → ((kind : DealKind) (place : ℕ) (rec : RecordValue) (shards number : ℕ) → narrow kind place rec shards number
     → wide kind place rec shards number)
     → IsUnsoundAudit settings narrow file text report verdict
@@ -122,7 +124,7 @@ wider_rules_allow_unsound_session narrow wide settings file text report verdict 
   first = is.first;
 }
 
-wider_rules_allow_audit_part : (narrow wide : SessionRules) (settings : Settings) (file text front : List ℕ)
+wider_rules_allow_audit_part : (narrow wide : DealingRules) (settings : Settings) (file text front : List ℕ)
     → ((kind : DealKind) (place : ℕ) (rec : RecordValue) (shards number : ℕ) → narrow kind place rec shards number
     → wide kind place rec shards number)
     → IsUnfinishedAnswer (IsAuditText settings narrow file text) front → IsUnfinishedAnswer (IsAuditText settings wide file text) front
@@ -135,7 +137,7 @@ wider_rules_allow_audit_part narrow wide settings file text front widen short = 
   cut = short.cut;
 }
 
-wider_rules_allow_demo : (narrow wide : SessionRules) (settings : Settings) (seed frames : ℕ) (text : List ℕ)
+wider_rules_allow_demo : (narrow wide : DealingRules) (settings : Settings) (seed frames : ℕ) (text : List ℕ)
     → ((kind : DealKind) (place : ℕ) (rec : RecordValue) (shards number : ℕ) → narrow kind place rec shards number
     → wide kind place rec shards number)
     → IsDemoText settings narrow seed frames text → IsDemoText settings wide seed frames text
@@ -148,7 +150,7 @@ wider_rules_allow_demo narrow wide settings seed frames text widen is = record {
   spelled = is.spelled;
 }
 
-wider_rules_allow_answer_text : (narrow wide : SessionRules) (keeping : SessionKeeping) (command : Command) (read : InputBytes) (text : List ℕ)
+wider_rules_allow_answer_text : (narrow wide : DealingRules) (keeping : SessionKeeping) (command : Command) (read : InputBytes) (text : List ℕ)
     → ((kind : DealKind) (place : ℕ) (rec : RecordValue) (shards number : ℕ) → narrow kind place rec shards number
     → wide kind place rec shards number)
     → IsAnswer narrow keeping command read text → IsAnswer wide keeping command read text
@@ -166,7 +168,7 @@ wider_rules_allow_answer_text narrow wide keeping (Make seed frames) read text w
 wider_rules_allow_answer_text narrow wide keeping (Demo seed frames settings) read text widen answer =
     wider_rules_allow_demo narrow wide settings seed frames text widen answer
 
-wider_rules_allow_answer_part : (narrow wide : SessionRules) (keeping : SessionKeeping) (command : Command) (read : InputBytes) (front : List ℕ)
+wider_rules_allow_answer_part : (narrow wide : DealingRules) (keeping : SessionKeeping) (command : Command) (read : InputBytes) (front : List ℕ)
     → ((kind : DealKind) (place : ℕ) (rec : RecordValue) (shards number : ℕ) → narrow kind place rec shards number
     → wide kind place rec shards number)
     → IsAnswerInPart narrow keeping command read front → IsAnswerInPart wide keeping command read front
@@ -188,7 +190,7 @@ wider_rules_allow_answer_part narrow wide keeping (Demo seed frames settings) re
   cut = answer.cut;
 }
 
-wider_rules_allow_answers : (narrow wide : SessionRules) (keeping : SessionKeeping) (words : List (List ℕ)) (read : InputBytes)
+wider_rules_allow_answers : (narrow wide : DealingRules) (keeping : SessionKeeping) (words : List (List ℕ)) (read : InputBytes)
     (old new : Option (List ℕ))
     → ((kind : DealKind) (place : ℕ) (rec : RecordValue) (shards number : ℕ) → narrow kind place rec shards number
     → wide kind place rec shards number)
@@ -204,7 +206,7 @@ wider_rules_allow_answers narrow wide keeping words read old new widen answers =
   };
 }
 
-wider_rules_allow_partial_answers : (narrow wide : SessionRules) (keeping : SessionKeeping) (words : List (List ℕ)) (read : InputBytes)
+wider_rules_allow_partial_answers : (narrow wide : DealingRules) (keeping : SessionKeeping) (words : List (List ℕ)) (read : InputBytes)
     (old new : Option (List ℕ))
     → ((kind : DealKind) (place : ℕ) (rec : RecordValue) (shards number : ℕ) → narrow kind place rec shards number
     → wide kind place rec shards number)
@@ -220,7 +222,7 @@ wider_rules_allow_partial_answers narrow wide keeping words read old new widen a
   };
 }
 
-wider_rules_allow_refusal : (narrow wide : SessionRules) (settings : Settings) (store : Option (List ℕ)) (file : List ℕ) (fault : OpenFault)
+wider_rules_allow_refusal : (narrow wide : DealingRules) (settings : Settings) (store : Option (List ℕ)) (file : List ℕ) (fault : OpenFault)
     → ((kind : DealKind) (place : ℕ) (rec : RecordValue) (shards number : ℕ) → narrow kind place rec shards number
     → wide kind place rec shards number)
     → IsRefusedStoreAtEnding settings narrow store file fault → IsRefusedStoreAtEnding settings wide store file fault
@@ -231,7 +233,7 @@ wider_rules_allow_refusal narrow wide settings store file fault widen is = recor
   refused = is.refused;
 }
 
-wider_rules_imply_known_store : (narrow wide : SessionRules) (settings : Settings) (read : InputBytes)
+wider_rules_imply_known_store : (narrow wide : DealingRules) (settings : Settings) (read : InputBytes)
     → ((kind : DealKind) (place : ℕ) (rec : RecordValue) (shards number : ℕ) → narrow kind place rec shards number
     → wide kind place rec shards number)
     → HasKnownInputStore settings wide read → HasKnownInputStore settings narrow read
@@ -243,7 +245,7 @@ wider_rules_imply_known_store narrow wide settings read widen store = record {
 }
 
 -- inputs in their formats stay so under rules that allow less, which deal the records in fewer ways
-wider_rules_imply_answerable : (narrow wide : SessionRules) (command : Command) (read : InputBytes)
+wider_rules_imply_answerable : (narrow wide : DealingRules) (command : Command) (read : InputBytes)
     → ((kind : DealKind) (place : ℕ) (rec : RecordValue) (shards number : ℕ) → narrow kind place rec shards number
     → wide kind place rec shards number)
     → InputsCanBeAnswered wide command read → InputsCanBeAnswered narrow command read
@@ -258,7 +260,7 @@ wider_rules_imply_answerable narrow wide (Demo seed frames settings) read widen 
 -- ---- a run
 
 module _ {S T K D : Type 0} (s : SourceOf S) (t : SourceOf T) (k : SinkOf K) (d : DiskOf D) (old new : Streams S T K D)
-    (words : List (List ℕ)) (narrow wide : SessionRules)
+    (words : List (List ℕ)) (narrow wide : DealingRules)
     (widen : (kind : DealKind) (place : ℕ) (rec : RecordValue) (shards number : ℕ) → narrow kind place rec shards number
     → wide kind place rec shards number) where
   wider_rules_allow_finding : (report : ℕ) (verdict : Verdict) → FindsUnsound s t k d old new words narrow report verdict

@@ -2,24 +2,25 @@
 use Rattle.std.specs.Prelude.{ℕ, ◌≡◌, ◌<◌, List, length, Option, IfSome, codes}
 use Rattle.command_words.specs.{AskForCommand}
 use Rattle.command_words.specs.declared.command.Command.{Command}
-use Rattle.std.specs.Io.KnownBytes.{Appends}
 use Rattle.outside_io.specs.{IsBeginning}
 use Rattle.command_words.specs.declared.command.Command.TheVariants.{Weigh, Report, Format, Audit, Make, Demo}
 use Rattle.frame_records.specs.declared.weigh.Weigh.{Weigh as Weighing}
 use Rattle.prefix_lattice.specs.{PrefixValue}
-use Rattle.hhh_engine.specs.Audit.{IsAuditText, IsSoundAudit}
+use Rattle.session_audit.specs.{IsAuditText, IsSoundAudit}
 use Rattle.traffic_maker.specs.{made_capture}
 use Rattle.hhh_engine.specs.Demo.{IsDemoText}
 use Rattle.hhh_engine.specs.Inputs.{InputBytes, HoldsOfAuditInputs, InputsWereRead}
 use Rattle.hhh_engine.specs.WeightText.{IsWeightText}
-use Rattle.hhh_engine.specs.Session.{SessionKeeping, SessionRules, IsSession, IsSessionInPart}
+use Rattle.report_session.specs.{SessionKeeping, IsSession, IsSessionInPart}
+use Rattle.dealt_capture.specs.{DealingRules}
+use Rattle.report_session.specs.{WritesAnswer}
 
 -- the text of `format`: one line, which says that the store is formatted
 abbrev pub formatted_answer : List ℕ
 formatted_answer = codes "formatted\n"
 
 -- the text that a command writes for its inputs, where they are known
-abbrev pub IsAnswer : SessionRules → SessionKeeping → Command → InputBytes → List ℕ → Type 0
+abbrev pub IsAnswer : DealingRules → SessionKeeping → Command → InputBytes → List ℕ → Type 0
 IsAnswer rules keeping (Weigh prefix settings) read text =
     IfSome read.capture (λ file. IsWeightText prefix settings.weigh file text)
 IsAnswer rules keeping (Report settings) read text =
@@ -42,7 +43,7 @@ abbrev pub IsWeighAnswerInPart : PrefixValue → Weighing → List ℕ → List 
 IsWeighAnswerInPart prefix weigh file front = IsUnfinishedAnswer (IsWeightText prefix weigh file) front
 
 -- a strict prefix of the text of a command
-abbrev pub IsAnswerInPart : SessionRules → SessionKeeping → Command → InputBytes → List ℕ → Type 0
+abbrev pub IsAnswerInPart : DealingRules → SessionKeeping → Command → InputBytes → List ℕ → Type 0
 IsAnswerInPart rules keeping (Weigh prefix settings) read front =
     IfSome read.capture (λ file. IsWeighAnswerInPart prefix settings.weigh file front)
 IsAnswerInPart rules keeping (Report settings) read front =
@@ -53,14 +54,8 @@ IsAnswerInPart rules keeping (Audit settings) read front =
 IsAnswerInPart rules keeping (Make seed frames) read front = IsUnfinishedAnswer (λ text. text ≡ made_capture seed frames) front
 IsAnswerInPart rules keeping (Demo seed frames settings) read front = IsUnfinishedAnswer (IsDemoText settings rules seed frames) front
 
--- bytes of this kind were appended to what the sink held
-pub record WritesAnswer (IsText : List ℕ → Type 0) (old new : Option (List ℕ)) : Type 0 where
-  pub text : List ℕ
-  pub is_text : IsText text
-  pub written : Appends old new text
-
 -- the text of the command that the arguments ask for was written, for its inputs, which were read to their ends
-pub record Answers (rules : SessionRules) (keeping : SessionKeeping) (words : List (List ℕ)) (read : InputBytes)
+pub record Answers (rules : DealingRules) (keeping : SessionKeeping) (words : List (List ℕ)) (read : InputBytes)
     (old new : Option (List ℕ)) : Type 0 where
   pub command : Command
   pub asked : AskForCommand words command
@@ -68,7 +63,7 @@ pub record Answers (rules : SessionRules) (keeping : SessionKeeping) (words : Li
   pub answer : WritesAnswer (IsAnswer rules keeping command read) old new
 
 -- bytes with which such a text may begin were written, and not all of it, after the inputs were read to their ends
-pub record AnswersInPart (rules : SessionRules) (keeping : SessionKeeping) (words : List (List ℕ)) (read : InputBytes)
+pub record AnswersInPart (rules : DealingRules) (keeping : SessionKeeping) (words : List (List ℕ)) (read : InputBytes)
     (old new : Option (List ℕ)) : Type 0 where
   pub command : Command
   pub asked : AskForCommand words command

@@ -11,16 +11,17 @@ use Rattle.command_words.specs.declared.settings.Settings.{Settings}
 use Rattle.hhh_engine.specs.Answer.{IsAnswer, IsAnswerInPart}
 use Rattle.hhh_engine.specs.Ending.{AuditFindsAtEnding, Ends, EndsAsBeforeUnlessFormat, EndsInOrder, FormatEnds}
 use Rattle.hhh_engine.specs.Ending.{HappenedToDiskAtEnding, RefusesAtEnding}
-use Rattle.hhh_engine.specs.Inputs.{InputsWereAccepted, InputsWereRead, UsesInputCapture, UsesInputSession, UsesInputStore}
+use Rattle.hhh_engine.specs.Inputs.{InputsWereAccepted, InputsWereRead, UsesInputCapture, UsesInputSession}
+use Rattle.hhh_engine.specs.Inputs.{UsesInputStore}
 use Rattle.hhh_engine.specs.TopCall.{Streams, faults_after, faults_before, run_inputs, run_keeping}
-use Rattle.hhh_engine.specs.Saves.{IsAsBeforeSaves, store_settings_for_saves}
-use Rattle.hhh_engine.specs.Session.{SessionRules}
-use Rattle.hhh_engine.specs.declared.status.Status.{Status}
-use Rattle.hhh_engine.specs.declared.status.Status.TheVariants.{BadCapture, DiskFault}
+use Rattle.report_session.specs.{IsAsBeforeSaves, store_settings_for_saves}
+use Rattle.dealt_capture.specs.{DealingRules}
+use Rattle.run_status.specs.declared.status.Status.{Status}
+use Rattle.run_status.specs.declared.status.Status.TheVariants.{BadCapture, DiskFault}
 
 -- a run, as in `RunEnds`
 module _ {S T K D : Type 0} (s : SourceOf S) (t : SourceOf T) (k : SinkOf K) (d : DiskOf D) (old new : Streams S T K D)
-    (rules : SessionRules) where
+    (rules : DealingRules) where
   -- the command ended with this status
   abbrev pub CommandEnds : Command → Status → Type 0
   CommandEnds command status =

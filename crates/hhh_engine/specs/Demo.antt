@@ -2,12 +2,11 @@
 use Rattle.std.specs.Prelude.{ℕ, ◌≡◌, List, ◌++◌, length, codes, decimal}
 use Rattle.prefix_lattice.specs.{RecordValue}
 use Rattle.frame_records.specs.declared.records.Records.{Records}
-use Rattle.gate_workers.specs.{IsReportAtCall}
-use Rattle.hhh_report.specs.{IsSound}
 use Rattle.hhh_report.specs.declared.report.Report.{Report}
 use Rattle.traffic_maker.specs.{made_capture}
 use Rattle.command_words.specs.declared.settings.Settings.{Settings}
-use Rattle.hhh_engine.specs.Session.{AreDealtInSession, SessionRules, session_ends, new_session_shards}
+use Rattle.dealt_capture.specs.{AreDealtRecords, DealingRules}
+use Rattle.report_session.specs.{IsWholeReport}
 
 -- the lines of a demonstration: what was made, how many records it has, the total and the threshold of the report, how many
 -- lines the report has, and that its audit found it sound
@@ -17,17 +16,11 @@ demo_text seed frames records report =
     ++ codes "\ntotal " ++ decimal report.total ++ codes "\nthreshold " ++ decimal report.threshold
     ++ codes "\nlines " ++ decimal (length report.lines) ++ codes "\naudit good\nend\n"
 
--- the report over all records of dealt lists, which new tables counted; it is sound
-pub record IsDemoReport (settings : Settings) (lists : List (List RecordValue)) (report : Report) : Type 0 where
-  pub is_report : IsReportAtCall (new_session_shards settings.capacity lists) settings.phi report
-  pub at_ends : report.positions ≡ session_ends (new_session_shards settings.capacity lists)
-  pub is_sound : IsSound report lists settings.capacity settings.phi
-
 -- the summary of a demonstration: of the report over all records of the capture that the seed makes
-pub record IsDemoText (settings : Settings) (rules : SessionRules) (seed frames : ℕ) (text : List ℕ) : Type 0 where
+pub record IsDemoText (settings : Settings) (rules : DealingRules) (seed frames : ℕ) (text : List ℕ) : Type 0 where
   pub records : Records
   pub lists : List (List RecordValue)
-  pub dealt : AreDealtInSession settings rules (made_capture seed frames) records lists
+  pub dealt : AreDealtRecords settings rules (made_capture seed frames) records lists
   pub report : Report
-  pub is_report : IsDemoReport settings lists report
+  pub is_report : IsWholeReport settings lists report
   pub spelled : text ≡ demo_text seed frames (length records.list) report

@@ -1,5 +1,5 @@
 -- What each status says of the arguments, of the source, of the sink and of the disk.
-use Rattle.std.specs.Prelude.{⊤, ℕ, ◌≡◌, ◌⊎◌, ◌≤◌, true, List, Option, None, IfSome}
+use Rattle.std.specs.Prelude.{⊤, ℕ, ◌≡◌, ◌⊎◌, true, List, Option, None, IfSome}
 use Rattle.std.specs.Io.KnownBytes.{Appends, IsAtEnd}
 use Rattle.outside_io.specs.{FaultCountRose}
 use Rattle.prefix_lattice.specs.{RecordValue}
@@ -19,16 +19,14 @@ use Rattle.exact_audit.specs.declared.verdict.Verdict.{Verdict}
 use Rattle.command_words.specs.declared.command.Command.{Command}
 use Rattle.command_words.specs.declared.command.Command.TheVariants as command
 use Rattle.command_words.specs.declared.settings.Settings.{Settings}
-use Rattle.hhh_engine.specs.Answer.{WritesAnswer}
-use Rattle.hhh_engine.specs.Audit.{IsUnsoundAudit, AuditReadOnFault, unsound_audit_text}
-use Rattle.hhh_engine.specs.Inputs.{InputBytes, IsInputCapture}
-use Rattle.hhh_engine.specs.Inputs.{HoldsOfAuditInputs}
-use Rattle.hhh_engine.specs.Saves.{store_settings_for_saves}
-use Rattle.hhh_engine.specs.Session.{AreDealtInSession, SessionRules}
-use Rattle.hhh_engine.specs.declared.status.Status.{Status}
-use Rattle.hhh_engine.specs.declared.status.Status.TheVariants.{Done, BadWords, BadCapture, ReadFault, WriteFault}
-use Rattle.hhh_engine.specs.declared.status.Status.TheVariants.{DiskFault, NotFormatted, Damaged, OtherSettings}
-use Rattle.hhh_engine.specs.declared.status.Status.TheVariants.{OtherCapture, AuditNo, BadReport, OutOfMemory}
+use Rattle.report_session.specs.{WritesAnswer, store_settings_for_saves}
+use Rattle.session_audit.specs.{IsUnsoundAudit, AuditReadOnFault, unsound_audit_text}
+use Rattle.hhh_engine.specs.Inputs.{InputBytes, HoldsOfAuditInputs}
+use Rattle.dealt_capture.specs.{IsCaptureFile, AreDealtRecords, DealingRules}
+use Rattle.run_status.specs.declared.status.Status.{Status}
+use Rattle.run_status.specs.declared.status.Status.TheVariants.{Done, BadWords, BadCapture, ReadFault, WriteFault}
+use Rattle.run_status.specs.declared.status.Status.TheVariants.{DiskFault, NotFormatted, Damaged, OtherSettings}
+use Rattle.run_status.specs.declared.status.Status.TheVariants.{OtherCapture, AuditNo, BadReport, OutOfMemory}
 
 -- the counts of faults of the two sources: that of the capture, and that of the text of a session
 pub record EndingSourceFaults : Type 0 where
@@ -56,7 +54,7 @@ pub record EndsAtFailedText (ReadsText : Type 0) (read : InputBytes) (before now
   pub rose : FaultCountRose before.text now.text
   pub capture_kept : now.capture ≡ before.capture
   pub read_to_end : IsAtEnd read.capture_left
-  pub accepted : IfSome read.capture IsInputCapture
+  pub accepted : IfSome read.capture IsCaptureFile
 
 -- one of the sources failed, the capture's first
 abbrev pub EndsAtFailedSource : {T : Type 0} → (Reads ReadsText : Type 0) → InputBytes → (before now : EndingSourceFaults)
@@ -74,18 +72,18 @@ EndsAsBeforeUnlessFormat (command.Make seed frames) AsBefore = AsBefore
 EndsAsBeforeUnlessFormat (command.Demo seed frames settings) AsBefore = AsBefore
 
 -- over a capture, whose records are dealt, the store is refused for this fault, where the bytes of the disk are known
-pub record IsRefusedStoreAtEnding (settings : Settings) (rules : SessionRules) (store : Option (List ℕ)) (file : List ℕ)
+pub record IsRefusedStoreAtEnding (settings : Settings) (rules : DealingRules) (store : Option (List ℕ)) (file : List ℕ)
     (fault : OpenFault) : Type 0 where
   pub records : Records
   pub lists : List (List RecordValue)
-  pub dealt : AreDealtInSession settings rules file records lists
+  pub dealt : AreDealtRecords settings rules file records lists
   pub refused : IfImageKnown store (λ image. IsRefusedAtOpening (store_settings_for_saves settings) lists image fault)
 
 -- the text of a session was refused: the capture is one and was read to its end; this is the first fault of the text, where
 -- its bytes are known, which was read to its end, or to one byte past the longest one
 pub record TextRefusedAtEnding (read : InputBytes) (fault : TextFault) : Type 0 where
   pub read_to_end : IsAtEnd read.capture_left
-  pub accepted : IfSome read.capture IsInputCapture
+  pub accepted : IfSome read.capture IsCaptureFile
   pub first_fault : IfSome read.text (λ text. HasSessionTextFault text fault)
   pub read_to_limit : AuditReadOnFault fault read.text read.text_left
 
@@ -120,12 +118,12 @@ FormatEnds d settings sink written disk stands OutOfMemory = (written ≡ sink) 
 FormatEnds d settings sink written disk stands _ = ⊥
 
 -- within the crate: a report with a store was asked for, the store is refused for this fault, and the disk is as before
-abbrev pub RefusesStoreAtEnding : Settings → SessionRules → (capture store : Option (List ℕ)) → (AsBefore : Type 0) → OpenFault → Type 0
+abbrev pub RefusesStoreAtEnding : Settings → DealingRules → (capture store : Option (List ℕ)) → (AsBefore : Type 0) → OpenFault → Type 0
 RefusesStoreAtEnding settings rules capture store AsBefore fault =
     (settings.store ≡ true) × AsBefore × IfSome capture (λ file. IsRefusedStoreAtEnding settings rules store file fault)
 
 -- within the crate: the same of any command: only a report opens a store
-abbrev pub RefusesAtEnding : Command → SessionRules → InputBytes → (AsBefore : Type 0) → OpenFault → Type 0
+abbrev pub RefusesAtEnding : Command → DealingRules → InputBytes → (AsBefore : Type 0) → OpenFault → Type 0
 RefusesAtEnding (command.Weigh prefix settings) rules read AsBefore fault = ⊥
 RefusesAtEnding (command.Report settings) rules read AsBefore fault =
     RefusesStoreAtEnding settings rules read.capture read.store AsBefore fault
@@ -152,7 +150,7 @@ EndsInOrder Reads ReadsText read before now text text_read ReadFault =
 EndsInOrder Reads ReadsText read before now text text_read _ = ⊤
 
 -- within the crate: what an audit found that ended so, and what it wrote of it
-abbrev pub EndsByAuditFinding : Settings → SessionRules → InputBytes → (old new : Option (List ℕ)) → Status → Type 0
+abbrev pub EndsByAuditFinding : Settings → DealingRules → InputBytes → (old new : Option (List ℕ)) → Status → Type 0
 EndsByAuditFinding settings rules read old new (AuditNo report verdict) =
     HoldsOfAuditInputs read (λ file text. IsUnsoundAudit settings rules file text report verdict)
     × Appends old new (unsound_audit_text report verdict)
@@ -160,7 +158,7 @@ EndsByAuditFinding settings rules read old new (BadReport fault) = TextRefusedAt
 EndsByAuditFinding settings rules read old new _ = ⊥
 
 -- within the crate: the same of any command: only `audit` audits
-abbrev pub AuditFindsAtEnding : Command → SessionRules → InputBytes → (old new : Option (List ℕ)) → Status → Type 0
+abbrev pub AuditFindsAtEnding : Command → DealingRules → InputBytes → (old new : Option (List ℕ)) → Status → Type 0
 AuditFindsAtEnding (command.Weigh prefix settings) rules read old new status = ⊥
 AuditFindsAtEnding (command.Report settings) rules read old new status = ⊥
 AuditFindsAtEnding (command.Format settings) rules read old new status = ⊥

@@ -14,8 +14,9 @@ use Rattle.command_words.specs.{AskForCommand}
 use Rattle.command_words.specs.declared.command.Command.{Command}
 use Rattle.command_words.specs.declared.command.Command.TheVariants.{Weigh, Report, Format, Audit, Make, Demo}
 use Rattle.command_words.specs.declared.settings.Settings.{Settings}
-use Rattle.hhh_engine.specs.Saves.{store_settings_for_saves}
-use Rattle.hhh_engine.specs.Session.{AreDealtInSession, SessionRules}
+use Rattle.report_session.specs.{store_settings_for_saves}
+use Rattle.dealt_capture.specs.{AreDealtRecords, DealingRules}
+use Rattle.dealt_capture.specs.{IsCaptureFile}
 
 -- the bytes of the inputs as a command began, where they are known: the capture, the text of a session, and the disk of
 -- the store; and the remaining bytes of the first two
@@ -82,20 +83,16 @@ InputsWereRead (Audit settings) read = IsAtEnd read.capture_left × IsAtEnd read
 InputsWereRead (Make seed frames) read = ⊤
 InputsWereRead (Demo seed frames settings) read = ⊤
 
--- the file is a capture of some frames
-abbrev pub IsInputCapture : List ℕ → Type 0
-IsInputCapture file = (frames : List FrameValue) × CaptureFileHasFrames file frames
-
 -- what holds of the capture and the text of an audit, where their bytes are known; the capture is one in any case
 abbrev pub HoldsOfAuditInputs : InputBytes → (List ℕ → List ℕ → Type 0) → Type 0
-HoldsOfAuditInputs read Holds = IfSome read.capture (λ file. IsInputCapture file × IfSome read.text (Holds file))
+HoldsOfAuditInputs read Holds = IfSome read.capture (λ file. IsCaptureFile file × IfSome read.text (Holds file))
 
 -- what a command reads was accepted: its capture is one, where its bytes are known
 abbrev pub InputsWereAccepted : Command → InputBytes → Type 0
-InputsWereAccepted (Weigh prefix settings) read = IfSome read.capture IsInputCapture
-InputsWereAccepted (Report settings) read = IfSome read.capture IsInputCapture
+InputsWereAccepted (Weigh prefix settings) read = IfSome read.capture IsCaptureFile
+InputsWereAccepted (Report settings) read = IfSome read.capture IsCaptureFile
 InputsWereAccepted (Format settings) read = ⊤
-InputsWereAccepted (Audit settings) read = IfSome read.capture IsInputCapture
+InputsWereAccepted (Audit settings) read = IfSome read.capture IsCaptureFile
 InputsWereAccepted (Make seed frames) read = ⊤
 InputsWereAccepted (Demo seed frames settings) read = ⊤
 
@@ -121,14 +118,14 @@ IsInputStore settings lists image =
     × (store_sequence opened ≤ greatest_opened_sequence)
 
 -- the bytes of the disk are known, and they are a store of the records of the capture, however these may be dealt
-pub record HasKnownInputStore (settings : Settings) (rules : SessionRules) (read : InputBytes) : Type 0 where
+pub record HasKnownInputStore (settings : Settings) (rules : DealingRules) (read : InputBytes) : Type 0 where
   pub image : List ℕ
   pub told : read.store ≡ Some image
   pub belongs : (file : List ℕ) (records : Records) (lists : List (List RecordValue)) → read.capture ≡ Some file
-      → AreDealtInSession settings rules file records lists → IsInputStore (store_settings_for_saves settings) lists image
+      → AreDealtRecords settings rules file records lists → IsInputStore (store_settings_for_saves settings) lists image
 
 -- what a command reads is known, and each input is in its format
-abbrev pub InputsCanBeAnswered : SessionRules → Command → InputBytes → Type 0
+abbrev pub InputsCanBeAnswered : DealingRules → Command → InputBytes → Type 0
 InputsCanBeAnswered rules (Weigh prefix settings) read = HasKnownInputCapture read.capture
 InputsCanBeAnswered rules (Report settings) read =
     HasKnownInputCapture read.capture × (settings.store ≡ true → HasKnownInputStore settings rules read)

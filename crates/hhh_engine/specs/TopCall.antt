@@ -22,19 +22,19 @@ use Rattle.command_words.specs.declared.command.Command.TheVariants as command
 use Rattle.command_words.specs.declared.settings.Settings.{Settings}
 use Rattle.command_words.specs.declared.words_kind.WordsKind.{WordsKind}
 use Rattle.hhh_engine.specs.Answer.{Answers, AnswersInPart}
-use Rattle.hhh_engine.specs.Audit.{AreAudited, IsAuditedAsFirstUnsound, IsAuditedAsSound, IsUnsoundAudit}
-use Rattle.hhh_engine.specs.Audit.{unsound_audit_text}
-use Rattle.hhh_engine.specs.Ending.{EndingSourceFaults, EndsAnswered, EndsAsBeforeUnlessFormat, EndsAtFailedSource, FormatEnds}
-use Rattle.hhh_engine.specs.Ending.{IsRefusedStoreAtEnding, TextRefusedAtEnding, ending_source_faults}
+use Rattle.session_audit.specs.{AreAudited, IsAuditedAsFirstUnsound, IsAuditedAsSound, IsUnsoundAudit}
+use Rattle.session_audit.specs.{unsound_audit_text}
+use Rattle.hhh_engine.specs.Ending.{EndingSourceFaults, EndsAnswered, EndsAsBeforeUnlessFormat, EndsAtFailedSource}
+use Rattle.hhh_engine.specs.Ending.{FormatEnds, IsRefusedStoreAtEnding, TextRefusedAtEnding, ending_source_faults}
 use Rattle.hhh_engine.specs.Inputs.{AskedCommandAvoidsInput, AskedCommandUsesInput, HoldsOfAuditInputs, InputBytes}
-use Rattle.hhh_engine.specs.Inputs.{InputsCanBeAnswered, InputsWereRead, MayUseInputStore, UsesInputCapture, UsesInputSession}
-use Rattle.hhh_engine.specs.Inputs.{UsesInputStore, inputs}
-use Rattle.hhh_engine.specs.Saves.{IsAsBeforeSaves, SavesAreKeptOnDisk, store_settings_for_saves}
-use Rattle.hhh_engine.specs.Session.{AreDealtInSession, SessionKeeping, SessionRules}
-use Rattle.hhh_engine.specs.Status.{status_of_opening}
-use Rattle.hhh_engine.specs.declared.status.Status.{Status}
-use Rattle.hhh_engine.specs.declared.status.Status.TheVariants.{Done, BadWords, BadCapture, ReadFault, WriteFault}
-use Rattle.hhh_engine.specs.declared.status.Status.TheVariants.{DiskFault, AuditNo, BadReport, OutOfMemory}
+use Rattle.hhh_engine.specs.Inputs.{InputsCanBeAnswered, InputsWereRead, MayUseInputStore, UsesInputCapture}
+use Rattle.hhh_engine.specs.Inputs.{UsesInputSession, UsesInputStore, inputs}
+use Rattle.report_session.specs.{IsAsBeforeSaves, SavesAreKeptOnDisk, store_settings_for_saves, SessionKeeping}
+use Rattle.dealt_capture.specs.{AreDealtRecords, DealingRules}
+use Rattle.run_status.specs.{status_of_opening}
+use Rattle.run_status.specs.declared.status.Status.{Status}
+use Rattle.run_status.specs.declared.status.Status.TheVariants.{Done, BadWords, BadCapture, ReadFault, WriteFault}
+use Rattle.run_status.specs.declared.status.Status.TheVariants.{DiskFault, AuditNo, BadReport, OutOfMemory}
 
 -- what a run is handed: a capture, the text of a session, the sink of its output, and the disk of a store
 pub record Streams (S T K D : Type 0) : Type 0 where
@@ -124,7 +124,7 @@ module _ {S T K D : Type 0} (s : SourceOf S) (t : SourceOf T) (k : SinkOf K) (d 
         → (status ≡ BadReport fault) ⊎ ((status ≡ ReadFault) ⊎ (status ≡ OutOfMemory))
 
     -- by `rules`, which say to which shards the dealers may deal
-    module _ (rules : SessionRules) where
+    module _ (rules : DealingRules) where
       -- the text of the command was written, for its inputs, which were read to their ends
       abbrev pub WritesText : Type 0
       WritesText = Answers rules run_keeping words run_inputs (k.taken old.sink) (k.taken new.sink)
@@ -173,7 +173,7 @@ module _ {S T K D : Type 0} (s : SourceOf S) (t : SourceOf T) (k : SinkOf K) (d 
           (settings : Settings) (file image : List ℕ) (frames : List FrameValue) (fault : OpenFault)
           → AskForCommand words (command.Report settings) → settings.store ≡ true → s.left old.capture ≡ Some file
           → CaptureFileHasFrames file frames → d.reads old.disk ≡ Some image → IsShownByOpening fault
-          → ((records : Records) (lists : List (List RecordValue)) → AreDealtInSession settings rules file records lists
+          → ((records : Records) (lists : List (List RecordValue)) → AreDealtRecords settings rules file records lists
           → IsRefusedAtOpening (store_settings_for_saves settings) lists image fault)
           → (status ≡ status_of_opening fault) ⊎ ((status ≡ ReadFault) ⊎ ((status ≡ DiskFault) ⊎ (status ≡ OutOfMemory)))
 

@@ -10,8 +10,8 @@ ghost use Rattle.hhh_engine.specs.CommandEnding.{CommandEnds, CommandEndsInOrder
 ghost use Rattle.hhh_engine.specs.Ending.{FormatEnds};
 ghost use Rattle.hhh_engine.specs.Inputs.{UsesInputCapture, UsesInputSession, UsesInputStore};
 ghost use Rattle.hhh_engine.specs.TopCall.{RunEnds, streams};
-ghost use Rattle.hhh_engine.specs.Saves.{store_settings_for_saves};
-ghost use Rattle.hhh_engine.specs.declared.status.Status.TheVariants.{BadCapture, DiskFault};
+ghost use Rattle.report_session.specs.{store_settings_for_saves};
+ghost use Rattle.run_status.specs.declared.status.Status.TheVariants.{BadCapture, DiskFault};
 
 use crate::Status;
 use crate::commands::audit::audit;
@@ -22,12 +22,12 @@ use crate::commands::report::report;
 use crate::commands::weigh::weigh;
 use command_words::{Command, read_words};
 use deal_rules::{Dealer, Dealers, Deals};
-use exact_audit::a_report_has_one_verdict;
 use frame_records::files_are_read_or_refused;
 use gate_workers::Gate;
 use outside_io::{Sink, Source};
 use recovery::{belonging_stores_are_opened, openings_are_decided};
 use report_text::session_texts_have_one_reading;
+use session_audit::audits_find_one_report;
 use slot_disk::Disk;
 use std::alloc::Global;
 use std::marker::Sync;
@@ -75,7 +75,7 @@ pub fn run<R: Threads + Wait + Sync, S: Source, T: Source, K: Sink, D: Disk, G: 
     files_are_read_or_refused();
     openings_are_decided();
     session_texts_have_one_reading();
-    a_report_has_one_verdict();
+    audits_find_one_report();
     belonging_stores_are_opened();
     let command = match read_words(alloc, words) {
         Ok(command) => command,

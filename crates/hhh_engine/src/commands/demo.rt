@@ -1,9 +1,6 @@
 //! The demonstration: made traffic is counted, reported and audited.
 
-ghost use Rattle.std.specs.Prelude.{⊤, ◌≡◌, ◌≤◌, ◌↔◌, ℕ, List, length, Option, None, IfErr, IfOk};
-ghost use Rattle.shard_state.specs.{core_capacity};
-ghost use Rattle.pass_tokens.specs.{IsPassOfBoard, view};
-ghost use Rattle.gate_workers.specs.{FeedHasSeenEnds};
+ghost use Rattle.std.specs.Prelude.{⊤, ◌≡◌, ◌≤◌, ◌↔◌, ℕ, List, length, Option, IfErr, IfOk};
 ghost use Rattle.prefix_lattice.specs.{record_limit};
 ghost use Rattle.pcap_frames.specs.{FrameValue};
 ghost use Rattle.frame_records.specs.{AreRecordsOf, CaptureFileHasFrames, HasRecords};
@@ -15,27 +12,23 @@ ghost use Rattle.exact_audit.specs.{IsVerdict};
 ghost use Rattle.exact_audit.specs.declared.verdict.Verdict.TheVariants.{Good};
 ghost use Rattle.command_words.specs.{AreLimitedSettings, AreWideSettings};
 ghost use Rattle.hhh_engine.specs.Answer.{IsUnfinishedAnswer};
-ghost use Rattle.hhh_engine.specs.Demo.{IsDemoText, IsDemoReport, demo_text as text_of_demo};
+ghost use Rattle.hhh_engine.specs.Demo.{IsDemoText, demo_text as text_of_demo};
 ghost use Rattle.hhh_engine.specs.Ending.{Ends, EndingSourceFaults};
-ghost use Rattle.hhh_engine.specs.DealtFeed.{DealtFeedRunsPlan, IsDealtFeedOpening};
-ghost use Rattle.hhh_engine.specs.NoText.{HasNoText};
-ghost use Rattle.hhh_engine.specs.Session.{IsShownInSession, session_ends};
-ghost use Rattle.hhh_engine.specs.declared.status.Status.TheVariants.{BadCapture, ReadFault};
+ghost use Rattle.hhh_engine.specs.Reading.{HasNoText};
+ghost use Rattle.run_status.specs.declared.status.Status.TheVariants.{BadCapture, ReadFault};
 
-use crate::commands::dealing::deal_records;
-use crate::commands::feed::plan_of;
 use crate::commands::made_source::MadeSource;
-use crate::commands::session::{Opened, open, openings_stand};
-use crate::decimal_text::push_number;
 use crate::laws::made_captures_are_captures;
 use crate::{Settings, Status};
 use deal_rules::{Dealer, Dealers, Deals, Dealt};
+use dealt_capture::deal_records;
 use exact_audit::{Verdict, audit};
 use frame_records::{Records, Weigh, files_are_read_or_refused, read_records};
-use gate_workers::{Gate, Gathered, OpenGate, Rounds, report_once, run_threads};
+use gate_workers::Gate;
 use hhh_report::Report;
 use outside_io::{Sink, Source, write_all};
-use pass_tokens::{Board, Pass};
+use report_session::report_all;
+use run_status::push_number;
 use std::alloc::{AllocError, Global};
 use std::marker::Sync;
 use std::sync::Wait;
@@ -142,104 +135,6 @@ fn read_capture<S: Source>(alloc: Global, capture: &mut S, weigh: Weigh) -> Resu
     ensures refused { IfErr result (HasNoText (S.left capture.old) (S.faults capture.old) (S.faults capture.new)) }
 {
     Ok(read_records(alloc, capture, weigh)?)
-}
-
-// Counts all dealt records in new tables, and reports on them.
-fn report_all<R: Threads + Wait + Sync, G: Gate + Sync>(
-    rt: &R,
-    alloc: Global,
-    dealt: Dealt,
-    settings: &Settings,
-    gate: &G,
-) -> Result<Report, AllocError>
-    requires limited { AreLimitedSettings settings.now }
-    requires wide { AreWideSettings settings.now }
-    requires shards { length dealt ≡ settings.now.shards }
-    ensures { IfOk result (IsDemoReport settings.now dealt) }
-{
-    openings_stand(&dealt, &None, settings.capacity);
-    let opened = open(alloc, dealt, None, settings.capacity)?;
-    let report = report_opened(rt, alloc, opened, settings, gate)?;
-    Ok(report)
-}
-
-// Counts all records of the shards on a board, and reports on them.
-fn report_opened<R: Threads + Wait + Sync, G: Gate + Sync>(
-    rt: &R,
-    alloc: Global,
-    opened: Opened,
-    settings: &Settings,
-    gate: &G,
-) -> Result<Report, AllocError>
-    requires limited { AreLimitedSettings settings.now }
-    requires wide { AreWideSettings settings.now }
-    requires opened { IsDealtFeedOpening opened.board.opening opened }
-    requires alike { core_capacity opened.board.opening ≡ settings.now.capacity }
-    ensures shown { IfOk result (λ report. IsShownInSession opened.board.opening settings.now (record { report = report; saved = None })) }
-    ensures at_ends { IfOk result (λ report. report.positions ≡ session_ends opened.board.opening) }
-{
-    let Opened { board, pass, cut } = opened;
-    let mut cut = cut;
-    let gathered = count_all(rt, alloc, &board, pass, settings, gate)?;
-    let mut pass = gathered.pass;
-    let report = report_once(
-        rt,
-        alloc,
-        &board,
-        &mut pass,
-        0,
-        0,
-        settings.phi,
-        &mut cut,
-        &OpenGate,
-    )?;
-    Ok(report)
-}
-
-// Counts all records of the shards on a board by the plan of the settings. The calling thread makes no rounds.
-fn count_all<R: Threads + Wait + Sync, G: Gate + Sync>(
-    rt: &R,
-    alloc: Global,
-    board: &Board,
-    pass: Pass,
-    settings: &Settings,
-    gate: &G,
-) -> Result<Gathered, AllocError>
-    requires limited { AreLimitedSettings settings.now }
-    requires wide { AreWideSettings settings.now }
-    requires pass { IsPassOfBoard board.now pass }
-    requires alike { core_capacity board.now.opening ≡ settings.now.capacity }
-    ensures ran { IfOk result (DealtFeedRunsPlan board.now settings.now (view pass)) }
-    ensures ends { IfOk result (λ gathered. FeedHasSeenEnds board.now.opening (view gathered.pass)) }
-    ensures pass { IfOk result (λ gathered. IsPassOfBoard board.now gathered.pass) }
-{
-    let mut rounds = NoRounds;
-    let gathered = run_threads(
-        rt,
-        alloc,
-        board,
-        pass,
-        &plan_of(settings),
-        gate,
-        &mut rounds,
-    )?;
-    Ok(gathered)
-}
-
-// The calling thread makes no rounds.
-#[derive(Drop)]
-struct NoRounds;
-
-impl Rounds for NoRounds {
-    ghost use Rattle.std.specs.Prelude.{⊤, ◌≡◌};
-
-    ghost ready = { λ rounds board view. ⊤ };
-
-    ghost stays = { λ rounds board before now later ready. ready };
-
-    ghost does = { λ rounds before later now. now ≡ before };
-
-    fn go<R: Wait>(&mut self, _rt: &R, _alloc: Global, _board: &Board, _pass: &mut Pass) {}
 }
 
 // The lines that say what was made, counted and reported, and that the audit found the report sound.

@@ -6,13 +6,13 @@ ghost use Rattle.pcap_frames.specs.declared.fault.CaptureFault.{CaptureFault};
 ghost use Rattle.command_words.specs.{AreLimitedSettings};
 ghost use Rattle.hhh_engine.specs.Answer.{IsUnfinishedAnswer, formatted_answer};
 ghost use Rattle.hhh_engine.specs.Ending.{Ends, FormatEnds, EndingSourceFaults};
-ghost use Rattle.hhh_engine.specs.Saves.{store_settings_for_saves};
-ghost use Rattle.hhh_engine.specs.declared.status.Status.TheVariants.{BadCapture, ReadFault, DiskFault};
+ghost use Rattle.report_session.specs.{store_settings_for_saves};
+ghost use Rattle.run_status.specs.declared.status.Status.TheVariants.{BadCapture, ReadFault, DiskFault};
 
-use crate::commands::base::store_settings;
 use crate::{Settings, Status};
 use checkpoint::{formatted_stores_are_empty, header_of};
 use outside_io::{Sink, write_all};
+use report_session::store_settings;
 use slot_disk::Disk;
 
 /// Formats the store of these settings, and writes that it is formatted. What the disk held is lost. After `DiskFault`

@@ -5,7 +5,7 @@ ghost use Rattle.pcap_frames.specs.declared.fault.CaptureFault.{CaptureFault};
 ghost use Rattle.traffic_maker.specs.{made_capture, most_made_capture_frames};
 ghost use Rattle.hhh_engine.specs.Answer.{IsUnfinishedAnswer};
 ghost use Rattle.hhh_engine.specs.Ending.{Ends, EndingSourceFaults};
-ghost use Rattle.hhh_engine.specs.declared.status.Status.TheVariants.{BadCapture, ReadFault};
+ghost use Rattle.run_status.specs.declared.status.Status.TheVariants.{BadCapture, ReadFault};
 
 use crate::Status;
 use outside_io::Sink;

@@ -6,35 +6,25 @@ ghost use Rattle.deal_rules.specs.{dealer_of};
 ghost use Rattle.command_words.specs.{AreLimitedSettings, AreWideSettings};
 ghost use Rattle.outside_io.specs.{FaultCountRose};
 ghost use Rattle.hhh_engine.specs.Ending.{Ends, RefusesStoreAtEnding, ending_source_faults};
-ghost use Rattle.hhh_engine.specs.DealtFeed.{DealtFeedEnds, IsDealtFeedCapture};
-ghost use Rattle.hhh_engine.specs.Inputs.{IsInputCapture};
-ghost use Rattle.hhh_engine.specs.NoText.{HasNoText};
-ghost use Rattle.hhh_engine.specs.Saves.{IsAsBeforeSaves, SavesAreKeptOnDisk};
-ghost use Rattle.hhh_engine.specs.Session.{IsSession, IsSessionInPart};
-ghost use Rattle.hhh_engine.specs.declared.status.Status.TheVariants.{DiskFault};
+ghost use Rattle.hhh_engine.specs.Reading.{HasNoText};
+ghost use Rattle.report_session.specs.{IsDealtFeedCapture};
+ghost use Rattle.dealt_capture.specs.{IsCaptureFile};
+ghost use Rattle.report_session.specs.{IsAsBeforeSaves, SavesAreKeptOnDisk, IsSession, IsSessionInPart};
+ghost use Rattle.run_status.specs.declared.status.Status.TheVariants.{DiskFault};
 
-use crate::commands::base::open_base;
-use crate::commands::dealing::deal_records;
-use crate::commands::session::{openings_stand, write_session};
 use crate::{Settings, Status};
-use deal_rules::{Dealer, Dealers, Deals, Dealt};
+use deal_rules::{Dealer, Dealers, Deals};
+use dealt_capture::deal_records;
 use frame_records::read_records;
 use gate_workers::Gate;
 use outside_io::{Sink, Source};
+use report_session::{DealtFeed, report_dealt};
 use report_text::print_tail;
 use slot_disk::Disk;
 use std::alloc::Global;
 use std::marker::Sync;
 use std::sync::Wait;
 use std::thread::Threads;
-
-// The dealt records of a capture.
-#[derive(Drop)]
-struct DealtCapture {
-    dealt: Dealt,
-    // The last lines of the session over the capture.
-    tail: Vec<u8>,
-}
 
 /// Reads a capture to its end, opens the store, if the settings ask for one, counts the records while reports are made, and
 /// writes the session.
@@ -56,7 +46,7 @@ pub(crate) fn report<R: Threads + Wait + Sync, S: Source, K: Sink, D: Disk, G: G
         (λ front. IfSome (S.left capture.old) (λ file. IsSessionInPart settings.now
         (λ kind. ⟦<Dealer as Deals>⟧.may_answer (dealer_of kind dealers.now))
         (SavesAreKeptOnDisk D.Disk disk.old disk.new) (D.reads disk.old) file front))
-        (IsAtEnd (S.left capture.new)) (IfSome (S.left capture.old) IsInputCapture)
+        (IsAtEnd (S.left capture.new)) (IfSome (S.left capture.old) IsCaptureFile)
         (FaultCountRose (D.faults disk.old) (D.faults disk.new)) (disk.new ≡ disk.old)
         (IsAsBeforeSaves D.Disk disk.old disk.new)
         (RefusesStoreAtEnding settings.now (λ kind. ⟦<Dealer as Deals>⟧.may_answer (dealer_of kind dealers.now)) (S.left capture.old) (D.reads disk.old)
@@ -73,46 +63,13 @@ pub(crate) fn report<R: Threads + Wait + Sync, S: Source, K: Sink, D: Disk, G: G
     report_dealt(rt, alloc, fed, settings, sink, disk, gate)
 }
 
-// Opens the store, and writes the session over dealt records.
-fn report_dealt<R: Threads + Wait + Sync, K: Sink, D: Disk, G: Gate + Sync>(
-    rt: &R,
-    alloc: Global,
-    fed: DealtCapture,
-    settings: &Settings,
-    sink: &mut K,
-    disk: &mut D,
-    gate: &G,
-) -> Status
-    requires limited { AreLimitedSettings settings.now }
-    requires wide { AreWideSettings settings.now }
-    requires shards { length fed.dealt ≡ settings.now.shards }
-    requires tail { 0 < length fed.tail.items }
-    ensures ends { DealtFeedEnds settings.now fed.dealt fed.tail.items
-        (SavesAreKeptOnDisk D.Disk disk.old disk.new) (D.reads disk.old)
-        (IsAsBeforeSaves D.Disk disk.old disk.new)
-        sink.old sink.new (K.taken sink.old) (K.taken sink.new) (record { sink = K.faults sink.old; disk = D.faults disk.old })
-        (record { sink = K.faults sink.new; disk = D.faults disk.new }) result }
-    ensures unused { settings.now.store ≡ false → disk.new ≡ disk.old }
-{
-    let DealtCapture { dealt, tail } = fed;
-    let base = match open_base(alloc, settings, &dealt, disk) {
-        Ok(base) => base,
-        Err(status) => return status,
-    };
-    openings_stand(&dealt, &base.cut, settings.capacity);
-    match write_session(rt, alloc, dealt, base, &tail, settings, sink, disk, gate) {
-        Ok(()) => Status::Done,
-        Err(status) => status,
-    }
-}
-
 // Reads a capture to its end, and deals its records as the settings specify.
 fn read_dealt<S: Source>(
     alloc: Global,
     settings: &Settings,
     capture: &mut S,
     dealers: &Dealers,
-) -> Result<DealtCapture, Status>
+) -> Result<DealtFeed, Status>
     requires limited { AreLimitedSettings settings.now }
     ensures dealt { IfOk result (λ fed. IfSome (S.left capture.old) (λ file.
         IsDealtFeedCapture settings.now (λ kind. ⟦<Dealer as Deals>⟧.may_answer (dealer_of kind dealers.now)) file fed.dealt fed.tail.items)) }
@@ -126,5 +83,5 @@ fn read_dealt<S: Source>(
     let mut tail = Vec::new(alloc);
     print_tail(&records, &mut tail)?;
     let dealt = deal_records(alloc, &records.list, settings, dealers)?;
-    Ok(DealtCapture { dealt, tail })
+    Ok(DealtFeed { dealt, tail })
 }

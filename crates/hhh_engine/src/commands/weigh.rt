@@ -1,20 +1,20 @@
 //! The weight of one prefix, from a Space-Saving table.
 
-ghost use Rattle.std.specs.Prelude.{⊤, ℕ, ◌≡◌, ◌≤◌, List, length, All, IfOk, IfErr, IfSome, OnOk, IsErrOf};
+ghost use Rattle.std.specs.Prelude.{⊤, ℕ, ◌≡◌, ◌≤◌, length, All, IfOk, IfErr, IfSome, OnOk, IsErrOf};
 ghost use Rattle.std.specs.Io.KnownBytes.{IsAtEnd};
-ghost use Rattle.prefix_lattice.specs.{RecordValue, record_limit};
+ghost use Rattle.prefix_lattice.specs.{record_limit};
 ghost use Rattle.shard_state.specs.{snapshot_records_table, NarrowIntervalHoldsWeightOver};
 ghost use Rattle.hhh_engine.specs.Answer.{IsWeighAnswerInPart};
 ghost use Rattle.hhh_engine.specs.Ending.{Ends, ending_source_faults};
-ghost use Rattle.hhh_engine.specs.Inputs.{IsInputCapture};
-ghost use Rattle.hhh_engine.specs.NoText.{HasNoText};
+ghost use Rattle.dealt_capture.specs.{IsCaptureFile};
+ghost use Rattle.hhh_engine.specs.Reading.{HasNoText};
 ghost use Rattle.hhh_engine.specs.WeightText.{weight_text_for, weight_text_capacity, weight_text, IsWeightText};
 
-use crate::decimal_text::push_number;
 use crate::{Settings, Status};
 use frame_records::read_records;
 use outside_io::{Sink, Source, write_all};
 use prefix_lattice::{Node, Prefix, Record};
+use run_status::push_number;
 use shard_state::tables_hold_weights;
 use space_saving::{PlainTable, Summary};
 use std::alloc::{AllocError, Global};
@@ -32,7 +32,7 @@ pub(crate) fn weigh<S: Source, K: Sink>(
 ) -> Status
     ensures { (other : ℕ) → Ends (λ text. IfSome (S.left capture.old) (λ file. IsWeightText prefix.now settings.now.weigh file text))
         (λ front. IfSome (S.left capture.old) (λ file. IsWeighAnswerInPart prefix.now settings.now.weigh file front))
-        (IsAtEnd (S.left capture.new)) (IfSome (S.left capture.old) IsInputCapture) ⊥ ⊤ ⊤ (λ fault. ⊥) (λ status. ⊥) (S.left capture.old)
+        (IsAtEnd (S.left capture.new)) (IfSome (S.left capture.old) IsCaptureFile) ⊥ ⊤ ⊤ (λ fault. ⊥) (λ status. ⊥) (S.left capture.old)
         (ending_source_faults (S.faults capture.old) other) (ending_source_faults (S.faults capture.new) other)
         sink.old sink.new (K.taken sink.old) (K.taken sink.new) (K.faults sink.old) (K.faults sink.new) result }
 {

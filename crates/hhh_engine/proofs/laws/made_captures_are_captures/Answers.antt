@@ -1,4 +1,5 @@
-use Rattle.hhh_engine.proofs.MadeCaptureLemmas.{made_capture_has_values, made_capture_values, made_capture_value_count}
+use Rattle.hhh_engine.proofs.MadeCaptureLemmas.{made_capture_has_values, made_capture_values}
+use Rattle.hhh_engine.proofs.MadeCaptureLemmas.{made_capture_value_count}
 use Rattle.hhh_engine.proofs.laws.made_captures_are_captures.Goals as goal
 
 pub returns : goal.returns

@@ -1,19 +1,27 @@
-use Rattle.hhh_engine.specs.Saves.{SavesAreKeptOnDisk}
-use Rattle.hhh_engine.specs.Session.{session_rules_by_formula}
-use Rattle.hhh_engine.proofs.OwnSessionLemmas.{own_session_passes_audit, own_session_is_valid}
+use Rattle.std.proofs.Common.{ap, sym}
+use Rattle.session_audit.specs.{sound_audit_text}
+use Rattle.dealt_capture.specs.{rules_by_formula}
+use Rattle.hhh_engine.proofs.OwnSessionLemmas.{own_session_is_dealt_alike, own_session_is_sound_alike}
 use Rattle.hhh_engine.proofs.laws.own_sessions_are_audited_good.Goals as goal
 
 pub returns-clause-is_text : goal.returns-clause-is_text
-returns-clause-is_text g c = λ formula before now settings store file text is limited represents. (
-  _,
-  own_session_is_valid c.printed_sessions_read_back.ensures.printed settings (session_rules_by_formula formula)
-      (SavesAreKeptOnDisk g.D.Disk before now) store file text is
-      limited represents,
-)
+returns-clause-is_text g c = λ formula before now settings store file text is limited represents.
+    let known = c.sessions_read_back.ensures formula before now settings store file text is limited represents in (known.0, known.1)
 
 pub returns-clause-good : goal.returns-clause-good
 returns-clause-good g c = λ formula before now settings other store file text is limited shards capacity phi deal weigh
     short represents.
-    own_session_passes_audit c.printed_sessions_read_back.ensures.printed settings other (session_rules_by_formula formula)
-    (SavesAreKeptOnDisk g.D.Disk before now) store file text is
-    limited shards capacity phi deal weigh short represents
+    let known = c.sessions_read_back.ensures formula before now settings store file text is limited represents in
+    record {
+      lists = is.lists;
+      session = known.0;
+      audited = record {
+        records = is.records;
+        dealt = own_session_is_dealt_alike settings other (rules_by_formula formula) file is.records is.lists shards deal weigh
+            is.dealt;
+        is_session = known.1;
+        not_long = short;
+      };
+      sound = own_session_is_sound_alike settings other is.lists known.0.reports capacity phi known.2;
+      spelled = ap sound_audit_text (sym known.3);
+    }

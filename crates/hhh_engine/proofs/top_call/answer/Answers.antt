@@ -1,11 +1,11 @@
 use Rattle.std.proofs.Common.{refl}
 use Rattle.command_words.specs.declared.command.Command.TheVariants.{Weigh, Report, Format, Audit, Make, Demo}
 use Rattle.hhh_engine.specs.Ending.{RefusesStoreAtEnding}
-use Rattle.hhh_engine.specs.TopCall.{Streams, run_inputs, streams}
-use Rattle.hhh_engine.specs.Saves.{IsAsBeforeSaves}
+use Rattle.hhh_engine.specs.TopCall.{streams}
+use Rattle.report_session.specs.{IsAsBeforeSaves, IsAsBeforeSaves-untouched}
 use Rattle.hhh_engine.proofs.AuditEndLemmas.{audit_ends_as}
-use Rattle.hhh_engine.proofs.ReadOrderLemmas.{read_order_of_capture_alone, read_order_of_neither, read_order_of_variant}
-use Rattle.hhh_engine.proofs.SaveLemmas.{disk_without_save_is_unchanged}
+use Rattle.hhh_engine.proofs.ReadOrderLemmas.{read_order_of_capture_alone, read_order_of_neither}
+use Rattle.hhh_engine.proofs.ReadOrderLemmas.{read_order_of_variant}
 use Rattle.hhh_engine.proofs.StatusLemmas.{status_as_named_command, status_beside_disk}
 use Rattle.hhh_engine.proofs.top_call.answer.Goals as goal
 
@@ -14,7 +14,7 @@ returns-in-Weigh-clause-ends g c =
     status_as_named_command g.S.Source g.T.Source g.K.Sink g.D.Disk _ _ _ c.args.command.now
     (Weigh c.in-Weigh.prefix c.in-Weigh.settings) c.weigh.result c.in-Weigh.is
     (status_beside_disk _ _ _ _ _ _ (λ fault. ⊥) (λ status. ⊥) _ _ _ _ _ _ _ _ _ c.weigh.result refl
-    (disk_without_save_is_unchanged g.D.Disk c.args.disk.now c.args.disk.now g.met.D.Disk.only_now refl) (c.weigh.ensures _))
+    (IsAsBeforeSaves-untouched g.D.Disk c.args.disk.now c.args.disk.now g.met.D.Disk.only_now refl) (c.weigh.ensures _))
 
 pub returns-in-Report-clause-ends : goal.returns-in-Report-clause-ends
 returns-in-Report-clause-ends g c =
@@ -33,7 +33,7 @@ returns-in-Audit-clause-ends g c =
     (audit_ends_as g.S.Source g.T.Source g.K.Sink g.D.Disk
     (streams c.args.capture.now c.args.text.now c.args.sink.now c.args.disk.now)
     (streams c.audit.new.capture c.audit.new.text c.audit.new.sink c.args.disk.now) _ c.in-Audit.settings c.audit.result refl
-    (disk_without_save_is_unchanged g.D.Disk c.args.disk.now c.args.disk.now g.met.D.Disk.only_now refl)
+    (IsAsBeforeSaves-untouched g.D.Disk c.args.disk.now c.args.disk.now g.met.D.Disk.only_now refl)
     (c.audit.ensures.ends (g.D.Disk.reads c.args.disk.now)))
 
 pub returns-in-Make-clause-ends : goal.returns-in-Make-clause-ends
@@ -41,7 +41,7 @@ returns-in-Make-clause-ends g c =
     status_as_named_command g.S.Source g.T.Source g.K.Sink g.D.Disk _ _ _ c.args.command.now (Make c.in-Make.seed c.in-Make.frames)
     c.make.result c.in-Make.is
     (status_beside_disk _ _ _ _ _ _ (λ fault. ⊥) (λ status. ⊥) _ _ _ _ _ _ _ _ _ c.make.result refl
-    (disk_without_save_is_unchanged g.D.Disk c.args.disk.now c.args.disk.now g.met.D.Disk.only_now refl)
+    (IsAsBeforeSaves-untouched g.D.Disk c.args.disk.now c.args.disk.now g.met.D.Disk.only_now refl)
     (c.make.ensures.ends (g.S.Source.left c.args.capture.now) _))
 
 pub returns-in-Demo-clause-ends : goal.returns-in-Demo-clause-ends
@@ -49,7 +49,7 @@ returns-in-Demo-clause-ends g c =
     status_as_named_command g.S.Source g.T.Source g.K.Sink g.D.Disk _ _ _ c.args.command.now
     (Demo c.in-Demo.seed c.in-Demo.frames c.in-Demo.settings) c.demo.result c.in-Demo.is
     (status_beside_disk _ _ _ _ _ _ (λ fault. ⊥) (λ status. ⊥) _ _ _ _ _ _ _ _ _ c.demo.result refl
-    (disk_without_save_is_unchanged g.D.Disk c.args.disk.now c.args.disk.now g.met.D.Disk.only_now refl)
+    (IsAsBeforeSaves-untouched g.D.Disk c.args.disk.now c.args.disk.now g.met.D.Disk.only_now refl)
     (c.demo.ensures.ends (g.S.Source.left c.args.capture.now) _))
 
 pub returns-in-Weigh-clause-order : goal.returns-in-Weigh-clause-order

@@ -1,6 +1,3 @@
-use Rattle.deal_rules.specs.{dealer_of}
-use Rattle.command_words.specs.{argument_texts}
-use Rattle.hhh_engine.specs.TopCall.{streams}
 use Rattle.hhh_engine.proofs.RunEndLemmas.{run_ends_by_command, run_ends_by_refusal}
 use Rattle.hhh_engine.proofs.top_call.run.Goals as goal
 
@@ -14,7 +11,10 @@ returns g c =
       opened = c.belonging_stores_are_opened.ensures;
       one_text_fault = c.session_texts_have_one_reading.ensures.one_fault;
       no_text_fault = c.session_texts_have_one_reading.ensures.no_fault;
-      one_verdict = c.a_report_has_one_verdict.ensures;
+      one_verdict = record {
+        one_first = c.audits_find_one_report.ensures.one_first;
+        never_both = c.audits_find_one_report.ensures.never_both;
+      };
     }) g.met.D.Disk.only_now _ c.read_words.result c.in-Ok.command c.answer.result c.in-Ok.is c.in-Ok.ensures.ok
     c.read_words.ensures.complete c.read_words.ensures.exact c.in-Ok.ensures.limited
     (record {

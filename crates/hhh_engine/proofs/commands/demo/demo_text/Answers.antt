@@ -1,21 +1,20 @@
-use Rattle.std.proofs.Common.{◌∙◌, ap, length}
-use Rattle.std.proofs.lemmas.List.FromFn.{length-map-range_with_len}
+use Rattle.std.proofs.Common.{◌∙◌, ap}
 use Rattle.hhh_engine.specs.Demo.{demo_text}
-use Rattle.hhh_engine.proofs.SessionThreadLemmas.{session_thread_if_ok_implies}
+use Rattle.hhh_engine.proofs.DemoTextLemmas.{demo_text_if_ok_implies}
 use Rattle.hhh_engine.proofs.commands.demo.demo_text.Goals as goal
 
 pub report_all-requires-clause-shards : goal.report_all-requires-clause-shards
 report_all-requires-clause-shards g c = λ κs outlives.
-    ap length c.in_ok-dealt.ensures.dealt.parted ∙ length-map-range_with_len _ 0 c.args.settings.now.shards
+    c.in_ok-dealt.ensures.shards
 
 pub returns : goal.returns
 returns g c =
     let made = c.in_ok-records.ensures.records in
-    session_thread_if_ok_implies c.summary.result _ _
+    demo_text_if_ok_implies c.summary.result _ _
     (λ text spelled. record {
       records = c.in_ok-records.records;
       lists = c.in_ok-dealt.dealt;
-      dealt = record { frames = made.0; capture = made.1; are_records = made.2; dealt = c.in_ok-dealt.ensures };
+      dealt = record { frames = made.0; capture = made.1; are_records = made.2; dealt = c.in_ok-dealt.ensures.dealt };
       report = c.in_ok-report.report;
       is_report = c.in_ok-report.ensures;
       spelled =

@@ -1,6 +1,6 @@
 use Rattle.std.proofs.Common.{◌∙◌, Some, subst}
 use Rattle.traffic_maker.specs.{made_capture}
-use Rattle.hhh_engine.specs.NoText.{HasNoText}
+use Rattle.hhh_engine.specs.Reading.{HasNoText}
 use Rattle.hhh_engine.proofs.DemoLemmas.{demo_capture_is_never_refused}
 use Rattle.hhh_engine.proofs.commands.demo.made_records.Goals as goal
 

@@ -1,0 +1,2 @@
+pub mod DealtCaptureLemmas
+pub mod Examples

@@ -1,0 +1,28 @@
+//! Dealing records as the settings specify.
+
+ghost use Rattle.std.specs.Prelude.{◌≡◌, ◌≤◌, length, IfOk};
+ghost use Rattle.deal_rules.specs.{IsDealing, dealer_of};
+ghost use Rattle.prefix_lattice.specs.{record_limit};
+ghost use Rattle.command_words.specs.{AreLimitedSettings};
+
+use command_words::Settings;
+use deal_rules::{Dealer, Dealers, Deals, Dealt, deal};
+use prefix_lattice::RecordList;
+use std::alloc::{AllocError, Global};
+
+/// Deals records to as many shards as the settings specify, by their rule.
+pub fn deal_records(
+    alloc: Global,
+    list: &RecordList,
+    settings: &Settings,
+    dealers: &Dealers,
+) -> Result<Dealt, AllocError>
+    requires limited { AreLimitedSettings settings.now }
+    requires small { length list.now ≤ record_limit }
+    ensures dealt { IfOk result (IsDealing settings.now.deal (⟦<Dealer as Deals>⟧.may_answer (dealer_of settings.now.deal dealers.now))
+        settings.now.shards list.now) }
+    ensures shards { IfOk result (λ lists. length lists ≡ settings.now.shards) }
+{
+    let lists = deal(alloc, list, dealers.of(settings.deal), settings.shards)?;
+    Ok(lists)
+}

@@ -1,0 +1,78 @@
+-- Worked examples of what `weigh` writes for a capture of one packet.
+use Rattle.std.proofs.Common.{◌≡◌, ℕ, List, [], ◌∷◌, ◌++◌, refl, codes, arith}
+use Rattle.std.specs.Fmt.{digits}
+use Rattle.prefix_lattice.specs.{PrefixValue}
+use Rattle.pcap_frames.specs.declared.file_order.FileOrder.TheVariants.{Little}
+use Rattle.pcap_frames.specs.{number_in_file_order, FrameValue, header_magic_order}
+use Rattle.frame_records.specs.{CaptureFileHasFrames}
+use Rattle.frame_records.specs.declared.weigh.Weigh.TheVariants.{Bytes, Packets}
+use Rattle.hhh_engine.specs.WeightText.{weight_text_capacity, weight_text, weight_text_for, IsWeightText}
+use Rattle.report_session.proofs.Examples.{header}
+use Rattle.dealt_capture.proofs.Examples.{packet}
+
+-- 10.0.0.0/8 20.0.0.0/8, and 11.0.0.0/8 20.0.0.0/8
+abbrev pub prefix : PrefixValue
+prefix = record { source = 10 ∷ []; dest = 20 ∷ [] }
+
+abbrev other_source : PrefixValue
+other_source = record { source = 11 ∷ []; dest = 20 ∷ [] }
+
+pub text_of_a_weight : weight_text 60 100 100 ≡ codes "low 60\nhigh 100\ntotal 100\n"
+unfolding digits
+text_of_a_weight = refl
+
+pub text_of_the_packet : weight_text_for prefix (packet ∷ []) ≡ weight_text 100 100 100
+text_of_the_packet = refl
+
+-- a table that isn't full shows that nothing came from other sources
+pub text_of_another_source : weight_text_for other_source (packet ∷ []) ≡ weight_text 0 0 100
+text_of_another_source = refl
+
+pub room_for_other_prefixes : weight_text_capacity ≡ 64
+room_for_other_prefixes = refl
+
+-- the header of its frame, 34 captured bytes of 100, and those bytes
+abbrev frame_header : List ℕ
+frame_header = 0 ∷ 0 ∷ 0 ∷ 0 ∷ 0 ∷ 0 ∷ 0 ∷ 0 ∷ 34 ∷ 0 ∷ 0 ∷ 0 ∷ 100 ∷ 0 ∷ 0 ∷ 0 ∷ []
+
+abbrev captured : List ℕ
+captured =
+    2 ∷ 0 ∷ 0 ∷ 0 ∷ 0 ∷ 2 ∷ 2 ∷ 0 ∷ 0 ∷ 0 ∷ 0 ∷ 1 ∷ 8 ∷ 0 ∷ 0x45 ∷ 0 ∷ 0 ∷ 86 ∷ 0 ∷ 0 ∷ 0 ∷ 0 ∷ 64 ∷ 17 ∷ 0 ∷ 0 ∷ 10
+    ∷ 1 ∷ 2 ∷ 3 ∷ 20 ∷ 1 ∷ 2 ∷ 3 ∷ []
+
+abbrev pub file : List ℕ
+file = header ++ frame_header ++ captured
+
+abbrev frame : FrameValue
+frame = record { head = captured; captured = 34; original = 100 }
+
+pub file_is_a_capture : CaptureFileHasFrames file (frame ∷ [])
+unfolding number_in_file_order header_magic_order
+file_is_a_capture = (
+  Little,
+  record {
+    header = record { whole = omega arith; magic = refl; major = refl; minor = refl; link = refl };
+    begins = (record { header = omega arith; is_frame = refl; limit = omega arith; room = omega arith }, refl);
+    limit = omega arith;
+  },
+)
+
+-- `weigh 10.0.0.0/8 20.0.0.0/8` over the file
+pub weight_of_the_file : IsWeightText prefix Bytes file (codes "low 100\nhigh 100\ntotal 100\n")
+unfolding digits
+weight_of_the_file = record {
+  frames = frame ∷ [];
+  capture = file_is_a_capture;
+  spelled = refl;
+  holds = record { holds = record { low = omega arith; high = omega arith }; narrow = omega arith };
+}
+
+-- and with `--weigh packets`
+pub packets_of_the_file : IsWeightText prefix Packets file (codes "low 1\nhigh 1\ntotal 1\n")
+unfolding digits
+packets_of_the_file = record {
+  frames = frame ∷ [];
+  capture = file_is_a_capture;
+  spelled = refl;
+  holds = record { holds = record { low = omega arith; high = omega arith }; narrow = omega arith };
+}

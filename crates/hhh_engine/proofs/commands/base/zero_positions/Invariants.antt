@@ -1,6 +1,0 @@
-use Rattle.std.proofs.Common.{◌≡◌, replicate}
-use Rattle.hhh_engine.proofs.commands.base.zero_positions.Given as goal
-
--- one 0 for each shard so far
-abbrev pub invariant-loop-shard : goal.invariant-loop-shard
-invariant-loop-shard l = l.positions ≡ replicate l._shard 0

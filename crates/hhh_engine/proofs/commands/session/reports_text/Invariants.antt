@@ -1,8 +1,0 @@
-use Rattle.std.proofs.Common.{◌≡◌, take}
-use Rattle.hhh_engine.specs.DealtFeed.{dealt_feed_other_reports}
-use Rattle.hhh_engine.specs.Session.{session_caller_parts}
-use Rattle.hhh_engine.proofs.commands.session.reports_text.Given as goal
-
--- the text has the reports of the callers so far
-abbrev pub invariant-loop-caller : goal.invariant-loop-caller
-invariant-loop-caller l = l.text.items ≡ session_caller_parts (take l.caller-index (dealt_feed_other_reports l.called))

@@ -1,5 +1,0 @@
-use Rattle.hhh_engine.proofs.SavedStoreLemmas.{saved_store_stands_at_ends}
-use Rattle.hhh_engine.proofs.laws.last_saves_are_at_the_ends.Goals as goal
-
-pub returns : goal.returns
-returns c = saved_store_stands_at_ends

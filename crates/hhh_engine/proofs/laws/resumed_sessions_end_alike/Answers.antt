@@ -1,7 +1,0 @@
-use Rattle.hhh_engine.proofs.SavedStoreLemmas.{saved_store_sessions_end_alike}
-use Rattle.hhh_engine.proofs.laws.resumed_sessions_end_alike.Goals as goal
-
-pub returns : goal.returns
-returns c =
-    saved_store_sessions_end_alike c.standing_cuts_have_one_report.ensures c.reported_cuts_represent.ensures
-    c.same_reports_have_one_text.ensures

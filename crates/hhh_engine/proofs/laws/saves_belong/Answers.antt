@@ -1,5 +1,0 @@
-use Rattle.hhh_engine.proofs.SavedStoreLemmas.{saved_store_of_session_belongs}
-use Rattle.hhh_engine.proofs.laws.saves_belong.Goals as goal
-
-pub returns : goal.returns
-returns c = saved_store_of_session_belongs c.reported_cuts_represent.ensures

@@ -1,5 +1,0 @@
-use Rattle.hhh_engine.proofs.LastReportLemmas.{last_report_stands_alone}
-use Rattle.hhh_engine.proofs.laws.sessions_without_rounds_have_one_report.Goals as goal
-
-pub returns : goal.returns
-returns c = λ opening settings reports tail none are. last_report_stands_alone opening settings reports tail none are

@@ -1,0 +1,121 @@
+-- What a run goes on from.
+use Rattle.std.proofs.Common.{◌≡◌, ◌∙◌, ◌≤◌, ◌+◌, ℕ, true, false, List, Option, None, Some}
+use Rattle.std.proofs.Common.{refl, sym, ap, subst, arith, length, map, replicate, inr}
+use Rattle.std.proofs.lemmas.Bool.{false≢true}
+use Rattle.slot_disk.specs.{IfImageKnown}
+use Rattle.checkpoint.specs.declared.settings.StoreSettings.{StoreSettings}
+use Rattle.recovery.specs.declared.fault.OpenFault.TheVariants as opening
+use Rattle.recovery.specs.declared.opened.Opened.{Opened}
+use Rattle.command_words.specs.{AreLimitedSettings}
+use Rattle.std.specs.Prelude.{IfSome, is_some}
+use Rattle.prefix_lattice.specs.{RecordValue}
+use Rattle.hhh_report.specs.{AreCutPositionsNotPast}
+use Rattle.shard_state.specs.{CutValue, ShardValue, core_capacity}
+use Rattle.pass_tokens.specs.{first_view}
+use Rattle.checkpoint.specs.{AreHeaderSettings, SaverState, DiskMatchesSaver}
+use Rattle.recovery.specs.{OpeningCanGoOn, IsOpeningBase, OpensToBase, opening_base_positions, greatest_opened_sequence}
+use Rattle.command_words.specs.declared.settings.Settings.{Settings}
+use Rattle.report_session.specs.DealtFeed.{DealtFeedGoesOn, HasNoDealtFeedBase, IsDealtFeedBase, IsDealtFeedSaver}
+use Rattle.report_session.specs.Saves.{store_settings_for_saves-allowed, CanMakeSaves, store_settings_for_saves}
+use Rattle.report_session.specs.Session.{session_opening, session_start}
+use Rattle.report_session.specs.declared.base.Base.{Base}
+use Rattle.run_status.specs.declared.status.Status.{Status}
+use Rattle.run_status.specs.declared.status.Status.TheVariants.{OutOfMemory}
+use Rattle.report_session.proofs.OpeningShardLemmas.{resumed_opening_shards_at_cut, opening_shards_start_at_zero}
+use Rattle.report_session.proofs.SeenPositionLemmas.{seen_positions_not_past_self}
+use Rattle.report_session.proofs.SessionThreadLemmas.{first_session_thread_sees_starts}
+
+-- shards may go on from the base
+pub base_goes_on : (settings : Settings) (lists : List (List RecordValue)) (base : Option CutValue)
+    → IfSome base (IsOpeningBase (store_settings_for_saves settings) lists) → IfSome base (DealtFeedGoesOn settings.capacity lists)
+base_goes_on settings lists None fits = tt
+base_goes_on settings lists (Some cut) fits = record { alike = fits.shape.alike; continues = fits.continues }
+
+-- the positions of the base are those at which the shards start
+pub base_starts : (settings : Settings) (lists : List (List RecordValue)) (base : Option CutValue)
+    → length lists ≡ settings.shards → IfSome base (IsOpeningBase (store_settings_for_saves settings) lists)
+    → opening_base_positions (store_settings_for_saves settings) base ≡ session_start (session_opening settings.capacity lists base)
+base_starts settings lists None many fits =
+    ap (λ n. replicate n 0) (sym many) ∙ sym (opening_shards_start_at_zero settings.capacity lists)
+base_starts settings lists (Some cut) many fits = sym (resumed_opening_shards_at_cut lists cut.shards fits.continues)
+
+-- the saver of the base may make the saves of a session
+pub base_saver_is_ready : (settings : Settings) (lists : List (List RecordValue)) (reads : Option (List ℕ))
+    (possible : List ℕ → Type 0) (opening : List ShardValue) (positions : List ℕ) (saver : Option SaverState)
+    → AreLimitedSettings settings → length opening ≡ settings.shards → core_capacity opening ≡ settings.capacity
+    → positions ≡ session_start opening → IfSome saver (IsDealtFeedSaver settings lists positions)
+    → IfSome saver (DiskMatchesSaver reads possible)
+    → IfSome saver (CanMakeSaves reads possible opening (first_view opening) (settings.rounds + 1))
+base_saver_is_ready settings lists reads possible opening positions None limited many alike starts is stands = tt
+base_saver_is_ready settings lists reads possible opening positions (Some saver) limited many alike starts is stands =
+    let early : saver.sequence ≤ greatest_opened_sequence = is.early in
+    let few : settings.rounds ≤ 32 = limited.few_rounds in
+    record {
+      fits = record {
+        settings = subst AreHeaderSettings (sym is.settings_are) (store_settings_for_saves-allowed settings limited);
+        shards = ap (λ (s : StoreSettings). s.shards) is.settings_are ∙ sym many;
+        capacity = ap (λ (s : StoreSettings). s.capacity) is.settings_are ∙ sym alike;
+        seen = subst (λ ps. AreCutPositionsNotPast ps (map (λ trail. trail.seen) (first_view opening).trails))
+            (first_session_thread_sees_starts opening ∙ sym starts ∙ sym is.positions_are)
+            (seen_positions_not_past_self (map (λ trail. trail.seen) (first_view opening).trails));
+      };
+      stands = stands;
+      early = omega (arith, early, few);
+    }
+
+-- the base that a store opened to
+pub opened_base : (settings : Settings) (lists : List (List RecordValue)) (store : Option (List ℕ)) (opened : Opened)
+    (base : Base) → settings.store ≡ true → length lists ≡ settings.shards
+    → OpeningCanGoOn (store_settings_for_saves settings) lists opened
+    → IfImageKnown store (λ image. OpensToBase (store_settings_for_saves settings) lists image opened.base)
+    → base.cut ≡ opened.base → base.positions ≡ opened.positions → base.saver ≡ Some opened.saver
+    → IsDealtFeedBase settings lists store base
+opened_base settings lists store opened base used many goes_on opens cut positions saver = record {
+  begins = record {
+    unused = λ unused. absurd (false≢true (sym unused ∙ used));
+    fits = subst (λ o. IfSome o (IsOpeningBase (store_settings_for_saves settings) lists)) (sym cut) goes_on.base;
+    opens = λ is_used. subst (λ o. IfImageKnown store (λ image. OpensToBase (store_settings_for_saves settings) lists image o)) (sym cut)
+        opens;
+  };
+  used = ap is_some saver ∙ sym used;
+  positions_are =
+      positions ∙ goes_on.positions_are ∙ base_starts settings lists opened.base many goes_on.base
+      ∙ ap (λ o. session_start (session_opening settings.capacity lists o)) (sym cut);
+  saver =
+      subst (λ o. IfSome o (IsDealtFeedSaver settings lists base.positions)) (sym saver)
+      (record {
+        settings_are = goes_on.saver_settings;
+        digest_is = goes_on.saver_digest;
+        early = goes_on.early;
+        positions_are = goes_on.saver_positions ∙ sym positions;
+      });
+}
+
+-- the base without a store
+pub new_base : (settings : Settings) (lists : List (List RecordValue)) (store : Option (List ℕ)) (base : Base)
+    → settings.store ≡ false → base ≡ record { cut = None; positions = replicate (length lists) 0; saver = None }
+    → IsDealtFeedBase settings lists store base
+new_base settings lists store base unused is =
+    subst (IsDealtFeedBase settings lists store) (sym is)
+    (record {
+      begins = record {
+        unused = λ without. refl;
+        fits = tt;
+        opens = λ used. absurd (false≢true (sym unused ∙ used));
+      };
+      used = sym unused;
+      positions_are = sym (opening_shards_start_at_zero settings.capacity lists);
+      saver = tt;
+    })
+
+-- memory ran out before there was a base
+pub no_base : (settings : Settings) (lists : List (List RecordValue)) (store : Option (List ℕ)) (faults : ℕ)
+    (status : Status) → status ≡ OutOfMemory → HasNoDealtFeedBase settings lists store faults faults status
+no_base settings lists store faults status is = record {
+  fault = opening.OutOfMemory;
+  status_is = is;
+  used = inr refl;
+  refused = λ image known. tt;
+  rose = λ same. cc same;
+  kept = λ other. refl;
+}

@@ -1,0 +1,222 @@
+-- How a report over dealt lists ends: from its base and its session.
+use Rattle.std.proofs.Common.{◌≡◌, ◌∙◌, ◌⊎◌, ◌++◌, [], inl, inr, ⊎_elim, ℕ, true, List, Option, None, Some, refl, sym}
+use Rattle.std.proofs.Common.{ap, subst}
+use Rattle.std.specs.Prelude.{IfSome, is_some}
+use Rattle.std.proofs.lemmas.Bool.{false≢true}
+use Rattle.outside_io.specs.{FaultCountRose}
+use Rattle.prefix_lattice.specs.{RecordValue}
+use Rattle.shard_state.specs.{CutValue}
+use Rattle.slot_disk.specs.{IfImageKnown, CrashLeavesAtAnyMoment, CrashLeavesAtAnyMoment-trans}
+use Rattle.slot_disk.specs.{CrashLeavesAtAnyMoment-weaker}
+use Rattle.slot_disk.specs.declared.disk.Disk.{Ghosts as DiskOf}
+use Rattle.checkpoint.specs.{SaverState, digest_of_lists, store_sequence}
+use Rattle.recovery.specs.{IsRefusedAtOpening}
+use Rattle.recovery.specs.declared.fault.OpenFault.{OpenFault}
+use Rattle.recovery.specs.declared.fault.OpenFault.TheVariants as opening
+use Rattle.command_words.specs.declared.settings.Settings.{Settings}
+use Rattle.report_session.specs.Session.{WritesAnswer, BeginsSession, SessionGoesOnFrom, SessionKeeping}
+use Rattle.report_session.specs.Session.{SessionBaseRepresents, SessionSaving, IsSessionOverShards, session_opening}
+use Rattle.report_session.specs.DealtFeed.{DealtFeedEnds, HasNoDealtFeedBase, IsDealtFeedFault, IsDealtFeedSaver}
+use Rattle.report_session.specs.DealtFeed.{DealtFeedRefusesStore, DealtFeedWrites, DealtFeedWritesInPart}
+use Rattle.report_session.specs.Rounds.{RoundFaults}
+use Rattle.report_session.specs.Saves.{KeepsSaves, OpensAsBeforeOrToSaves, SavesInPart, SavesAreKeptOnDisk}
+use Rattle.report_session.specs.Saves.{saves_after, store_settings_for_saves}
+use Rattle.run_status.specs.{status_of_opening}
+use Rattle.run_status.specs.declared.status.Status.{Status}
+use Rattle.run_status.specs.declared.status.Status.TheVariants.{Done, BadWords, BadCapture, ReadFault, WriteFault}
+use Rattle.run_status.specs.declared.status.Status.TheVariants.{DiskFault, NotFormatted, Damaged, OtherSettings}
+use Rattle.run_status.specs.declared.status.Status.TheVariants.{OtherCapture, AuditNo, BadReport, OutOfMemory}
+use Rattle.report_session.proofs.SessionTextLemmas.{session_text_begins_weaker, session_text_without_a_byte}
+use Rattle.report_session.proofs.SessionTextLemmas.{spelled_session_text_says_less}
+
+-- what a run keeps of its store, from the opening of the store and the saves after it
+pub dealt_report_keeps_saves : {D : Type 0} (d : DiskOf D) (settings : Settings) (lists : List (List RecordValue))
+    (positions : List ℕ) (saver : Option SaverState) (saved unfinished : List CutValue) (old mid new : D)
+    → is_some saver ≡ settings.store → IfSome saver (IsDealtFeedSaver settings lists positions)
+    → CrashLeavesAtAnyMoment d.moment d.image_since old mid (d.image_now old) → d.reads mid ≡ d.reads old
+    → SavesInPart d saver mid new saved unfinished → settings.store ≡ true
+    → SavesAreKeptOnDisk d old new (store_settings_for_saves settings) lists saved unfinished
+dealt_report_keeps_saves d settings lists positions None saved unfinished old mid new has is leaves same saves
+    used = absurd (false≢true (has ∙ used))
+dealt_report_keeps_saves d settings lists positions (Some saver) saved unfinished old mid new has is leaves
+    same saves used = λ bytes known.
+    let kept : KeepsSaves d (store_settings_for_saves settings)
+    (digest_of_lists (store_settings_for_saves settings) lists) (λ image. ⊥) saved unfinished mid new bytes =
+    subst (λ s. KeepsSaves d s (digest_of_lists (store_settings_for_saves settings) lists) (λ image. ⊥)
+    saved unfinished mid new bytes) is.settings_are
+    (subst (λ digest. KeepsSaves d saver.settings digest (λ image. ⊥) saved unfinished mid new bytes)
+    is.digest_is (saves.kept bytes (same ∙ known))) in
+    let among : List ℕ → Type 0 = λ image. OpensAsBeforeOrToSaves (store_settings_for_saves settings) kept.opened
+    (saves_after (store_sequence kept.opened) (digest_of_lists (store_settings_for_saves settings) lists) (saved ++ unfinished)) image in
+    record {
+      opened = kept.opened;
+      opens = kept.opens;
+      any_moment = CrashLeavesAtAnyMoment-trans d.moment d.image_since old mid new (λ image. d.image_now old image ⊎ among image)
+          (CrashLeavesAtAnyMoment-weaker d.moment d.image_since old mid (d.image_now old) (λ image. d.image_now old image ⊎ among image) leaves
+          (λ image was. inl was))
+          (CrashLeavesAtAnyMoment-weaker d.moment d.image_since mid new (λ image. ⊥ ⊎ among image)
+          (λ image. d.image_now old image ⊎ among image) kept.any_moment
+          (λ image. ⊎_elim (λ never. absurd never) (λ held. inr held)));
+      afterwards = kept.afterwards;
+    }
+
+-- a store that is refused for a fault that its bytes show
+dealt_report_refuses_lists : (settings : Settings) (lists : List (List RecordValue)) (store : Option (List ℕ)) (AsBefore : Type 0)
+    (fault : OpenFault) → AsBefore → (fault ≡ opening.OutOfMemory → ⊥)
+    → (settings.store ≡ true) ⊎ (fault ≡ opening.OutOfMemory)
+    → IfImageKnown store (λ image. IsRefusedAtOpening (store_settings_for_saves settings) lists image fault)
+    → DealtFeedRefusesStore settings lists store AsBefore fault
+dealt_report_refuses_lists settings lists store AsBefore fault same other used refused = record {
+  used = ⊎_elim (λ is. is) (λ no. absurd (other no)) used;
+  as_before = same;
+  refused = refused;
+}
+
+dealt_report_faults_are_equal : (sink before now : ℕ) → now ≡ before
+    → ◌≡◌ {A = RoundFaults} (record { sink = sink; disk = now }) (record { sink = sink; disk = before })
+dealt_report_faults_are_equal sink before now same = ap (λ n. record { sink = sink; disk = n }) same
+
+dealt_report_stops_at_fault : {K : Type 0} (settings : Settings) (lists : List (List RecordValue)) (tail : List ℕ)
+    (keeping : SessionKeeping) (store : Option (List ℕ)) (AsBefore : Type 0) (sink : K) (old : Option (List ℕ))
+    (write_faults before now : ℕ) (fault : OpenFault) → AsBefore
+    → (settings.store ≡ true) ⊎ (fault ≡ opening.OutOfMemory)
+    → IfImageKnown store (λ image. IsRefusedAtOpening (store_settings_for_saves settings) lists image fault)
+    → (fault ≡ opening.DiskFault → FaultCountRose before now) → ((fault ≡ opening.DiskFault → ⊥) → now ≡ before)
+    → DealtFeedEnds settings lists tail keeping store AsBefore sink sink old old
+    (record { sink = write_faults; disk = before }) (record { sink = write_faults; disk = now }) (status_of_opening fault)
+dealt_report_stops_at_fault settings lists tail keeping store AsBefore sink old write_faults before now opening.DiskFault same used
+    refused rose kept = (inl (refl, same), record { rose = rose refl; sink = refl })
+dealt_report_stops_at_fault settings lists tail keeping store AsBefore sink old write_faults before now opening.OutOfMemory same used
+    refused rose kept = (inl (refl, same), dealt_report_faults_are_equal write_faults before now (kept (λ is. cc is)))
+dealt_report_stops_at_fault settings lists tail keeping store AsBefore sink old write_faults before now opening.NotFormatted same
+    used refused rose kept = (
+      dealt_report_refuses_lists settings lists store AsBefore opening.NotFormatted same (λ is. cc is) used refused,
+      refl,
+      dealt_report_faults_are_equal write_faults before now (kept (λ is. cc is)),
+    )
+dealt_report_stops_at_fault settings lists tail keeping store AsBefore sink old write_faults before now (opening.Damaged slot) same
+    used refused rose kept = (
+      dealt_report_refuses_lists settings lists store AsBefore (opening.Damaged slot) same (λ is. cc is) used refused,
+      refl,
+      dealt_report_faults_are_equal write_faults before now (kept (λ is. cc is)),
+    )
+dealt_report_stops_at_fault settings lists tail keeping store AsBefore sink old write_faults before now (opening.OtherSettings stored asked) same
+    used refused rose kept = (
+      dealt_report_refuses_lists settings lists store AsBefore (opening.OtherSettings stored asked) same (λ is. cc is) used refused,
+      refl,
+      dealt_report_faults_are_equal write_faults before now (kept (λ is. cc is)),
+    )
+dealt_report_stops_at_fault settings lists tail keeping store AsBefore sink old write_faults before now (opening.OtherCapture stored asked) same
+    used refused rose kept = (
+      dealt_report_refuses_lists settings lists store AsBefore (opening.OtherCapture stored asked) same (λ is. cc is) used refused,
+      refl,
+      dealt_report_faults_are_equal write_faults before now (kept (λ is. cc is)),
+    )
+
+-- the store was refused, or there was no memory for the base
+pub dealt_report_ends_without_base : {K : Type 0} (settings : Settings) (lists : List (List RecordValue)) (tail : List ℕ)
+    (keeping : SessionKeeping) (store : Option (List ℕ)) (AsBefore : Type 0) (sink : K) (old : Option (List ℕ))
+    (write_faults before now : ℕ) (status : Status) → AsBefore
+    → HasNoDealtFeedBase settings lists store before now status
+    → DealtFeedEnds settings lists tail keeping store AsBefore sink sink old old
+    (record { sink = write_faults; disk = before }) (record { sink = write_faults; disk = now }) status
+dealt_report_ends_without_base settings lists tail keeping store AsBefore sink old write_faults before now status same none =
+    subst (DealtFeedEnds settings lists tail keeping store AsBefore sink sink old old
+    (record { sink = write_faults; disk = before }) (record { sink = write_faults; disk = now })) (sym none.status_is)
+    (dealt_report_stops_at_fault settings lists tail keeping store AsBefore sink old write_faults before now none.fault same none.used
+    none.refused none.rose none.kept)
+
+-- bytes of a session, from the base on
+dealt_report_in_part : (settings : Settings) (lists : List (List RecordValue)) (tail : List ℕ) (keeping : SessionKeeping)
+    (store : Option (List ℕ)) (base : Option CutValue) (Kept : SessionSaving) (old new : Option (List ℕ))
+    → SessionGoesOnFrom settings lists store base → SessionBaseRepresents lists base (session_opening settings.capacity lists base)
+    → ((saved unfinished : List CutValue) → Kept saved unfinished → settings.store ≡ true
+    → keeping (store_settings_for_saves settings) lists saved unfinished)
+    → WritesAnswer (BeginsSession (session_opening settings.capacity lists base) settings Kept tail) old new
+    → DealtFeedWritesInPart settings lists tail keeping store old new
+dealt_report_in_part settings lists tail keeping store base Kept old new begins represents keeps part = record {
+  base = base;
+  begins = begins;
+  represents = represents;
+  writes = record {
+    text = part.text;
+    is_text = session_text_begins_weaker (session_opening settings.capacity lists base) settings Kept
+        (λ saved unfinished. settings.store ≡ true → keeping (store_settings_for_saves settings) lists saved unfinished) tail part.text keeps
+        part.is_text;
+    written = part.written;
+  };
+}
+
+-- the session broke off
+pub dealt_report_ends_broken_off : {K : Type 0} (settings : Settings) (lists : List (List RecordValue)) (tail : List ℕ)
+    (keeping : SessionKeeping) (store : Option (List ℕ)) (AsBefore : Type 0) (base : Option CutValue) (Kept : SessionSaving)
+    (Same : Type 0) (sink written : K) (old new : Option (List ℕ)) (before now : RoundFaults) (status : Status)
+    → SessionGoesOnFrom settings lists store base → SessionBaseRepresents lists base (session_opening settings.capacity lists base)
+    → ((saved unfinished : List CutValue) → Kept saved unfinished → settings.store ≡ true
+    → keeping (store_settings_for_saves settings) lists saved unfinished)
+    → (written ≡ sink → new ≡ old) → (Same → AsBefore × Kept [] [])
+    → ((written ≡ sink) × Same)
+    ⊎ WritesAnswer (BeginsSession (session_opening settings.capacity lists base) settings Kept tail) old new
+    → IsDealtFeedFault before now status
+    → DealtFeedEnds settings lists tail keeping store AsBefore sink written old new before now status
+dealt_report_ends_broken_off settings lists tail keeping store AsBefore base Kept Same sink written old new before now WriteFault begins
+    represents keeps taken unmoved part fault = (
+      ⊎_elim
+          (λ same. dealt_report_in_part settings lists tail keeping store base Kept old new begins represents keeps
+          (session_text_without_a_byte (session_opening settings.capacity lists base) settings Kept tail old new (taken same.0)
+          (unmoved same.1).1))
+          (λ some. dealt_report_in_part settings lists tail keeping store base Kept old new begins represents keeps some) part,
+      fault,
+    )
+dealt_report_ends_broken_off settings lists tail keeping store AsBefore base Kept Same sink written old new before now DiskFault begins
+    represents keeps taken unmoved part fault = (
+      ⊎_elim (λ same. inl (same.0, (unmoved same.1).0))
+          (λ some. inr (dealt_report_in_part settings lists tail keeping store base Kept old new begins represents keeps some)) part,
+      fault,
+    )
+dealt_report_ends_broken_off settings lists tail keeping store AsBefore base Kept Same sink written old new before now OutOfMemory begins
+    represents keeps taken unmoved part fault = (
+      ⊎_elim (λ same. inl (same.0, (unmoved same.1).0))
+          (λ some. inr (dealt_report_in_part settings lists tail keeping store base Kept old new begins represents keeps some)) part,
+      fault,
+    )
+dealt_report_ends_broken_off settings lists tail keeping store AsBefore base Kept Same sink written old new before now Done begins
+    represents keeps taken unmoved part fault = absurd fault
+dealt_report_ends_broken_off settings lists tail keeping store AsBefore base Kept Same sink written old new before now (BadWords kind) begins
+    represents keeps taken unmoved part fault = absurd fault
+dealt_report_ends_broken_off settings lists tail keeping store AsBefore base Kept Same sink written old new before now (BadCapture wrong) begins
+    represents keeps taken unmoved part fault = absurd fault
+dealt_report_ends_broken_off settings lists tail keeping store AsBefore base Kept Same sink written old new before now ReadFault begins
+    represents keeps taken unmoved part fault = absurd fault
+dealt_report_ends_broken_off settings lists tail keeping store AsBefore base Kept Same sink written old new before now NotFormatted begins
+    represents keeps taken unmoved part fault = absurd fault
+dealt_report_ends_broken_off settings lists tail keeping store AsBefore base Kept Same sink written old new before now (Damaged slot) begins
+    represents keeps taken unmoved part fault = absurd fault
+dealt_report_ends_broken_off settings lists tail keeping store AsBefore base Kept Same sink written old new before now (OtherSettings stored asked) begins
+    represents keeps taken unmoved part fault = absurd fault
+dealt_report_ends_broken_off settings lists tail keeping store AsBefore base Kept Same sink written old new before now (OtherCapture stored asked) begins
+    represents keeps taken unmoved part fault = absurd fault
+dealt_report_ends_broken_off settings lists tail keeping store AsBefore base Kept Same sink written old new before now (AuditNo report verdict) begins
+    represents keeps taken unmoved part fault = absurd fault
+dealt_report_ends_broken_off settings lists tail keeping store AsBefore base Kept Same sink written old new before now (BadReport wrong) begins
+    represents keeps taken unmoved part fault = absurd fault
+
+-- the session was written whole
+pub dealt_report_is_written : (settings : Settings) (lists : List (List RecordValue)) (tail : List ℕ) (keeping : SessionKeeping)
+    (store : Option (List ℕ)) (base : Option CutValue) (Kept : List CutValue → Type 0) (old new : Option (List ℕ))
+    → SessionGoesOnFrom settings lists store base → SessionBaseRepresents lists base (session_opening settings.capacity lists base)
+    → ((cuts : List CutValue) → Kept cuts → settings.store ≡ true → keeping (store_settings_for_saves settings) lists cuts [])
+    → WritesAnswer (IsSessionOverShards (session_opening settings.capacity lists base) settings Kept tail) old new
+    → DealtFeedWrites settings lists tail keeping store old new
+dealt_report_is_written settings lists tail keeping store base Kept old new begins represents keeps writes = record {
+  base = base;
+  begins = begins;
+  represents = represents;
+  writes = record {
+    text = writes.text;
+    is_text = spelled_session_text_says_less (session_opening settings.capacity lists base) settings Kept
+        (λ cuts. settings.store ≡ true → keeping (store_settings_for_saves settings) lists cuts []) tail writes.text keeps
+        writes.is_text;
+    written = writes.written;
+  };
+}

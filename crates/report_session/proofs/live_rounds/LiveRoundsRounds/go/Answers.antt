@@ -1,0 +1,161 @@
+use Rattle.std.proofs.Common.{◌∙◌, ◌≤◌, length, refl, sym, ap₂, subst, arith}
+use Rattle.std.specs.Prelude.{is_some}
+use Rattle.hhh_report.specs.{threshold_million}
+use Rattle.hhh_output.specs.{IsWideShare}
+use Rattle.shard_state.specs.{HasCoreShape, core_capacity}
+use Rattle.pass_tokens.specs.{view}
+use Rattle.report_session.specs.Rounds.{WritesRounds}
+use Rattle.report_session.specs.Saves.{SavesBreakOff, SavesInTurn}
+use Rattle.report_session.proofs.RoundLemmas.{all_rounds_were_made, one_round_broke_off, round_saver_stays_or_none}
+use Rattle.report_session.proofs.RoundLemmas.{writes_no_round, writes_more_rounds}
+use Rattle.report_session.proofs.SaveLemmas.{no_save, save_needs_saver, broken_saves_follow, saves_follow}
+use Rattle.report_session.proofs.SeenPositionLemmas.{seen_positions_allowed_settings, seen_positions_allow_more_saves}
+use Rattle.report_session.proofs.SeenPositionLemmas.{seen_position_report_count, seen_positions_fit_saver}
+use Rattle.report_session.proofs.SeenPositionLemmas.{seen_positions_saver_is_early, seen_positions_saver_stands}
+use Rattle.report_session.proofs.live_rounds.LiveRoundsRounds.go.Goals as goal
+
+pub loop-round-init : goal.loop-round-init
+loop-round-init g c = record {
+  pass = c.requires.pass;
+  shape = c.requires.ready.0;
+  same_sink = refl;
+  same_disk = refl;
+  same_saver = refl;
+  same_cut = refl;
+  same_share = refl;
+  same_rounds = refl;
+  same_callers = refl;
+  unstopped = c.requires.ready.4;
+  sink_faults = refl;
+  disk_faults = refl;
+  fits = seen_positions_fit_saver _ _ c.args.board.now.opening _ _ c.args.self.now.saver.now c.requires.ready.5;
+  written =
+      writes_no_round _ _ _ _ _ _ (c.calls_follow_calls.ensures.none _ _ _)
+      (no_save g.D.Disk c.args.self.now.saver.now
+      c.args.self.now.disk.now (g.met.D.Disk.only_now c.args.self.now.disk.now)
+      (seen_positions_saver_stands _ _ c.args.board.now.opening _ _ c.args.self.now.saver.now c.requires.ready.5));
+}
+
+pub make_round-made-requires-clause-some : goal.make_round-made-requires-clause-some
+make_round-made-requires-clause-some g c =
+    subst (λ phi. 1 ≤ phi) (sym c.loop-round.invariant.same_share) c.requires.ready.1
+
+pub make_round-made-requires-clause-most : goal.make_round-made-requires-clause-most
+make_round-made-requires-clause-most g c =
+    subst (λ phi. phi ≤ threshold_million) (sym c.loop-round.invariant.same_share) c.requires.ready.2
+
+pub make_round-made-requires-clause-wide : goal.make_round-made-requires-clause-wide
+make_round-made-requires-clause-wide g c =
+    subst (λ phi. IsWideShare phi (core_capacity c.args.board.now.opening)) (sym c.loop-round.invariant.same_share)
+    c.requires.ready.3
+
+pub make_round-made-requires-clause-can_save : goal.make_round-made-requires-clause-can_save
+make_round-made-requires-clause-can_save g c =
+    let far = c.loop-round.invariant in
+    seen_positions_allow_more_saves g.D.Disk c.args.board.now.opening
+    (view c.loop-round.pass) c.args.self.now.saver.now c.loop-round.self.saver.now far.written.reports
+    c.args.self.now.disk.now c.loop-round.self.disk.now c.loop-round.round 1 c.args.self.now.rounds
+    (seen_position_report_count _ _ _ _ _ _ far.written.calls) (omega (arith, c.loop-round-test.true)) far.fits far.written.kept
+    (seen_positions_saver_is_early _ _ c.args.board.now.opening _ _ c.args.self.now.saver.now c.requires.ready.5)
+
+pub returns-in-Err-clause-does : goal.returns-in-Err-clause-does
+returns-in-Err-clause-does g c =
+    let far = c.loop-round.invariant in
+    let opening = c.requires.pass.seat.opening in (
+      far.same_sink,
+      far.same_disk,
+      far.same_saver,
+      far.same_cut,
+      subst (λ shards. HasCoreShape (length shards) (core_capacity shards) c.make_round-made.new.cut) (sym opening)
+          c.in-Err.ensures.shape,
+      one_round_broke_off _ _ _ _ _ _ _ _ _ _ _
+          (SavesInTurn g.D.Disk c.args.self.now.saver.now
+          c.loop-round.self.saver.now c.args.self.now.disk.now c.loop-round.self.disk.now)
+          (SavesBreakOff g.D.Disk
+          c.loop-round.self.saver.now c.make_round-made.new.saver c.loop-round.self.disk.now c.make_round-made.new.disk)
+          (SavesBreakOff g.D.Disk c.args.self.now.saver.now
+          c.make_round-made.new.saver c.args.self.now.disk.now c.make_round-made.new.disk) _ _ _ _ _ _ c.in-Err.status opening far.same_share
+          (round_saver_stays_or_none c.args.self.now.saver.now c.loop-round.self.saver.now _ far.written.kept.saver)
+          (ap₂ (λ s d. record { sink = s; disk = d }) far.sink_faults far.disk_faults) c.loop-round-test.true
+          (λ cuts saved unfinished first second.
+          broken_saves_follow c.stores_open_to_one.ensures g.D.Disk c.args.self.now.saver.now c.loop-round.self.saver.now c.make_round-made.new.saver cuts saved
+          unfinished c.args.self.now.disk.now c.loop-round.self.disk.now c.make_round-made.new.disk
+          (seen_positions_allowed_settings _ _ c.args.board.now.opening _ _ c.args.self.now.saver.now c.requires.ready.5)
+          g.met.D.Disk.reading_is_image first second)
+          far.written c.in-Err.ensures.broken,
+      λ none.
+          let done = save_needs_saver g.D.Disk _ _ _ _ _ far.written.kept none in
+          let round = c.in-Err.ensures.unused done.0 in (round.0, round.1 ∙ done.1),
+      far.same_share,
+      far.same_rounds,
+      far.same_callers,
+    )
+
+pub loop-round-preserved : goal.loop-round-preserved
+loop-round-preserved g c =
+    let far = c.loop-round.invariant in
+    let opening = c.args.board.now.opening in
+    let made = c.in_default.ensures.whole in record {
+      pass = c.make_round-made.ensures.pass;
+      shape = c.make_round-made.ensures.shape;
+      same_sink = far.same_sink;
+      same_disk = far.same_disk;
+      same_saver = far.same_saver;
+      same_cut = far.same_cut;
+      same_share = far.same_share;
+      same_rounds = far.same_rounds;
+      same_callers = far.same_callers;
+      unstopped = far.unstopped;
+      sink_faults = c.in_default.ensures.faults.0 ∙ far.sink_faults;
+      disk_faults = c.in_default.ensures.faults.1 ∙ far.disk_faults;
+      fits = c.in_default.ensures.fits;
+      written =
+          writes_more_rounds opening c.args.self.now.phi c.loop-round.round 1 (view c.args.pass.now) (view c.loop-round.pass)
+          (view c.make_round-made.new.pass) (is_some c.args.self.now.saver.now)
+          (SavesInTurn g.D.Disk c.args.self.now.saver.now
+          c.loop-round.self.saver.now c.args.self.now.disk.now c.loop-round.self.disk.now)
+          (SavesInTurn g.D.Disk
+          c.loop-round.self.saver.now c.make_round-made.new.saver c.loop-round.self.disk.now c.make_round-made.new.disk)
+          (SavesInTurn g.D.Disk c.args.self.now.saver.now
+          c.make_round-made.new.saver c.args.self.now.disk.now c.make_round-made.new.disk)
+          (g.K.Sink.taken c.args.self.now.sink.now) (g.K.Sink.taken c.loop-round.self.sink.now)
+          (g.K.Sink.taken c.make_round-made.new.sink)
+          (λ phi rounds more middle now reports later.
+          c.calls_follow_calls.ensures.more opening phi rounds more (view c.args.pass.now) middle now reports later
+          c.requires.pass.seat.trails)
+          (λ cuts later first second.
+          saves_follow c.stores_open_to_one.ensures g.D.Disk c.args.self.now.saver.now c.loop-round.self.saver.now c.make_round-made.new.saver cuts later
+          c.args.self.now.disk.now c.loop-round.self.disk.now c.make_round-made.new.disk
+          (seen_positions_allowed_settings _ _ opening _ _ c.args.self.now.saver.now c.requires.ready.5) g.met.D.Disk.reading_is_image first
+          second)
+          far.written
+          (subst (λ store. WritesRounds opening c.args.self.now.phi 1 (view c.loop-round.pass)
+          (view c.make_round-made.new.pass) store
+          (SavesInTurn g.D.Disk
+          c.loop-round.self.saver.now c.make_round-made.new.saver c.loop-round.self.disk.now c.make_round-made.new.disk)
+          (g.K.Sink.taken c.loop-round.self.sink.now) (g.K.Sink.taken c.make_round-made.new.sink))
+          (round_saver_stays_or_none c.args.self.now.saver.now c.loop-round.self.saver.now _ far.written.kept.saver)
+          (subst (λ phi. WritesRounds opening phi 1 (view c.loop-round.pass) (view c.make_round-made.new.pass)
+          (is_some c.loop-round.self.saver.now)
+          (SavesInTurn g.D.Disk
+          c.loop-round.self.saver.now c.make_round-made.new.saver c.loop-round.self.disk.now c.make_round-made.new.disk)
+          (g.K.Sink.taken c.loop-round.self.sink.now) (g.K.Sink.taken c.make_round-made.new.sink)) far.same_share made));
+    }
+
+pub returns-clause-does : goal.returns-clause-does
+returns-clause-does g c =
+    let far = c.loop-round.invariant in
+    let opening = c.requires.pass.seat.opening in (
+      far.same_sink,
+      far.same_disk,
+      far.same_saver,
+      far.same_cut,
+      subst (λ shards. HasCoreShape (length shards) (core_capacity shards) c.loop-round.self.cut.now) (sym opening) far.shape,
+      all_rounds_were_made _ _ _ _ _ _ _ _ _ _ _ _ _ _ c.loop-round.self.stop opening far.unstopped
+          (omega (arith, c.loop-round.auto.round-end, c.loop-round-test.false))
+          (ap₂ (λ s d. record { sink = s; disk = d }) far.sink_faults far.disk_faults) far.written,
+      save_needs_saver g.D.Disk _ _ _ _ _ far.written.kept,
+      far.same_share,
+      far.same_rounds,
+      far.same_callers,
+    )

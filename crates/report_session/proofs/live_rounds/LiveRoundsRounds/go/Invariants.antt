@@ -1,0 +1,29 @@
+use Rattle.std.proofs.Common.{◌≡◌, length, None}
+use Rattle.std.specs.Prelude.{IfSome, is_some}
+use Rattle.shard_state.specs.{HasCoreShape, core_capacity}
+use Rattle.pass_tokens.specs.{IsPassOfBoard, view}
+use Rattle.report_session.specs.Rounds.{WritesRounds}
+use Rattle.report_session.specs.Saves.{SavesFitBoard, SavesInTurn}
+use Rattle.report_session.proofs.live_rounds.LiveRoundsRounds.go.Given as goal
+
+-- the rounds so far were written whole, and their cuts saved
+abbrev pub invariant-loop-round : goal.invariant-loop-round
+invariant-loop-round g l = record {
+  pass : IsPassOfBoard l.board l.pass;
+  shape : HasCoreShape (length l.board.opening) (core_capacity l.board.opening) l.self.cut.now;
+  same_sink : l.self.sink.ghost_name ≡ l.fn.self.sink.ghost_name;
+  same_disk : l.self.disk.ghost_name ≡ l.fn.self.disk.ghost_name;
+  same_saver : l.self.saver.ghost_name ≡ l.fn.self.saver.ghost_name;
+  same_cut : l.self.cut.ghost_name ≡ l.fn.self.cut.ghost_name;
+  same_share : l.self.phi ≡ l.fn.self.phi;
+  same_rounds : l.self.rounds ≡ l.fn.self.rounds;
+  same_callers : l.self.callers ≡ l.fn.self.callers;
+  unstopped : l.self.stop ≡ None;
+  sink_faults : g.K.Sink.faults l.self.sink.now ≡ g.K.Sink.faults l.fn.self.sink.now;
+  disk_faults : g.D.Disk.faults l.self.disk.now ≡ g.D.Disk.faults l.fn.self.disk.now;
+  fits : IfSome l.self.saver.now (SavesFitBoard l.board.opening (view l.pass));
+  written : WritesRounds l.board.opening l.fn.self.phi l.round (view l.fn.pass) (view l.pass) (is_some l.fn.self.saver.now)
+      (SavesInTurn g.D.Disk l.fn.self.saver.now
+      l.self.saver.now l.fn.self.disk.now l.self.disk.now)
+      (g.K.Sink.taken l.fn.self.sink.now) (g.K.Sink.taken l.self.sink.now);
+}

@@ -1,0 +1,25 @@
+use Rattle.std.proofs.Common.{◌∙◌, sym, ap, subst, length}
+use Rattle.std.proofs.lemmas.List.{length-replicate}
+use Rattle.pass_tokens.specs.{first_view}
+use Rattle.shard_state.specs.{AreCoreShards, CutValue, empty_snapshot}
+use Rattle.report_session.proofs.session.open.Goals as goal
+
+pub start-requires : goal.start-requires
+start-requires c = subst AreCoreShards (sym c.in_ok-states.ensures) c.openings_stand.ensures.shards
+
+pub returns : goal.returns
+returns c =
+    let states = c.in_ok-states.ensures in
+    record {
+      opening = c.in_ok-board.ensures.opening ∙ states;
+      pass = c.in_ok-board.ensures.pass;
+      view = c.in_ok-board.ensures.view ∙ ap first_view states;
+      shape = record {
+        as_many =
+            ap (λ (cut : CutValue). length cut.shards) c.in_ok-cut.ensures
+            ∙ length-replicate c.shards-shards.result (empty_snapshot c.args.capacity)
+            ∙ c.shards-shards.ensures.value ∙ sym c.openings_stand.ensures.many;
+        alike =
+            ap (λ (cut : CutValue). cut.capacity) c.in_ok-cut.ensures ∙ sym c.openings_stand.ensures.alike;
+      };
+    }

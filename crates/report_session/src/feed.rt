@@ -1,0 +1,145 @@
+//! The running feed: workers count records while the calling thread and the other callers make their rounds.
+
+ghost use Rattle.std.specs.Prelude.{◌≡◌, length, IfErr, IfOk, IfSome, None, OnErr, OnOk, is_some};
+ghost use Rattle.shard_state.specs.{HasCoreShape, core_capacity};
+ghost use Rattle.pass_tokens.specs.{IsPassOfBoard, first_view, view};
+ghost use Rattle.command_words.specs.{AreLimitedSettings, AreWideSettings};
+ghost use Rattle.report_session.specs.DealtFeed.{IsDealtFeedFault, IsDealtFeedResult, IsDealtFeedGathered};
+ghost use Rattle.report_session.specs.DealtFeed.{DealtFeedBreaksOffInRounds, DealtFeedRunsPlan, dealt_feed_plan};
+ghost use Rattle.report_session.specs.Saves.{CanMakeSaves, SavesInPart, SavesInTurn};
+
+use crate::LiveRounds;
+use command_words::Settings;
+use run_status::Status;
+use checkpoint::Saver;
+use gate_workers::{Gate, Gathered, ThreadPlan, calls_follow_calls, run_threads};
+use outside_io::Sink;
+use pass_tokens::{Board, Pass};
+use shard_state::Cut;
+use slot_disk::Disk;
+use std::alloc::Global;
+use std::marker::Sync;
+use std::sync::Wait;
+use std::thread::Threads;
+
+/// What is there after the threads fed the board to the ends.
+#[derive(Drop)]
+pub(crate) struct Fed {
+    /// What the threads bring back.
+    pub(crate) gathered: Gathered,
+    /// What the calling thread reads into.
+    pub(crate) cut: Cut,
+}
+
+/// Feeds the board to the ends by the plan of the settings, while the calling thread and the other callers make their
+/// rounds. With a saver the calling thread saves each of its cuts.
+pub(crate) fn feed<'a, R: Threads + Wait + Sync, K: Sink, D: Disk, G: Gate + Sync>(
+    rt: &R,
+    alloc: Global,
+    board: &Board,
+    pass: Pass,
+    cut: Cut,
+    settings: &Settings,
+    sink: &'a mut K,
+    disk: &'a mut D,
+    saver: &'a mut Option<Saver>,
+    gate: &'a G,
+) -> Result<Fed, Status>
+    requires limited { AreLimitedSettings settings.now }
+    requires wide { AreWideSettings settings.now }
+    requires pass { IsPassOfBoard board.now pass }
+    requires view { view pass ≡ first_view board.now.opening }
+    requires shape { HasCoreShape (length board.now.opening) (core_capacity board.now.opening) cut }
+    requires alike { core_capacity board.now.opening ≡ settings.now.capacity }
+    requires used { is_some saver.old ≡ settings.now.store }
+    requires can_save { IfSome saver.old (CanMakeSaves (D.reads disk.old) (D.image_now disk.old) board.now.opening (view pass) settings.now.rounds) }
+    ensures ran { IfOk result (λ fed. DealtFeedRunsPlan board.now settings.now (view pass) fed.gathered) }
+    ensures fed { IfOk result (IsDealtFeedResult board.now settings.now
+        (SavesInTurn D.Disk saver.old saver.new disk.old disk.new) (K.taken sink.old) (K.taken sink.new)) }
+    ensures faults { OnOk result ((K.faults sink.new ≡ K.faults sink.old) × (D.faults disk.new ≡ D.faults disk.old)) }
+    ensures part { OnErr result (DealtFeedBreaksOffInRounds board.now.opening settings.now
+        (SavesInPart D.Disk saver.old disk.old disk.new) (K.taken sink.old) (K.taken sink.new)) }
+    ensures fault { IfErr result (IsDealtFeedFault (record { sink = K.faults sink.old; disk = D.faults disk.old })
+        (record { sink = K.faults sink.new; disk = D.faults disk.new })) }
+    ensures unused { saver.old ≡ None → (saver.new ≡ None) × (disk.new ≡ disk.old) }
+{
+    let mut cut = cut;
+    let mut rounds = LiveRounds {
+        sink,
+        disk,
+        gate,
+        saver,
+        cut: &mut cut,
+        callers: settings.callers,
+        rounds: settings.rounds,
+        phi: settings.phi,
+        stop: None,
+    };
+    let gathered = run_feed(rt, alloc, board, pass, settings, &mut rounds, gate)?;
+    Ok(Fed { gathered, cut })
+}
+
+// Feeds the board to the ends by the plan of the settings while these rounds are made. What the callers bring back is in
+// their order. A fault of the sink or the disk is reported also where memory ran out in a caller.
+fn run_feed<R: Threads + Wait + Sync, K: Sink, D: Disk, G: Gate + Sync>(
+    rt: &R,
+    alloc: Global,
+    board: &Board,
+    pass: Pass,
+    settings: &Settings,
+    rounds: &mut LiveRounds<'_, K, D, G>,
+    gate: &G,
+) -> Result<Gathered, Status>
+    requires limited { AreLimitedSettings settings.now }
+    requires wide { AreWideSettings settings.now }
+    requires pass { IsPassOfBoard board.now pass }
+    requires view { view pass ≡ first_view board.now.opening }
+    requires alike { core_capacity board.now.opening ≡ settings.now.capacity }
+    requires shape { HasCoreShape (length board.now.opening) (core_capacity board.now.opening) rounds.old.cut.now }
+    requires share { rounds.old.phi ≡ settings.now.phi }
+    requires count { rounds.old.rounds ≡ settings.now.rounds }
+    requires number { rounds.old.callers ≡ settings.now.callers }
+    requires begun { rounds.old.stop ≡ None }
+    requires used { is_some rounds.old.saver.now ≡ settings.now.store }
+    requires can_save { IfSome rounds.old.saver.now (CanMakeSaves (D.reads rounds.old.disk.now) (D.image_now rounds.old.disk.now)
+        board.now.opening (view pass) settings.now.rounds) }
+    ensures same_sink { rounds.new.sink.ghost_name ≡ rounds.old.sink.ghost_name }
+    ensures same_disk { rounds.new.disk.ghost_name ≡ rounds.old.disk.ghost_name }
+    ensures same_saver { rounds.new.saver.ghost_name ≡ rounds.old.saver.ghost_name }
+    ensures same_cut { rounds.new.cut.ghost_name ≡ rounds.old.cut.ghost_name }
+    ensures shape { HasCoreShape (length board.now.opening) (core_capacity board.now.opening) rounds.new.cut.now }
+    ensures ran { IfOk result (DealtFeedRunsPlan board.now settings.now (view pass)) }
+    ensures fed { IfOk result (IsDealtFeedGathered board.now settings.now
+        (SavesInTurn D.Disk rounds.old.saver.now rounds.new.saver.now rounds.old.disk.now rounds.new.disk.now)
+        (K.taken rounds.old.sink.now) (K.taken rounds.new.sink.now)) }
+    ensures faults { OnOk result ((K.faults rounds.new.sink.now ≡ K.faults rounds.old.sink.now)
+        × (D.faults rounds.new.disk.now ≡ D.faults rounds.old.disk.now)) }
+    ensures part { OnErr result (DealtFeedBreaksOffInRounds board.now.opening settings.now
+        (SavesInPart D.Disk rounds.old.saver.now rounds.old.disk.now rounds.new.disk.now)
+        (K.taken rounds.old.sink.now) (K.taken rounds.new.sink.now)) }
+    ensures fault { IfErr result (IsDealtFeedFault (record { sink = K.faults rounds.old.sink.now; disk = D.faults rounds.old.disk.now })
+        (record { sink = K.faults rounds.new.sink.now; disk = D.faults rounds.new.disk.now })) }
+    ensures unused { rounds.old.saver.now ≡ None → (rounds.new.saver.now ≡ None) × (rounds.new.disk.now ≡ rounds.old.disk.now) }
+{
+    calls_follow_calls();
+    let gathered = run_threads(rt, alloc, board, pass, &plan_of(settings), gate, rounds);
+    if let Some(status) = rounds.stop {
+        return Err(status);
+    }
+    let gathered = gathered?;
+    Ok(gathered)
+}
+
+/// The threads that the settings ask for.
+pub(crate) fn plan_of(settings: &Settings) -> ThreadPlan
+    ensures { result ≡ dealt_feed_plan settings.now }
+{
+    ThreadPlan {
+        workers: settings.workers,
+        callers: settings.callers,
+        rounds: settings.rounds,
+        block: settings.block,
+        phi: settings.phi,
+        capacity: settings.capacity,
+    }
+}

@@ -1,0 +1,160 @@
+//! Laws of sessions and of the stores of their saves, each the contract of a function that does nothing.
+
+ghost use Rattle.std.specs.Prelude.{◌≡◌, ℕ, ◌+◌, ◌*◌, ◌++◌, true, List, length, All, Option, Some, None, IfSome};
+ghost use Rattle.std.specs.Prelude.{IsSomeAnd};
+ghost use Rattle.prefix_lattice.specs.{RecordValue};
+ghost use Rattle.deal_rules.specs.declared.deal_kind.DealKind.{DealKind};
+ghost use Rattle.hhh_report.specs.declared.reports.Reported.{Reported};
+ghost use Rattle.command_words.specs.{AreLimitedSettings};
+ghost use Rattle.command_words.specs.declared.settings.Settings.{Settings};
+ghost use Rattle.report_text.specs.{IsSessionText, report_mark_text, report_text};
+ghost use Rattle.report_text.specs.declared.mark.Mark.TheVariants.{Opened};
+ghost use Rattle.report_text.specs.declared.session.Session.{Session};
+ghost use Rattle.shard_state.specs.{AreCoreShards, CoreBasesRepresent, CutRepresents};
+ghost use Rattle.shard_state.specs.{ShardValue, core_capacity, core_lists, cut_positions};
+ghost use Rattle.checkpoint.specs.declared.settings.StoreSettings.{StoreSettings};
+ghost use Rattle.checkpoint.specs.{StoreBelongs, IsStoreOfLists, StoreOpensTo, SavedValue};
+ghost use Rattle.checkpoint.specs.{store_sequence};
+ghost use Rattle.report_session.specs.Session.{AreSessionReports, IsSession, IsSessionInPart, IsShownInSession};
+ghost use Rattle.report_session.specs.Session.{SessionReports, session_reports_of_calling_thread, session_ends};
+ghost use Rattle.report_session.specs.Session.{new_session_shards, session_part, session_reports_in, session_saves};
+ghost use Rattle.report_session.specs.Session.{session_text_of_reports, session_start, IsWholeReport};
+ghost use Rattle.dealt_capture.specs.{rules_by_formula};
+ghost use Rattle.report_session.specs.Saves.{SavesBelongThroughout, OpensAsBeforeOrToSaves, SavesAreKeptOnDisk};
+ghost use Rattle.report_session.specs.Saves.{last_of_saves, SavesAreReopenedFromDisk, store_settings_for_saves};
+ghost use Rattle.hhh_report.specs.{IsSameReport, IsSound};
+ghost use Rattle.hhh_report.specs.declared.report.Report.{Report};
+
+use checkpoint::stores_open_to_one;
+use gate_workers::reported_cuts_represent;
+use hhh_output::{a_cut_has_one_report, standing_cuts_have_one_report};
+use report_text::{printed_sessions_read_back, same_reports_have_one_text};
+use slot_disk::Disk;
+
+/// The text of the last report of a session depends on the dealt lists, the capacity and the share alone: whatever the
+/// numbers of workers, callers and rounds, the block and the threads, its bytes are the same.
+pub fn last_reports_are_one()
+    ensures { (lists : List (List RecordValue)) (settings other : Settings) (reports others : SessionReports) → settings.capacity ≡ other.capacity
+        → settings.phi ≡ other.phi → AreSessionReports (new_session_shards settings.capacity lists) settings reports
+        → AreSessionReports (new_session_shards other.capacity lists) other others
+        → report_text reports.last.report ≡ report_text others.last.report }
+{
+    a_cut_has_one_report();
+    same_reports_have_one_text();
+}
+
+/// A session without rounds has one report, the last one, whatever the numbers of workers and callers.
+pub fn sessions_without_rounds_have_one_report()
+    ensures { (opening : List ShardValue) (settings : Settings) (reports : SessionReports) (tail : List ℕ) → settings.rounds ≡ 0
+        → AreSessionReports opening settings reports
+        → session_text_of_reports settings.store (session_start opening) reports tail
+        ≡ report_mark_text Opened (session_start opening) ++ (session_part settings.store reports.last ++ tail) }
+{}
+
+/// The last reports of two sessions over the same dealt lists have one text, also where their shards went on from saved
+/// cuts, if the tables of these were those of their records: a run that was stopped and goes on ends as if it had not been.
+pub fn resumed_sessions_end_alike()
+    ensures { (opening other_opening : List ShardValue) (settings other : Settings) (reports others : SessionReports)
+        → AreCoreShards opening → AreCoreShards other_opening → CoreBasesRepresent opening → CoreBasesRepresent other_opening
+        → core_lists opening ≡ core_lists other_opening → core_capacity opening ≡ core_capacity other_opening
+        → settings.phi ≡ other.phi → AreSessionReports opening settings reports → AreSessionReports other_opening other others
+        → report_text reports.last.report ≡ report_text others.last.report }
+{
+    standing_cuts_have_one_report();
+    reported_cuts_represent();
+    same_reports_have_one_text();
+}
+
+/// What the saves of reports, whether a session was whole or broke off, may leave of a store belongs to the dealt lists, if
+/// the store did before and the shards began with tables of their records.
+pub fn saves_belong()
+    ensures { (opening : List ShardValue) (settings : Settings) (reports : List Reported) (opened : Option SavedValue) (image : List ℕ)
+        → AreCoreShards opening → CoreBasesRepresent opening → All (IsShownInSession opening settings) reports
+        → IsStoreOfLists (store_settings_for_saves settings) (core_lists opening) opened
+        → OpensAsBeforeOrToSaves (store_settings_for_saves settings) opened (session_saves settings opening opened reports) image
+        → StoreBelongs (store_settings_for_saves settings) (core_lists opening) image }
+{
+    reported_cuts_represent();
+}
+
+/// The last save of a session, which its store opens to, is of the last report: its positions are at the ends of the lists,
+/// and its sequence has risen by one for each report of the calling thread.
+pub fn last_saves_are_at_the_ends()
+    ensures { (opening : List ShardValue) (settings : Settings) (reports : SessionReports) (opened : Option SavedValue)
+        → AreSessionReports opening settings reports
+        → IsSomeAnd (last_of_saves opened (session_saves settings opening opened (session_reports_of_calling_thread reports))) (λ saved.
+        (cut_positions saved.cut ≡ session_ends opening) × (saved.sequence ≡ store_sequence opened + (settings.rounds + 1))) }
+{}
+
+/// Where each kind of dealing is a formula and the bytes of the disk were known as `report` began: what a crash leaves of
+/// the store after it, whether its session was whole or broke off, is a sound store. It opens to no earlier cut than the
+/// last one that was saved, or than the one that it opened to before where none was: neither its sequence, which counts
+/// the saves, nor the position of any shard is smaller. If no save is unfinished, it opens to exactly that. The
+/// settings of a session that broke off have to be within their limits.
+pub fn sessions_lose_no_save<D: Disk>()
+    ensures whole { (formula : DealKind → ℕ → RecordValue → ℕ → ℕ) (before now : D) (settings : Settings) (file text : List ℕ)
+        → IsSession settings (rules_by_formula formula) (SavesAreKeptOnDisk D.Disk before now)
+        (D.reads before) file text
+        → IsSession settings (rules_by_formula formula) (SavesAreReopenedFromDisk D.Disk before now) (D.reads before) file text }
+    ensures in_part { (formula : DealKind → ℕ → RecordValue → ℕ → ℕ) (before now : D) (settings : Settings) (file front : List ℕ)
+        → AreLimitedSettings settings
+        → IsSessionInPart settings (rules_by_formula formula)
+        (SavesAreKeptOnDisk D.Disk before now) (D.reads before) file front
+        → IsSessionInPart settings (rules_by_formula formula) (SavesAreReopenedFromDisk D.Disk before now) (D.reads before) file front }
+{
+    stores_open_to_one();
+}
+
+/// Where each kind of dealing is a formula, the bytes of the disk were known as `report` began, and whatever a crash could
+/// have left of the store then belonged to the dealt lists: the saved cut that the session went on from represents them, so
+/// its reports are sound; and whatever a crash leaves of the store at any moment of the session, or after it, belongs to
+/// them, whether the session was whole or broke off. The settings have to be within their limits. A store with no gate open,
+/// such as one that was just formatted, belongs to any lists.
+pub fn stores_belong_throughout<D: Disk>()
+    ensures formatted { (settings : StoreSettings) (lists : List (List RecordValue)) (image : List ℕ) → StoreOpensTo settings image None
+        → StoreBelongs settings lists image }
+    ensures whole { (formula : DealKind → ℕ → RecordValue → ℕ → ℕ) (before now : D) (settings : Settings) (store file text : List ℕ)
+        (is : IsSession settings (rules_by_formula formula)
+        (SavesAreKeptOnDisk D.Disk before now) (D.reads before) file text)
+        → AreLimitedSettings settings → settings.store ≡ true → D.reads before ≡ Some store
+        → ((image : List ℕ) → D.image_now before image → StoreBelongs (store_settings_for_saves settings) is.lists image)
+        → SavesBelongThroughout D.Disk (store_settings_for_saves settings) is.lists is.base before now }
+    ensures in_part { (formula : DealKind → ℕ → RecordValue → ℕ → ℕ) (before now : D) (settings : Settings) (store file front : List ℕ)
+        (is : IsSessionInPart settings (rules_by_formula formula)
+        (SavesAreKeptOnDisk D.Disk before now) (D.reads before) file front)
+        → AreLimitedSettings settings → settings.store ≡ true → D.reads before ≡ Some store
+        → ((image : List ℕ) → D.image_now before image → StoreBelongs (store_settings_for_saves settings) is.lists image)
+        → SavesBelongThroughout D.Disk (store_settings_for_saves settings) is.lists is.base before now }
+{
+    stores_open_to_one();
+    reported_cuts_represent();
+}
+
+/// Two reports over all records of the same dealt lists are the same, whatever the numbers of workers and callers, the block
+/// and the threads.
+pub fn whole_reports_are_one()
+    ensures { (settings other : Settings) (lists : List (List RecordValue)) (report others : Report) → settings.capacity ≡ other.capacity
+        → settings.phi ≡ other.phi → IsWholeReport settings lists report → IsWholeReport other lists others → IsSameReport report others }
+{
+    a_cut_has_one_report();
+}
+
+/// The reports of a session are sound over the dealt records, also where it went on from a saved cut, if the tables of this
+/// were those of its records.
+pub fn own_reports_are_sound<D: Disk>()
+    ensures { (formula : DealKind → ℕ → RecordValue → ℕ → ℕ) (before now : D) (settings : Settings) (store : Option (List ℕ)) (file text : List ℕ)
+        (is : IsSession settings (rules_by_formula formula) (SavesAreKeptOnDisk D.Disk before now) store file text) → IfSome is.base (λ cut. CutRepresents cut is.lists)
+        → All (λ reported. IsSound reported.report is.lists settings.capacity settings.phi) (session_reports_in is.spelled.reports) }
+{}
+
+/// What `report` writes over a capture is the text of a session, whose reports are sound over the dealt records, each of
+/// each caller and the last one, if the tables of the saved cut that it went on from were those of its records.
+pub fn sessions_read_back<D: Disk>()
+    ensures { (formula : DealKind → ℕ → RecordValue → ℕ → ℕ) (before now : D) (settings : Settings) (store : Option (List ℕ)) (file text : List ℕ)
+        (is : IsSession settings (rules_by_formula formula) (SavesAreKeptOnDisk D.Disk before now) store file text) → AreLimitedSettings settings
+        → IfSome is.base (λ cut. CutRepresents cut is.lists) → (known : Session) × IsSessionText text known
+        × All (λ reported. IsSound reported.report is.lists settings.capacity settings.phi) known.reports
+        × (length known.reports ≡ (settings.callers + 1) * settings.rounds + 1) }
+{
+    printed_sessions_read_back();
+}

@@ -1,0 +1,160 @@
+//! The rounds of the calling thread: reports that are written, and cuts that are saved, while workers feed.
+
+ghost use Rattle.std.specs.Prelude.{◌≡◌, ◌≤◌, length, IfErr, IfSome, OnOk, None, is_some};
+ghost use Rattle.shard_state.specs.{HasCoreShape, core_capacity};
+ghost use Rattle.hhh_report.specs.{threshold_million};
+ghost use Rattle.hhh_output.specs.{IsWideShare};
+ghost use Rattle.pass_tokens.specs.{IsPassOfBoard, view};
+ghost use Rattle.report_session.specs.Rounds.{BreaksRound, EndRounds, WritesRounds};
+ghost use Rattle.report_session.specs.Saves.{CanMakeSaves, SavesBreakOff, SavesFitBoard, SavesInTurn};
+
+use run_status::Status;
+use crate::saving::{save_cut, saved_line};
+use crate::writing::write;
+use checkpoint::{Saver, stores_open_to_one};
+use gate_workers::{Gate, Rounds, calls_follow_calls, report_once};
+use outside_io::Sink;
+use pass_tokens::{Board, Pass};
+use report_text::print;
+use shard_state::Cut;
+use slot_disk::Disk;
+use std::alloc::Global;
+use std::sync::Wait;
+
+/// The rounds of the calling thread. In each it reads a cut of all shards, reports on it, and writes the report's text.
+/// With a saver, it then saves the cut, and writes the line of the saved positions. The first fault ends them. After a
+/// fault of the disk there is no saver; after any other it is the one after the cuts that were saved.
+#[derive(Drop)]
+pub struct LiveRounds<'a, K: Sink, D: Disk, G: Gate> {
+    /// Where the reports are written.
+    pub sink: &'a mut K,
+    /// Where the cuts are saved.
+    pub disk: &'a mut D,
+    /// What is called around each read.
+    pub gate: &'a G,
+    /// What saves the cuts: `None` without a store, and after a fault of the disk.
+    pub saver: &'a mut Option<Saver>,
+    /// What each round reads into: a cut of the board's shape.
+    pub cut: &'a mut Cut,
+    /// How many other callers there are. The calling thread bears this number at the gate.
+    pub callers: u32,
+    /// How many rounds are made.
+    pub rounds: u32,
+    /// The share of the total at which a prefix is heavy, 1 to 1,000,000 parts per million. Its product with the
+    /// capacity of the board's tables is at least 2,000,000.
+    pub phi: u32,
+    /// What ended the rounds before all were made: `WriteFault`, `DiskFault` or `OutOfMemory`.
+    pub stop: Option<Status>,
+}
+
+impl<K: Sink, D: Disk, G: Gate> Rounds for LiveRounds<'_, K, D, G> {
+    ghost use Rattle.std.specs.Prelude.{◌≡◌, ◌≤◌, length, IfSome, None, is_some};
+    ghost use Rattle.shard_state.specs.{HasCoreShape, core_capacity};
+    ghost use Rattle.hhh_report.specs.{threshold_million};
+    ghost use Rattle.hhh_output.specs.{IsWideShare};
+    ghost use Rattle.report_session.specs.Rounds.{EndRounds};
+    ghost use Rattle.report_session.specs.Saves.{CanMakeSaves, CanMakeSaves-later, SavesBreakOff, SavesInTurn};
+
+    ghost ready = { λ rounds board view. HasCoreShape (length board.opening) (core_capacity board.opening) rounds.cut.now
+        × (1 ≤ rounds.phi) × (rounds.phi ≤ threshold_million) × IsWideShare rounds.phi (core_capacity board.opening)
+        × (rounds.stop ≡ None)
+        × IfSome rounds.saver.now (CanMakeSaves (D.reads rounds.disk.now) (D.image_now rounds.disk.now) board.opening view rounds.rounds) };
+
+    ghost stays = { λ rounds board before now later ready. (
+      ready.0,
+      ready.1,
+      ready.2,
+      ready.3,
+      ready.4,
+      CanMakeSaves-later (D.reads rounds.disk.now) (D.image_now rounds.disk.now) board.opening before now rounds.rounds
+          rounds.saver.now later ready.5,
+    ) };
+
+    ghost does = { λ before view after later. (after.sink.ghost_name ≡ before.sink.ghost_name)
+        × (after.disk.ghost_name ≡ before.disk.ghost_name)
+        × (after.saver.ghost_name ≡ before.saver.ghost_name)
+        × (after.cut.ghost_name ≡ before.cut.ghost_name)
+        × HasCoreShape (length view.opening) (core_capacity view.opening) after.cut.now
+        × EndRounds view.opening before.phi before.rounds view later (is_some before.saver.now)
+        (SavesInTurn D.Disk before.saver.now after.saver.now before.disk.now after.disk.now)
+        (SavesBreakOff D.Disk before.saver.now after.saver.now before.disk.now after.disk.now)
+        (K.taken before.sink.now) (K.taken after.sink.now)
+        (record { sink = K.faults before.sink.now; disk = D.faults before.disk.now })
+        (record { sink = K.faults after.sink.now; disk = D.faults after.disk.now }) after.stop
+        × (before.saver.now ≡ None → (after.saver.now ≡ None) × (after.disk.now ≡ before.disk.now))
+        × (after.phi ≡ before.phi) × (after.rounds ≡ before.rounds) × (after.callers ≡ before.callers) };
+
+    fn go<R: Wait>(&mut self, rt: &R, alloc: Global, board: &Board, pass: &mut Pass) {
+        calls_follow_calls();
+        stores_open_to_one();
+        for round in 0..self.rounds {
+            let made = make_round(
+                rt,
+                alloc,
+                board,
+                pass,
+                self.sink,
+                self.disk,
+                self.saver,
+                self.cut,
+                self.callers,
+                round,
+                self.phi,
+                self.gate,
+            );
+            if let Err(status) = made {
+                self.stop = Some(status);
+                return;
+            }
+        }
+    }
+}
+
+// Makes one round: reads a cut of the board's shape, writes the report on it, and saves it, if there is a saver.
+fn make_round<R: Wait, K: Sink, D: Disk, G: Gate>(
+    rt: &R,
+    alloc: Global,
+    board: &Board,
+    pass: &mut Pass,
+    sink: &mut K,
+    disk: &mut D,
+    saver: &mut Option<Saver>,
+    cut: &mut Cut,
+    caller: u32,
+    round: u32,
+    phi: u32,
+    gate: &G,
+) -> Result<(), Status>
+    requires pass { IsPassOfBoard board.now pass.old }
+    requires shape { HasCoreShape (length board.now.opening) (core_capacity board.now.opening) cut.old }
+    requires some { 1 ≤ phi }
+    requires most { phi ≤ threshold_million }
+    requires wide { IsWideShare phi (core_capacity board.now.opening) }
+    requires can_save { IfSome saver.old (CanMakeSaves (D.reads disk.old) (D.image_now disk.old) board.now.opening (view pass.old) 1) }
+    ensures whole { OnOk result (WritesRounds board.now.opening phi 1 (view pass.old) (view pass.new) (is_some saver.old)
+        (SavesInTurn D.Disk saver.old saver.new disk.old disk.new) (K.taken sink.old) (K.taken sink.new)) }
+    ensures fits { OnOk result (IfSome saver.new (SavesFitBoard board.now.opening (view pass.new))) }
+    ensures faults { OnOk result ((K.faults sink.new ≡ K.faults sink.old) × (D.faults disk.new ≡ D.faults disk.old)) }
+    ensures broken { IfErr result (BreaksRound board.now.opening phi (view pass.old) (view pass.new) (is_some saver.old)
+        (SavesBreakOff D.Disk saver.old saver.new disk.old disk.new) (K.taken sink.old) (K.taken sink.new)
+        (record { sink = K.faults sink.old; disk = D.faults disk.old }) (record { sink = K.faults sink.new; disk = D.faults disk.new })) }
+    ensures unused { saver.old ≡ None → (saver.new ≡ None) × (disk.new ≡ disk.old) }
+    ensures shape { HasCoreShape (length board.now.opening) (core_capacity board.now.opening) cut.new }
+    ensures pass { IsPassOfBoard board.now pass.new }
+{
+    let _shards = board.shards();
+    let report = report_once(rt, alloc, board, pass, caller, round, phi, cut, gate)?;
+    let mut text = Vec::new(alloc);
+    print(&report, &mut text)?;
+    let line = saved_line(alloc, saver.is_some(), &report.positions)?;
+    if let Err(status) = write(sink, &text) {
+        return Err(status);
+    }
+    if let Err(status) = save_cut(alloc, saver, disk, cut) {
+        return Err(status);
+    }
+    match write(sink, &line) {
+        Ok(()) => Ok(()),
+        Err(status) => Err(status),
+    }
+}

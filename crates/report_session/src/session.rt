@@ -1,0 +1,361 @@
+//! The session of `report`: the running feed and its reports, and a last report over all records.
+
+ghost use Rattle.std.specs.Prelude.{◌≡◌, ◌≤◌, ◌<◌, ◌+◌, ◌⊎◌, ◌++◌, [], ◌∷◌, length, All, None, IfErr, IfOk, IfSome};
+ghost use Rattle.std.specs.Prelude.{OnErr, OnOk, false, is_some};
+ghost use Rattle.std.specs.List.{AllZip};
+ghost use Rattle.std.specs.Io.KnownBytes.{Appends};
+ghost use Rattle.deal_rules.specs.{AreDealingLists};
+ghost use Rattle.space_saving.specs.{least_table_capacity, most_table_capacity};
+ghost use Rattle.shard_state.specs.{AreCoreShards, HasCoreShape, core_capacity};
+ghost use Rattle.pass_tokens.specs.{IsPassOfBoard, first_view, view};
+ghost use Rattle.gate_workers.specs.{FeedHasSeenEnds};
+ghost use Rattle.checkpoint.specs.{DiskMatchesSaver};
+ghost use Rattle.recovery.specs.{OpeningContinuesList};
+ghost use Rattle.report_text.specs.{ReportTextShowsPositions, report_mark_text};
+ghost use Rattle.report_text.specs.declared.mark.Mark.TheVariants.{Opened as OpenedMark};
+ghost use Rattle.command_words.specs.{AreLimitedSettings, AreWideSettings};
+ghost use Rattle.report_session.specs.Session.{WritesAnswer, AreSessionReportsOfCaller, BeginsSession};
+ghost use Rattle.report_session.specs.Session.{SessionBreaksOffAround, SessionBaseRepresents, IsSessionOverShards};
+ghost use Rattle.report_session.specs.Session.{session_caller_parts, session_opening, session_parts};
+ghost use Rattle.report_session.specs.Session.{resumed_session_shards, new_session_shards, session_start};
+ghost use Rattle.report_session.specs.DealtFeed.{DealtFeedCanSaveCut, DealtFeedGoesOn, IsDealtFeedBase};
+ghost use Rattle.report_session.specs.DealtFeed.{IsDealtFeedFault, IsDealtFeedOpening, IsDealtFeedRest};
+ghost use Rattle.report_session.specs.DealtFeed.{DealtFeedStartsBeforeEnds, dealt_feed_other_reports};
+ghost use Rattle.report_session.specs.Saves.{CanMakeSaves, Saves, SavesInPart, SavesInTurn};
+
+use crate::base::Base;
+use crate::feed::{Fed, feed};
+use crate::saving::{save_cut, saved_line};
+use crate::writing::write;
+use command_words::Settings;
+use run_status::Status;
+use checkpoint::{Saver, stores_open_to_one};
+use deal_rules::Dealt;
+use gate_workers::{Called, Gate, Gathered, OpenGate, report_once};
+use hhh_report::{Positions, Reports};
+use outside_io::Sink;
+use pass_tokens::{Board, Pass};
+use report_text::{Mark, print, print_positions};
+use shard_state::{Cut, ShardState, shards_stand};
+use slot_disk::Disk;
+use std::alloc::{AllocError, Global};
+use std::marker::Sync;
+use std::sync::Wait;
+use std::thread::Threads;
+
+/// Shards on a board whose records are not counted further yet.
+#[derive(Drop)]
+pub(crate) struct Opened {
+    pub(crate) board: Board,
+    /// The pass of the calling thread.
+    pub(crate) pass: Pass,
+    /// What the calling thread reads into.
+    pub(crate) cut: Cut,
+}
+
+/// The rest of a session, once all records are counted.
+#[derive(Drop)]
+pub(crate) struct Rest {
+    /// The cut of the last report.
+    pub(crate) cut: Cut,
+    /// The reports of the other callers, and the last report.
+    pub(crate) front: Vec<u8>,
+    /// What is written after the last cut was saved.
+    pub(crate) back: Vec<u8>,
+}
+
+/// Counts dealt records from the base on while reports are made, and writes the session, which ends with the text `tail`.
+/// With a saver it saves each cut that the calling thread reports on. On an error the sink or the disk failed, or memory ran
+/// out; threads that had begun have then counted all records.
+pub(crate) fn write_session<R: Threads + Wait + Sync, K: Sink, D: Disk, G: Gate + Sync>(
+    rt: &R,
+    alloc: Global,
+    dealt: Dealt,
+    base: Base,
+    tail: &[u8],
+    settings: &Settings,
+    sink: &mut K,
+    disk: &mut D,
+    gate: &G,
+) -> Result<(), Status>
+    requires limited { AreLimitedSettings settings.now }
+    requires wide { AreWideSettings settings.now }
+    requires shards { length dealt ≡ settings.now.shards }
+    requires base { IsDealtFeedBase settings.now dealt (D.reads disk.old) base }
+    requires stands { IfSome base.saver (DiskMatchesSaver (D.reads disk.old) (D.image_now disk.old)) }
+    requires tail { 0 < length tail.now }
+    ensures whole { OnOk result (WritesAnswer (IsSessionOverShards (session_opening settings.now.capacity dealt base.cut) settings.now
+        (λ cuts. Saves D.Disk base.saver cuts disk.old disk.new) tail.now) (K.taken sink.old) (K.taken sink.new)) }
+    ensures faults { OnOk result ((K.faults sink.new ≡ K.faults sink.old) × (D.faults disk.new ≡ D.faults disk.old)) }
+    ensures part { OnErr result (((sink.new ≡ sink.old) × (disk.new ≡ disk.old))
+        ⊎ WritesAnswer (BeginsSession (session_opening settings.now.capacity dealt base.cut) settings.now
+        (SavesInPart D.Disk base.saver disk.old disk.new) tail.now) (K.taken sink.old) (K.taken sink.new)) }
+    ensures fault { IfErr result (IsDealtFeedFault (record { sink = K.faults sink.old; disk = D.faults disk.old })
+        (record { sink = K.faults sink.new; disk = D.faults disk.new })) }
+    ensures unused { base.saver ≡ None → disk.new ≡ disk.old }
+{
+    let Base {
+        cut,
+        positions,
+        saver,
+    } = base;
+    openings_stand(&dealt, &cut, settings.capacity);
+    let line = opened_line(alloc, &positions)?;
+    let opened = open(alloc, dealt, cut, settings.capacity)?;
+    write_feed(
+        rt, alloc, opened, saver, &line, tail, settings, sink, disk, gate,
+    )
+}
+
+/// Puts the shards of dealt lists on a board, from the base on.
+pub(crate) fn open(
+    alloc: Global,
+    dealt: Dealt,
+    base: Option<Cut>,
+    capacity: u32,
+) -> Result<Opened, AllocError>
+    requires least { least_table_capacity ≤ capacity }
+    requires most { capacity ≤ most_table_capacity }
+    requires fits { IfSome base (DealtFeedGoesOn capacity dealt) }
+    ensures { IfOk result (IsDealtFeedOpening (session_opening capacity dealt base)) }
+{
+    openings_stand(&dealt, &base, capacity);
+    let shards = dealt.shards();
+    let states = states_of(alloc, dealt, base, capacity)?;
+    let (board, pass) = Board::start(alloc, states)?;
+    let cut = Cut::with_room(alloc, shards, capacity)?;
+    Ok(Opened { board, pass, cut })
+}
+
+/// Shards of dealt lists have the capacity asked for, and start before the ends of their lists. The tables of their base
+/// represent the lists, if they were saved of them or are empty.
+pub(crate) fn openings_stand(dealt: &Dealt, base: &Option<Cut>, capacity: u32)
+    requires { IfSome base.now (DealtFeedGoesOn capacity dealt.now) }
+    ensures shards { AreCoreShards (session_opening capacity dealt.now base.now) }
+    ensures many { length (session_opening capacity dealt.now base.now) ≡ length dealt.now }
+    ensures alike { core_capacity (session_opening capacity dealt.now base.now) ≡ capacity }
+    ensures starts { DealtFeedStartsBeforeEnds (session_opening capacity dealt.now base.now) }
+    ensures positions { ReportTextShowsPositions (session_start (session_opening capacity dealt.now base.now)) }
+    ensures represents { SessionBaseRepresents dealt.now base.now (session_opening capacity dealt.now base.now) }
+{
+    shards_stand();
+    let _shards = dealt.shards();
+    match base {
+        None => {}
+        Some(cut) => {
+            let _kept = cut.shards();
+        }
+    }
+}
+
+// The states of shards, from the base on.
+fn states_of(
+    alloc: Global,
+    dealt: Dealt,
+    base: Option<Cut>,
+    capacity: u32,
+) -> Result<Vec<ShardState>, AllocError>
+    requires least { least_table_capacity ≤ capacity }
+    requires most { capacity ≤ most_table_capacity }
+    requires fits { IfSome base (DealtFeedGoesOn capacity dealt) }
+    ensures { IfOk result (λ states. states.items ≡ session_opening capacity dealt base) }
+{
+    match base {
+        None => new_states(alloc, dealt, capacity),
+        Some(cut) => resumed_states(alloc, dealt, cut),
+    }
+}
+
+// The states of shards, none of their records counted.
+fn new_states(alloc: Global, dealt: Dealt, capacity: u32) -> Result<Vec<ShardState>, AllocError>
+    requires least { least_table_capacity ≤ capacity }
+    requires most { capacity ≤ most_table_capacity }
+    ensures states { IfOk result (λ states. states.items ≡ new_session_shards capacity dealt) }
+    ensures shards { AreDealingLists dealt }
+{
+    let mut states = Vec::new(alloc);
+    for list in dealt.into_lists() {
+        states.push(ShardState::start(alloc, list, capacity)?)?;
+    }
+    Ok(states)
+}
+
+// The states of shards that go on from the snapshots of a cut.
+fn resumed_states(alloc: Global, dealt: Dealt, cut: Cut) -> Result<Vec<ShardState>, AllocError>
+    requires { AllZip OpeningContinuesList cut.shards dealt }
+    ensures { IfOk result (λ states. states.items ≡ resumed_session_shards dealt cut.shards) }
+{
+    let mut states = Vec::new(alloc);
+    for (list, base) in dealt.into_lists().into_iter().zip(cut.into_shards()) {
+        states.push(ShardState::resume(alloc, list, base)?)?;
+    }
+    Ok(states)
+}
+
+// The first line of a session.
+fn opened_line(alloc: Global, positions: &Positions) -> Result<Vec<u8>, AllocError>
+    requires { ReportTextShowsPositions positions.now }
+    ensures { IfOk result (λ line. line.items ≡ report_mark_text OpenedMark positions.now) }
+{
+    let mut line = Vec::new(alloc);
+    print_positions(Mark::Opened, positions, &mut line)?;
+    Ok(line)
+}
+
+// Writes the session of shards on a board: its first line, the calling thread's rounds while workers feed, and the rest.
+fn write_feed<R: Threads + Wait + Sync, K: Sink, D: Disk, G: Gate + Sync>(
+    rt: &R,
+    alloc: Global,
+    opened: Opened,
+    saver: Option<Saver>,
+    line: &[u8],
+    tail: &[u8],
+    settings: &Settings,
+    sink: &mut K,
+    disk: &mut D,
+    gate: &G,
+) -> Result<(), Status>
+    requires limited { AreLimitedSettings settings.now }
+    requires wide { AreWideSettings settings.now }
+    requires opened { IsDealtFeedOpening opened.board.opening opened }
+    requires alike { core_capacity opened.board.opening ≡ settings.now.capacity }
+    requires starts { DealtFeedStartsBeforeEnds opened.board.opening }
+    requires line { line.now ≡ report_mark_text OpenedMark (session_start opened.board.opening) }
+    requires tail { 0 < length tail.now }
+    requires used { is_some saver ≡ settings.now.store }
+    requires can_save { IfSome saver (CanMakeSaves (D.reads disk.old) (D.image_now disk.old) opened.board.opening
+        (first_view opened.board.opening) (settings.now.rounds + 1)) }
+    ensures whole { OnOk result (WritesAnswer (IsSessionOverShards opened.board.opening settings.now
+        (λ cuts. Saves D.Disk saver cuts disk.old disk.new) tail.now) (K.taken sink.old) (K.taken sink.new)) }
+    ensures faults { OnOk result ((K.faults sink.new ≡ K.faults sink.old) × (D.faults disk.new ≡ D.faults disk.old)) }
+    ensures part { OnErr result (WritesAnswer (BeginsSession opened.board.opening settings.now
+        (SavesInPart D.Disk saver disk.old disk.new) tail.now) (K.taken sink.old) (K.taken sink.new)) }
+    ensures fault { IfErr result (IsDealtFeedFault (record { sink = K.faults sink.old; disk = D.faults disk.old })
+        (record { sink = K.faults sink.new; disk = D.faults disk.new })) }
+    ensures unused { saver ≡ None → disk.new ≡ disk.old }
+{
+    let Opened { board, pass, cut } = opened;
+    let mut saver = saver;
+    stores_open_to_one();
+    if let Err(status) = write(sink, line) {
+        return Err(status);
+    }
+    let fed = match feed(
+        rt, alloc, &board, pass, cut, settings, sink, disk, &mut saver, gate,
+    ) {
+        Ok(fed) => fed,
+        Err(status) => return Err(status),
+    };
+    let rest = rest_of_session(rt, alloc, &board, fed, tail, settings)?;
+    match write_rest(alloc, &rest, &mut saver, sink, disk) {
+        Ok(()) => Ok(()),
+        Err(status) => Err(status),
+    }
+}
+
+// Writes the rest of a session, and saves its cut, if there is a saver, once the last report was written.
+fn write_rest<K: Sink, D: Disk>(
+    alloc: Global,
+    rest: &Rest,
+    saver: &mut Option<Saver>,
+    sink: &mut K,
+    disk: &mut D,
+) -> Result<(), Status>
+    requires { IfSome saver.old (DealtFeedCanSaveCut (D.reads disk.old) (D.image_now disk.old) rest.now.cut) }
+    ensures whole { OnOk result (Appends (K.taken sink.old) (K.taken sink.new) (rest.now.front.items ++ rest.now.back.items)) }
+    ensures saved { OnOk result (SavesInTurn D.Disk saver.old saver.new disk.old disk.new (rest.now.cut ∷ [])) }
+    ensures faults { OnOk result ((K.faults sink.new ≡ K.faults sink.old) × (D.faults disk.new ≡ D.faults disk.old)) }
+    ensures part { OnErr result (WritesAnswer (SessionBreaksOffAround rest.now.front.items rest.now.back.items (rest.now.cut ∷ [])
+        (SavesInPart D.Disk saver.old disk.old disk.new)) (K.taken sink.old) (K.taken sink.new)) }
+    ensures fault { IfErr result (IsDealtFeedFault (record { sink = K.faults sink.old; disk = D.faults disk.old })
+        (record { sink = K.faults sink.new; disk = D.faults disk.new })) }
+    ensures unused { saver.old ≡ None → disk.new ≡ disk.old }
+{
+    if let Err(status) = write(sink, &rest.front) {
+        return Err(status);
+    }
+    if let Err(status) = save_cut(alloc, saver, disk, &rest.cut) {
+        return Err(status);
+    }
+    match write(sink, &rest.back) {
+        Ok(()) => Ok(()),
+        Err(status) => Err(status),
+    }
+}
+
+// What follows the calling thread's rounds in a session: the reports of the other callers, a last report over all
+// records, and the last lines.
+fn rest_of_session<R: Wait>(
+    rt: &R,
+    alloc: Global,
+    board: &Board,
+    fed: Fed,
+    tail: &[u8],
+    settings: &Settings,
+) -> Result<Rest, AllocError>
+    requires limited { AreLimitedSettings settings.now }
+    requires wide { AreWideSettings settings.now }
+    requires pass { IsPassOfBoard board.now fed.gathered.pass }
+    requires ends { FeedHasSeenEnds board.now.opening (view fed.gathered.pass) }
+    requires shape { HasCoreShape (length board.now.opening) (core_capacity board.now.opening) fed.cut }
+    requires callers { All (AreSessionReportsOfCaller board.now.opening settings.now settings.now.rounds) (dealt_feed_other_reports fed.gathered.called.items) }
+    requires alike { core_capacity board.now.opening ≡ settings.now.capacity }
+    ensures rest { IfOk result (IsDealtFeedRest board.now settings.now fed.gathered.called.items tail.now) }
+    ensures shape { IfOk result (λ rest. HasCoreShape (length board.now.opening) (core_capacity board.now.opening) rest.cut) }
+{
+    let Fed { gathered, mut cut } = fed;
+    let Gathered { mut pass, called } = gathered;
+    let _shards = board.shards();
+    let last = report_once(
+        rt,
+        alloc,
+        board,
+        &mut pass,
+        0,
+        0,
+        settings.phi,
+        &mut cut,
+        &OpenGate,
+    )?;
+    let mut front = reports_text(alloc, board, settings, &called)?;
+    print(&last, &mut front)?;
+    let mut back = saved_line(alloc, settings.store, &last.positions)?;
+    back.extend_from_slice(tail)?;
+    Ok(Rest { cut, front, back })
+}
+
+// The reports of the other callers, one caller after the other.
+fn reports_text(
+    alloc: Global,
+    board: &Board,
+    settings: &Settings,
+    called: &[Called],
+) -> Result<Vec<u8>, AllocError>
+    requires { All (AreSessionReportsOfCaller board.now.opening settings.now settings.now.rounds) (dealt_feed_other_reports called.now) }
+    ensures { IfOk result (λ text. text.items ≡ session_caller_parts (dealt_feed_other_reports called.now)) }
+{
+    let _shards = board.shards();
+    let mut text = Vec::new(alloc);
+    for caller in called {
+        put_reports(board, settings, &caller.reports, &mut text)?;
+    }
+    Ok(text)
+}
+
+// Appends the reports of one caller.
+fn put_reports(
+    board: &Board,
+    settings: &Settings,
+    reports: &Reports,
+    text: &mut Vec<u8>,
+) -> Result<(), AllocError>
+    requires { AreSessionReportsOfCaller board.now.opening settings.now settings.now.rounds reports.now }
+    ensures { OnOk result (text.new.items ≡ text.old.items ++ session_parts false reports.now) }
+{
+    let _shards = board.shards();
+    let all = reports.as_slice();
+    for reported in all {
+        print(&reported.report, text)?;
+    }
+    Ok(())
+}

@@ -1,0 +1,2 @@
+pub mod AppendedTextLemmas
+pub mod ExamplesOfStatuses

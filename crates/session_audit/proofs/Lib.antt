@@ -1,0 +1,3 @@
+pub mod FirstUnsoundLemmas
+pub mod VerdictTextLemmas
+pub mod AuditAnswerLemmas

@@ -1,0 +1,29 @@
+-- What `audit` does step by step, which no public contract cites.
+use Rattle.std.specs.Prelude.{⊤, ℕ, ◌≡◌, List, length, All}
+use Rattle.outside_io.specs.{FaultCountRose}
+use Rattle.prefix_lattice.specs.{RecordValue}
+use Rattle.hhh_report.specs.declared.reports.Reported.{Reported}
+use Rattle.command_words.specs.declared.settings.Settings.{Settings}
+use Rattle.session_audit.specs.Audit.{IsAuditedAsFirstUnsound, IsAuditedAsSound, sound_audit_text, unsound_audit_text}
+use Rattle.session_audit.specs.declared.audit.Answer.{Answer}
+use Rattle.run_status.specs.declared.status.Status.{Status}
+use Rattle.run_status.specs.declared.status.Status.TheVariants.{Done, ReadFault, AuditNo}
+use Rattle.run_status.specs.declared.status.Status.TheVariants.{OutOfMemory}
+
+-- why bytes were not read: the source's count of faults rose, or memory ran out
+abbrev pub AuditingHasNoBytes : (before now : ℕ) → Status → Type 0
+AuditingHasNoBytes before now ReadFault = FaultCountRose before now
+AuditingHasNoBytes before now OutOfMemory = ⊤
+AuditingHasNoBytes before now _ = ⊥
+
+-- the answer of an audit over dealt lists: its text, and the status that it leads to
+abbrev pub AuditingSays : Settings → List (List RecordValue) → List Reported → List ℕ → Status → Type 0
+AuditingSays settings lists reports text Done =
+    All (IsAuditedAsSound settings lists) reports × (text ≡ sound_audit_text (length reports))
+AuditingSays settings lists reports text (AuditNo report verdict) =
+    IsAuditedAsFirstUnsound settings lists reports report verdict × (text ≡ unsound_audit_text report verdict)
+AuditingSays settings lists reports text _ = ⊥
+
+-- the same of an answer
+abbrev pub IsAuditingAnswer : Settings → List (List RecordValue) → List Reported → Answer → Type 0
+IsAuditingAnswer settings lists reports answer = AuditingSays settings lists reports answer.text.items answer.status
