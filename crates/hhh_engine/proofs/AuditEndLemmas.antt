@@ -20,7 +20,8 @@ use Rattle.command_words.specs.declared.settings.Settings.{Settings}
 use Rattle.hhh_engine.specs.Answer.{IsUnfinishedAnswer}
 use Rattle.session_audit.specs.{AreAudited, IsAuditText, IsSoundAudit, IsUnsoundAudit, IsAuditingAnswer, AuditingSays}
 use Rattle.hhh_engine.specs.Reading.{AreAuditingInputs, HasNoAudit}
-use Rattle.hhh_engine.specs.Ending.{EndsByAuditFinding, Ends, EndingSourceFaults}
+use Rattle.hhh_engine.specs.Tasks.{audit_task}
+use Rattle.hhh_engine.specs.Ending.{course, EndsByAuditFinding, Ends, EndingSourceFaults}
 use Rattle.hhh_engine.specs.Inputs.{InputBytes, HoldsOfAuditInputs, inputs}
 use Rattle.dealt_capture.specs.{IsCaptureFile, DealingRules}
 use Rattle.run_status.specs.{status_of_session}
@@ -95,12 +96,18 @@ audit_ends_at_refused_text capture capture_left text text_left store before now 
 -- how an audit ended
 abbrev pub EndsAudit : {K : Type 0} → Settings → DealingRules → InputBytes → (read_before read_now : EndingSourceFaults)
     → (sink written : K) → (old new : Option (List ℕ)) → (write_before write_now : ℕ) → Status → Type 0
-EndsAudit settings rules given read_before read_now sink written old new write_before write_now status =
-    Ends (λ answer. HoldsOfAuditInputs given (λ file session. IsSoundAudit settings rules file session answer))
-    (λ front. HoldsOfAuditInputs given (λ file session. IsUnfinishedAnswer (IsAuditText settings rules file session) front))
-    (IsAtEnd given.capture_left × IsAtEnd given.text_left) (IfSome given.capture IsCaptureFile) ⊥ ⊤ ⊤ (λ fault. ⊥)
-    (EndsByAuditFinding settings rules given old new) given.capture read_before read_now sink written old new write_before
-    write_now status
+EndsAudit settings rules given read_before read_now sink written old new write_before write_now =
+    Ends (audit_task settings rules given old new) (record {
+      capture = given.capture;
+      read_before = read_before;
+      read_now = read_now;
+      sink = sink;
+      written = written;
+      old = old;
+      new = new;
+      write_before = write_before;
+      write_now = write_now;
+    })
 
 -- an audit whose inputs were not accepted
 pub audit_ends_without_inputs : {K : Type 0} (settings : Settings) (rules : DealingRules) (given : InputBytes)
@@ -284,11 +291,6 @@ pub audit_ends_as : {S T K D : Type 0} (s : SourceOf S) (t : SourceOf T) (k : Si
     (k.taken old.sink) (k.taken new.sink) (k.faults old.sink) (k.faults new.sink) status
     → CommandEnds s t k d old new rules (Audit settings) status
 audit_ends_as s t k d old new rules settings status same before ends =
-    let given = run_inputs s t k d old new in
-    status_beside_disk (λ answer. HoldsOfAuditInputs given (λ file session. IsSoundAudit settings rules file session answer))
-    (λ front. HoldsOfAuditInputs given (λ file session. IsUnfinishedAnswer (IsAuditText settings rules file session) front))
-    (IsAtEnd given.capture_left × IsAtEnd given.text_left) (IfSome given.capture IsCaptureFile) (new.disk ≡ old.disk)
-    (IsAsBeforeSaves d old.disk new.disk) (λ fault. ⊥)
-    (EndsByAuditFinding settings rules given (k.taken old.sink) (k.taken new.sink)) given.capture (faults_before s t k d old new)
-    (faults_after s t k d old new) old.sink new.sink (k.taken old.sink) (k.taken new.sink) (k.faults old.sink) (k.faults new.sink)
-    status same before ends
+    status_beside_disk (audit_task settings rules (run_inputs s t k d old new) (k.taken old.sink) (k.taken new.sink))
+    (course k (s.left old.capture) (faults_before s t k d old new) (faults_after s t k d old new) old.sink new.sink)
+    (new.disk ≡ old.disk) (IsAsBeforeSaves d old.disk new.disk) status (λ failed. failed) same before ends

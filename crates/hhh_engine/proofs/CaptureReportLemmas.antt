@@ -16,6 +16,12 @@ use Rattle.run_status.specs.declared.status.Status.{Status}
 use Rattle.run_status.specs.declared.status.Status.TheVariants.{Done, BadWords, BadCapture, ReadFault, WriteFault}
 use Rattle.run_status.specs.declared.status.Status.TheVariants.{DiskFault, NotFormatted, Damaged, OtherSettings}
 use Rattle.run_status.specs.declared.status.Status.TheVariants.{OtherCapture, AuditNo, BadReport, OutOfMemory}
+use Rattle.std.specs.Io.KnownBytes.{IsAtEnd}
+use Rattle.outside_io.specs.declared.sink.Sink.{Ghosts as SinkOf}
+use Rattle.slot_disk.specs.declared.disk.Disk.{Ghosts as DiskOf}
+use Rattle.hhh_engine.specs.Ending.{course}
+use Rattle.hhh_engine.specs.Tasks.{report_task}
+use Rattle.report_session.specs.{IsAsBeforeSaves, SavesAreKeptOnDisk}
 
 -- what follows of each capture that may be known follows of the one that is
 pub capture_report_if_known : (left : Option (List ℕ)) (P Q : List ℕ → Type 0) → ((file : List ℕ) → P file → Q file) → IfSome left P
@@ -104,89 +110,71 @@ capture_report_nothing_or_part settings rules keeping left store lists tail Read
     (λ part. inr (read, capture_report_writes_in_part settings rules keeping left store lists tail old new dealt part))
 
 -- how a report over a capture ended, from how it ended over its dealt lists
-pub capture_report_ends : {K : Type 0} (settings : Settings) (rules : DealingRules) (keeping : SessionKeeping)
-    (left store : Option (List ℕ)) (AsBefore : Type 0) (lists : List (List RecordValue)) (tail : List ℕ)
-    (ReadToEnd DiskSame : Type 0) (read_before read_now : EndingSourceFaults) (sink written : K) (old new : Option (List ℕ))
-    (write_before write_now disk_before disk_now : ℕ) (status : Status)
-    → IfSome left (λ file. IsDealtFeedCapture settings rules file lists tail) → ReadToEnd → read_now ≡ read_before
-    → DealtFeedEnds settings lists tail keeping store AsBefore sink written old new
-    (record { sink = write_before; disk = disk_before }) (record { sink = write_now; disk = disk_now }) status
-    → Ends (λ text. IfSome left (λ file. IsSession settings rules keeping store file text))
-    (λ front. IfSome left (λ file. IsSessionInPart settings rules keeping store file front))
-    ReadToEnd (IfSome left IsCaptureFile) (FaultCountRose disk_before disk_now) DiskSame AsBefore
-    (RefusesStoreAtEnding settings rules left store AsBefore)
-    (λ status. ⊥) left read_before read_now sink written old new write_before write_now status
-capture_report_ends settings rules keeping left store AsBefore lists tail ReadToEnd DiskSame read_before read_now sink
-    written old new write_before write_now disk_before disk_now Done dealt read same ends = (
+pub capture_report_ends : {K D : Type 0} (k : SinkOf K) (d : DiskOf D) (settings : Settings) (rules : DealingRules)
+    (left left_now : Option (List ℕ)) (before now : EndingSourceFaults) (sink written : K) (old new : D)
+    (lists : List (List RecordValue)) (tail : List ℕ) (status : Status)
+    → IfSome left (λ file. IsDealtFeedCapture settings rules file lists tail) → IsAtEnd left_now → now ≡ before
+    → DealtFeedEnds settings lists tail (SavesAreKeptOnDisk d old new) (d.reads old) (IsAsBeforeSaves d old new) sink written
+    (k.taken sink) (k.taken written) (record { sink = k.faults sink; disk = d.faults old })
+    (record { sink = k.faults written; disk = d.faults new }) status
+    → Ends (report_task d settings rules left left_now old new) (course k left before now sink written) status
+capture_report_ends k d settings rules left left_now before now sink written old new lists tail Done dealt read same ends = (
       read,
-      capture_report_writes_session settings rules keeping left store lists tail old new dealt ends.0,
+      capture_report_writes_session settings rules (SavesAreKeptOnDisk d old new) left (d.reads old) lists tail (k.taken sink) (k.taken written) dealt ends.0,
       same,
       ap (λ (f : RoundFaults). f.sink) ends.1,
     )
-capture_report_ends settings rules keeping left store AsBefore lists tail ReadToEnd DiskSame read_before read_now sink
-    written old new write_before write_now disk_before disk_now WriteFault dealt read same ends =
-    (read, capture_report_writes_in_part settings rules keeping left store lists tail old new dealt ends.0, ends.1.rose, same)
-capture_report_ends settings rules keeping left store AsBefore lists tail ReadToEnd DiskSame read_before read_now sink
-    written old new write_before write_now disk_before disk_now DiskFault dealt read same ends = (
+capture_report_ends k d settings rules left left_now before now sink written old new lists tail WriteFault dealt read same ends =
+    (read, capture_report_writes_in_part settings rules (SavesAreKeptOnDisk d old new) left (d.reads old) lists tail (k.taken sink) (k.taken written) dealt ends.0, ends.1.rose, same)
+capture_report_ends k d settings rules left left_now before now sink written old new lists tail DiskFault dealt read same ends = (
       read,
       capture_report_if_known left (λ file. IsDealtFeedCapture settings rules file lists tail) IsCaptureFile
           (λ file capture. (capture.dealt.frames, capture.dealt.capture)) dealt,
       ⊎_elim (λ none. inl none)
-          (λ part. inr (capture_report_writes_in_part settings rules keeping left store lists tail old new dealt part)) ends.0,
+          (λ part. inr (capture_report_writes_in_part settings rules (SavesAreKeptOnDisk d old new) left (d.reads old) lists tail (k.taken sink) (k.taken written) dealt part)) ends.0,
       ends.1.rose,
       same,
       ends.1.sink,
     )
-capture_report_ends settings rules keeping left store AsBefore lists tail ReadToEnd DiskSame read_before read_now sink
-    written old new write_before write_now disk_before disk_now NotFormatted dealt read same ends = (
-      capture_report_refuses_store settings rules left store AsBefore lists tail opening.NotFormatted dealt ends.0,
+capture_report_ends k d settings rules left left_now before now sink written old new lists tail NotFormatted dealt read same ends = (
+      capture_report_refuses_store settings rules left (d.reads old) (IsAsBeforeSaves d old new) lists tail opening.NotFormatted dealt ends.0,
       read,
       ends.1,
       same,
       ap (λ (f : RoundFaults). f.sink) ends.2,
     )
-capture_report_ends settings rules keeping left store AsBefore lists tail ReadToEnd DiskSame read_before read_now sink
-    written old new write_before write_now disk_before disk_now (Damaged slot) dealt read same ends = (
-      capture_report_refuses_store settings rules left store AsBefore lists tail (opening.Damaged slot) dealt ends.0,
+capture_report_ends k d settings rules left left_now before now sink written old new lists tail (Damaged slot) dealt read same ends = (
+      capture_report_refuses_store settings rules left (d.reads old) (IsAsBeforeSaves d old new) lists tail (opening.Damaged slot) dealt ends.0,
       read,
       ends.1,
       same,
       ap (λ (f : RoundFaults). f.sink) ends.2,
     )
-capture_report_ends settings rules keeping left store AsBefore lists tail ReadToEnd DiskSame read_before read_now sink
-    written old new write_before write_now disk_before disk_now (OtherSettings stored asked) dealt read same ends = (
-      capture_report_refuses_store settings rules left store AsBefore lists tail (opening.OtherSettings stored asked) dealt ends.0,
+capture_report_ends k d settings rules left left_now before now sink written old new lists tail (OtherSettings stored asked) dealt read same ends = (
+      capture_report_refuses_store settings rules left (d.reads old) (IsAsBeforeSaves d old new) lists tail (opening.OtherSettings stored asked) dealt ends.0,
       read,
       ends.1,
       same,
       ap (λ (f : RoundFaults). f.sink) ends.2,
     )
-capture_report_ends settings rules keeping left store AsBefore lists tail ReadToEnd DiskSame read_before read_now sink
-    written old new write_before write_now disk_before disk_now (OtherCapture stored asked) dealt read same ends = (
-      capture_report_refuses_store settings rules left store AsBefore lists tail (opening.OtherCapture stored asked) dealt ends.0,
+capture_report_ends k d settings rules left left_now before now sink written old new lists tail (OtherCapture stored asked) dealt read same ends = (
+      capture_report_refuses_store settings rules left (d.reads old) (IsAsBeforeSaves d old new) lists tail (opening.OtherCapture stored asked) dealt ends.0,
       read,
       ends.1,
       same,
       ap (λ (f : RoundFaults). f.sink) ends.2,
     )
-capture_report_ends settings rules keeping left store AsBefore lists tail ReadToEnd DiskSame read_before read_now sink
-    written old new write_before write_now disk_before disk_now OutOfMemory dealt read same ends = (
-      capture_report_nothing_or_part settings rules keeping left store lists tail ReadToEnd ((written ≡ sink) × AsBefore) old new dealt
-          read ends.0,
+capture_report_ends k d settings rules left left_now before now sink written old new lists tail OutOfMemory dealt read same ends = (
+      capture_report_nothing_or_part settings rules (SavesAreKeptOnDisk d old new) left (d.reads old) lists tail (IsAtEnd left_now)
+          ((written ≡ sink) × IsAsBeforeSaves d old new) (k.taken sink) (k.taken written) dealt read ends.0,
       same,
       ap (λ (f : RoundFaults). f.sink) ends.1,
     )
-capture_report_ends settings rules keeping left store AsBefore lists tail ReadToEnd DiskSame read_before read_now sink
-    written old new write_before write_now disk_before disk_now (BadWords kind) dealt read same ends = absurd ends
-capture_report_ends settings rules keeping left store AsBefore lists tail ReadToEnd DiskSame read_before read_now sink
-    written old new write_before write_now disk_before disk_now (BadCapture fault) dealt read same ends = absurd ends
-capture_report_ends settings rules keeping left store AsBefore lists tail ReadToEnd DiskSame read_before read_now sink
-    written old new write_before write_now disk_before disk_now ReadFault dealt read same ends = absurd ends
-capture_report_ends settings rules keeping left store AsBefore lists tail ReadToEnd DiskSame read_before read_now sink
-    written old new write_before write_now disk_before disk_now (AuditNo report verdict) dealt read same ends =
-    absurd ends
-capture_report_ends settings rules keeping left store AsBefore lists tail ReadToEnd DiskSame read_before read_now sink
-    written old new write_before write_now disk_before disk_now (BadReport fault) dealt read same ends = absurd ends
+capture_report_ends k d settings rules left left_now before now sink written old new lists tail (BadWords kind) dealt read same ends = absurd ends
+capture_report_ends k d settings rules left left_now before now sink written old new lists tail (BadCapture fault) dealt read same ends = absurd ends
+capture_report_ends k d settings rules left left_now before now sink written old new lists tail ReadFault dealt read same ends = absurd ends
+capture_report_ends k d settings rules left left_now before now sink written old new lists tail (AuditNo report verdict) dealt read same ends = absurd ends
+capture_report_ends k d settings rules left left_now before now sink written old new lists tail (BadReport fault) dealt read same ends = absurd ends
 
 -- the disk's count of faults rose only where the status says so
 pub capture_report_tells_disk_fault : {K : Type 0} (settings : Settings) (lists : List (List RecordValue)) (tail : List ℕ)

@@ -42,7 +42,7 @@ use Rattle.report_session.proofs.ExamplesOfSaves.{formatted, formatted_opens_to_
 use Rattle.checkpoint.specs.{StoreOpensTo}
 use Rattle.hhh_engine.specs.Ending.{EndsWithEmptyStore}
 use Rattle.prefix_lattice.specs.{RecordValue}
-use Rattle.std.proofs.Common.{subst}
+use Rattle.std.proofs.Common.{subst, sym}
 use Rattle.hhh_engine.specs.Inputs.{IsInputStore}
 
 abbrev words : List (List ℕ)
@@ -438,8 +438,29 @@ audited status = status ≡ AuditNo 2 BadTotal
 -- how it ended with these counts of faults of its capture and its sink, and these bytes in the sink
 abbrev ends_with : (read_before read_now : ℕ) → List ℕ → (write_before write_now : ℕ) → Status → Type 0
 ends_with read_before read_now written write_before write_now status =
-    Ends {K = List ℕ} yes part ⊤ ⊤ ⊤ ⊤ ⊤ unformatted audited (Some []) (ending_source_faults read_before 0)
-    (ending_source_faults read_now 0) [] written (Some []) (Some written) write_before write_now status
+    Ends
+    (record {
+      is_text = yes;
+      is_part = part;
+      read = ⊤;
+      accepted = ⊤;
+      disk_failed = ⊤;
+      disk_same = ⊤;
+      store_same = ⊤;
+      refuses = unformatted;
+      finds = audited;
+    })
+    (record {
+      capture = Some [];
+      read_before = ending_source_faults read_before 0;
+      read_now = ending_source_faults read_now 0;
+      sink = [];
+      written = written;
+      old = Some [];
+      new = Some written;
+      write_before = write_before;
+      write_now = write_now;
+    }) status
 
 pub command_that_wrote_its_text :
     ends_with 0 0 (codes "yes") 0 0 Done

@@ -14,7 +14,7 @@ use Rattle.command_words.specs.declared.command.Command.{Command}
 use Rattle.command_words.specs.declared.command.Command.TheVariants.{Weigh, Report, Format, Audit, Make, Demo}
 use Rattle.command_words.specs.declared.settings.Settings.{Settings}
 use Rattle.session_audit.specs.{AuditingHasNoBytes, AuditingSays}
-use Rattle.hhh_engine.specs.Ending.{Ends, HappenedToDiskAtEnding, EndsAtFailedSource, EndingSourceFaults, EndsInOrder}
+use Rattle.hhh_engine.specs.Ending.{Task, course, Ends, HappenedToDiskAtEnding, EndsAtFailedSource, EndingSourceFaults, EndsInOrder}
 use Rattle.hhh_engine.specs.Ending.{EndsAsBeforeUnlessFormat, ending_source_faults}
 use Rattle.hhh_engine.specs.Inputs.{AskedCommandUsesInput, InputBytes, MayUseInputStore, UsesInputCapture}
 use Rattle.hhh_engine.specs.Inputs.{UsesInputSession}
@@ -98,42 +98,26 @@ read_order_in_other_terms Reads ReadsText Other OtherText read before now text t
     })) failed
 
 -- how a command that reads a capture and no text ended: whatever the faults of a text's source are, its own rose
-pub read_order_of_capture_alone : {K T : Type 0} (IsText IsPart : List ℕ → Type 0) (ReadToEnd Accepted DiskRose DiskSame AsBefore : Type 0)
-    (Refused : OpenFault → Type 0) (Audited : Status → Type 0) (capture : Option (List ℕ)) (before now other : ℕ)
-    (sink written : K) (old new : Option (List ℕ)) (write_before write_now : ℕ) (status : Status) (Reads ReadsText : Type 0)
-    (read : InputBytes) (text : T) → Reads
-    → Ends IsText IsPart ReadToEnd Accepted DiskRose DiskSame AsBefore Refused Audited capture (ending_source_faults before 0)
-    (ending_source_faults now 0) sink written old new write_before write_now status
+pub read_order_of_capture_alone : {K T : Type 0} (task : Task) (k : SinkOf K) (capture : Option (List ℕ)) (before now other : ℕ)
+    (sink written : K) (status : Status) (Reads ReadsText : Type 0) (read : InputBytes) (text : T) → Reads
+    → Ends task (course k capture (ending_source_faults before 0) (ending_source_faults now 0) sink written) status
     → EndsInOrder Reads ReadsText read (ending_source_faults before other) (ending_source_faults now other) text text status
-read_order_of_capture_alone IsText IsPart ReadToEnd Accepted DiskRose DiskSame AsBefore Refused Audited capture before now other sink written old
-    new write_before write_now Done Reads ReadsText read text reads ends = tt
-read_order_of_capture_alone IsText IsPart ReadToEnd Accepted DiskRose DiskSame AsBefore Refused Audited capture before now other sink written old
-    new write_before write_now (BadWords kind) Reads ReadsText read text reads ends = tt
-read_order_of_capture_alone IsText IsPart ReadToEnd Accepted DiskRose DiskSame AsBefore Refused Audited capture before now other sink written old
-    new write_before write_now (BadCapture fault) Reads ReadsText read text reads ends = (reads, refl)
-read_order_of_capture_alone IsText IsPart ReadToEnd Accepted DiskRose DiskSame AsBefore Refused Audited capture before now other sink written old
-    new write_before write_now ReadFault Reads ReadsText read text reads ends =
+read_order_of_capture_alone task k capture before now other sink written Done Reads ReadsText read text reads ends = tt
+read_order_of_capture_alone task k capture before now other sink written (BadWords kind) Reads ReadsText read text reads ends = tt
+read_order_of_capture_alone task k capture before now other sink written (BadCapture fault) Reads ReadsText read text reads ends = (reads, refl)
+read_order_of_capture_alone task k capture before now other sink written ReadFault Reads ReadsText read text reads ends =
     ⊎_elim
     (λ (rose : FaultCountRose before now). inl (record { reads = reads; rose = rose; text_unread = refl }))
     (λ (rose : FaultCountRose 0 0). absurd (omega (arith, rose))) ends.0
-read_order_of_capture_alone IsText IsPart ReadToEnd Accepted DiskRose DiskSame AsBefore Refused Audited capture before now other sink written old
-    new write_before write_now WriteFault Reads ReadsText read text reads ends = tt
-read_order_of_capture_alone IsText IsPart ReadToEnd Accepted DiskRose DiskSame AsBefore Refused Audited capture before now other sink written old
-    new write_before write_now DiskFault Reads ReadsText read text reads ends = tt
-read_order_of_capture_alone IsText IsPart ReadToEnd Accepted DiskRose DiskSame AsBefore Refused Audited capture before now other sink written old
-    new write_before write_now NotFormatted Reads ReadsText read text reads ends = tt
-read_order_of_capture_alone IsText IsPart ReadToEnd Accepted DiskRose DiskSame AsBefore Refused Audited capture before now other sink written old
-    new write_before write_now (Damaged slot) Reads ReadsText read text reads ends = tt
-read_order_of_capture_alone IsText IsPart ReadToEnd Accepted DiskRose DiskSame AsBefore Refused Audited capture before now other sink written old
-    new write_before write_now (OtherSettings stored asked) Reads ReadsText read text reads ends = tt
-read_order_of_capture_alone IsText IsPart ReadToEnd Accepted DiskRose DiskSame AsBefore Refused Audited capture before now other sink written old
-    new write_before write_now (OtherCapture stored asked) Reads ReadsText read text reads ends = tt
-read_order_of_capture_alone IsText IsPart ReadToEnd Accepted DiskRose DiskSame AsBefore Refused Audited capture before now other sink written old
-    new write_before write_now (AuditNo report verdict) Reads ReadsText read text reads ends = tt
-read_order_of_capture_alone IsText IsPart ReadToEnd Accepted DiskRose DiskSame AsBefore Refused Audited capture before now other sink written old
-    new write_before write_now (BadReport fault) Reads ReadsText read text reads ends = tt
-read_order_of_capture_alone IsText IsPart ReadToEnd Accepted DiskRose DiskSame AsBefore Refused Audited capture before now other sink written old
-    new write_before write_now OutOfMemory Reads ReadsText read text reads ends = tt
+read_order_of_capture_alone task k capture before now other sink written WriteFault Reads ReadsText read text reads ends = tt
+read_order_of_capture_alone task k capture before now other sink written DiskFault Reads ReadsText read text reads ends = tt
+read_order_of_capture_alone task k capture before now other sink written NotFormatted Reads ReadsText read text reads ends = tt
+read_order_of_capture_alone task k capture before now other sink written (Damaged slot) Reads ReadsText read text reads ends = tt
+read_order_of_capture_alone task k capture before now other sink written (OtherSettings stored asked) Reads ReadsText read text reads ends = tt
+read_order_of_capture_alone task k capture before now other sink written (OtherCapture stored asked) Reads ReadsText read text reads ends = tt
+read_order_of_capture_alone task k capture before now other sink written (AuditNo report verdict) Reads ReadsText read text reads ends = tt
+read_order_of_capture_alone task k capture before now other sink written (BadReport fault) Reads ReadsText read text reads ends = tt
+read_order_of_capture_alone task k capture before now other sink written OutOfMemory Reads ReadsText read text reads ends = tt
 
 -- and one that reads neither: it ends at no fault of them
 pub read_order_of_neither : {T : Type 0} (Reads ReadsText : Type 0) (read : InputBytes) (before now : EndingSourceFaults) (text : T)

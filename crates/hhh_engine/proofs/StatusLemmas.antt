@@ -25,7 +25,7 @@ use Rattle.report_text.specs.declared.session_fault.TextFault.{TextFault}
 use Rattle.exact_audit.specs.declared.verdict.Verdict.{Verdict}
 use Rattle.session_audit.specs.{IsAuditText, IsSoundAudit, IsUnsoundAudit}
 use Rattle.hhh_engine.specs.Answer.{IsAnswer, IsAnswerInPart, IsUnfinishedAnswer, IsWeighAnswerInPart}
-use Rattle.hhh_engine.specs.Ending.{Ends, AuditFindsAtEnding, IsRefusedStoreAtEnding, HappenedToDiskAtEnding}
+use Rattle.hhh_engine.specs.Ending.{Course, Task, Ends, AuditFindsAtEnding, IsRefusedStoreAtEnding, HappenedToDiskAtEnding}
 use Rattle.hhh_engine.specs.Ending.{SourceFaultsRoseAtEnding, RefusesAtEnding, RefusesStoreAtEnding}
 use Rattle.hhh_engine.specs.Ending.{EndingSourceFaults, EndsAnswered}
 use Rattle.hhh_engine.specs.Inputs.{InputsCanBeAnswered, HasKnownInputCapture, HasKnownInputStore, UsesInputCapture}
@@ -271,40 +271,22 @@ argument_status_is_no_refusal words.OutOfMemory status opening.DiskFault shown i
 argument_status_is_no_refusal words.OutOfMemory status opening.OutOfMemory shown is was = absurd (shown.not_of_memory refl)
 
 -- how a command that uses no disk ended, with a disk that is untouched
-pub status_beside_disk : {K : Type 0} (IsText IsPart : List ℕ → Type 0) (ReadToEnd Accepted DiskSame AsBefore : Type 0)
-    (Refused : OpenFault → Type 0) (Audited : Status → Type 0) (capture : Option (List ℕ))
-    (read_before read_now : EndingSourceFaults) (sink written : K) (old new : Option (List ℕ)) (write_before write_now : ℕ)
-    (status : Status) → DiskSame → AsBefore
-    → Ends IsText IsPart ReadToEnd Accepted ⊥ ⊤ ⊤ Refused Audited capture read_before read_now sink written old new
-    write_before write_now status
-    → Ends IsText IsPart ReadToEnd Accepted ⊥ DiskSame AsBefore Refused Audited capture read_before read_now sink written old new
-    write_before write_now status
-status_beside_disk IsText IsPart ReadToEnd Accepted DiskSame AsBefore Refused Audited capture read_before read_now sink written old new
-    write_before write_now Done same before ends = ends
-status_beside_disk IsText IsPart ReadToEnd Accepted DiskSame AsBefore Refused Audited capture read_before read_now sink written old new
-    write_before write_now (BadWords kind) same before ends = ends
-status_beside_disk IsText IsPart ReadToEnd Accepted DiskSame AsBefore Refused Audited capture read_before read_now sink written old new
-    write_before write_now (BadCapture fault) same before ends = (ends.0, ends.1, same, ends.3, ends.4)
-status_beside_disk IsText IsPart ReadToEnd Accepted DiskSame AsBefore Refused Audited capture read_before read_now sink written old new
-    write_before write_now ReadFault same before ends = (ends.0, ends.1, same, ends.3)
-status_beside_disk IsText IsPart ReadToEnd Accepted DiskSame AsBefore Refused Audited capture read_before read_now sink written old new
-    write_before write_now WriteFault same before ends = ends
-status_beside_disk IsText IsPart ReadToEnd Accepted DiskSame AsBefore Refused Audited capture read_before read_now sink written old new
-    write_before write_now DiskFault same before ends = absurd ends.3
-status_beside_disk IsText IsPart ReadToEnd Accepted DiskSame AsBefore Refused Audited capture read_before read_now sink written old new
-    write_before write_now NotFormatted same before ends = ends
-status_beside_disk IsText IsPart ReadToEnd Accepted DiskSame AsBefore Refused Audited capture read_before read_now sink written old new
-    write_before write_now (Damaged slot) same before ends = ends
-status_beside_disk IsText IsPart ReadToEnd Accepted DiskSame AsBefore Refused Audited capture read_before read_now sink written old new
-    write_before write_now (OtherSettings stored asked) same before ends = ends
-status_beside_disk IsText IsPart ReadToEnd Accepted DiskSame AsBefore Refused Audited capture read_before read_now sink written old new
-    write_before write_now (OtherCapture stored asked) same before ends = ends
-status_beside_disk IsText IsPart ReadToEnd Accepted DiskSame AsBefore Refused Audited capture read_before read_now sink written old new
-    write_before write_now (AuditNo report verdict) same before ends = ends
-status_beside_disk IsText IsPart ReadToEnd Accepted DiskSame AsBefore Refused Audited capture read_before read_now sink written old new
-    write_before write_now (BadReport fault) same before ends = (ends.0, ends.1, same, ends.3, ends.4)
-status_beside_disk IsText IsPart ReadToEnd Accepted DiskSame AsBefore Refused Audited capture read_before read_now sink written old new
-    write_before write_now OutOfMemory same before ends =
+pub status_beside_disk : {K : Type 0} (task : Task) (c : Course K) (DiskSame StoreSame : Type 0) (status : Status)
+    → (task.disk_failed → ⊥) → DiskSame → StoreSame → Ends task c status
+    → Ends (record task { disk_same = DiskSame; store_same = StoreSame }) c status
+status_beside_disk task c DiskSame StoreSame Done unused same before ends = ends
+status_beside_disk task c DiskSame StoreSame (BadWords kind) unused same before ends = ends
+status_beside_disk task c DiskSame StoreSame (BadCapture fault) unused same before ends = (ends.0, ends.1, same, ends.3, ends.4)
+status_beside_disk task c DiskSame StoreSame ReadFault unused same before ends = (ends.0, ends.1, same, ends.3)
+status_beside_disk task c DiskSame StoreSame WriteFault unused same before ends = ends
+status_beside_disk task c DiskSame StoreSame DiskFault unused same before ends = absurd (unused ends.3)
+status_beside_disk task c DiskSame StoreSame NotFormatted unused same before ends = ends
+status_beside_disk task c DiskSame StoreSame (Damaged slot) unused same before ends = ends
+status_beside_disk task c DiskSame StoreSame (OtherSettings stored asked) unused same before ends = ends
+status_beside_disk task c DiskSame StoreSame (OtherCapture stored asked) unused same before ends = ends
+status_beside_disk task c DiskSame StoreSame (AuditNo report verdict) unused same before ends = ends
+status_beside_disk task c DiskSame StoreSame (BadReport fault) unused same before ends = (ends.0, ends.1, same, ends.3, ends.4)
+status_beside_disk task c DiskSame StoreSame OutOfMemory unused same before ends =
     (⊎_elim (λ unwritten. inl (unwritten.0, before)) (λ part. inr part) ends.0, ends.1, ends.2)
 
 -- what happened to the disk of a command happened

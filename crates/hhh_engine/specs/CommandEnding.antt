@@ -9,7 +9,7 @@ use Rattle.command_words.specs.declared.command.Command.{Command}
 use Rattle.command_words.specs.declared.command.Command.TheVariants.{Format}
 use Rattle.command_words.specs.declared.settings.Settings.{Settings}
 use Rattle.hhh_engine.specs.Answer.{IsAnswer, IsAnswerInPart}
-use Rattle.hhh_engine.specs.Ending.{AuditFindsAtEnding, Ends, EndsAsBeforeUnlessFormat, EndsInOrder, FormatEnds}
+use Rattle.hhh_engine.specs.Ending.{Task, course, AuditFindsAtEnding, Ends, EndsAsBeforeUnlessFormat, EndsInOrder, FormatEnds}
 use Rattle.hhh_engine.specs.Ending.{HappenedToDiskAtEnding, RefusesAtEnding}
 use Rattle.hhh_engine.specs.Inputs.{InputsWereAccepted, InputsWereRead, UsesInputCapture, UsesInputSession}
 use Rattle.hhh_engine.specs.Inputs.{UsesInputStore}
@@ -22,18 +22,25 @@ use Rattle.run_status.specs.declared.status.Status.TheVariants.{BadCapture, Disk
 -- a run, as in `RunEnds`
 module _ {S T K D : Type 0} (s : SourceOf S) (t : SourceOf T) (k : SinkOf K) (d : DiskOf D) (old new : Streams S T K D)
     (rules : DealingRules) where
+  -- what the command owes
+  abbrev pub run_task : Command → Task
+  run_task command = record {
+    is_text = IsAnswer rules (run_keeping s t k d old new) command (run_inputs s t k d old new);
+    is_part = IsAnswerInPart rules (run_keeping s t k d old new) command (run_inputs s t k d old new);
+    read = InputsWereRead command (run_inputs s t k d old new);
+    accepted = InputsWereAccepted command (run_inputs s t k d old new);
+    disk_failed = HappenedToDiskAtEnding command (FaultCountRose (d.faults old.disk) (d.faults new.disk));
+    disk_same = new.disk ≡ old.disk;
+    store_same = EndsAsBeforeUnlessFormat command (IsAsBeforeSaves d old.disk new.disk);
+    refuses = RefusesAtEnding command rules (run_inputs s t k d old new) (IsAsBeforeSaves d old.disk new.disk);
+    finds = AuditFindsAtEnding command rules (run_inputs s t k d old new) (k.taken old.sink) (k.taken new.sink);
+  }
+
   -- the command ended with this status
   abbrev pub CommandEnds : Command → Status → Type 0
-  CommandEnds command status =
-      Ends (IsAnswer rules (run_keeping s t k d old new) command (run_inputs s t k d old new))
-      (IsAnswerInPart rules (run_keeping s t k d old new) command (run_inputs s t k d old new))
-      (InputsWereRead command (run_inputs s t k d old new)) (InputsWereAccepted command (run_inputs s t k d old new))
-      (HappenedToDiskAtEnding command (FaultCountRose (d.faults old.disk) (d.faults new.disk))) (new.disk ≡ old.disk)
-      (EndsAsBeforeUnlessFormat command (IsAsBeforeSaves d old.disk new.disk))
-      (RefusesAtEnding command rules (run_inputs s t k d old new) (IsAsBeforeSaves d old.disk new.disk))
-      (AuditFindsAtEnding command rules (run_inputs s t k d old new) (k.taken old.sink) (k.taken new.sink)) (s.left old.capture)
-      (faults_before s t k d old new) (faults_after s t k d old new) old.sink new.sink (k.taken old.sink) (k.taken new.sink)
-      (k.faults old.sink) (k.faults new.sink) status
+  CommandEnds command =
+      Ends (run_task command)
+      (course k (s.left old.capture) (faults_before s t k d old new) (faults_after s t k d old new) old.sink new.sink)
 
   -- a source that failed did so in the order in which the command reads them
   abbrev pub CommandEndsInOrder : Command → Status → Type 0

@@ -27,6 +27,7 @@ use Rattle.run_status.specs.declared.status.Status.{Status}
 use Rattle.run_status.specs.declared.status.Status.TheVariants.{Done, BadWords, BadCapture, ReadFault, WriteFault}
 use Rattle.run_status.specs.declared.status.Status.TheVariants.{DiskFault, NotFormatted, Damaged, OtherSettings}
 use Rattle.run_status.specs.declared.status.Status.TheVariants.{OtherCapture, AuditNo, BadReport, OutOfMemory}
+use Rattle.outside_io.specs.declared.sink.Sink.{Ghosts as SinkOf}
 
 -- the counts of faults of the two sources: that of the capture, and that of the text of a session
 pub record EndingSourceFaults : Type 0 where
@@ -166,55 +167,84 @@ AuditFindsAtEnding (command.Make seed frames) rules read old new status = ⊥
 AuditFindsAtEnding (command.Demo seed frames settings) rules read old new status = ⊥
 AuditFindsAtEnding (command.Audit settings) rules read old new status = EndsByAuditFinding settings rules read old new status
 
--- within the crate: how a command ended. IsText says what is its text, IsPart which bytes begin it, ReadToEnd that its
--- inputs were read to their ends, Accepted that they are in their formats, DiskRose that the disk's count of faults rose,
--- DiskSame that the disk is untouched, AsBefore that it is as before, Refused that its store is refused for a fault, and
--- Audited what an audit found
-abbrev pub Ends : {K : Type 0} → (IsText IsPart : List ℕ → Type 0)
-    → (ReadToEnd Accepted DiskRose DiskSame AsBefore : Type 0) → (Refused : OpenFault → Type 0) → (Audited : Status → Type 0) → (capture : Option (List ℕ))
-    → (read_before read_now : EndingSourceFaults) → (sink written : K) → (old new : Option (List ℕ))
-    → (write_before write_now : ℕ) → Status → Type 0
-Ends IsText IsPart ReadToEnd Accepted DiskRose DiskSame AsBefore Refused Audited capture read_before read_now sink written old new write_before write_now
-    Done =
-    ReadToEnd × WritesAnswer IsText old new × (read_now ≡ read_before) × (write_now ≡ write_before)
-Ends IsText IsPart ReadToEnd Accepted DiskRose DiskSame AsBefore Refused Audited capture read_before read_now sink written old new write_before write_now
-    (BadWords kind) = ⊥
-Ends IsText IsPart ReadToEnd Accepted DiskRose DiskSame AsBefore Refused Audited capture read_before read_now sink written old new write_before write_now
-    (BadCapture fault) =
-    IfSome capture (λ file. IsRefusedCaptureFile file fault) × (written ≡ sink) × DiskSame × (read_now ≡ read_before)
-    × (write_now ≡ write_before)
-Ends IsText IsPart ReadToEnd Accepted DiskRose DiskSame AsBefore Refused Audited capture read_before read_now sink written old new write_before write_now
-    ReadFault =
-    SourceFaultsRoseAtEnding read_before read_now × (written ≡ sink) × DiskSame × (write_now ≡ write_before)
-Ends IsText IsPart ReadToEnd Accepted DiskRose DiskSame AsBefore Refused Audited capture read_before read_now sink written old new write_before write_now
-    WriteFault =
-    ReadToEnd × WritesAnswer IsPart old new × FaultCountRose write_before write_now × (read_now ≡ read_before)
-Ends IsText IsPart ReadToEnd Accepted DiskRose DiskSame AsBefore Refused Audited capture read_before read_now sink written old new write_before write_now
-    DiskFault =
-    ReadToEnd × Accepted × (((written ≡ sink) × AsBefore) ⊎ WritesAnswer IsPart old new) × DiskRose × (read_now ≡ read_before)
-    × (write_now ≡ write_before)
-Ends IsText IsPart ReadToEnd Accepted DiskRose DiskSame AsBefore Refused Audited capture read_before read_now sink written old new write_before write_now
-    NotFormatted =
-    Refused opening.NotFormatted × ReadToEnd × (written ≡ sink) × (read_now ≡ read_before) × (write_now ≡ write_before)
-Ends IsText IsPart ReadToEnd Accepted DiskRose DiskSame AsBefore Refused Audited capture read_before read_now sink written old new write_before write_now
-    (Damaged slot) =
-    Refused (opening.Damaged slot) × ReadToEnd × (written ≡ sink) × (read_now ≡ read_before)
-    × (write_now ≡ write_before)
-Ends IsText IsPart ReadToEnd Accepted DiskRose DiskSame AsBefore Refused Audited capture read_before read_now sink written old new write_before write_now
-    (OtherSettings stored asked) =
-    Refused (opening.OtherSettings stored asked) × ReadToEnd × (written ≡ sink) × (read_now ≡ read_before)
-    × (write_now ≡ write_before)
-Ends IsText IsPart ReadToEnd Accepted DiskRose DiskSame AsBefore Refused Audited capture read_before read_now sink written old new write_before write_now
-    (OtherCapture stored asked) =
-    Refused (opening.OtherCapture stored asked) × ReadToEnd × (written ≡ sink) × (read_now ≡ read_before)
-    × (write_now ≡ write_before)
-Ends IsText IsPart ReadToEnd Accepted DiskRose DiskSame AsBefore Refused Audited capture read_before read_now sink written old new write_before write_now
-    (AuditNo report verdict) =
-    ReadToEnd × Audited (AuditNo report verdict) × (read_now ≡ read_before) × (write_now ≡ write_before)
-Ends IsText IsPart ReadToEnd Accepted DiskRose DiskSame AsBefore Refused Audited capture read_before read_now sink written old new write_before write_now
-    (BadReport fault) =
-    Audited (BadReport fault) × (written ≡ sink) × DiskSame × (read_now ≡ read_before) × (write_now ≡ write_before)
-Ends IsText IsPart ReadToEnd Accepted DiskRose DiskSame AsBefore Refused Audited capture read_before read_now sink written old new write_before write_now
-    OutOfMemory =
-    (((written ≡ sink) × AsBefore) ⊎ (ReadToEnd × WritesAnswer IsPart old new)) × (read_now ≡ read_before)
-    × (write_now ≡ write_before)
+-- within the crate: what a command owes, over what it read
+pub record Task : Type 1 where
+  -- its text, and the bytes that may begin it
+  pub is_text : List ℕ → Type 0
+  pub is_part : List ℕ → Type 0
+  -- its inputs were read to their ends, and are in their formats
+  pub read : Type 0
+  pub accepted : Type 0
+  -- the disk's count of faults rose; the disk is untouched; its store is as before
+  pub disk_failed : Type 0
+  pub disk_same : Type 0
+  pub store_same : Type 0
+  -- its store is refused for this fault; its audit ended so
+  pub refuses : OpenFault → Type 0
+  pub finds : Status → Type 0
+
+-- within the crate: how the streams of a command stood, before it and after it: the capture's remaining bytes before, the
+-- counts of faults of the sources, the sink, what that took, and its count of faults
+pub record Course (K : Type 0) : Type 0 where
+  pub capture : Option (List ℕ)
+  pub read_before : EndingSourceFaults
+  pub read_now : EndingSourceFaults
+  pub sink : K
+  pub written : K
+  pub old : Option (List ℕ)
+  pub new : Option (List ℕ)
+  pub write_before : ℕ
+  pub write_now : ℕ
+
+-- within the crate: the course of a command that wrote to this sink
+abbrev pub course : {K : Type 0} → SinkOf K → (capture : Option (List ℕ)) → (before now : EndingSourceFaults)
+    → (sink written : K) → Course K
+course k capture before now sink written = record {
+  capture = capture;
+  read_before = before;
+  read_now = now;
+  sink = sink;
+  written = written;
+  old = k.taken sink;
+  new = k.taken written;
+  write_before = k.faults sink;
+  write_now = k.faults written;
+}
+
+-- within the crate: how a command with this task ended
+module _ {K : Type 0} (task : Task) (c : Course K) where
+  -- no source failed, and neither did the sink
+  abbrev NoReadFault : Type 0
+  NoReadFault = c.read_now ≡ c.read_before
+
+  abbrev NoWriteFault : Type 0
+  NoWriteFault = c.write_now ≡ c.write_before
+
+  -- nothing was written
+  abbrev Unwritten : Type 0
+  Unwritten = c.written ≡ c.sink
+
+  -- bytes that begin the text were written
+  abbrev WritesSome : Type 0
+  WritesSome = WritesAnswer task.is_part c.old c.new
+
+  -- the store is refused for this fault
+  abbrev RefusedFor : OpenFault → Type 0
+  RefusedFor fault = task.refuses fault × task.read × Unwritten × NoReadFault × NoWriteFault
+
+  abbrev pub Ends : Status → Type 0
+  Ends Done = task.read × WritesAnswer task.is_text c.old c.new × NoReadFault × NoWriteFault
+  Ends (BadWords kind) = ⊥
+  Ends (BadCapture fault) =
+      IfSome c.capture (λ file. IsRefusedCaptureFile file fault) × Unwritten × task.disk_same × NoReadFault × NoWriteFault
+  Ends ReadFault = SourceFaultsRoseAtEnding c.read_before c.read_now × Unwritten × task.disk_same × NoWriteFault
+  Ends WriteFault = task.read × WritesSome × FaultCountRose c.write_before c.write_now × NoReadFault
+  Ends DiskFault =
+      task.read × task.accepted × ((Unwritten × task.store_same) ⊎ WritesSome) × task.disk_failed × NoReadFault × NoWriteFault
+  Ends NotFormatted = RefusedFor opening.NotFormatted
+  Ends (Damaged slot) = RefusedFor (opening.Damaged slot)
+  Ends (OtherSettings stored asked) = RefusedFor (opening.OtherSettings stored asked)
+  Ends (OtherCapture stored asked) = RefusedFor (opening.OtherCapture stored asked)
+  Ends (AuditNo report verdict) = task.read × task.finds (AuditNo report verdict) × NoReadFault × NoWriteFault
+  Ends (BadReport fault) = task.finds (BadReport fault) × Unwritten × task.disk_same × NoReadFault × NoWriteFault
+  Ends OutOfMemory = ((Unwritten × task.store_same) ⊎ (task.read × WritesSome)) × NoReadFault × NoWriteFault

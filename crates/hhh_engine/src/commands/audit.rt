@@ -1,15 +1,13 @@
 //! The audit of a session by the records of a capture.
 
-ghost use Rattle.std.specs.Prelude.{⊤, ◌≡◌, List, ℕ, Option, IfOk, IfErr, IfSome, OnOk, IsErrOf};
+ghost use Rattle.std.specs.Prelude.{⊤, ◌≡◌, List, ℕ, Option, IfOk, IfErr, OnOk, IsErrOf};
 ghost use Rattle.std.specs.Io.KnownBytes.{IsAtEnd};
 ghost use Rattle.deal_rules.specs.{dealer_of};
 ghost use Rattle.command_words.specs.{AreLimitedSettings};
-ghost use Rattle.session_audit.specs.{IsAuditText, IsSoundAudit};
 ghost use Rattle.hhh_engine.specs.Reading.{AreAuditingInputs, HasNoAudit};
-ghost use Rattle.hhh_engine.specs.Answer.{IsUnfinishedAnswer};
-ghost use Rattle.hhh_engine.specs.Ending.{EndsByAuditFinding, Ends, EndsInOrder, ending_source_faults};
-ghost use Rattle.dealt_capture.specs.{IsCaptureFile};
-ghost use Rattle.hhh_engine.specs.Inputs.{HoldsOfAuditInputs, inputs};
+ghost use Rattle.hhh_engine.specs.Tasks.{audit_task};
+ghost use Rattle.hhh_engine.specs.Ending.{course, Ends, EndsInOrder, ending_source_faults};
+ghost use Rattle.hhh_engine.specs.Inputs.{inputs};
 
 use crate::{Settings, Status};
 use deal_rules::{Dealer, Dealers, Deals};
@@ -33,16 +31,10 @@ pub(crate) fn audit<S: Source, T: Source, K: Sink>(
 ) -> Status
     requires { AreLimitedSettings settings.now }
     ensures ends { (store : Option (List ℕ)) → Ends
-        (λ answer. HoldsOfAuditInputs (inputs (S.left capture.old) (S.left capture.new) (T.left text.old) (T.left text.new) store)
-        (λ file session. IsSoundAudit settings.now (λ kind. ⟦<Dealer as Deals>⟧.may_answer (dealer_of kind dealers.now)) file session answer))
-        (λ front. HoldsOfAuditInputs (inputs (S.left capture.old) (S.left capture.new) (T.left text.old) (T.left text.new) store)
-        (λ file session. IsUnfinishedAnswer
-        (IsAuditText settings.now (λ kind. ⟦<Dealer as Deals>⟧.may_answer (dealer_of kind dealers.now)) file session) front))
-        (IsAtEnd (S.left capture.new) × IsAtEnd (T.left text.new)) (IfSome (S.left capture.old) IsCaptureFile) ⊥ ⊤ ⊤ (λ fault. ⊥)
-        (EndsByAuditFinding settings.now (λ kind. ⟦<Dealer as Deals>⟧.may_answer (dealer_of kind dealers.now))
+        (audit_task settings.now (λ kind. ⟦<Dealer as Deals>⟧.may_answer (dealer_of kind dealers.now))
         (inputs (S.left capture.old) (S.left capture.new) (T.left text.old) (T.left text.new) store) (K.taken sink.old) (K.taken sink.new))
-        (S.left capture.old) (ending_source_faults (S.faults capture.old) (T.faults text.old)) (ending_source_faults (S.faults capture.new) (T.faults text.new))
-        sink.old sink.new (K.taken sink.old) (K.taken sink.new) (K.faults sink.old) (K.faults sink.new) result }
+        (course K.Sink (S.left capture.old) (ending_source_faults (S.faults capture.old) (T.faults text.old))
+        (ending_source_faults (S.faults capture.new) (T.faults text.new)) sink.old sink.new) result }
     ensures order { (store : Option (List ℕ)) → EndsInOrder ⊤ ⊤ (inputs (S.left capture.old) (S.left capture.new) (T.left text.old) (T.left text.new) store)
         (ending_source_faults (S.faults capture.old) (T.faults text.old))
         (ending_source_faults (S.faults capture.new) (T.faults text.new)) text.old text.new result }

@@ -1,6 +1,6 @@
 //! The demonstration: made traffic is counted, reported and audited.
 
-ghost use Rattle.std.specs.Prelude.{⊤, ◌≡◌, ◌≤◌, ◌↔◌, ℕ, List, length, Option, IfErr, IfOk};
+ghost use Rattle.std.specs.Prelude.{◌≡◌, ◌≤◌, ◌↔◌, ℕ, List, length, Option, IfErr, IfOk};
 ghost use Rattle.prefix_lattice.specs.{record_limit};
 ghost use Rattle.pcap_frames.specs.{FrameValue};
 ghost use Rattle.frame_records.specs.{AreRecordsOf, CaptureFileHasFrames, HasRecords};
@@ -11,9 +11,9 @@ ghost use Rattle.hhh_report.specs.{IsSound};
 ghost use Rattle.exact_audit.specs.{IsVerdict};
 ghost use Rattle.exact_audit.specs.declared.verdict.Verdict.TheVariants.{Good};
 ghost use Rattle.command_words.specs.{AreLimitedSettings, AreWideSettings};
-ghost use Rattle.hhh_engine.specs.Answer.{IsUnfinishedAnswer};
 ghost use Rattle.hhh_engine.specs.Demo.{IsDemoText, demo_text as text_of_demo};
-ghost use Rattle.hhh_engine.specs.Ending.{Ends, EndingSourceFaults};
+ghost use Rattle.hhh_engine.specs.Tasks.{made_task};
+ghost use Rattle.hhh_engine.specs.Ending.{course, Ends, EndingSourceFaults};
 ghost use Rattle.hhh_engine.specs.Reading.{HasNoText};
 ghost use Rattle.run_status.specs.declared.status.Status.TheVariants.{BadCapture, ReadFault};
 
@@ -50,10 +50,8 @@ pub(crate) fn demo<R: Threads + Wait + Sync, K: Sink, G: Gate + Sync>(
     requires limited { AreLimitedSettings settings.now }
     requires wide { AreWideSettings settings.now }
     ensures ends { (capture : Option (List ℕ)) (faults : EndingSourceFaults) → Ends
-        (IsDemoText settings.now (λ kind. ⟦<Dealer as Deals>⟧.may_answer (dealer_of kind dealers.now)) seed frames)
-        (IsUnfinishedAnswer (IsDemoText settings.now (λ kind. ⟦<Dealer as Deals>⟧.may_answer (dealer_of kind dealers.now)) seed frames))
-        ⊤ ⊤ ⊥ ⊤ ⊤ (λ fault. ⊥) (λ status. ⊥) capture faults faults
-        sink.old sink.new (K.taken sink.old) (K.taken sink.new) (K.faults sink.old) (K.faults sink.new) result }
+        (made_task (IsDemoText settings.now (λ kind. ⟦<Dealer as Deals>⟧.may_answer (dealer_of kind dealers.now)) seed frames))
+        (course K.Sink capture faults faults sink.old sink.new) result }
     ensures no_capture { (fault : CaptureFault) → result ≡ BadCapture fault → ⊥ }
     ensures no_read_fault { result ≡ ReadFault → ⊥ }
 {

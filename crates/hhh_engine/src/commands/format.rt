@@ -1,11 +1,10 @@
 //! The making of a store.
 
-ghost use Rattle.std.specs.Prelude.{⊤, ℕ, ◌≡◌, List, Option};
-ghost use Rattle.outside_io.specs.{FaultCountRose};
+ghost use Rattle.std.specs.Prelude.{ℕ, ◌≡◌, List, Option};
 ghost use Rattle.pcap_frames.specs.declared.fault.CaptureFault.{CaptureFault};
 ghost use Rattle.command_words.specs.{AreLimitedSettings};
-ghost use Rattle.hhh_engine.specs.Answer.{IsUnfinishedAnswer, formatted_answer};
-ghost use Rattle.hhh_engine.specs.Ending.{Ends, FormatEnds, EndingSourceFaults};
+ghost use Rattle.hhh_engine.specs.Tasks.{format_task};
+ghost use Rattle.hhh_engine.specs.Ending.{course, Ends, FormatEnds, EndingSourceFaults};
 ghost use Rattle.report_session.specs.{store_settings_for_saves};
 ghost use Rattle.run_status.specs.declared.status.Status.TheVariants.{BadCapture, ReadFault, DiskFault};
 
@@ -21,9 +20,7 @@ use slot_disk::Disk;
 pub(crate) fn format<K: Sink, D: Disk>(settings: &Settings, sink: &mut K, disk: &mut D) -> Status
     requires { AreLimitedSettings settings.now }
     ensures ends { (capture : Option (List ℕ)) (faults : EndingSourceFaults)
-        → Ends (λ text. text ≡ formatted_answer) (IsUnfinishedAnswer (λ text. text ≡ formatted_answer)) ⊤ ⊤
-        (FaultCountRose (D.faults disk.old) (D.faults disk.new)) (disk.new ≡ disk.old) ⊤ (λ fault. ⊥) (λ status. ⊥) capture faults faults
-        sink.old sink.new (K.taken sink.old) (K.taken sink.new) (K.faults sink.old) (K.faults sink.new) result }
+        → Ends (format_task D.Disk disk.old disk.new) (course K.Sink capture faults faults sink.old sink.new) result }
     ensures store { FormatEnds D.Disk (store_settings_for_saves settings.now) sink.old sink.new disk.old disk.new result }
     ensures no_capture { (fault : CaptureFault) → result ≡ BadCapture fault → ⊥ }
     ensures no_read_fault { result ≡ ReadFault → ⊥ }

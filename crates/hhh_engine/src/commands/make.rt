@@ -1,10 +1,10 @@
 //! The making of a capture.
 
-ghost use Rattle.std.specs.Prelude.{⊤, ◌≡◌, ◌≤◌, ℕ, List, Option};
+ghost use Rattle.std.specs.Prelude.{◌≡◌, ◌≤◌, ℕ, List, Option};
 ghost use Rattle.pcap_frames.specs.declared.fault.CaptureFault.{CaptureFault};
 ghost use Rattle.traffic_maker.specs.{made_capture, most_made_capture_frames};
-ghost use Rattle.hhh_engine.specs.Answer.{IsUnfinishedAnswer};
-ghost use Rattle.hhh_engine.specs.Ending.{Ends, EndingSourceFaults};
+ghost use Rattle.hhh_engine.specs.Tasks.{made_task};
+ghost use Rattle.hhh_engine.specs.Ending.{course, Ends, EndingSourceFaults};
 ghost use Rattle.run_status.specs.declared.status.Status.TheVariants.{BadCapture, ReadFault};
 
 use crate::Status;
@@ -13,9 +13,8 @@ use outside_io::Sink;
 /// Writes the capture that a seed and a number of frames determine.
 pub(crate) fn make<K: Sink>(seed: u64, frames: u32, sink: &mut K) -> Status
     requires { (1 ≤ frames) × (frames ≤ most_made_capture_frames) }
-    ensures ends { (capture : Option (List ℕ)) (faults : EndingSourceFaults) → Ends (λ text. text ≡ made_capture seed frames)
-        (IsUnfinishedAnswer (λ text. text ≡ made_capture seed frames)) ⊤ ⊤ ⊥ ⊤ ⊤ (λ fault. ⊥) (λ status. ⊥) capture faults faults
-        sink.old sink.new (K.taken sink.old) (K.taken sink.new) (K.faults sink.old) (K.faults sink.new) result }
+    ensures ends { (capture : Option (List ℕ)) (faults : EndingSourceFaults)
+        → Ends (made_task (λ text. text ≡ made_capture seed frames)) (course K.Sink capture faults faults sink.old sink.new) result }
     ensures no_capture { (fault : CaptureFault) → result ≡ BadCapture fault → ⊥ }
     ensures no_read_fault { result ≡ ReadFault → ⊥ }
 {

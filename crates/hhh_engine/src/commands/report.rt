@@ -4,12 +4,10 @@ ghost use Rattle.std.specs.Prelude.{ℕ, ◌≡◌, ◌<◌, false, length, IfOk
 ghost use Rattle.std.specs.Io.KnownBytes.{IsAtEnd};
 ghost use Rattle.deal_rules.specs.{dealer_of};
 ghost use Rattle.command_words.specs.{AreLimitedSettings, AreWideSettings};
-ghost use Rattle.outside_io.specs.{FaultCountRose};
-ghost use Rattle.hhh_engine.specs.Ending.{Ends, RefusesStoreAtEnding, ending_source_faults};
+ghost use Rattle.hhh_engine.specs.Tasks.{report_task};
+ghost use Rattle.hhh_engine.specs.Ending.{course, Ends, ending_source_faults};
 ghost use Rattle.hhh_engine.specs.Reading.{HasNoText};
 ghost use Rattle.report_session.specs.{IsDealtFeedCapture};
-ghost use Rattle.dealt_capture.specs.{IsCaptureFile};
-ghost use Rattle.report_session.specs.{IsAsBeforeSaves, SavesAreKeptOnDisk, IsSession, IsSessionInPart};
 ghost use Rattle.run_status.specs.declared.status.Status.TheVariants.{DiskFault};
 
 use crate::{Settings, Status};
@@ -40,19 +38,11 @@ pub(crate) fn report<R: Threads + Wait + Sync, S: Source, K: Sink, D: Disk, G: G
 ) -> Status
     requires limited { AreLimitedSettings settings.now }
     requires wide { AreWideSettings settings.now }
-    ensures ends { (other : ℕ) → Ends (λ text. IfSome (S.left capture.old) (λ file. IsSession settings.now
-        (λ kind. ⟦<Dealer as Deals>⟧.may_answer (dealer_of kind dealers.now))
-        (SavesAreKeptOnDisk D.Disk disk.old disk.new) (D.reads disk.old) file text))
-        (λ front. IfSome (S.left capture.old) (λ file. IsSessionInPart settings.now
-        (λ kind. ⟦<Dealer as Deals>⟧.may_answer (dealer_of kind dealers.now))
-        (SavesAreKeptOnDisk D.Disk disk.old disk.new) (D.reads disk.old) file front))
-        (IsAtEnd (S.left capture.new)) (IfSome (S.left capture.old) IsCaptureFile)
-        (FaultCountRose (D.faults disk.old) (D.faults disk.new)) (disk.new ≡ disk.old)
-        (IsAsBeforeSaves D.Disk disk.old disk.new)
-        (RefusesStoreAtEnding settings.now (λ kind. ⟦<Dealer as Deals>⟧.may_answer (dealer_of kind dealers.now)) (S.left capture.old) (D.reads disk.old)
-        (IsAsBeforeSaves D.Disk disk.old disk.new))
-        (λ status. ⊥) (S.left capture.old) (ending_source_faults (S.faults capture.old) other) (ending_source_faults (S.faults capture.new) other)
-        sink.old sink.new (K.taken sink.old) (K.taken sink.new) (K.faults sink.old) (K.faults sink.new) result }
+    ensures ends { (other : ℕ) → Ends
+        (report_task D.Disk settings.now (λ kind. ⟦<Dealer as Deals>⟧.may_answer (dealer_of kind dealers.now))
+        (S.left capture.old) (S.left capture.new) disk.old disk.new)
+        (course K.Sink (S.left capture.old) (ending_source_faults (S.faults capture.old) other) (ending_source_faults (S.faults capture.new) other)
+        sink.old sink.new) result }
     ensures told { (result ≡ DiskFault → ⊥) → D.faults disk.new ≡ D.faults disk.old }
     ensures unused { settings.now.store ≡ false → disk.new ≡ disk.old }
 {

@@ -1,12 +1,11 @@
 //! The weight of one prefix, from a Space-Saving table.
 
-ghost use Rattle.std.specs.Prelude.{⊤, ℕ, ◌≡◌, ◌≤◌, length, All, IfOk, IfErr, IfSome, OnOk, IsErrOf};
+ghost use Rattle.std.specs.Prelude.{ℕ, ◌≡◌, ◌≤◌, length, All, IfOk, IfErr, IfSome, OnOk, IsErrOf};
 ghost use Rattle.std.specs.Io.KnownBytes.{IsAtEnd};
 ghost use Rattle.prefix_lattice.specs.{record_limit};
 ghost use Rattle.shard_state.specs.{snapshot_records_table, NarrowIntervalHoldsWeightOver};
-ghost use Rattle.hhh_engine.specs.Answer.{IsWeighAnswerInPart};
-ghost use Rattle.hhh_engine.specs.Ending.{Ends, ending_source_faults};
-ghost use Rattle.dealt_capture.specs.{IsCaptureFile};
+ghost use Rattle.hhh_engine.specs.Tasks.{weigh_task};
+ghost use Rattle.hhh_engine.specs.Ending.{course, Ends, ending_source_faults};
 ghost use Rattle.hhh_engine.specs.Reading.{HasNoText};
 ghost use Rattle.hhh_engine.specs.WeightText.{weight_text_for, weight_text_capacity, weight_text, IsWeightText};
 
@@ -30,11 +29,9 @@ pub(crate) fn weigh<S: Source, K: Sink>(
     capture: &mut S,
     sink: &mut K,
 ) -> Status
-    ensures { (other : ℕ) → Ends (λ text. IfSome (S.left capture.old) (λ file. IsWeightText prefix.now settings.now.weigh file text))
-        (λ front. IfSome (S.left capture.old) (λ file. IsWeighAnswerInPart prefix.now settings.now.weigh file front))
-        (IsAtEnd (S.left capture.new)) (IfSome (S.left capture.old) IsCaptureFile) ⊥ ⊤ ⊤ (λ fault. ⊥) (λ status. ⊥) (S.left capture.old)
-        (ending_source_faults (S.faults capture.old) other) (ending_source_faults (S.faults capture.new) other)
-        sink.old sink.new (K.taken sink.old) (K.taken sink.new) (K.faults sink.old) (K.faults sink.new) result }
+    ensures { (other : ℕ) → Ends (weigh_task prefix.now settings.now (S.left capture.old) (S.left capture.new))
+        (course K.Sink (S.left capture.old) (ending_source_faults (S.faults capture.old) other) (ending_source_faults (S.faults capture.new) other)
+        sink.old sink.new) result }
 {
     let text = match read_weight(alloc, prefix, settings, capture) {
         Ok(text) => text,

@@ -1,8 +1,8 @@
 use Rattle.std.proofs.Common.{refl}
 use Rattle.command_words.specs.declared.command.Command.TheVariants.{Weigh, Report, Format, Audit, Make, Demo}
-use Rattle.hhh_engine.specs.Ending.{RefusesStoreAtEnding}
+use Rattle.hhh_engine.specs.Tasks.{made_task, report_task, weigh_task}
 use Rattle.hhh_engine.specs.TopCall.{streams}
-use Rattle.report_session.specs.{IsAsBeforeSaves, IsAsBeforeSaves-untouched}
+use Rattle.report_session.specs.{IsAsBeforeSaves-untouched}
 use Rattle.hhh_engine.proofs.AuditEndLemmas.{audit_ends_as}
 use Rattle.hhh_engine.proofs.ReadOrderLemmas.{read_order_of_capture_alone, read_order_of_neither}
 use Rattle.hhh_engine.proofs.ReadOrderLemmas.{read_order_of_variant}
@@ -13,7 +13,7 @@ pub returns-in-Weigh-clause-ends : goal.returns-in-Weigh-clause-ends
 returns-in-Weigh-clause-ends g c =
     status_as_named_command g.S.Source g.T.Source g.K.Sink g.D.Disk _ _ _ c.args.command.now
     (Weigh c.in-Weigh.prefix c.in-Weigh.settings) c.weigh.result c.in-Weigh.is
-    (status_beside_disk _ _ _ _ _ _ (λ fault. ⊥) (λ status. ⊥) _ _ _ _ _ _ _ _ _ c.weigh.result refl
+    (status_beside_disk (weigh_task c.in-Weigh.prefix c.in-Weigh.settings (g.S.Source.left c.args.capture.now) (g.S.Source.left c.weigh.new.capture)) _ _ _ c.weigh.result (λ failed. failed) refl
     (IsAsBeforeSaves-untouched g.D.Disk c.args.disk.now c.args.disk.now g.met.D.Disk.only_now refl) (c.weigh.ensures _))
 
 pub returns-in-Report-clause-ends : goal.returns-in-Report-clause-ends
@@ -40,7 +40,7 @@ pub returns-in-Make-clause-ends : goal.returns-in-Make-clause-ends
 returns-in-Make-clause-ends g c =
     status_as_named_command g.S.Source g.T.Source g.K.Sink g.D.Disk _ _ _ c.args.command.now (Make c.in-Make.seed c.in-Make.frames)
     c.make.result c.in-Make.is
-    (status_beside_disk _ _ _ _ _ _ (λ fault. ⊥) (λ status. ⊥) _ _ _ _ _ _ _ _ _ c.make.result refl
+    (status_beside_disk (made_task _) _ _ _ c.make.result (λ failed. failed) refl
     (IsAsBeforeSaves-untouched g.D.Disk c.args.disk.now c.args.disk.now g.met.D.Disk.only_now refl)
     (c.make.ensures.ends (g.S.Source.left c.args.capture.now) _))
 
@@ -48,23 +48,24 @@ pub returns-in-Demo-clause-ends : goal.returns-in-Demo-clause-ends
 returns-in-Demo-clause-ends g c =
     status_as_named_command g.S.Source g.T.Source g.K.Sink g.D.Disk _ _ _ c.args.command.now
     (Demo c.in-Demo.seed c.in-Demo.frames c.in-Demo.settings) c.demo.result c.in-Demo.is
-    (status_beside_disk _ _ _ _ _ _ (λ fault. ⊥) (λ status. ⊥) _ _ _ _ _ _ _ _ _ c.demo.result refl
+    (status_beside_disk (made_task _) _ _ _ c.demo.result (λ failed. failed) refl
     (IsAsBeforeSaves-untouched g.D.Disk c.args.disk.now c.args.disk.now g.met.D.Disk.only_now refl)
     (c.demo.ensures.ends (g.S.Source.left c.args.capture.now) _))
 
 pub returns-in-Weigh-clause-order : goal.returns-in-Weigh-clause-order
 returns-in-Weigh-clause-order g c =
     read_order_of_variant c.args.command.now (Weigh c.in-Weigh.prefix c.in-Weigh.settings) _ _ _ _ _ c.weigh.result c.in-Weigh.is
-    (read_order_of_capture_alone _ _ _ _ _ _ _ (λ fault. ⊥) (λ status. ⊥) _ _ _ _ _ _ _ _ _ _ c.weigh.result _ _ _ _ tt
-    (c.weigh.ensures 0))
+    (read_order_of_capture_alone
+    (weigh_task c.in-Weigh.prefix c.in-Weigh.settings (g.S.Source.left c.args.capture.now) (g.S.Source.left c.weigh.new.capture))
+    g.K.Sink _ _ _ _ _ _ c.weigh.result _ _ _ _ tt (c.weigh.ensures 0))
 
 pub returns-in-Report-clause-order : goal.returns-in-Report-clause-order
 returns-in-Report-clause-order g c =
     read_order_of_variant c.args.command.now (Report c.in-Report.settings) _ _ _ _ _ c.report.result c.in-Report.is
-    (read_order_of_capture_alone _ _ _ _ _ _ _
-    (RefusesStoreAtEnding c.in-Report.settings _ (g.S.Source.left c.args.capture.now) (g.D.Disk.reads c.args.disk.now)
-    (IsAsBeforeSaves g.D.Disk c.args.disk.now c.report.new.disk)) (λ status. ⊥) _ _ _ _ _ _ _ _ _ _ c.report.result _ _ _ _ tt
-    (c.report.ensures.ends 0))
+    (read_order_of_capture_alone
+    (report_task g.D.Disk c.in-Report.settings _ (g.S.Source.left c.args.capture.now) (g.S.Source.left c.report.new.capture)
+    c.args.disk.now c.report.new.disk)
+    g.K.Sink _ _ _ _ _ _ c.report.result _ _ _ _ tt (c.report.ensures.ends 0))
 
 pub returns-in-Format-clause-order : goal.returns-in-Format-clause-order
 returns-in-Format-clause-order g c =

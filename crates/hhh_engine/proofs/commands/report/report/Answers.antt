@@ -5,9 +5,8 @@ use Rattle.hhh_engine.proofs.commands.report.report.Goals as goal
 
 pub returns-clause-ends : goal.returns-clause-ends
 returns-clause-ends g c = λ other.
-    capture_report_ends c.args.settings.now _ _ (g.S.Source.left c.args.capture.now)
-    (g.D.Disk.reads c.args.disk.now) _ c.in-Ok.fed.dealt c.in-Ok.fed.tail.items _
-    _ _ _ _ _ _ _ _ _ _ _ c.report_dealt.result c.in-Ok.ensures.dealt c.in-Ok.ensures.at_end
+    capture_report_ends g.K.Sink g.D.Disk c.args.settings.now _ (g.S.Source.left c.args.capture.now) _ _ _ _ _ _ _
+    c.in-Ok.fed.dealt c.in-Ok.fed.tail.items c.report_dealt.result c.in-Ok.ensures.dealt c.in-Ok.ensures.at_end
     (ap (λ count. ending_source_faults count other) (c.in-Ok.ensures.told (λ no. cc no))) c.report_dealt.ensures.ends
 
 pub returns-clause-told : goal.returns-clause-told
