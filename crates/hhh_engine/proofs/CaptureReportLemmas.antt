@@ -114,9 +114,7 @@ pub capture_report_ends : {K D : Type 0} (k : SinkOf K) (d : DiskOf D) (settings
     (left left_now : Option (List ℕ)) (before now : EndingSourceFaults) (sink written : K) (old new : D)
     (lists : List (List RecordValue)) (tail : List ℕ) (status : Status)
     → IfSome left (λ file. IsDealtFeedCapture settings rules file lists tail) → IsAtEnd left_now → now ≡ before
-    → DealtFeedEnds settings lists tail (SavesAreKeptOnDisk d old new) (d.reads old) (IsAsBeforeSaves d old new) sink written
-    (k.taken sink) (k.taken written) (record { sink = k.faults sink; disk = d.faults old })
-    (record { sink = k.faults written; disk = d.faults new }) status
+    → DealtFeedEnds k d settings lists tail sink written old new status
     → Ends (report_task d settings rules left left_now old new) (course k left before now sink written) status
 capture_report_ends k d settings rules left left_now before now sink written old new lists tail Done dealt read same ends = (
       read,
@@ -177,34 +175,19 @@ capture_report_ends k d settings rules left left_now before now sink written old
 capture_report_ends k d settings rules left left_now before now sink written old new lists tail (BadReport fault) dealt read same ends = absurd ends
 
 -- the disk's count of faults rose only where the status says so
-pub capture_report_tells_disk_fault : {K : Type 0} (settings : Settings) (lists : List (List RecordValue)) (tail : List ℕ)
-    (keeping : SessionKeeping) (store : Option (List ℕ)) (AsBefore : Type 0) (sink written : K) (old new : Option (List ℕ))
-    (before now : RoundFaults) (status : Status)
-    → DealtFeedEnds settings lists tail keeping store AsBefore sink written old new before now status
-    → (status ≡ DiskFault → ⊥) → now.disk ≡ before.disk
-capture_report_tells_disk_fault settings lists tail keeping store AsBefore sink written old new before now Done ends other =
-    ap (λ (f : RoundFaults). f.disk) ends.1
-capture_report_tells_disk_fault settings lists tail keeping store AsBefore sink written old new before now WriteFault ends other =
-    ends.1.disk
-capture_report_tells_disk_fault settings lists tail keeping store AsBefore sink written old new before now DiskFault ends other =
-    absurd (other refl)
-capture_report_tells_disk_fault settings lists tail keeping store AsBefore sink written old new before now NotFormatted ends other =
-    ap (λ (f : RoundFaults). f.disk) ends.2
-capture_report_tells_disk_fault settings lists tail keeping store AsBefore sink written old new before now (Damaged slot) ends other =
-    ap (λ (f : RoundFaults). f.disk) ends.2
-capture_report_tells_disk_fault settings lists tail keeping store AsBefore sink written old new before now (OtherSettings stored asked) ends
-    other = ap (λ (f : RoundFaults). f.disk) ends.2
-capture_report_tells_disk_fault settings lists tail keeping store AsBefore sink written old new before now (OtherCapture stored asked) ends
-    other = ap (λ (f : RoundFaults). f.disk) ends.2
-capture_report_tells_disk_fault settings lists tail keeping store AsBefore sink written old new before now OutOfMemory ends other =
-    ap (λ (f : RoundFaults). f.disk) ends.1
-capture_report_tells_disk_fault settings lists tail keeping store AsBefore sink written old new before now (BadWords kind) ends other =
-    absurd ends
-capture_report_tells_disk_fault settings lists tail keeping store AsBefore sink written old new before now (BadCapture fault) ends other =
-    absurd ends
-capture_report_tells_disk_fault settings lists tail keeping store AsBefore sink written old new before now ReadFault ends other =
-    absurd ends
-capture_report_tells_disk_fault settings lists tail keeping store AsBefore sink written old new before now (AuditNo report verdict) ends other =
-    absurd ends
-capture_report_tells_disk_fault settings lists tail keeping store AsBefore sink written old new before now (BadReport fault) ends other =
-    absurd ends
+pub capture_report_tells_disk_fault : {K D : Type 0} (k : SinkOf K) (d : DiskOf D) (settings : Settings)
+    (lists : List (List RecordValue)) (tail : List ℕ) (sink written : K) (old new : D) (status : Status)
+    → DealtFeedEnds k d settings lists tail sink written old new status → (status ≡ DiskFault → ⊥) → d.faults new ≡ d.faults old
+capture_report_tells_disk_fault k d settings lists tail sink written old new Done ends other = ap (λ (f : RoundFaults). f.disk) ends.1
+capture_report_tells_disk_fault k d settings lists tail sink written old new WriteFault ends other = ends.1.disk
+capture_report_tells_disk_fault k d settings lists tail sink written old new DiskFault ends other = absurd (other refl)
+capture_report_tells_disk_fault k d settings lists tail sink written old new NotFormatted ends other = ap (λ (f : RoundFaults). f.disk) ends.2
+capture_report_tells_disk_fault k d settings lists tail sink written old new (Damaged slot) ends other = ap (λ (f : RoundFaults). f.disk) ends.2
+capture_report_tells_disk_fault k d settings lists tail sink written old new (OtherSettings stored asked) ends other = ap (λ (f : RoundFaults). f.disk) ends.2
+capture_report_tells_disk_fault k d settings lists tail sink written old new (OtherCapture stored asked) ends other = ap (λ (f : RoundFaults). f.disk) ends.2
+capture_report_tells_disk_fault k d settings lists tail sink written old new OutOfMemory ends other = ap (λ (f : RoundFaults). f.disk) ends.1
+capture_report_tells_disk_fault k d settings lists tail sink written old new (BadWords kind) ends other = absurd ends
+capture_report_tells_disk_fault k d settings lists tail sink written old new (BadCapture fault) ends other = absurd ends
+capture_report_tells_disk_fault k d settings lists tail sink written old new ReadFault ends other = absurd ends
+capture_report_tells_disk_fault k d settings lists tail sink written old new (AuditNo report verdict) ends other = absurd ends
+capture_report_tells_disk_fault k d settings lists tail sink written old new (BadReport fault) ends other = absurd ends

@@ -22,7 +22,6 @@ use Rattle.run_status.specs.declared.status.Status.TheVariants.{Done, BadCapture
 use Rattle.hhh_engine.proofs.ExamplesOfAnswers.{empty_file_has_no_text}
 use Rattle.report_session.proofs.ExamplesOfSessions.{last, nothing_is_sound, report, report_at_the_ends, settings}
 use Rattle.report_session.proofs.ExamplesOfSessions.{lists}
-use Rattle.report_session.proofs.ShownSessionLemmas.{shown_session_report, shown_session_reports}
 
 pub text_of_a_wide_line : audit_verdict_text (TooWide 12) ≡ codes "too wide in line 12"
 unfolding digits
@@ -109,11 +108,3 @@ text_of_a_demonstration = refl
 
 pub report_of_no_records : IsWholeReport settings lists report
 report_of_no_records = record { is_report = report_at_the_ends; at_ends = refl; is_sound = nothing_is_sound }
-
--- ---- the text of a session, as an audit reads it
-
--- with a store, the cuts of the calling thread were saved, and not that of the other caller
-pub reports_of_a_saving_session :
-    shown_session_reports true (record { rounds = last ∷ []; callers = (last ∷ []) ∷ []; last = last })
-    ≡ shown_session_report true last ∷ shown_session_report false last ∷ shown_session_report true last ∷ []
-reports_of_a_saving_session = refl

@@ -28,6 +28,9 @@ use Rattle.run_status.specs.declared.status.Status.TheVariants.{DiskFault, NotFo
 use Rattle.run_status.specs.declared.status.Status.TheVariants.{OtherCapture, AuditNo, BadReport, OutOfMemory}
 use Rattle.report_session.proofs.SessionTextLemmas.{session_text_begins_weaker, session_text_without_a_byte}
 use Rattle.report_session.proofs.SessionTextLemmas.{spelled_session_text_says_less}
+use Rattle.outside_io.specs.declared.sink.Sink.{Ghosts as SinkOf}
+use Rattle.report_session.specs.DealtFeed.{dealt_feed_faults}
+use Rattle.report_session.specs.Saves.{IsAsBeforeSaves}
 
 -- what a run keeps of its store, from the opening of the store and the saves after it
 pub dealt_report_keeps_saves : {D : Type 0} (d : DiskOf D) (settings : Settings) (lists : List (List RecordValue))
@@ -76,55 +79,46 @@ dealt_report_faults_are_equal : (sink before now : ℕ) → now ≡ before
     → ◌≡◌ {A = RoundFaults} (record { sink = sink; disk = now }) (record { sink = sink; disk = before })
 dealt_report_faults_are_equal sink before now same = ap (λ n. record { sink = sink; disk = n }) same
 
-dealt_report_stops_at_fault : {K : Type 0} (settings : Settings) (lists : List (List RecordValue)) (tail : List ℕ)
-    (keeping : SessionKeeping) (store : Option (List ℕ)) (AsBefore : Type 0) (sink : K) (old : Option (List ℕ))
-    (write_faults before now : ℕ) (fault : OpenFault) → AsBefore
+dealt_report_stops_at_fault : {K D : Type 0} (k : SinkOf K) (d : DiskOf D) (settings : Settings) (lists : List (List RecordValue))
+    (tail : List ℕ) (sink : K) (old new : D) (fault : OpenFault) → IsAsBeforeSaves d old new
     → (settings.store ≡ true) ⊎ (fault ≡ opening.OutOfMemory)
-    → IfImageKnown store (λ image. IsRefusedAtOpening (store_settings_for_saves settings) lists image fault)
-    → (fault ≡ opening.DiskFault → FaultCountRose before now) → ((fault ≡ opening.DiskFault → ⊥) → now ≡ before)
-    → DealtFeedEnds settings lists tail keeping store AsBefore sink sink old old
-    (record { sink = write_faults; disk = before }) (record { sink = write_faults; disk = now }) (status_of_opening fault)
-dealt_report_stops_at_fault settings lists tail keeping store AsBefore sink old write_faults before now opening.DiskFault same used
-    refused rose kept = (inl (refl, same), record { rose = rose refl; sink = refl })
-dealt_report_stops_at_fault settings lists tail keeping store AsBefore sink old write_faults before now opening.OutOfMemory same used
-    refused rose kept = (inl (refl, same), dealt_report_faults_are_equal write_faults before now (kept (λ is. cc is)))
-dealt_report_stops_at_fault settings lists tail keeping store AsBefore sink old write_faults before now opening.NotFormatted same
-    used refused rose kept = (
-      dealt_report_refuses_lists settings lists store AsBefore opening.NotFormatted same (λ is. cc is) used refused,
+    → IfImageKnown (d.reads old) (λ image. IsRefusedAtOpening (store_settings_for_saves settings) lists image fault)
+    → (fault ≡ opening.DiskFault → FaultCountRose (d.faults old) (d.faults new))
+    → ((fault ≡ opening.DiskFault → ⊥) → d.faults new ≡ d.faults old)
+    → DealtFeedEnds k d settings lists tail sink sink old new (status_of_opening fault)
+dealt_report_stops_at_fault k d settings lists tail sink old new opening.DiskFault same used refused rose kept =
+    (inl (refl, same), record { rose = rose refl; sink = refl })
+dealt_report_stops_at_fault k d settings lists tail sink old new opening.OutOfMemory same used refused rose kept =
+    (inl (refl, same), dealt_report_faults_are_equal (k.faults sink) (d.faults old) (d.faults new) (kept (λ is. cc is)))
+dealt_report_stops_at_fault k d settings lists tail sink old new opening.NotFormatted same used refused rose kept = (
+      dealt_report_refuses_lists settings lists (d.reads old) (IsAsBeforeSaves d old new) opening.NotFormatted same (λ is. cc is) used refused,
       refl,
-      dealt_report_faults_are_equal write_faults before now (kept (λ is. cc is)),
+      dealt_report_faults_are_equal (k.faults sink) (d.faults old) (d.faults new) (kept (λ is. cc is)),
     )
-dealt_report_stops_at_fault settings lists tail keeping store AsBefore sink old write_faults before now (opening.Damaged slot) same
-    used refused rose kept = (
-      dealt_report_refuses_lists settings lists store AsBefore (opening.Damaged slot) same (λ is. cc is) used refused,
+dealt_report_stops_at_fault k d settings lists tail sink old new (opening.Damaged slot) same used refused rose kept = (
+      dealt_report_refuses_lists settings lists (d.reads old) (IsAsBeforeSaves d old new) (opening.Damaged slot) same (λ is. cc is) used refused,
       refl,
-      dealt_report_faults_are_equal write_faults before now (kept (λ is. cc is)),
+      dealt_report_faults_are_equal (k.faults sink) (d.faults old) (d.faults new) (kept (λ is. cc is)),
     )
-dealt_report_stops_at_fault settings lists tail keeping store AsBefore sink old write_faults before now (opening.OtherSettings stored asked) same
-    used refused rose kept = (
-      dealt_report_refuses_lists settings lists store AsBefore (opening.OtherSettings stored asked) same (λ is. cc is) used refused,
+dealt_report_stops_at_fault k d settings lists tail sink old new (opening.OtherSettings stored asked) same used refused rose kept = (
+      dealt_report_refuses_lists settings lists (d.reads old) (IsAsBeforeSaves d old new) (opening.OtherSettings stored asked) same (λ is. cc is) used refused,
       refl,
-      dealt_report_faults_are_equal write_faults before now (kept (λ is. cc is)),
+      dealt_report_faults_are_equal (k.faults sink) (d.faults old) (d.faults new) (kept (λ is. cc is)),
     )
-dealt_report_stops_at_fault settings lists tail keeping store AsBefore sink old write_faults before now (opening.OtherCapture stored asked) same
-    used refused rose kept = (
-      dealt_report_refuses_lists settings lists store AsBefore (opening.OtherCapture stored asked) same (λ is. cc is) used refused,
+dealt_report_stops_at_fault k d settings lists tail sink old new (opening.OtherCapture stored asked) same used refused rose kept = (
+      dealt_report_refuses_lists settings lists (d.reads old) (IsAsBeforeSaves d old new) (opening.OtherCapture stored asked) same (λ is. cc is) used refused,
       refl,
-      dealt_report_faults_are_equal write_faults before now (kept (λ is. cc is)),
+      dealt_report_faults_are_equal (k.faults sink) (d.faults old) (d.faults new) (kept (λ is. cc is)),
     )
 
 -- the store was refused, or there was no memory for the base
-pub dealt_report_ends_without_base : {K : Type 0} (settings : Settings) (lists : List (List RecordValue)) (tail : List ℕ)
-    (keeping : SessionKeeping) (store : Option (List ℕ)) (AsBefore : Type 0) (sink : K) (old : Option (List ℕ))
-    (write_faults before now : ℕ) (status : Status) → AsBefore
-    → HasNoDealtFeedBase settings lists store before now status
-    → DealtFeedEnds settings lists tail keeping store AsBefore sink sink old old
-    (record { sink = write_faults; disk = before }) (record { sink = write_faults; disk = now }) status
-dealt_report_ends_without_base settings lists tail keeping store AsBefore sink old write_faults before now status same none =
-    subst (DealtFeedEnds settings lists tail keeping store AsBefore sink sink old old
-    (record { sink = write_faults; disk = before }) (record { sink = write_faults; disk = now })) (sym none.status_is)
-    (dealt_report_stops_at_fault settings lists tail keeping store AsBefore sink old write_faults before now none.fault same none.used
-    none.refused none.rose none.kept)
+pub dealt_report_ends_without_base : {K D : Type 0} (k : SinkOf K) (d : DiskOf D) (settings : Settings)
+    (lists : List (List RecordValue)) (tail : List ℕ) (sink : K) (old new : D) (status : Status) → IsAsBeforeSaves d old new
+    → HasNoDealtFeedBase settings lists (d.reads old) (d.faults old) (d.faults new) status
+    → DealtFeedEnds k d settings lists tail sink sink old new status
+dealt_report_ends_without_base k d settings lists tail sink old new status same none =
+    subst (DealtFeedEnds k d settings lists tail sink sink old new) (sym none.status_is)
+    (dealt_report_stops_at_fault k d settings lists tail sink old new none.fault same none.used none.refused none.rose none.kept)
 
 -- bytes of a session, from the base on
 dealt_report_in_part : (settings : Settings) (lists : List (List RecordValue)) (tail : List ℕ) (keeping : SessionKeeping)
@@ -148,58 +142,45 @@ dealt_report_in_part settings lists tail keeping store base Kept old new begins 
 }
 
 -- the session broke off
-pub dealt_report_ends_broken_off : {K : Type 0} (settings : Settings) (lists : List (List RecordValue)) (tail : List ℕ)
-    (keeping : SessionKeeping) (store : Option (List ℕ)) (AsBefore : Type 0) (base : Option CutValue) (Kept : SessionSaving)
-    (Same : Type 0) (sink written : K) (old new : Option (List ℕ)) (before now : RoundFaults) (status : Status)
-    → SessionGoesOnFrom settings lists store base → SessionBaseRepresents lists base (session_opening settings.capacity lists base)
+pub dealt_report_ends_broken_off : {K D : Type 0} (k : SinkOf K) (d : DiskOf D) (settings : Settings)
+    (lists : List (List RecordValue)) (tail : List ℕ) (base : Option CutValue) (Kept : SessionSaving) (Same : Type 0)
+    (sink written : K) (old new : D) (status : Status) → SessionGoesOnFrom settings lists (d.reads old) base
+    → SessionBaseRepresents lists base (session_opening settings.capacity lists base)
     → ((saved unfinished : List CutValue) → Kept saved unfinished → settings.store ≡ true
-    → keeping (store_settings_for_saves settings) lists saved unfinished)
-    → (written ≡ sink → new ≡ old) → (Same → AsBefore × Kept [] [])
+    → SavesAreKeptOnDisk d old new (store_settings_for_saves settings) lists saved unfinished)
+    → (Same → IsAsBeforeSaves d old new × Kept [] [])
     → ((written ≡ sink) × Same)
-    ⊎ WritesAnswer (BeginsSession (session_opening settings.capacity lists base) settings Kept tail) old new
-    → IsDealtFeedFault before now status
-    → DealtFeedEnds settings lists tail keeping store AsBefore sink written old new before now status
-dealt_report_ends_broken_off settings lists tail keeping store AsBefore base Kept Same sink written old new before now WriteFault begins
-    represents keeps taken unmoved part fault = (
+    ⊎ WritesAnswer (BeginsSession (session_opening settings.capacity lists base) settings Kept tail) (k.taken sink) (k.taken written)
+    → IsDealtFeedFault (dealt_feed_faults k d sink old) (dealt_feed_faults k d written new) status
+    → DealtFeedEnds k d settings lists tail sink written old new status
+dealt_report_ends_broken_off k d settings lists tail base Kept Same sink written old new WriteFault begins represents keeps unmoved part fault = (
       ⊎_elim
-          (λ same. dealt_report_in_part settings lists tail keeping store base Kept old new begins represents keeps
-          (session_text_without_a_byte (session_opening settings.capacity lists base) settings Kept tail old new (taken same.0)
-          (unmoved same.1).1))
-          (λ some. dealt_report_in_part settings lists tail keeping store base Kept old new begins represents keeps some) part,
+          (λ same. dealt_report_in_part settings lists tail (SavesAreKeptOnDisk d old new) (d.reads old) base Kept (k.taken sink) (k.taken written) begins represents keeps
+          (session_text_without_a_byte (session_opening settings.capacity lists base) settings Kept tail (k.taken sink) (k.taken written)
+          (ap k.taken same.0) (unmoved same.1).1))
+          (λ some. dealt_report_in_part settings lists tail (SavesAreKeptOnDisk d old new) (d.reads old) base Kept (k.taken sink) (k.taken written) begins represents keeps some) part,
       fault,
     )
-dealt_report_ends_broken_off settings lists tail keeping store AsBefore base Kept Same sink written old new before now DiskFault begins
-    represents keeps taken unmoved part fault = (
+dealt_report_ends_broken_off k d settings lists tail base Kept Same sink written old new DiskFault begins represents keeps unmoved part fault = (
       ⊎_elim (λ same. inl (same.0, (unmoved same.1).0))
-          (λ some. inr (dealt_report_in_part settings lists tail keeping store base Kept old new begins represents keeps some)) part,
+          (λ some. inr (dealt_report_in_part settings lists tail (SavesAreKeptOnDisk d old new) (d.reads old) base Kept (k.taken sink) (k.taken written) begins represents keeps some)) part,
       fault,
     )
-dealt_report_ends_broken_off settings lists tail keeping store AsBefore base Kept Same sink written old new before now OutOfMemory begins
-    represents keeps taken unmoved part fault = (
+dealt_report_ends_broken_off k d settings lists tail base Kept Same sink written old new OutOfMemory begins represents keeps unmoved part fault = (
       ⊎_elim (λ same. inl (same.0, (unmoved same.1).0))
-          (λ some. inr (dealt_report_in_part settings lists tail keeping store base Kept old new begins represents keeps some)) part,
+          (λ some. inr (dealt_report_in_part settings lists tail (SavesAreKeptOnDisk d old new) (d.reads old) base Kept (k.taken sink) (k.taken written) begins represents keeps some)) part,
       fault,
     )
-dealt_report_ends_broken_off settings lists tail keeping store AsBefore base Kept Same sink written old new before now Done begins
-    represents keeps taken unmoved part fault = absurd fault
-dealt_report_ends_broken_off settings lists tail keeping store AsBefore base Kept Same sink written old new before now (BadWords kind) begins
-    represents keeps taken unmoved part fault = absurd fault
-dealt_report_ends_broken_off settings lists tail keeping store AsBefore base Kept Same sink written old new before now (BadCapture wrong) begins
-    represents keeps taken unmoved part fault = absurd fault
-dealt_report_ends_broken_off settings lists tail keeping store AsBefore base Kept Same sink written old new before now ReadFault begins
-    represents keeps taken unmoved part fault = absurd fault
-dealt_report_ends_broken_off settings lists tail keeping store AsBefore base Kept Same sink written old new before now NotFormatted begins
-    represents keeps taken unmoved part fault = absurd fault
-dealt_report_ends_broken_off settings lists tail keeping store AsBefore base Kept Same sink written old new before now (Damaged slot) begins
-    represents keeps taken unmoved part fault = absurd fault
-dealt_report_ends_broken_off settings lists tail keeping store AsBefore base Kept Same sink written old new before now (OtherSettings stored asked) begins
-    represents keeps taken unmoved part fault = absurd fault
-dealt_report_ends_broken_off settings lists tail keeping store AsBefore base Kept Same sink written old new before now (OtherCapture stored asked) begins
-    represents keeps taken unmoved part fault = absurd fault
-dealt_report_ends_broken_off settings lists tail keeping store AsBefore base Kept Same sink written old new before now (AuditNo report verdict) begins
-    represents keeps taken unmoved part fault = absurd fault
-dealt_report_ends_broken_off settings lists tail keeping store AsBefore base Kept Same sink written old new before now (BadReport wrong) begins
-    represents keeps taken unmoved part fault = absurd fault
+dealt_report_ends_broken_off k d settings lists tail base Kept Same sink written old new Done begins represents keeps unmoved part fault = absurd fault
+dealt_report_ends_broken_off k d settings lists tail base Kept Same sink written old new (BadWords kind) begins represents keeps unmoved part fault = absurd fault
+dealt_report_ends_broken_off k d settings lists tail base Kept Same sink written old new (BadCapture wrong) begins represents keeps unmoved part fault = absurd fault
+dealt_report_ends_broken_off k d settings lists tail base Kept Same sink written old new ReadFault begins represents keeps unmoved part fault = absurd fault
+dealt_report_ends_broken_off k d settings lists tail base Kept Same sink written old new NotFormatted begins represents keeps unmoved part fault = absurd fault
+dealt_report_ends_broken_off k d settings lists tail base Kept Same sink written old new (Damaged slot) begins represents keeps unmoved part fault = absurd fault
+dealt_report_ends_broken_off k d settings lists tail base Kept Same sink written old new (OtherSettings stored asked) begins represents keeps unmoved part fault = absurd fault
+dealt_report_ends_broken_off k d settings lists tail base Kept Same sink written old new (OtherCapture stored asked) begins represents keeps unmoved part fault = absurd fault
+dealt_report_ends_broken_off k d settings lists tail base Kept Same sink written old new (AuditNo report verdict) begins represents keeps unmoved part fault = absurd fault
+dealt_report_ends_broken_off k d settings lists tail base Kept Same sink written old new (BadReport wrong) begins represents keeps unmoved part fault = absurd fault
 
 -- the session was written whole
 pub dealt_report_is_written : (settings : Settings) (lists : List (List RecordValue)) (tail : List ℕ) (keeping : SessionKeeping)

@@ -39,6 +39,7 @@ use Rattle.report_session.specs.Session.{session_caller_parts, new_session_shard
 use Rattle.report_session.specs.Session.{session_parts, session_rest, session_save_line, session_text_of_reports}
 use Rattle.report_session.specs.Session.{session_start}
 use Rattle.report_session.proofs.Examples.{header, two_shards}
+use Rattle.report_session.proofs.ShownSessionLemmas.{shown_session_report, shown_session_reports}
 
 -- `report`, with defaults filled in
 abbrev pub settings : Settings
@@ -510,3 +511,11 @@ session_in_part keeping store = record {
   represents = new_shards_represent;
   begun = inl (((codes " 0\n", refl), omega arith), λ used. absurd (cc used));
 }
+
+-- ---- the text of a session, as it is read
+
+-- with a store, the cuts of the calling thread were saved, and not that of the other caller
+pub reports_of_a_saving_session :
+    shown_session_reports true (record { rounds = last ∷ []; callers = (last ∷ []) ∷ []; last = last })
+    ≡ shown_session_report true last ∷ shown_session_report false last ∷ shown_session_report true last ∷ []
+reports_of_a_saving_session = refl

@@ -1,4 +1,4 @@
--- What `report` does after its capture was read, step by step, which no public contract cites.
+-- What `report` does after its capture was read, step by step.
 use Rattle.std.specs.Prelude.{ℕ, ◌≡◌, ◌+◌, ◌≤◌, ◌⊎◌, true, List, [], ◌++◌, length, map, All, Option, IfSome}
 use Rattle.std.specs.Prelude.{slice_index, is_some}
 use Rattle.std.specs.Io.KnownBytes.{Appends}
@@ -37,6 +37,9 @@ use Rattle.run_status.specs.declared.status.Status.TheVariants.{OtherSettings, O
 use Rattle.frame_records.specs.declared.records.Records.{Records}
 use Rattle.report_text.specs.{report_tail_text}
 use Rattle.dealt_capture.specs.{AreDealtRecords, DealingRules}
+use Rattle.outside_io.specs.declared.sink.Sink.{Ghosts as SinkOf}
+use Rattle.slot_disk.specs.declared.disk.Disk.{Ghosts as DiskOf}
+use Rattle.report_session.specs.Saves.{IsAsBeforeSaves, SavesAreKeptOnDisk}
 
 -- the dealt lists of a capture, and the last lines of the session over them
 pub record IsDealtFeedCapture (settings : Settings) (rules : DealingRules) (file : List ℕ) (lists : List (List RecordValue))
@@ -107,29 +110,43 @@ pub record DealtFeedRefusesStore (settings : Settings) (lists : List (List Recor
   pub as_before : AsBefore
   pub refused : IfImageKnown store (λ image. IsRefusedAtOpening (store_settings_for_saves settings) lists image fault)
 
--- how a report over dealt lists ended. AsBefore says that the disk is as before
-abbrev pub DealtFeedEnds : {K : Type 0} → Settings → List (List RecordValue) → List ℕ → SessionKeeping
-    → (store : Option (List ℕ)) → (AsBefore : Type 0) → (sink written : K) → (old new : Option (List ℕ))
-    → (before now : RoundFaults) → Status → Type 0
-DealtFeedEnds settings lists tail keeping store AsBefore sink written old new before now Done =
-    DealtFeedWrites settings lists tail keeping store old new × (now ≡ before)
-DealtFeedEnds settings lists tail keeping store AsBefore sink written old new before now WriteFault =
-    DealtFeedWritesInPart settings lists tail keeping store old new × SinkFailedInRound before now
-DealtFeedEnds settings lists tail keeping store AsBefore sink written old new before now DiskFault =
-    (((written ≡ sink) × AsBefore) ⊎ DealtFeedWritesInPart settings lists tail keeping store old new)
-    × DiskFailedInRound before now
-DealtFeedEnds settings lists tail keeping store AsBefore sink written old new before now NotFormatted =
-    DealtFeedRefusesStore settings lists store AsBefore opening.NotFormatted × (written ≡ sink) × (now ≡ before)
-DealtFeedEnds settings lists tail keeping store AsBefore sink written old new before now (Damaged slot) =
-    DealtFeedRefusesStore settings lists store AsBefore (opening.Damaged slot) × (written ≡ sink) × (now ≡ before)
-DealtFeedEnds settings lists tail keeping store AsBefore sink written old new before now (OtherSettings stored asked) =
-    DealtFeedRefusesStore settings lists store AsBefore (opening.OtherSettings stored asked) × (written ≡ sink)
-    × (now ≡ before)
-DealtFeedEnds settings lists tail keeping store AsBefore sink written old new before now (OtherCapture stored asked) =
-    DealtFeedRefusesStore settings lists store AsBefore (opening.OtherCapture stored asked) × (written ≡ sink) × (now ≡ before)
-DealtFeedEnds settings lists tail keeping store AsBefore sink written old new before now OutOfMemory =
-    (((written ≡ sink) × AsBefore) ⊎ DealtFeedWritesInPart settings lists tail keeping store old new) × (now ≡ before)
-DealtFeedEnds settings lists tail keeping store AsBefore sink written old new before now _ = ⊥
+-- the faults of a sink and of a disk
+abbrev pub dealt_feed_faults : {K D : Type 0} → SinkOf K → DiskOf D → K → D → RoundFaults
+dealt_feed_faults k d sink disk = record { sink = k.faults sink; disk = d.faults disk }
+
+-- how a report over dealt lists ended, which wrote to a sink, and saved to a disk
+module _ {K D : Type 0} (k : SinkOf K) (d : DiskOf D) (settings : Settings) (lists : List (List RecordValue)) (tail : List ℕ)
+    (sink written : K) (old new : D) where
+  -- nothing was written, and the counts of faults are as before
+  abbrev Unwritten : Type 0
+  Unwritten = written ≡ sink
+
+  abbrev Faultless : Type 0
+  Faultless = dealt_feed_faults k d written new ≡ dealt_feed_faults k d sink old
+
+  -- a part of the session was written
+  abbrev WritesSome : Type 0
+  WritesSome =
+      DealtFeedWritesInPart settings lists tail (SavesAreKeptOnDisk d old new) (d.reads old) (k.taken sink) (k.taken written)
+
+  -- the store is refused for this fault
+  abbrev RefusedFor : OpenFault → Type 0
+  RefusedFor fault =
+      DealtFeedRefusesStore settings lists (d.reads old) (IsAsBeforeSaves d old new) fault × Unwritten × Faultless
+
+  abbrev pub DealtFeedEnds : Status → Type 0
+  DealtFeedEnds Done =
+      DealtFeedWrites settings lists tail (SavesAreKeptOnDisk d old new) (d.reads old) (k.taken sink) (k.taken written) × Faultless
+  DealtFeedEnds WriteFault = WritesSome × SinkFailedInRound (dealt_feed_faults k d sink old) (dealt_feed_faults k d written new)
+  DealtFeedEnds DiskFault =
+      ((Unwritten × IsAsBeforeSaves d old new) ⊎ WritesSome)
+      × DiskFailedInRound (dealt_feed_faults k d sink old) (dealt_feed_faults k d written new)
+  DealtFeedEnds NotFormatted = RefusedFor opening.NotFormatted
+  DealtFeedEnds (Damaged slot) = RefusedFor (opening.Damaged slot)
+  DealtFeedEnds (OtherSettings stored asked) = RefusedFor (opening.OtherSettings stored asked)
+  DealtFeedEnds (OtherCapture stored asked) = RefusedFor (opening.OtherCapture stored asked)
+  DealtFeedEnds OutOfMemory = ((Unwritten × IsAsBeforeSaves d old new) ⊎ WritesSome) × Faultless
+  DealtFeedEnds _ = ⊥
 
 -- shards on a board whose records are not counted further yet, its first pass, and a cut of its shape
 pub record IsDealtFeedOpening (shards : List ShardValue) (opened : Opened) : Type 0 where

@@ -1,7 +1,6 @@
 pub mod Saves
 pub mod Session
 pub mod Rounds
--- within the crate
 pub mod DealtFeed
 -- the face: what contracts of other crates cite
 pub use Rattle.report_session.specs.Saves.{IsAsBeforeSaves, IsAsBeforeSaves-untouched, SavesAreKeptOnDisk}

@@ -130,8 +130,8 @@ pub fn stores_belong_throughout<D: Disk>()
     reported_cuts_represent();
 }
 
-/// Two reports over all records of the same dealt lists are the same, whatever the numbers of workers and callers, the block
-/// and the threads.
+/// Two reports over all records of the same dealt lists are the same, where the capacity and the share are: whatever the
+/// numbers of workers and callers, the block and the threads.
 pub fn whole_reports_are_one()
     ensures { (settings other : Settings) (lists : List (List RecordValue)) (report others : Report) → settings.capacity ≡ other.capacity
         → settings.phi ≡ other.phi → IsWholeReport settings lists report → IsWholeReport other lists others → IsSameReport report others }
@@ -139,16 +139,18 @@ pub fn whole_reports_are_one()
     a_cut_has_one_report();
 }
 
-/// The reports of a session are sound over the dealt records, also where it went on from a saved cut, if the tables of this
-/// were those of its records.
+/// Where each kind of dealing is a formula, the reports of a session are sound over the dealt records, also where it went on
+/// from a saved cut, if the tables of this were those of its records.
 pub fn own_reports_are_sound<D: Disk>()
     ensures { (formula : DealKind → ℕ → RecordValue → ℕ → ℕ) (before now : D) (settings : Settings) (store : Option (List ℕ)) (file text : List ℕ)
-        (is : IsSession settings (rules_by_formula formula) (SavesAreKeptOnDisk D.Disk before now) store file text) → IfSome is.base (λ cut. CutRepresents cut is.lists)
+        (is : IsSession settings (rules_by_formula formula) (SavesAreKeptOnDisk D.Disk before now) store file text)
+        → IfSome is.base (λ cut. CutRepresents cut is.lists)
         → All (λ reported. IsSound reported.report is.lists settings.capacity settings.phi) (session_reports_in is.spelled.reports) }
 {}
 
-/// What `report` writes over a capture is the text of a session, whose reports are sound over the dealt records, each of
-/// each caller and the last one, if the tables of the saved cut that it went on from were those of its records.
+/// Where each kind of dealing is a formula, what `report` writes over a capture is the text of a session, whose reports are
+/// sound over the dealt records: those of each round of each caller, and the last one. If it went on from a saved cut, the
+/// tables of this have to be those of its records.
 pub fn sessions_read_back<D: Disk>()
     ensures { (formula : DealKind → ℕ → RecordValue → ℕ → ℕ) (before now : D) (settings : Settings) (store : Option (List ℕ)) (file text : List ℕ)
         (is : IsSession settings (rules_by_formula formula) (SavesAreKeptOnDisk D.Disk before now) store file text) → AreLimitedSettings settings

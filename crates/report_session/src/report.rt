@@ -43,11 +43,7 @@ pub fn report_dealt<R: Threads + Wait + Sync, K: Sink, D: Disk, G: Gate + Sync>(
     requires wide { AreWideSettings settings.now }
     requires shards { length fed.dealt ≡ settings.now.shards }
     requires tail { 0 < length fed.tail.items }
-    ensures ends { DealtFeedEnds settings.now fed.dealt fed.tail.items
-        (SavesAreKeptOnDisk D.Disk disk.old disk.new) (D.reads disk.old)
-        (IsAsBeforeSaves D.Disk disk.old disk.new)
-        sink.old sink.new (K.taken sink.old) (K.taken sink.new) (record { sink = K.faults sink.old; disk = D.faults disk.old })
-        (record { sink = K.faults sink.new; disk = D.faults disk.new }) result }
+    ensures ends { DealtFeedEnds K.Sink D.Disk settings.now fed.dealt fed.tail.items sink.old sink.new disk.old disk.new result }
     ensures unused { settings.now.store ≡ false → disk.new ≡ disk.old }
 {
     let DealtFeed { dealt, tail } = fed;

@@ -1,4 +1,4 @@
--- What `audit` does step by step, which no public contract cites.
+-- What `audit` does, step by step.
 use Rattle.std.specs.Prelude.{⊤, ℕ, ◌≡◌, List, length, All}
 use Rattle.outside_io.specs.{FaultCountRose}
 use Rattle.prefix_lattice.specs.{RecordValue}

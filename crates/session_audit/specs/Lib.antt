@@ -1,5 +1,4 @@
 pub mod Audit
--- within the crate
 pub mod Auditing
 -- the face: what contracts of other crates cite
 pub use Rattle.session_audit.specs.Audit.{AreAudited, AuditReadOnFault, AuditReadPastLimit, IsAuditText}

@@ -15,7 +15,8 @@ openings_stand-requires g c =
 
 pub returns-in-Err-clause-ends : goal.returns-in-Err-clause-ends
 returns-in-Err-clause-ends g c =
-    dealt_report_ends_without_base c.args.settings.now c.args.fed.dealt c.args.fed.tail.items _ _ _ _ _ _ _ _ c.in-Err.status
+    dealt_report_ends_without_base g.K.Sink g.D.Disk c.args.settings.now c.args.fed.dealt c.args.fed.tail.items c.args.sink.now
+    c.args.disk.now c.open_base.new.disk c.in-Err.status
     (record { same_reads = c.open_base.ensures.reads; any_moment = c.open_base.ensures.any_moment })
     c.in-Err.ensures.refused
 
@@ -49,17 +50,15 @@ returns-in-Ok-write_session-clause-ends g c =
 pub returns-clause-ends : goal.returns-clause-ends
 returns-clause-ends g c =
     let base = c.in-Ok.ensures.base in
-    dealt_report_ends_broken_off c.args.settings.now c.args.fed.dealt c.args.fed.tail.items _ _
-    (IsAsBeforeSaves g.D.Disk c.args.disk.now
-    c.write_session.new.disk) c.in-Ok.base.cut
+    dealt_report_ends_broken_off g.K.Sink g.D.Disk c.args.settings.now c.args.fed.dealt c.args.fed.tail.items c.in-Ok.base.cut
     (SavesInPart g.D.Disk c.in-Ok.base.saver
-    c.open_base.new.disk c.write_session.new.disk) (c.write_session.new.disk ≡ c.open_base.new.disk) _ _ _ _ _ _
+    c.open_base.new.disk c.write_session.new.disk) (c.write_session.new.disk ≡ c.open_base.new.disk) c.args.sink.now
+    c.write_session.new.sink c.args.disk.now c.write_session.new.disk
     c.in-Err-write_session.status base.begins c.openings_stand.ensures.represents
     (λ saved unfinished saves used. dealt_report_keeps_saves g.D.Disk
     c.args.settings.now c.args.fed.dealt c.in-Ok.base.positions c.in-Ok.base.saver saved unfinished c.args.disk.now
     c.open_base.new.disk c.write_session.new.disk base.used base.saver c.open_base.ensures.any_moment
     c.open_base.ensures.reads saves used)
-    (λ same. ap g.K.Sink.taken same)
     (λ same. (
       subst (IsAsBeforeSaves g.D.Disk c.args.disk.now) (sym same)
           (record { same_reads = c.open_base.ensures.reads; any_moment = c.open_base.ensures.any_moment }),

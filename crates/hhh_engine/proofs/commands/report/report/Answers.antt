@@ -11,5 +11,5 @@ returns-clause-ends g c = λ other.
 
 pub returns-clause-told : goal.returns-clause-told
 returns-clause-told g c =
-    capture_report_tells_disk_fault c.args.settings.now c.in-Ok.fed.dealt c.in-Ok.fed.tail.items _ _ _ _ _ _ _ _ _ c.report_dealt.result
-    c.report_dealt.ensures.ends
+    capture_report_tells_disk_fault g.K.Sink g.D.Disk c.args.settings.now c.in-Ok.fed.dealt c.in-Ok.fed.tail.items _ _ _ _
+    c.report_dealt.result c.report_dealt.ensures.ends
