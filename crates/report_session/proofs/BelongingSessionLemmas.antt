@@ -18,9 +18,9 @@ use Rattle.report_text.specs.{report_tail_text}
 use Rattle.report_session.specs.DealtFeed.{DealtFeedGoesOn}
 use Rattle.report_session.specs.Saves.{SavesBelongThroughout, SavesAreKeptOnDisk, last_of_saves, saves_after}
 use Rattle.report_session.specs.Saves.{store_settings_for_saves, store_settings_for_saves-allowed}
-use Rattle.report_session.specs.Session.{AreSessionReportsOfCaller, SessionGoesOnFrom, IsSession, IsSessionInPart}
+use Rattle.report_session.specs.Session.{AreReportsOfCaller, SessionGoesOnFrom, IsSession, IsSessionInPart}
 use Rattle.report_session.specs.Session.{IsShownInSession, SessionBaseRepresents, SessionSaving}
-use Rattle.report_session.specs.Session.{session_reports_of_calling_thread, session_opening, session_saved_cuts}
+use Rattle.report_session.specs.Session.{calling_thread_reports, session_opening, session_saved_cuts}
 use Rattle.dealt_capture.specs.{DealingRules}
 use Rattle.report_session.proofs.BaseLemmas.{base_goes_on}
 use Rattle.report_session.proofs.LastReportLemmas.{last_report_is_among_all}
@@ -137,7 +137,7 @@ belonging_session_completed one represent d read_is_image rules settings old new
     let opening : List ShardValue = session_opening settings.capacity is.lists is.base in
     let many : length is.lists ≡ settings.shards =
     own_session_lists_match_shards settings.deal (rules settings.deal) settings.shards is.records.list is.lists is.dealt.dealt in
-    let reports : List Reported = session_reports_of_calling_thread is.spelled.reports in
+    let reports : List Reported = calling_thread_reports is.spelled.reports in
     belonging_session_keeps_belonging one d read_is_image settings is.lists is.base
     (session_saved_cuts settings.store opening reports) [] old new limited used is.begins
     (λ standing. belonging_session_kept_cuts settings.store opening is.lists reports used
@@ -172,10 +172,10 @@ belonging_session_broken_off one represent d read_is_image rules settings old ne
     (belonging_session_cuts_represent represent settings lists (d.reads old) base reports limited many is.begins is.represents shown
     standing) in
     let of_rounds : (rounds : List Reported) (next : Reported) (count : ℕ)
-    → AreSessionReportsOfCaller opening settings count (rounds ++ next ∷ []) → Standing → Stand (cuts rounds) = λ rounds next count are.
+    → AreReportsOfCaller opening settings count (rounds ++ next ∷ []) → Standing → Stand (cuts rounds) = λ rounds next count are.
     of rounds (shown_session_front_of_all (IsShownInSession opening settings) rounds (next ∷ []) are.shown) in
     let of_next : (rounds : List Reported) (next : Reported) (count : ℕ)
-    → AreSessionReportsOfCaller opening settings count (rounds ++ next ∷ []) → Standing → Stand (cuts (next ∷ [])) =
+    → AreReportsOfCaller opening settings count (rounds ++ next ∷ []) → Standing → Stand (cuts (next ∷ [])) =
     λ rounds next count are.
     of (next ∷ []) (All-cons (IsShownInSession opening settings) next [] (last_report_is_among_all (IsShownInSession opening settings) rounds next are.shown)
     (All-nil (IsShownInSession opening settings))) in

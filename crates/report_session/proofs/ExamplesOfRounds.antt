@@ -12,15 +12,15 @@ use Rattle.pass_tokens.specs.{IsOddWord, SeatValue, ShardRead, PositionWordsValu
 use Rattle.gate_workers.specs.{Calls, FeedHasSeenEnds, IsReportAtCall, CallReadsOnce, View, cut_at_call}
 use Rattle.gate_workers.specs.declared.gathered.Gathered.{Gathered}
 use Rattle.report_text.specs.{report_tail_text}
-use Rattle.report_session.specs.Session.{AreSessionReportsOfCaller, SessionBreaksOffInRounds, SessionSaving}
+use Rattle.report_session.specs.Session.{AreReportsOfCaller, SessionBreaksOffInRounds, SessionSaving}
 use Rattle.report_session.specs.Session.{session_part, session_parts}
 use Rattle.report_session.specs.Rounds.{RoundsBreakOff, BreaksRound, DiskFailedInRound, EndRounds, RoundFaults}
 use Rattle.report_session.specs.Rounds.{IsRoundInVain, RoundReportsOnce, SinkFailedInRound, RoundBreaksInLine}
 use Rattle.report_session.specs.Rounds.{RoundBreaksInReport, WritesRounds, WritesUnsavedRound}
 use Rattle.report_session.specs.DealtFeed.{IsDealtFeedCapture}
 use Rattle.report_session.specs.DealtFeed.{IsDealtFeedFault, IsDealtFeedResult, IsDealtFeedGathered}
-use Rattle.report_session.specs.DealtFeed.{IsDealtFeedOpening, IsDealtFeedSaveFault, DealtFeedStartsBeforeEnds}
-use Rattle.report_session.specs.DealtFeed.{DealtFeedBreaksOffInRounds, dealt_feed_other_reports}
+use Rattle.report_session.specs.DealtFeed.{IsDealtFeedOpening, IsDealtFeedSaveFault, FeedStartsBeforeEnds}
+use Rattle.report_session.specs.DealtFeed.{FeedBreaksOffInRounds, dealt_feed_other_reports}
 use Rattle.report_session.specs.declared.session.Opened.{Opened}
 use Rattle.report_session.specs.declared.feed.Fed.{Fed}
 use Rattle.run_status.specs.declared.status.Status.TheVariants.{Done, BadWords, ReadFault, WriteFault, DiskFault}
@@ -77,7 +77,7 @@ no_calls = record {
   unsaved = All-nil _;
 }
 
-no_round_with : (store : Bool) → WritesRounds opening 10000 0 first first store (λ cuts. ⊤) (Some []) (Some [])
+no_round_with : (store : Bool) → WritesRounds opening 10000 store 0 first first (λ cuts. ⊤) (Some []) (Some [])
 no_round_with store = record {
   reports = [];
   calls = no_calls;
@@ -86,7 +86,7 @@ no_round_with store = record {
   kept = tt;
 }
 
-pub no_round_writes_nothing : WritesRounds opening 10000 0 first first false none_saved (Some []) (Some [])
+pub no_round_writes_nothing : WritesRounds opening 10000 false 0 first first none_saved (Some []) (Some [])
 no_round_writes_nothing = record {
   reports = [];
   calls = no_calls;
@@ -95,12 +95,12 @@ no_round_writes_nothing = record {
   kept = refl;
 }
 
-pub no_round_of_none : EndRounds opening 10000 0 first first false none_saved none_unfinished (Some []) (Some []) calm calm None
+pub no_round_of_none : EndRounds opening 10000 false 0 first first none_saved none_unfinished (Some []) (Some []) calm calm None
 no_round_of_none = (no_round_writes_nothing, refl)
 
 -- a fault would have ended them
 pub fault_without_a_stop :
-    EndRounds opening 10000 0 first first false none_saved none_unfinished (Some []) (Some []) calm sink_rose None → ⊥
+    EndRounds opening 10000 false 0 first first none_saved none_unfinished (Some []) (Some []) calm sink_rose None → ⊥
 fault_without_a_stop ended = let same : 4 ≡ 3 = ap (λ (faults : RoundFaults). faults.sink) ended.1 in omega (arith, same)
 
 -- ---- a round
@@ -139,7 +139,7 @@ last_is_sound =
     All-cons (λ (reported : Reported). IsSound reported.report lists 512 10000) last [] nothing_is_sound (All-nil _)
 
 pub one_round_is_written :
-    WritesRounds opening 10000 1 first after_one false none_saved (Some []) (Some (session_part false last))
+    WritesRounds opening 10000 false 1 first after_one none_saved (Some []) (Some (session_part false last))
 unfolding digits
 one_round_is_written = record {
   reports = last ∷ [];
@@ -149,7 +149,7 @@ one_round_is_written = record {
   kept = refl;
 }
 
-pub one_round_of_one : EndRounds opening 10000 1 first after_one false none_saved none_unfinished (Some [])
+pub one_round_of_one : EndRounds opening 10000 false 1 first after_one none_saved none_unfinished (Some [])
     (Some (session_part false last)) calm calm None
 one_round_of_one = (one_round_is_written, refl)
 
@@ -158,7 +158,7 @@ abbrev one_saved : List CutValue → Type 0
 one_saved cuts = cuts ≡ cut_at_call opening (0 ∷ 0 ∷ 0 ∷ 0 ∷ []) ∷ []
 
 pub one_round_is_saved :
-    WritesRounds opening 10000 1 first after_one true one_saved (Some []) (Some (session_part true last))
+    WritesRounds opening 10000 true 1 first after_one one_saved (Some []) (Some (session_part true last))
 unfolding digits
 one_round_is_saved = record {
   reports = last ∷ [];
@@ -193,7 +193,7 @@ abbrev saved_the_one : SessionSaving
 saved_the_one saved unfinished = one_saved saved × (unfinished ≡ [])
 
 pub line_in_part :
-    RoundBreaksInLine opening 10000 first after_one true saved_the_one (Some []) (Some (session_part false last))
+    RoundBreaksInLine opening 10000 true first after_one saved_the_one (Some []) (Some (session_part false last))
 unfolding digits
 line_in_part = record {
   report = report;
@@ -237,59 +237,59 @@ pub round_in_vain_writes_nothing : IsRoundInVain opening first after_one none_un
 round_in_vain_writes_nothing vain = cc vain.unwritten
 
 pub sink_breaks_a_round :
-    BreaksRound opening 10000 first after_one false none_unfinished (Some []) (Some (codes "report\n")) calm sink_rose
+    BreaksRound opening 10000 false first after_one none_unfinished (Some []) (Some (codes "report\n")) calm sink_rose
     WriteFault
 sink_breaks_a_round = (inl report_in_part, sink_failed)
 
 pub sink_breaks_the_line :
-    BreaksRound opening 10000 first after_one true saved_the_one (Some []) (Some (session_part false last)) calm sink_rose
+    BreaksRound opening 10000 true first after_one saved_the_one (Some []) (Some (session_part false last)) calm sink_rose
     WriteFault
 sink_breaks_the_line = (inr line_in_part, sink_failed)
 
 -- a sink that failed has counted it
 pub sink_that_did_not_fail :
-    BreaksRound opening 10000 first after_one false none_unfinished (Some []) (Some (codes "report\n")) calm calm WriteFault → ⊥
+    BreaksRound opening 10000 false first after_one none_unfinished (Some []) (Some (codes "report\n")) calm calm WriteFault → ⊥
 sink_that_did_not_fail breaks = omega (arith, breaks.1.rose)
 
 pub disk_breaks_a_round :
-    BreaksRound opening 10000 first after_one true unfinished_the_one (Some []) (Some (session_part false last)) calm disk_rose
+    BreaksRound opening 10000 true first after_one unfinished_the_one (Some []) (Some (session_part false last)) calm disk_rose
     DiskFault
 disk_breaks_a_round = (refl, unsaved_round, disk_failed)
 
 -- without a store no disk is written to
 pub disk_breaks_no_round_without_a_store :
-    BreaksRound opening 10000 first after_one false unfinished_the_one (Some []) (Some (session_part false last)) calm disk_rose
+    BreaksRound opening 10000 false first after_one unfinished_the_one (Some []) (Some (session_part false last)) calm disk_rose
     DiskFault → ⊥
 disk_breaks_no_round_without_a_store breaks = cc breaks.0
 
 pub memory_breaks_a_round :
-    BreaksRound opening 10000 first after_one false none_unfinished (Some []) (Some []) calm calm OutOfMemory
+    BreaksRound opening 10000 false first after_one none_unfinished (Some []) (Some []) calm calm OutOfMemory
 memory_breaks_a_round = (inl round_in_vain, refl)
 
 -- memory may also run out in a save
 pub memory_breaks_a_save :
-    BreaksRound opening 10000 first after_one true none_unfinished (Some []) (Some (session_part false last)) calm calm
+    BreaksRound opening 10000 true first after_one none_unfinished (Some []) (Some (session_part false last)) calm calm
     OutOfMemory
 memory_breaks_a_save = (inr (refl, round_not_saved), refl)
 
 -- then no save was made, or begun
 pub memory_ran_out_after_a_save :
-    BreaksRound opening 10000 first after_one true saved_the_one (Some []) (Some (session_part false last)) calm calm
+    BreaksRound opening 10000 true first after_one saved_the_one (Some []) (Some (session_part false last)) calm calm
     OutOfMemory → ⊥
 memory_ran_out_after_a_save (inl vain, same) = cc vain.kept.0
 memory_ran_out_after_a_save (inr unsaved, same) = cc unsaved.1.kept.0
 
 pub success_breaks_no_round :
-    BreaksRound opening 10000 first after_one false none_unfinished (Some []) (Some []) calm calm Done → ⊥
+    BreaksRound opening 10000 false first after_one none_unfinished (Some []) (Some []) calm calm Done → ⊥
 success_breaks_no_round breaks = breaks
 
 pub source_breaks_no_round :
-    BreaksRound opening 10000 first after_one false none_unfinished (Some []) (Some []) calm sink_rose ReadFault → ⊥
+    BreaksRound opening 10000 false first after_one none_unfinished (Some []) (Some []) calm sink_rose ReadFault → ⊥
 source_breaks_no_round breaks = breaks
 
 -- the first of two rounds broke off
 pub first_round_broke_off :
-    RoundsBreakOff opening 10000 2 first after_one false none_unfinished (Some []) (Some (codes "report\n")) calm sink_rose WriteFault
+    RoundsBreakOff opening 10000 false 2 first after_one none_unfinished (Some []) (Some (codes "report\n")) calm sink_rose WriteFault
 first_round_broke_off = record {
   whole = 0;
   few = omega arith;
@@ -300,12 +300,12 @@ first_round_broke_off = record {
 }
 
 pub no_round_breaks_off :
-    RoundsBreakOff opening 10000 0 first after_one false none_unfinished (Some []) (Some (codes "report\n")) calm sink_rose WriteFault
+    RoundsBreakOff opening 10000 false 0 first after_one none_unfinished (Some []) (Some (codes "report\n")) calm sink_rose WriteFault
     → ⊥
 no_round_breaks_off breaks = omega (arith, breaks.few)
 
 pub two_rounds_ended_in_the_first :
-    EndRounds opening 10000 2 first after_one false none_saved none_unfinished (Some []) (Some (codes "report\n")) calm
+    EndRounds opening 10000 false 2 first after_one none_saved none_unfinished (Some []) (Some (codes "report\n")) calm
     sink_rose (Some WriteFault)
 two_rounds_ended_in_the_first = first_round_broke_off
 
@@ -314,11 +314,11 @@ two_rounds_ended_in_the_first = first_round_broke_off
 pub dealt_capture : IsDealtFeedCapture settings in_turn header lists (report_tail_text records)
 dealt_capture = record { records = records; dealt = dealt_from_the_header; is_tail = refl }
 
-pub two_shards_start_before_their_ends : DealtFeedStartsBeforeEnds two_shards
+pub two_shards_start_before_their_ends : FeedStartsBeforeEnds two_shards
 two_shards_start_before_their_ends = new_opening_shards_before_ends 512 two_lists
 
 -- a shard of no record can't have counted one
-pub shard_past_its_end : DealtFeedStartsBeforeEnds (record shard { position = 1 } ∷ []) → ⊥
+pub shard_past_its_end : FeedStartsBeforeEnds (record shard { position = 1 } ∷ []) → ⊥
 shard_past_its_end starts = let start : 1 ≤ 0 = starts 0 in omega (arith, start)
 
 pub fault_of_the_sink : IsDealtFeedFault calm sink_rose WriteFault
@@ -408,7 +408,7 @@ gathered_without_a_round seat gathered nobody = record {
   written = refl;
   kept = refl;
   as_many = ap length nobody;
-  callers = subst (λ called. All (AreSessionReportsOfCaller opening settings 0) (dealt_feed_other_reports called)) (sym nobody) (All-nil _);
+  callers = subst (λ called. All (AreReportsOfCaller opening settings 0) (dealt_feed_other_reports called)) (sym nobody) (All-nil _);
 }
 
 -- another caller was asked for
@@ -429,7 +429,7 @@ pub fed_with_another_cut : (seat : SeatValue) (fed : Fed)
 fed_with_another_cut seat fed is = cc is.shape.as_many
 
 -- a sink with room for 7 bytes took the first line of the only round's report
-pub rounds_in_part : DealtFeedBreaksOffInRounds opening running none_unfinished (Some []) (Some (codes "report\n"))
+pub rounds_in_part : FeedBreaksOffInRounds opening running none_unfinished (Some []) (Some (codes "report\n"))
 unfolding digits
 rounds_in_part = record {
   front = codes "report\n";
@@ -446,7 +446,7 @@ rounds_in_part = record {
 }
 
 -- without rounds nothing of them is written
-pub no_rounds_in_part : DealtFeedBreaksOffInRounds opening settings none_unfinished (Some []) (Some (codes "report\n")) → ⊥
+pub no_rounds_in_part : FeedBreaksOffInRounds opening settings none_unfinished (Some []) (Some (codes "report\n")) → ⊥
 no_rounds_in_part in_part = none in_part.front in_part.breaks_off in_part.written
   where
     whole : (rounds : List Reported) → length rounds ≤ 0 → codes "report\n" ≡ session_parts false rounds → ⊥

@@ -27,7 +27,7 @@ use Rattle.report_session.specs.Saves.{SavesBelongThroughout, SavesFitBoard, IsA
 use Rattle.report_session.specs.Saves.{KeepsSaves, OpensAsBeforeOrToSaves, SavesReopen, Saves, SavesBreakOff}
 use Rattle.report_session.specs.Saves.{SavesInPart, after_saves, saver_after_broken_saves, SavesAreKeptOnDisk}
 use Rattle.report_session.specs.Saves.{last_of_saves, SavesAreReopenedFromDisk, saves_after, store_settings_for_saves}
-use Rattle.report_session.specs.Session.{SessionGoesOnFrom, SessionReports, session_reports_of_calling_thread}
+use Rattle.report_session.specs.Session.{SessionGoesOnFrom, SessionReports, calling_thread_reports}
 use Rattle.report_session.specs.Session.{session_ends, last_session_positions, new_session_shards, session_opening}
 use Rattle.report_session.specs.Session.{session_part, resumed_session_shards, session_saved_cuts, session_saves}
 use Rattle.report_session.specs.Session.{session_text_of_reports, session_start}
@@ -348,7 +348,7 @@ pub positions_before_a_report : last_session_positions (0 ∷ []) [] ≡ 0 ∷ [
 positions_before_a_report = refl
 
 -- its only cut is saved under the sequence after that of the store
-pub saves_of_a_session : session_saves one_shard (resumed ∷ []) (Some (saved 4 one_counted)) (session_reports_of_calling_thread reports)
+pub saves_of_a_session : session_saves one_shard (resumed ∷ []) (Some (saved 4 one_counted)) (calling_thread_reports reports)
     ≡ record { sequence = 5; digest = digest_of_lists one lists; cut = cut_at_call (resumed ∷ []) (1 ∷ []) } ∷ []
 saves_of_a_session = refl
 

@@ -29,12 +29,12 @@ use Rattle.frame_records.specs.declared.weigh.Weigh.TheVariants.{Bytes}
 use Rattle.report_text.specs.{report_tail_text}
 use Rattle.command_words.specs.declared.settings.Settings.{Settings}
 use Rattle.dealt_capture.specs.{AreDealtRecords, DealingRules}
-use Rattle.report_session.specs.Session.{AreSessionReportsOfCaller, AreSessionReports, BeginsSession}
+use Rattle.report_session.specs.Session.{AreReportsOfCaller, AreSessionReports, BeginsSession}
 use Rattle.report_session.specs.Session.{SessionBreaksOffInRounds, SessionBreaksOffAround, SessionBreaksOffLater}
 use Rattle.report_session.specs.Session.{SessionGoesOnFrom, IsSession, IsSessionInPart, IsShownInSession}
 use Rattle.report_session.specs.Session.{IsStrictSessionBeginning, SessionKeeping, session_after_saves}
 use Rattle.report_session.specs.Session.{session_saved_cuts, NeverFallInSession, SessionBaseRepresents, SessionSaving}
-use Rattle.report_session.specs.Session.{SessionReports, IsSessionOverShards, session_reports_of_calling_thread}
+use Rattle.report_session.specs.Session.{SessionReports, IsSessionOverShards, calling_thread_reports}
 use Rattle.report_session.specs.Session.{session_caller_parts, new_session_shards, session_opening, session_part}
 use Rattle.report_session.specs.Session.{session_parts, session_rest, session_save_line, session_text_of_reports}
 use Rattle.report_session.specs.Session.{session_start}
@@ -264,7 +264,7 @@ pub report_before_the_start : NeverFallInSession (1 ∷ 0 ∷ 0 ∷ 0 ∷ []) (l
 report_before_the_start never =
     let later : 1 ≤ 0 = never 0 (omega arith) 0 1 0 (omega arith) (omega arith) in omega (arith, later)
 
-pub one_report_with : (rounds callers : ℕ) → AreSessionReportsOfCaller opening (with_rounds rounds callers) 1 (last ∷ [])
+pub one_report_with : (rounds callers : ℕ) → AreReportsOfCaller opening (with_rounds rounds callers) 1 (last ∷ [])
 one_report_with rounds callers = record {
   as_many = refl;
   shown =
@@ -272,20 +272,20 @@ one_report_with rounds callers = record {
   never_fall = one_report_does_not_fall;
 }
 
-pub one_report : AreSessionReportsOfCaller opening settings 1 (last ∷ [])
+pub one_report : AreReportsOfCaller opening settings 1 (last ∷ [])
 one_report = one_report_with 0 0
 
-pub no_reports : AreSessionReportsOfCaller opening settings 0 []
+pub no_reports : AreReportsOfCaller opening settings 0 []
 no_reports = record { as_many = refl; shown = All-nil _; never_fall = λ place inside. one_number _ }
 
-pub no_report_is_not_one : AreSessionReportsOfCaller opening settings 1 [] → ⊥
+pub no_report_is_not_one : AreReportsOfCaller opening settings 1 [] → ⊥
 no_report_is_not_one are = cc are.as_many
 
 -- no rounds, and no other callers
 abbrev pub reports : SessionReports
 reports = record { rounds = []; callers = []; last = last }
 
-pub calling_thread_makes_the_last_report : session_reports_of_calling_thread reports ≡ last ∷ []
+pub calling_thread_makes_the_last_report : calling_thread_reports reports ≡ last ∷ []
 calling_thread_makes_the_last_report = refl
 
 pub reports_of_the_session : AreSessionReports opening settings reports
@@ -313,7 +313,7 @@ reports_of_a_running_session = record {
   };
   at_ends = refl;
   as_many = refl;
-  callers = All-cons (AreSessionReportsOfCaller opening running 1) (last ∷ []) [] (one_report_with 1 1) (All-nil _);
+  callers = All-cons (AreReportsOfCaller opening running 1) (last ∷ []) [] (one_report_with 1 1) (All-nil _);
 }
 
 -- the other caller is missing

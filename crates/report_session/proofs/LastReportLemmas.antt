@@ -10,7 +10,7 @@ use Rattle.gate_workers.specs.{cut_at_call}
 use Rattle.command_words.specs.declared.settings.Settings.{Settings}
 use Rattle.report_text.specs.{report_mark_text, report_text}
 use Rattle.report_text.specs.declared.mark.Mark.TheVariants.{Opened}
-use Rattle.report_session.specs.Session.{AreSessionReportsOfCaller, AreSessionReports, IsShownInSession}
+use Rattle.report_session.specs.Session.{AreReportsOfCaller, AreSessionReports, IsShownInSession}
 use Rattle.report_session.specs.Session.{SessionReports, session_caller_parts, session_part, session_parts}
 use Rattle.report_session.specs.Session.{session_text_of_reports, session_start}
 
@@ -59,14 +59,14 @@ last_report_without_rounds (first ∷ rounds) last count many none = absurd (ome
 
 -- and none of the other callers
 last_report_without_callers : (opening : List ShardValue) (settings : Settings) (count : ℕ) (callers : List (List Reported))
-    → count ≡ 0 → All (AreSessionReportsOfCaller opening settings count) callers → session_caller_parts callers ≡ []
+    → count ≡ 0 → All (AreReportsOfCaller opening settings count) callers → session_caller_parts callers ≡ []
 last_report_without_callers opening settings count [] none all = refl
 last_report_without_callers opening settings count ([] ∷ callers) none all =
     last_report_without_callers opening settings count callers none
-    (All-tail (AreSessionReportsOfCaller opening settings count) [] callers all)
+    (All-tail (AreReportsOfCaller opening settings count) [] callers all)
 last_report_without_callers opening settings count ((first ∷ reports) ∷ callers) none all =
-    let are : AreSessionReportsOfCaller opening settings count (first ∷ reports) =
-    All-head (AreSessionReportsOfCaller opening settings count) (first ∷ reports) callers all in
+    let are : AreReportsOfCaller opening settings count (first ∷ reports) =
+    All-head (AreReportsOfCaller opening settings count) (first ∷ reports) callers all in
     absurd (omega (arith, none, are.as_many))
 
 -- so the session is its first line, the last report and the last lines

@@ -13,9 +13,9 @@ use Rattle.gate_workers.specs.declared.gathered.Called.{Called}
 use Rattle.checkpoint.specs.{AreHeaderSettings, SaverState, StoresOpenToOneThing, saver_after_save}
 use Rattle.checkpoint.specs.{greatest_body_sequence}
 use Rattle.command_words.specs.declared.settings.Settings.{Settings}
-use Rattle.report_session.specs.DealtFeed.{DealtFeedCanSaveCut, IsDealtFeedRest, DealtFeedStartsBeforeEnds}
+use Rattle.report_session.specs.DealtFeed.{DealtFeedCanSaveCut, IsDealtFeedRest, FeedStartsBeforeEnds}
 use Rattle.report_session.specs.Saves.{CanMakeSaves, Saves, SavesInPart, SavesInTurn, after_saves}
-use Rattle.report_session.specs.Session.{AreSessionReportsOfCaller, IsShownInSession, session_ends}
+use Rattle.report_session.specs.Session.{AreReportsOfCaller, IsShownInSession, session_ends}
 use Rattle.report_session.specs.Session.{session_saved_cuts, session_start}
 use Rattle.report_session.specs.declared.session.Rest.{Rest}
 use Rattle.report_session.proofs.SaveLemmas.{broken_off_save_follows, saves_raise_sequence, saves_leave_settings}
@@ -35,7 +35,7 @@ last_save_after_fewer_saves reads possible opening view first count (Some saver)
     (record { fits = can.fits; stands = can.stands; early = let more = can.early in omega (arith, more) })
 
 -- positions that aren't past the starts aren't past the ends
-last_save_starts_within_ends : (opening : List ShardValue) (positions : List ℕ) → DealtFeedStartsBeforeEnds opening
+last_save_starts_within_ends : (opening : List ShardValue) (positions : List ℕ) → FeedStartsBeforeEnds opening
     → AreCutPositionsNotPast positions (session_start opening) → AreCutPositionsNotPast positions (session_ends opening)
 last_save_starts_within_ends opening positions starts past =
     let long : length positions ≡ length (session_start opening) = seen_positions_same_length positions (session_start opening) past in
@@ -78,8 +78,8 @@ last_save_count opening reports = length-map reports _
 pub last_save_is_possible : {D : Type 0} (d : DiskOf D) (board : PositionWordsValue) (settings : Settings) (called : List Called)
     (tail : List ℕ) (rest : Rest) (rounds : List Reported) (saver now : Option SaverState) (old new : D)
     → IfSome saver (CanMakeSaves (d.reads old) (d.image_now old) board.opening (first_view board.opening) (settings.rounds + 1))
-    → is_some saver ≡ settings.store → DealtFeedStartsBeforeEnds board.opening
-    → AreSessionReportsOfCaller board.opening settings settings.rounds rounds
+    → is_some saver ≡ settings.store → FeedStartsBeforeEnds board.opening
+    → AreReportsOfCaller board.opening settings settings.rounds rounds
     → SavesInTurn d saver now old new (session_saved_cuts settings.store board.opening rounds)
     → IsDealtFeedRest board settings called tail rest
     → HasCoreShape (length board.opening) (core_capacity board.opening) rest.cut

@@ -17,7 +17,7 @@ use Rattle.shard_state.specs.{IsSnapshot, SnapshotValue, core_capacity, empty_sn
 use Rattle.shard_state.specs.{core_lists}
 use Rattle.report_text.specs.{ReportTextShowsPositions}
 use Rattle.recovery.specs.{OpeningContinuesList}
-use Rattle.report_session.specs.DealtFeed.{DealtFeedGoesOn, DealtFeedStartsBeforeEnds}
+use Rattle.report_session.specs.DealtFeed.{DealtFeedGoesOn, FeedStartsBeforeEnds}
 use Rattle.report_session.specs.Session.{SessionBaseRepresents, new_session_shards, session_opening}
 use Rattle.report_session.specs.Session.{resumed_session_shards, session_start}
 
@@ -78,7 +78,7 @@ new_opening_shards_represent capacity lists begins =
     All-map (λ (shard : ShardValue). SnapshotRepresents shard.base shard.list) _ lists (λ k d lt. begins capacity _)
 
 -- and they start before the ends of their lists
-pub new_opening_shards_before_ends : (capacity : ℕ) (lists : List (List RecordValue)) → DealtFeedStartsBeforeEnds (new_session_shards capacity lists)
+pub new_opening_shards_before_ends : (capacity : ℕ) (lists : List (List RecordValue)) → FeedStartsBeforeEnds (new_session_shards capacity lists)
 new_opening_shards_before_ends capacity [] shard = omega arith
 new_opening_shards_before_ends capacity (list ∷ lists) zero = omega arith
 new_opening_shards_before_ends capacity (list ∷ lists) (suc shard) = new_opening_shards_before_ends capacity lists shard
@@ -130,7 +130,7 @@ resumed_opening_shards_are_shards cut lists some few continues alike =
     }
 
 resumed_opening_shards_before_ends : (lists : List (List RecordValue)) (bases : List SnapshotValue)
-    → AllZip OpeningContinuesList bases lists → DealtFeedStartsBeforeEnds (resumed_session_shards lists bases)
+    → AllZip OpeningContinuesList bases lists → FeedStartsBeforeEnds (resumed_session_shards lists bases)
 resumed_opening_shards_before_ends [] bases continues shard = omega arith
 resumed_opening_shards_before_ends (list ∷ lists) [] continues shard = absurd continues
 resumed_opening_shards_before_ends (list ∷ lists) (base ∷ bases) continues zero = continues.0.within
@@ -177,7 +177,7 @@ opening_shards_are_shards capacity lists (Some cut) shards goes_on kept =
     resumed_opening_shards_are_shards cut lists shards.some shards.few goes_on.continues kept.alike
 
 pub opening_shards_before_ends : (capacity : ℕ) (lists : List (List RecordValue)) (base : Option CutValue)
-    → IfSome base (DealtFeedGoesOn capacity lists) → DealtFeedStartsBeforeEnds (session_opening capacity lists base)
+    → IfSome base (DealtFeedGoesOn capacity lists) → FeedStartsBeforeEnds (session_opening capacity lists base)
 opening_shards_before_ends capacity lists None goes_on = new_opening_shards_before_ends capacity lists
 opening_shards_before_ends capacity lists (Some cut) goes_on =
     resumed_opening_shards_before_ends lists cut.shards goes_on.continues

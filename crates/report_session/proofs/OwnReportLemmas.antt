@@ -8,8 +8,8 @@ use Rattle.hhh_report.specs.{IsSound}
 use Rattle.hhh_report.specs.declared.reports.Reported.{Reported}
 use Rattle.recovery.specs.{OpeningContinuesList}
 use Rattle.command_words.specs.declared.settings.Settings.{Settings}
-use Rattle.report_session.specs.Session.{AreSessionReportsOfCaller, SessionGoesOnFrom, IsSession, IsShownInSession}
-use Rattle.report_session.specs.Session.{SessionKeeping, session_reports_of_calling_thread, session_opening}
+use Rattle.report_session.specs.Session.{AreReportsOfCaller, SessionGoesOnFrom, IsSession, IsShownInSession}
+use Rattle.report_session.specs.Session.{SessionKeeping, calling_thread_reports, session_opening}
 use Rattle.report_session.specs.Session.{session_reports_in, resumed_session_shards}
 use Rattle.dealt_capture.specs.{DealingRules}
 use Rattle.report_session.proofs.OpeningShardLemmas.{new_opening_shards_as_dealt}
@@ -41,14 +41,14 @@ own_reports_shown_are_sound opening settings lists reports same bases shown = λ
 
 -- those of all callers are shown
 own_caller_reports_are_shown : (opening : List ShardValue) (settings : Settings) (count : ℕ) (callers : List (List Reported))
-    → All (AreSessionReportsOfCaller opening settings count) callers
+    → All (AreReportsOfCaller opening settings count) callers
     → All (IsShownInSession opening settings) (flat_map (λ made. made) callers)
 own_caller_reports_are_shown opening settings count [] are = All-nil (IsShownInSession opening settings)
 own_caller_reports_are_shown opening settings count (reports ∷ callers) are =
     All-append (IsShownInSession opening settings) reports (flat_map (λ made. made) callers)
-    (All-head (AreSessionReportsOfCaller opening settings count) reports callers are).shown
+    (All-head (AreReportsOfCaller opening settings count) reports callers are).shown
     (own_caller_reports_are_shown opening settings count callers
-    (All-tail (AreSessionReportsOfCaller opening settings count) reports callers are))
+    (All-tail (AreReportsOfCaller opening settings count) reports callers are))
 
 -- the reports of a session are shown
 pub own_reports_are_shown : (settings : Settings) (rules : DealingRules) (keeping : SessionKeeping) (store : Option (List ℕ))
@@ -57,7 +57,7 @@ pub own_reports_are_shown : (settings : Settings) (rules : DealingRules) (keepin
 own_reports_are_shown settings rules keeping store file text is =
     let opening = session_opening settings.capacity is.lists is.base in
     let reports = is.spelled.reports in
-    All-append (IsShownInSession opening settings) (session_reports_of_calling_thread reports) (flat_map (λ made. made) reports.callers)
+    All-append (IsShownInSession opening settings) (calling_thread_reports reports) (flat_map (λ made. made) reports.callers)
     is.spelled.are_reports.calling.shown
     (own_caller_reports_are_shown opening settings settings.rounds reports.callers is.spelled.are_reports.callers)
 

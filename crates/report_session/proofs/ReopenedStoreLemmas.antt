@@ -19,7 +19,7 @@ use Rattle.command_words.specs.{AreLimitedSettings}
 use Rattle.command_words.specs.declared.settings.Settings.{Settings}
 use Rattle.report_session.specs.Saves.{SavesAreKeptOnDisk, last_of_saves, SavesAreReopenedFromDisk, saves_after}
 use Rattle.report_session.specs.Saves.{store_settings_for_saves, store_settings_for_saves-allowed}
-use Rattle.report_session.specs.Session.{AreSessionReportsOfCaller, SessionGoesOnFrom, IsSession, IsSessionInPart}
+use Rattle.report_session.specs.Session.{AreReportsOfCaller, SessionGoesOnFrom, IsSession, IsSessionInPart}
 use Rattle.report_session.specs.Session.{SessionSaving, session_after_saves, last_session_positions, session_opening}
 use Rattle.report_session.specs.Session.{session_saved_cuts, session_start}
 use Rattle.dealt_capture.specs.{DealingRules}
@@ -131,7 +131,7 @@ reopened_store_after_whole_saves d settings lists saved old new kept = λ store 
 reopened_store_after_broken_save : StoresOpenToOneThing → {D : Type 0} (d : DiskOf D) (settings : Settings) (lists : List (List RecordValue))
     (base : Option CutValue) (count : ℕ) (rounds : List Reported) (next : Reported) (old new : D) → AreLimitedSettings settings
     → length lists ≡ settings.shards → settings.store ≡ true → SessionGoesOnFrom settings lists (d.reads old) base
-    → AreSessionReportsOfCaller (session_opening settings.capacity lists base) settings count (rounds ++ next ∷ [])
+    → AreReportsOfCaller (session_opening settings.capacity lists base) settings count (rounds ++ next ∷ [])
     → SavesAreKeptOnDisk d old new (store_settings_for_saves settings) lists
     (session_saved_cuts true (session_opening settings.capacity lists base) rounds)
     (session_saved_cuts true (session_opening settings.capacity lists base) (next ∷ []))
@@ -191,7 +191,7 @@ reopened_store_after_broken_save one d settings lists base count rounds next old
 reopened_store_of_session : StoresOpenToOneThing → {D : Type 0} (d : DiskOf D) (settings : Settings) (lists : List (List RecordValue))
     (base : Option CutValue) (count : ℕ) (rounds : List Reported) (next : Reported) (old new : D) → AreLimitedSettings settings
     → length lists ≡ settings.shards → SessionGoesOnFrom settings lists (d.reads old) base
-    → AreSessionReportsOfCaller (session_opening settings.capacity lists base) settings count (rounds ++ next ∷ [])
+    → AreReportsOfCaller (session_opening settings.capacity lists base) settings count (rounds ++ next ∷ [])
     → session_after_saves settings.store (session_opening settings.capacity lists base) rounds (λ saved unfinished.
     settings.store ≡ true
     → SavesAreKeptOnDisk d old new (store_settings_for_saves settings) lists saved unfinished)

@@ -82,7 +82,7 @@ pub writes_one_round : (opening : List ShardValue) (phi : ℕ) (before now : Vie
     → (CoreBasesRepresent opening → IsSound report (core_lists opening) (core_capacity opening) phi)
     → Appends old new (session_part store (record { report = report; saved = None }))
     → Kept (session_saved_cuts store opening (record { report = report; saved = None } ∷ []))
-    → WritesRounds opening phi 1 before now store Kept old new
+    → WritesRounds opening phi store 1 before now Kept old new
 writes_one_round opening phi before now store Kept old new report calls sound written kept = record {
   reports = record { report = report; saved = None } ∷ [];
   calls = calls;
@@ -97,7 +97,7 @@ writes_one_round opening phi before now store Kept old new report calls sound wr
 -- at first no round was made
 pub writes_no_round : (opening : List ShardValue) (phi : ℕ) (now : View) (store : Bool) (Kept : List CutValue → Type 0)
     (old : Option (List ℕ)) → Calls opening phi 0 now now [] → Kept []
-    → WritesRounds opening phi 0 now now store Kept old old
+    → WritesRounds opening phi store 0 now now Kept old old
 writes_no_round opening phi now store Kept old calls kept = record {
   reports = [];
   calls = calls;
@@ -117,9 +117,9 @@ RoundsFollowRounds opening before = (phi rounds more : ℕ) (middle now : View) 
 pub writes_more_rounds : (opening : List ShardValue) (phi rounds more : ℕ) (before middle now : View) (store : Bool)
     (First Second Both : List CutValue → Type 0) (old between new : Option (List ℕ)) → RoundsFollowRounds opening before
     → ((cuts later : List CutValue) → First cuts → Second later → Both (cuts ++ later))
-    → WritesRounds opening phi rounds before middle store First old between
-    → WritesRounds opening phi more middle now store Second between new
-    → WritesRounds opening phi (rounds + more) before now store Both old new
+    → WritesRounds opening phi store rounds before middle First old between
+    → WritesRounds opening phi store more middle now Second between new
+    → WritesRounds opening phi store (rounds + more) before now Both old new
 writes_more_rounds opening phi rounds more before middle now store First Second Both old between new follow both one two = record {
   reports = one.reports ++ two.reports;
   calls = follow phi rounds more middle now one.reports two.reports one.calls two.calls;
@@ -138,8 +138,8 @@ writes_more_rounds opening phi rounds more before middle now store First Second 
 -- rounds of which less is said
 abbrev written_rounds_say_less : (opening : List ShardValue) (phi rounds : ℕ) (before now : View) (store : Bool)
     (Kept : List CutValue → Type 0) (old new : Option (List ℕ))
-    → WritesRounds opening phi rounds before now store Kept old new
-    → WritesRounds opening phi rounds before now store (λ cuts. ⊤) old new
+    → WritesRounds opening phi store rounds before now Kept old new
+    → WritesRounds opening phi store rounds before now (λ cuts. ⊤) old new
 written_rounds_say_less opening phi rounds before now store Kept old new written = record {
   reports = written.reports;
   calls = written.calls;
@@ -152,13 +152,13 @@ written_rounds_say_less opening phi rounds before now store Kept old new written
 pub all_rounds_were_made : (opening shards : List ShardValue) (phi made rounds : ℕ) (before now : View) (store : Bool)
     (Kept : List CutValue → Type 0) (KeptInPart : SessionSaving) (old new : Option (List ℕ))
     (faults_before faults_now : RoundFaults) (stop : Option Status) → shards ≡ opening → stop ≡ None → made ≡ rounds
-    → faults_now ≡ faults_before → WritesRounds opening phi made before now store Kept old new
-    → EndRounds shards phi rounds before now store Kept KeptInPart old new faults_before faults_now stop
+    → faults_now ≡ faults_before → WritesRounds opening phi store made before now Kept old new
+    → EndRounds shards phi store rounds before now Kept KeptInPart old new faults_before faults_now stop
 all_rounds_were_made opening shards phi made rounds before now store Kept KeptInPart old new faults_before faults_now stop same none
     all faults written =
-    subst (λ s. EndRounds shards phi rounds before now store Kept KeptInPart old new faults_before faults_now s) (sym none) (
-      subst (λ ss. WritesRounds ss phi rounds before now store Kept old new) (sym same)
-          (subst (λ n. WritesRounds opening phi n before now store Kept old new) all written),
+    subst (λ s. EndRounds shards phi store rounds before now Kept KeptInPart old new faults_before faults_now s) (sym none) (
+      subst (λ ss. WritesRounds ss phi store rounds before now Kept old new) (sym same)
+          (subst (λ n. WritesRounds opening phi store n before now Kept old new) all written),
       faults,
     )
 
@@ -178,8 +178,8 @@ unsaved_round_says_less opening phi before now unfinished Kept Less old new less
 broken_round_says_less : (opening : List ShardValue) (phi : ℕ) (before now : View) (store : Bool) (Kept Less : SessionSaving)
     (old new : Option (List ℕ)) (faults_before faults_now : RoundFaults) (status : Status)
     → ((saved unfinished : List CutValue) → Kept saved unfinished → Less saved unfinished)
-    → BreaksRound opening phi before now store Kept old new faults_before faults_now status
-    → BreaksRound opening phi before now store Less old new faults_before faults_now status
+    → BreaksRound opening phi store before now Kept old new faults_before faults_now status
+    → BreaksRound opening phi store before now Less old new faults_before faults_now status
 broken_round_says_less opening phi before now store Kept Less old new faults_before faults_now WriteFault less broken = (
   ⊎_elim
       (λ (part : RoundBreaksInReport opening phi before now Kept old new). inl (record {
@@ -188,7 +188,7 @@ broken_round_says_less opening phi before now store Kept Less old new faults_bef
         written = part.written;
         kept = less [] [] part.kept;
       }))
-      (λ (part : RoundBreaksInLine opening phi before now store Kept old new). inr (record {
+      (λ (part : RoundBreaksInLine opening phi store before now Kept old new). inr (record {
         report = part.report;
         reports = part.reports;
         between = part.between;
@@ -231,9 +231,9 @@ broken_round_says_less opening phi before now store Kept Less old new faults_bef
 pub ended_rounds_say_less : (opening : List ShardValue) (phi rounds : ℕ) (before now : View) (store : Bool)
     (Kept : List CutValue → Type 0) (KeptInPart Less : SessionSaving) (old new : Option (List ℕ))
     (faults_before faults_now : RoundFaults) (stop : Option Status)
-    → EndRounds opening phi rounds before now store Kept KeptInPart old new faults_before faults_now stop
+    → EndRounds opening phi store rounds before now Kept KeptInPart old new faults_before faults_now stop
     → ((saved unfinished : List CutValue) → KeptInPart saved unfinished → Less saved unfinished)
-    → EndRounds opening phi rounds before now store Kept Less old new faults_before faults_now stop
+    → EndRounds opening phi store rounds before now Kept Less old new faults_before faults_now stop
 ended_rounds_say_less opening phi rounds before now store Kept KeptInPart Less old new faults_before faults_now None ended less =
     ended
 ended_rounds_say_less opening phi rounds before now store Kept KeptInPart Less old new faults_before faults_now (Some status) off
@@ -255,12 +255,12 @@ pub one_round_broke_off : (opening shards : List ShardValue) (phi share made rou
     (old between new : Option (List ℕ)) (faults_before faults_between faults_now : RoundFaults) (status : Status)
     → shards ≡ opening → share ≡ phi → stored ≡ store → faults_between ≡ faults_before → made < rounds
     → ((cuts saved unfinished : List CutValue) → Kept cuts → KeptInRound saved unfinished → KeptInPart (cuts ++ saved) unfinished)
-    → WritesRounds opening phi made before middle store Kept old between
-    → BreaksRound opening share middle now stored KeptInRound between new faults_between faults_now status
-    → RoundsBreakOff shards phi rounds before now store KeptInPart old new faults_before faults_now status
+    → WritesRounds opening phi store made before middle Kept old between
+    → BreaksRound opening share stored middle now KeptInRound between new faults_between faults_now status
+    → RoundsBreakOff shards phi store rounds before now KeptInPart old new faults_before faults_now status
 one_round_broke_off opening shards phi share made rounds before middle now store stored Kept KeptInRound KeptInPart old between
     new faults_before faults_between faults_now status same same_share round_saver_stays_or_none same_faults few both written broken =
-    subst (λ ss. RoundsBreakOff ss phi rounds before now store KeptInPart old new faults_before faults_now status) (sym same)
+    subst (λ ss. RoundsBreakOff ss phi store rounds before now KeptInPart old new faults_before faults_now status) (sym same)
     (record {
       whole = made;
       few = few;
@@ -271,11 +271,11 @@ one_round_broke_off opening shards phi share made rounds before middle now store
           broken_round_says_less opening phi middle now store KeptInRound (session_after_saves store opening written.reports KeptInPart)
           between new faults_before faults_now status
           (λ saved unfinished kept. both (session_saved_cuts store opening written.reports) saved unfinished written.kept kept)
-          (subst (λ b. BreaksRound opening phi middle now b KeptInRound between new faults_before faults_now status)
+          (subst (λ b. BreaksRound opening phi b middle now KeptInRound between new faults_before faults_now status)
           round_saver_stays_or_none
-          (subst (λ n. BreaksRound opening n middle now stored KeptInRound between new faults_before faults_now status)
+          (subst (λ n. BreaksRound opening n stored middle now KeptInRound between new faults_before faults_now status)
           same_share
-          (subst (λ f. BreaksRound opening share middle now stored KeptInRound between new f faults_now status) same_faults
+          (subst (λ f. BreaksRound opening share stored middle now KeptInRound between new f faults_now status) same_faults
           broken)));
     })
 
@@ -283,12 +283,12 @@ one_round_broke_off opening shards phi share made rounds before middle now store
 pub round_broken_by_sink : (opening : List ShardValue) (phi : ℕ) (before now : View) (store : Bool) (Kept : SessionSaving)
     (old new : Option (List ℕ)) (sink_before sink_between sink_now disk_before disk_now : ℕ) (status : Status)
     → (status ≡ WriteFault) × FaultCountRose sink_between sink_now → sink_between ≡ sink_before → disk_now ≡ disk_before
-    → RoundBreaksInReport opening phi before now Kept old new ⊎ RoundBreaksInLine opening phi before now store Kept old new
-    → BreaksRound opening phi before now store Kept old new (record { sink = sink_before; disk = disk_before })
+    → RoundBreaksInReport opening phi before now Kept old new ⊎ RoundBreaksInLine opening phi store before now Kept old new
+    → BreaksRound opening phi store before now Kept old new (record { sink = sink_before; disk = disk_before })
     (record { sink = sink_now; disk = disk_now }) status
 round_broken_by_sink opening phi before now store Kept old new sink_before sink_between sink_now disk_before disk_now status failed
     earlier same part =
-    subst (BreaksRound opening phi before now store Kept old new (record { sink = sink_before; disk = disk_before })
+    subst (BreaksRound opening phi store before now Kept old new (record { sink = sink_before; disk = disk_before })
     (record { sink = sink_now; disk = disk_now })) (sym failed.0)
     (part, record { rose = subst (λ n. FaultCountRose n sink_now) earlier failed.1; disk = same })
 
@@ -298,7 +298,7 @@ pub round_broken_at_saving : (opening : List ShardValue) (phi : ℕ) (before now
     → store ≡ true → IsDealtFeedSaveFault disk_before disk_now status → sink_now ≡ sink_before
     → (status ≡ DiskFault → WritesUnsavedRound opening phi before now true Kept old new)
     → (status ≡ OutOfMemory → WritesUnsavedRound opening phi before now false Kept old new)
-    → BreaksRound opening phi before now store Kept old new (record { sink = sink_before; disk = disk_before })
+    → BreaksRound opening phi store before now Kept old new (record { sink = sink_before; disk = disk_before })
     (record { sink = sink_now; disk = disk_now }) status
 round_broken_at_saving opening phi before now store Kept old new sink_before sink_now disk_before disk_now DiskFault used fault same
     unsaved untouched =
@@ -333,10 +333,10 @@ round_broken_at_saving opening phi before now store Kept old new sink_before sin
 pub round_broken_by_memory : {T : Type 0} (result : Result T Status) (opening : List ShardValue) (phi : ℕ) (before now : View)
     (store : Bool) (Kept : SessionSaving) (old : Option (List ℕ)) (faults : RoundFaults)
     → IsErrAnd result (λ status. status ≡ OutOfMemory) → CallReadsOnce opening before now → Kept [] []
-    → IfErr result (BreaksRound opening phi before now store Kept old old faults faults)
+    → IfErr result (BreaksRound opening phi store before now Kept old old faults faults)
 round_broken_by_memory (Ok value) opening phi before now store Kept old faults none reads kept = tt
 round_broken_by_memory (Err status) opening phi before now store Kept old faults is reads kept =
-    subst (BreaksRound opening phi before now store Kept old old faults faults) (sym is)
+    subst (BreaksRound opening phi store before now Kept old old faults faults) (sym is)
     (inl (record { reads = reads; unwritten = refl; kept = kept }), refl)
 
 -- there is a saver after exactly if there was one before

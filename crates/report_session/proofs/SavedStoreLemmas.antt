@@ -19,7 +19,7 @@ use Rattle.command_words.specs.declared.settings.Settings.{Settings}
 use Rattle.report_text.specs.{report_text}
 use Rattle.report_session.specs.Saves.{OpensAsBeforeOrToSaves, last_of_saves, saves_after, store_settings_for_saves}
 use Rattle.report_session.specs.Session.{AreSessionReports, IsShownInSession, SessionReports}
-use Rattle.report_session.specs.Session.{session_reports_of_calling_thread, session_ends, session_saved_cuts}
+use Rattle.report_session.specs.Session.{calling_thread_reports, session_ends, session_saved_cuts}
 use Rattle.report_session.specs.Session.{session_saves}
 use Rattle.report_session.proofs.LastReportLemmas.{LastReportTextIsUnique, last_report_is_among_all}
 use Rattle.report_session.proofs.SeenPositionLemmas.{seen_positions_of_cut}
@@ -108,18 +108,18 @@ saved_store_holds_newest opened sequence digest (first ∷ cuts) cut =
 
 pub saved_store_stands_at_ends : (opening : List ShardValue) (settings : Settings) (reports : SessionReports)
     (opened : Option SavedValue) → AreSessionReports opening settings reports
-    → IsSomeAnd (last_of_saves opened (session_saves settings opening opened (session_reports_of_calling_thread reports))) (λ saved.
+    → IsSomeAnd (last_of_saves opened (session_saves settings opening opened (calling_thread_reports reports))) (λ saved.
     (cut_positions saved.cut ≡ session_ends opening) × (saved.sequence ≡ store_sequence opened + (settings.rounds + 1)))
 saved_store_stands_at_ends opening settings reports opened are =
     let f : Reported → CutValue = λ reported. cut_at_call opening reported.report.positions in
     let digest : List ℕ = digest_of_lists (store_settings_for_saves settings) (core_lists opening) in
     let first : IsShownInSession opening settings reports.last =
     last_report_is_among_all (IsShownInSession opening settings) reports.rounds reports.last are.calling.shown in
-    let parted : session_saved_cuts true opening (session_reports_of_calling_thread reports) ≡ map f reports.rounds ++ f reports.last ∷ [] =
+    let parted : session_saved_cuts true opening (calling_thread_reports reports) ≡ map f reports.rounds ++ f reports.last ∷ [] =
     map-append f reports.rounds (reports.last ∷ []) in
     let many : length (map f reports.rounds) ≡ length reports.rounds = length-map reports.rounds f in
-    let all : length (session_reports_of_calling_thread reports) ≡ settings.rounds + 1 = are.calling.as_many in
-    let last_one : length (session_reports_of_calling_thread reports) ≡ length reports.rounds + 1 =
+    let all : length (calling_thread_reports reports) ≡ settings.rounds + 1 = are.calling.as_many in
+    let last_one : length (calling_thread_reports reports) ≡ length reports.rounds + 1 =
     length-append reports.rounds (reports.last ∷ []) in
     subst (λ held. IsSomeAnd held (λ (saved : SavedValue). (cut_positions saved.cut ≡ session_ends opening)
     × (saved.sequence ≡ store_sequence opened + (settings.rounds + 1))))

@@ -19,14 +19,14 @@ use Rattle.pass_tokens.specs.{PositionWordsValue}
 use Rattle.command_words.specs.declared.settings.Settings.{Settings}
 use Rattle.report_text.specs.{report_mark_text, report_text}
 use Rattle.report_text.specs.declared.mark.Mark.TheVariants.{Opened}
-use Rattle.report_session.specs.Session.{WritesAnswer, AreSessionReportsOfCaller, AreSessionReports, BeginsSession}
+use Rattle.report_session.specs.Session.{WritesAnswer, AreReportsOfCaller, AreSessionReports, BeginsSession}
 use Rattle.report_session.specs.Session.{SessionBreaksOffAround, SessionBreaksOffInRounds, IsShownInSession}
 use Rattle.report_session.specs.Session.{IsStrictSessionBeginning, SessionSaving, IsSessionOverShards}
-use Rattle.report_session.specs.Session.{session_after_saves, session_reports_of_calling_thread, session_caller_parts}
+use Rattle.report_session.specs.Session.{session_after_saves, calling_thread_reports, session_caller_parts}
 use Rattle.report_session.specs.Session.{session_ends, session_parts, session_saved_cuts, session_save_line}
 use Rattle.report_session.specs.Session.{session_start}
-use Rattle.report_session.specs.DealtFeed.{IsDealtFeedResult, IsDealtFeedRest, DealtFeedStartsBeforeEnds}
-use Rattle.report_session.specs.DealtFeed.{DealtFeedBreaksOffInRounds, dealt_feed_other_reports}
+use Rattle.report_session.specs.DealtFeed.{IsDealtFeedResult, IsDealtFeedRest, FeedStartsBeforeEnds}
+use Rattle.report_session.specs.DealtFeed.{FeedBreaksOffInRounds, dealt_feed_other_reports}
 use Rattle.report_session.specs.declared.feed.Fed.{Fed}
 use Rattle.report_session.specs.declared.session.Rest.{Rest}
 
@@ -43,7 +43,7 @@ session_text_breaks_in_line opening settings Kept tail line old new is written k
 -- the first line, and rounds in part
 pub session_text_breaks_in_rounds : (opening : List ShardValue) (settings : Settings) (Kept : SessionSaving) (tail line : List ℕ)
     (old between new : Option (List ℕ)) → line ≡ report_mark_text Opened (session_start opening) → Appends old between line
-    → DealtFeedBreaksOffInRounds opening settings Kept between new → WritesAnswer (BeginsSession opening settings Kept tail) old new
+    → FeedBreaksOffInRounds opening settings Kept between new → WritesAnswer (BeginsSession opening settings Kept tail) old new
 session_text_breaks_in_rounds opening settings Kept tail line old between new is first part = record {
   text = line ++ part.front;
   is_text = inr (inl (part.front, part.breaks_off, ap (λ first. first ++ part.front) is));
@@ -53,7 +53,7 @@ session_text_breaks_in_rounds opening settings Kept tail line old between new is
 -- rounds that were made whole, as rounds in part
 pub session_text_of_fed_rounds : (board : PositionWordsValue) (settings : Settings) (Kept : List CutValue → Type 0) (KeptInPart : SessionSaving)
     (old new : Option (List ℕ)) (fed : Fed) → ((cuts : List CutValue) → Kept cuts → KeptInPart cuts [])
-    → IsDealtFeedResult board settings Kept old new fed → DealtFeedBreaksOffInRounds board.opening settings KeptInPart old new
+    → IsDealtFeedResult board settings Kept old new fed → FeedBreaksOffInRounds board.opening settings KeptInPart old new
 session_text_of_fed_rounds board settings Kept KeptInPart old new fed part is =
     let gathered = is.gathered in
     let many : length gathered.rounds ≡ settings.rounds = gathered.are_rounds.as_many in
@@ -62,7 +62,7 @@ session_text_of_fed_rounds board settings Kept KeptInPart old new fed part is =
       breaks_off = inl (record {
         rounds = gathered.rounds;
         few = omega (arith, many);
-        are_reports = subst (λ n. AreSessionReportsOfCaller board.opening settings n gathered.rounds) (sym many) gathered.are_rounds;
+        are_reports = subst (λ n. AreReportsOfCaller board.opening settings n gathered.rounds) (sym many) gathered.are_rounds;
         written = refl;
         kept = part (session_saved_cuts settings.store board.opening gathered.rounds) gathered.kept;
       });
@@ -89,8 +89,8 @@ session_text_numbers_never_fall numbers last up below =
 
 -- the rounds of the calling thread, and the last report
 session_text_with_last : (opening : List ShardValue) (settings : Settings) (count : ℕ) (reports : List Reported) (last : Reported)
-    → DealtFeedStartsBeforeEnds opening → AreSessionReportsOfCaller opening settings count reports → IsShownInSession opening settings last
-    → last.report.positions ≡ session_ends opening → AreSessionReportsOfCaller opening settings (count + 1) (reports ++ last ∷ [])
+    → FeedStartsBeforeEnds opening → AreReportsOfCaller opening settings count reports → IsShownInSession opening settings last
+    → last.report.positions ≡ session_ends opening → AreReportsOfCaller opening settings (count + 1) (reports ++ last ∷ [])
 session_text_with_last opening settings count reports last starts are shown ends = record {
   as_many = omega (arith, length-append reports (last ∷ []), are.as_many);
   shown =
@@ -121,12 +121,12 @@ spelled_session_text_says_less opening settings Kept Less tail text less session
   reports = session.reports;
   are_reports = session.are_reports;
   spelled = session.spelled;
-  kept = less (session_saved_cuts settings.store opening (session_reports_of_calling_thread session.reports)) session.kept;
+  kept = less (session_saved_cuts settings.store opening (calling_thread_reports session.reports)) session.kept;
 }
 
 -- the reports of a whole session
 session_text_of_all_reports : (board : PositionWordsValue) (settings : Settings) (Fed_kept : List CutValue → Type 0) (tail : List ℕ)
-    (old new : Option (List ℕ)) (fed : Fed) (rest : Rest) → DealtFeedStartsBeforeEnds board.opening
+    (old new : Option (List ℕ)) (fed : Fed) (rest : Rest) → FeedStartsBeforeEnds board.opening
     → (is : IsDealtFeedResult board settings Fed_kept old new fed) → (end : IsDealtFeedRest board settings fed.gathered.called.items tail rest)
     → AreSessionReports board.opening settings
     (record { rounds = is.gathered.rounds; callers = dealt_feed_other_reports fed.gathered.called.items; last = end.last })
@@ -141,7 +141,7 @@ session_text_of_all_reports board settings Fed_kept tail old new fed rest starts
 -- a whole session
 pub session_text_is_spelled : (board : PositionWordsValue) (settings : Settings) (Fed_kept Kept : List CutValue → Type 0)
     (tail line : List ℕ) (old new : Option (List ℕ)) (fed : Fed) (rest : Rest)
-    → DealtFeedStartsBeforeEnds board.opening → line ≡ report_mark_text Opened (session_start board.opening)
+    → FeedStartsBeforeEnds board.opening → line ≡ report_mark_text Opened (session_start board.opening)
     → (is : IsDealtFeedResult board settings Fed_kept old new fed) → (end : IsDealtFeedRest board settings fed.gathered.called.items tail rest)
     → Kept (session_saved_cuts settings.store board.opening (is.gathered.rounds ++ end.last ∷ []))
     → IsSessionOverShards board.opening settings Kept tail
@@ -201,7 +201,7 @@ SessionTextFollowsSaves store opening rounds last cut Rest Kept =
 -- the session was written but for a part of its rest
 pub session_text_breaks_in_rest : (board : PositionWordsValue) (settings : Settings) (Fed_kept : List CutValue → Type 0)
     (KeptInRest KeptInPart : SessionSaving) (tail line : List ℕ) (old first second new : Option (List ℕ)) (fed : Fed)
-    (rest : Rest) → DealtFeedStartsBeforeEnds board.opening → line ≡ report_mark_text Opened (session_start board.opening)
+    (rest : Rest) → FeedStartsBeforeEnds board.opening → line ≡ report_mark_text Opened (session_start board.opening)
     → (is : IsDealtFeedResult board settings Fed_kept first second fed)
     → (end : IsDealtFeedRest board settings fed.gathered.called.items tail rest) → Appends old first line
     → SessionTextFollowsSaves settings.store board.opening is.gathered.rounds end.last rest.cut KeptInRest KeptInPart
@@ -237,24 +237,24 @@ session_text_breaks_in_rest board settings Fed_kept KeptInRest KeptInPart tail l
 -- were, and before, in and after the save of a report that follows some rounds
 pub record SessionTextSaysLess (opening : List ShardValue) (settings : Settings) (Kept Less : SessionSaving) : Type 0 where
   pub none : Kept [] [] → Less [] []
-  pub between : (rounds : List Reported) → AreSessionReportsOfCaller opening settings (length rounds) rounds
+  pub between : (rounds : List Reported) → AreReportsOfCaller opening settings (length rounds) rounds
       → Kept (session_saved_cuts settings.store opening rounds) [] → Less (session_saved_cuts settings.store opening rounds) []
   pub before : (count : ℕ) (rounds : List Reported) (next : Reported)
-      → AreSessionReportsOfCaller opening settings count (rounds ++ next ∷ [])
+      → AreReportsOfCaller opening settings count (rounds ++ next ∷ [])
       → session_after_saves settings.store opening rounds Kept [] [] → session_after_saves settings.store opening rounds Less [] []
   pub unfinished : (count : ℕ) (rounds : List Reported) (next : Reported)
-      → AreSessionReportsOfCaller opening settings count (rounds ++ next ∷ [])
+      → AreReportsOfCaller opening settings count (rounds ++ next ∷ [])
       → session_after_saves settings.store opening rounds Kept [] (session_saved_cuts settings.store opening (next ∷ []))
       → session_after_saves settings.store opening rounds Less [] (session_saved_cuts settings.store opening (next ∷ []))
   pub saved : (count : ℕ) (rounds : List Reported) (next : Reported)
-      → AreSessionReportsOfCaller opening settings count (rounds ++ next ∷ [])
+      → AreReportsOfCaller opening settings count (rounds ++ next ∷ [])
       → session_after_saves settings.store opening rounds Kept (session_saved_cuts settings.store opening (next ∷ [])) []
       → session_after_saves settings.store opening rounds Less (session_saved_cuts settings.store opening (next ∷ [])) []
 
 -- a session that broke off, of which less is said
 session_text_around_says_less : (opening : List ShardValue) (settings : Settings) (Kept Less : SessionSaving) (count : ℕ) (rounds : List Reported)
     (next : Reported) (before after front : List ℕ) → SessionTextSaysLess opening settings Kept Less
-    → AreSessionReportsOfCaller opening settings count (rounds ++ next ∷ [])
+    → AreReportsOfCaller opening settings count (rounds ++ next ∷ [])
     → SessionBreaksOffAround before after (session_saved_cuts settings.store opening (next ∷ []))
     (session_after_saves settings.store opening rounds Kept) front
     → SessionBreaksOffAround before after (session_saved_cuts settings.store opening (next ∷ []))

@@ -25,10 +25,10 @@ use Rattle.gate_workers.specs.declared.gathered.Gathered.{Gathered}
 use Rattle.gate_workers.specs.declared.plan.ThreadPlan.{ThreadPlan}
 use Rattle.command_words.specs.declared.settings.Settings.{Settings}
 use Rattle.report_text.specs.{report_text}
-use Rattle.report_session.specs.DealtFeed.{DealtFeedBreaksOffInRounds, DealtFeedMakesSteps, dealt_feed_other_reports}
+use Rattle.report_session.specs.DealtFeed.{FeedBreaksOffInRounds, DealtFeedMakesSteps, dealt_feed_other_reports}
 use Rattle.report_session.specs.Rounds.{RoundsBreakOff, EndRounds, RoundFaults, IsRoundInVain, RoundReportsOnce}
 use Rattle.report_session.specs.Rounds.{RoundBreaksInLine, RoundBreaksInReport, WritesRounds, WritesUnsavedRound}
-use Rattle.report_session.specs.Session.{AreSessionReportsOfCaller, SessionBreaksOffAround, IsShownInSession}
+use Rattle.report_session.specs.Session.{AreReportsOfCaller, SessionBreaksOffAround, IsShownInSession}
 use Rattle.report_session.specs.Session.{SessionSaving, session_after_saves, session_caller_parts, session_ends}
 use Rattle.report_session.specs.Session.{session_part, session_parts, session_saved_cuts, session_save_line}
 use Rattle.report_session.specs.Session.{session_start}
@@ -61,7 +61,7 @@ new_session_thread_sees_starts opening view seen = map-map_of_session_threads _ 
 pub session_thread_reports_of_calls : (opening : List ShardValue) (settings : Settings) (rounds : ℕ) (before now : View)
     (reports : List Reported) → core_capacity opening ≡ settings.capacity → HasSessionThreadSeenStarts opening before
     → Calls opening settings.phi rounds before now reports → (CoreBasesRepresent opening → AreSoundThreadReports opening settings.phi reports)
-    → AreSessionReportsOfCaller opening settings rounds reports
+    → AreReportsOfCaller opening settings rounds reports
 session_thread_reports_of_calls opening settings rounds before now reports alike seen calls sound = record {
   as_many = seen_position_report_count opening settings.phi rounds before now reports calls;
   shown = λ k d lt. record {
@@ -92,7 +92,7 @@ session_thread_breaks_in_round : (opening : List ShardValue) (settings : Setting
     → SessionBreaksOffAround (report_text report) (session_save_line settings.store report.positions)
     (session_saved_cuts settings.store opening (record { report = report; saved = None } ∷ []))
     (session_after_saves settings.store opening reports Kept) more
-    → Appends between new more → DealtFeedBreaksOffInRounds opening settings Kept old new
+    → Appends between new more → FeedBreaksOffInRounds opening settings Kept old new
 session_thread_breaks_in_round opening settings whole before middle now Kept old between new reports report more alike seen follow few made
     sound written once breaks_off appended =
     let next : Reported = record { report = report; saved = None } in
@@ -106,7 +106,7 @@ session_thread_breaks_in_round opening settings whole before middle now Kept old
     (All-cons (λ (reported : Reported). IsSound reported.report (core_lists opening) (core_capacity opening) settings.phi)
     next [] (once.sound bases)
     (All-nil (λ (reported : Reported). IsSound reported.report (core_lists opening) (core_capacity opening) settings.phi))) in
-    let are : AreSessionReportsOfCaller opening settings (whole + 1) all =
+    let are : AreReportsOfCaller opening settings (whole + 1) all =
     session_thread_reports_of_calls opening settings (whole + 1) before now all alike seen calls are_sound in
     let many : length reports ≡ whole = seen_position_report_count opening settings.phi whole before middle reports made in
     record {
@@ -115,7 +115,7 @@ session_thread_breaks_in_round opening settings whole before middle now Kept old
         rounds = reports;
         next = next;
         few = omega (arith, few, many);
-        are_reports = subst (λ n. AreSessionReportsOfCaller opening settings (n + 1) all) (sym many) are;
+        are_reports = subst (λ n. AreReportsOfCaller opening settings (n + 1) all) (sym many) are;
         more = more;
         breaks_off = breaks_off;
         written = refl;
@@ -130,17 +130,17 @@ session_thread_between_rounds : (opening : List ShardValue) (settings : Settings
     → whole ≤ settings.rounds → Calls opening settings.phi whole before middle reports
     → (CoreBasesRepresent opening → AreSoundThreadReports opening settings.phi reports)
     → Appends old between (session_parts settings.store reports) → new ≡ between
-    → Kept (session_saved_cuts settings.store opening reports) [] → DealtFeedBreaksOffInRounds opening settings Kept old new
+    → Kept (session_saved_cuts settings.store opening reports) [] → FeedBreaksOffInRounds opening settings Kept old new
 session_thread_between_rounds opening settings whole before middle Kept old between new reports alike seen few made sound written same
     kept =
-    let are : AreSessionReportsOfCaller opening settings whole reports =
+    let are : AreReportsOfCaller opening settings whole reports =
     session_thread_reports_of_calls opening settings whole before middle reports alike seen made sound in
     record {
       front = session_parts settings.store reports;
       breaks_off = inl (record {
         rounds = reports;
         few = omega (arith, few, are.as_many);
-        are_reports = subst (λ n. AreSessionReportsOfCaller opening settings n reports) (sym are.as_many) are;
+        are_reports = subst (λ n. AreReportsOfCaller opening settings n reports) (sym are.as_many) are;
         written = refl;
         kept = kept;
       });
@@ -151,14 +151,14 @@ session_thread_between_rounds opening settings whole before middle Kept old betw
 session_thread_unsaved_round : (opening : List ShardValue) (settings : Settings) (before now : View) (Kept : SessionSaving)
     (old new : Option (List ℕ)) (faults_before faults_now : RoundFaults) (status : Status) (unfinished : Bool)
     → core_capacity opening ≡ settings.capacity → HasSessionThreadSeenStarts opening before → RoundsFollowRounds opening before
-    → (off : RoundsBreakOff opening settings.phi settings.rounds before now settings.store Kept old new faults_before faults_now
+    → (off : RoundsBreakOff opening settings.phi settings.store settings.rounds before now Kept old new faults_before faults_now
     status)
     → (unsaved : WritesUnsavedRound opening settings.phi off.middle now unfinished
     (session_after_saves settings.store opening off.written.reports Kept) off.between new)
     → SessionBreaksOffAround (report_text unsaved.report) (session_save_line settings.store unsaved.report.positions)
     (session_saved_cuts settings.store opening (record { report = unsaved.report; saved = None } ∷ []))
     (session_after_saves settings.store opening off.written.reports Kept) (report_text unsaved.report)
-    → DealtFeedBreaksOffInRounds opening settings Kept old new
+    → FeedBreaksOffInRounds opening settings Kept old new
 session_thread_unsaved_round opening settings before now Kept old new faults_before faults_now status unfinished alike seen follow off
     unsaved breaks_off =
     let whole = off.written in
@@ -170,8 +170,8 @@ session_thread_unsaved_round opening settings before now Kept old new faults_bef
 session_thread_broken_rounds : (opening : List ShardValue) (settings : Settings) (before now : View) (Kept : SessionSaving)
     (old new : Option (List ℕ)) (faults_before faults_now : RoundFaults) (status : Status)
     → core_capacity opening ≡ settings.capacity → HasSessionThreadSeenStarts opening before → RoundsFollowRounds opening before
-    → RoundsBreakOff opening settings.phi settings.rounds before now settings.store Kept old new faults_before faults_now status
-    → DealtFeedBreaksOffInRounds opening settings Kept old new
+    → RoundsBreakOff opening settings.phi settings.store settings.rounds before now Kept old new faults_before faults_now status
+    → FeedBreaksOffInRounds opening settings Kept old new
 session_thread_broken_rounds opening settings before now Kept old new faults_before faults_now WriteFault alike seen follow off =
     let whole = off.written in
     let After : SessionSaving = session_after_saves settings.store opening whole.reports Kept in
@@ -180,7 +180,7 @@ session_thread_broken_rounds opening settings before now Kept old new faults_bef
     session_thread_breaks_in_round opening settings off.whole before off.middle now Kept old off.between new whole.reports part.report
     part.written.front alike seen follow off.few whole.calls whole.sound whole.written part.reports
     (inl (part.written.is_beginning, part.kept)) part.written.appended)
-    (λ (part : RoundBreaksInLine opening settings.phi off.middle now settings.store After off.between new).
+    (λ (part : RoundBreaksInLine opening settings.phi settings.store off.middle now After off.between new).
     let text : List ℕ = report_text part.report in
     let line : List ℕ = part.written.front in
     session_thread_breaks_in_round opening settings off.whole before off.middle now Kept old off.between new whole.reports part.report
@@ -235,9 +235,9 @@ session_thread_ended_rounds : (opening : List ShardValue) (settings : Settings) 
     (faults_before faults_now : RoundFaults) (stop : Option Status) → core_capacity opening ≡ settings.capacity
     → HasSessionThreadSeenStarts opening before → RoundsFollowRounds opening before
     → ((cuts : List CutValue) → Kept cuts → KeptInPart cuts [])
-    → EndRounds opening settings.phi settings.rounds before now settings.store Kept KeptInPart old new faults_before
+    → EndRounds opening settings.phi settings.store settings.rounds before now Kept KeptInPart old new faults_before
     faults_now stop
-    → DealtFeedBreaksOffInRounds opening settings KeptInPart old new
+    → FeedBreaksOffInRounds opening settings KeptInPart old new
 session_thread_ended_rounds opening settings before now Kept KeptInPart old new faults_before faults_now None alike seen follow part
     ended =
     let whole = ended.0 in
@@ -249,7 +249,7 @@ session_thread_ended_rounds opening settings before now Kept KeptInPart old new 
 
 -- no round was begun
 session_thread_without_round : (opening : List ShardValue) (settings : Settings) (Kept : SessionSaving) (old new : Option (List ℕ))
-    → new ≡ old → Kept [] [] → DealtFeedBreaksOffInRounds opening settings Kept old new
+    → new ≡ old → Kept [] [] → FeedBreaksOffInRounds opening settings Kept old new
 session_thread_without_round opening settings Kept old new same kept = record {
   front = [];
   breaks_off = inl (record {
@@ -272,14 +272,14 @@ pub session_threads_leave_rounds : (same : Type 0) (relates : View → View → 
     (passes : ℕ) (view : View) (Kept : List CutValue → Type 0) (KeptInPart : SessionSaving) (old new : Option (List ℕ))
     (faults_before faults_now : RoundFaults) (stop : Option Status)
     → view ≡ first_view opening → core_capacity opening ≡ settings.capacity
-    → ((before now : View) → relates before now → EndRounds before.opening settings.phi settings.rounds before now
-    settings.store Kept KeptInPart old new faults_before faults_now stop)
+    → ((before now : View) → relates before now → EndRounds before.opening settings.phi settings.store settings.rounds before
+    now Kept KeptInPart old new faults_before faults_now stop)
     → ((phi rounds more : ℕ) (before middle now : View) (reports later : List Reported)
     → length before.trails ≡ length opening → Calls opening phi rounds before middle reports
     → Calls opening phi more middle now later → Calls opening phi (rounds + more) before now (reports ++ later))
     → ((cuts : List CutValue) → Kept cuts → KeptInPart cuts [])
     → (same → (new ≡ old) × KeptInPart [] []) → same ⊎ CallingThreadMakesRounds relates passes view
-    → DealtFeedBreaksOffInRounds opening settings KeptInPart old new
+    → FeedBreaksOffInRounds opening settings KeptInPart old new
 session_threads_leave_rounds same relates opening settings passes view Kept KeptInPart old new faults_before faults_now stop first alike
     ends follow part unmoved (inl is_same) =
     session_thread_without_round opening settings KeptInPart old new (unmoved is_same).0 (unmoved is_same).1
@@ -290,12 +290,12 @@ session_threads_leave_rounds same relates opening settings passes view Kept Kept
     ap (λ (v : View). map (λ trail. trail.seen) v.trails) first ∙ first_session_thread_sees_starts opening in
     let many : length before.trails ≡ length opening =
     ap (λ (v : View). length v.trails) first ∙ length-map opening _ in
-    let ended : EndRounds before.opening settings.phi settings.rounds before once.now settings.store Kept KeptInPart old
+    let ended : EndRounds before.opening settings.phi settings.store settings.rounds before once.now Kept KeptInPart old
     new faults_before faults_now stop = ends before once.now once.does in
     session_thread_ended_rounds opening settings before once.now Kept KeptInPart old new faults_before faults_now stop alike seen
     (λ phi rounds more middle now reports later one two.
     follow phi rounds more before middle now reports later many one two) part
-    (subst (λ shards. EndRounds shards settings.phi settings.rounds before once.now settings.store Kept KeptInPart old
+    (subst (λ shards. EndRounds shards settings.phi settings.store settings.rounds before once.now Kept KeptInPart old
     new faults_before faults_now stop) (ap (λ (v : View). v.opening) first) ended)
 
 -- either the threads were run, or memory ran out before
@@ -315,24 +315,24 @@ session_thread_on_err (Err error) P holds = holds
 pub session_thread_ended_as_set : (shards : List ShardValue) (share phi made rounds : ℕ) (before now : View) (stored store : Bool)
     (Kept : List CutValue → Type 0) (KeptInPart : SessionSaving) (old new : Option (List ℕ))
     (faults_before faults_now : RoundFaults) (stop : Option Status) → share ≡ phi → made ≡ rounds → stored ≡ store
-    → EndRounds shards share made before now stored Kept KeptInPart old new faults_before faults_now stop
-    → EndRounds shards phi rounds before now store Kept KeptInPart old new faults_before faults_now stop
+    → EndRounds shards share stored made before now Kept KeptInPart old new faults_before faults_now stop
+    → EndRounds shards phi store rounds before now Kept KeptInPart old new faults_before faults_now stop
 session_thread_ended_as_set shards share phi made rounds before now stored store Kept KeptInPart old new faults_before faults_now stop
     same_share same_rounds same_store ended =
-    subst (λ b. EndRounds shards phi rounds before now b Kept KeptInPart old new faults_before faults_now stop) same_store
-    (subst (λ n. EndRounds shards phi n before now stored Kept KeptInPart old new faults_before faults_now stop)
+    subst (λ b. EndRounds shards phi b rounds before now Kept KeptInPart old new faults_before faults_now stop) same_store
+    (subst (λ n. EndRounds shards phi stored n before now Kept KeptInPart old new faults_before faults_now stop)
     same_rounds
-    (subst (λ n. EndRounds shards n made before now stored Kept KeptInPart old new faults_before faults_now stop)
+    (subst (λ n. EndRounds shards n stored made before now Kept KeptInPart old new faults_before faults_now stop)
     same_share ended))
 
 -- rounds that were not stopped were all made
 pub session_thread_ended_all_rounds : (shards : List ShardValue) (phi rounds : ℕ) (before now : View) (store : Bool)
     (Kept : List CutValue → Type 0) (KeptInPart : SessionSaving) (old new : Option (List ℕ))
     (faults_before faults_now : RoundFaults) (stop : Option Status) → stop ≡ None
-    → EndRounds shards phi rounds before now store Kept KeptInPart old new faults_before faults_now stop
-    → WritesRounds shards phi rounds before now store Kept old new
+    → EndRounds shards phi store rounds before now Kept KeptInPart old new faults_before faults_now stop
+    → WritesRounds shards phi store rounds before now Kept old new
 session_thread_ended_all_rounds shards phi rounds before now store Kept KeptInPart old new faults_before faults_now stop none ended =
-    (subst (λ s. EndRounds shards phi rounds before now store Kept KeptInPart old new faults_before faults_now s) none
+    (subst (λ s. EndRounds shards phi store rounds before now Kept KeptInPart old new faults_before faults_now s) none
     ended).0
 
 -- what the threads bring back, where the rounds of the calling thread were all made
@@ -341,27 +341,27 @@ pub session_threads_gathered_all : (relates : View → View → Type 0) (opening
     → view ≡ first_view opening → core_capacity opening ≡ settings.capacity
     → plan.phi ≡ settings.phi → plan.rounds ≡ settings.rounds → plan.callers ≡ settings.callers
     → ((before now : View) → relates before now
-    → WritesRounds before.opening settings.phi settings.rounds before now settings.store Kept old new)
+    → WritesRounds before.opening settings.phi settings.store settings.rounds before now Kept old new)
     → ThreadsBringBack opening plan relates view gathered
     → (CoreBasesRepresent opening → All (λ (called : Called). AreSoundThreadReports opening plan.phi called.reports) gathered.called.items)
-    → (rounds : List Reported) × AreSessionReportsOfCaller opening settings settings.rounds rounds
+    → (rounds : List Reported) × AreReportsOfCaller opening settings settings.rounds rounds
     × Appends old new (session_parts settings.store rounds) × (length gathered.called.items ≡ settings.callers)
-    × All (AreSessionReportsOfCaller opening settings settings.rounds) (dealt_feed_other_reports gathered.called.items)
+    × All (AreReportsOfCaller opening settings settings.rounds) (dealt_feed_other_reports gathered.called.items)
     × Kept (session_saved_cuts settings.store opening rounds)
 session_threads_gathered_all relates opening settings plan view gathered Kept old new first alike phi rounds callers ends gathers
     sound =
     let before : View = record view { splits = view.splits + (plan.workers + plan.callers) } in
     let seen : HasSessionThreadSeenStarts opening view =
     ap (λ (v : View). map (λ trail. trail.seen) v.trails) first ∙ first_session_thread_sees_starts opening in
-    let whole : WritesRounds opening settings.phi settings.rounds before gathers.rounds.now settings.store Kept old new =
-    subst (λ shards. WritesRounds shards settings.phi settings.rounds before gathers.rounds.now settings.store Kept old new)
+    let whole : WritesRounds opening settings.phi settings.store settings.rounds before gathers.rounds.now Kept old new =
+    subst (λ shards. WritesRounds shards settings.phi settings.store settings.rounds before gathers.rounds.now Kept old new)
     (ap (λ (v : View). v.opening) first) (ends before gathers.rounds.now gathers.rounds.does) in (
       whole.reports,
       session_thread_reports_of_calls opening settings settings.rounds before gathers.rounds.now whole.reports alike seen whole.calls
           whole.sound,
       whole.written,
       gathers.as_many_callers ∙ callers,
-      All-map (AreSessionReportsOfCaller opening settings settings.rounds) (λ (called : Called). called.reports)
+      All-map (AreReportsOfCaller opening settings settings.rounds) (λ (called : Called). called.reports)
           gathered.called.items
           (λ k d lt.
           let called : Called = get_or gathered.called.items k d in
@@ -377,7 +377,7 @@ session_threads_gathered_all relates opening settings plan view gathered Kept ol
 
 -- rounds that were all made split off no pass, and took in none
 pub session_thread_rounds_make_steps : (opening : List ShardValue) (phi rounds : ℕ) (before now : View) (store : Bool)
-    (Kept : List CutValue → Type 0) (old new : Option (List ℕ)) → WritesRounds opening phi rounds before now store Kept old new
+    (Kept : List CutValue → Type 0) (old new : Option (List ℕ)) → WritesRounds opening phi store rounds before now Kept old new
     → DealtFeedMakesSteps before now
 session_thread_rounds_make_steps opening phi rounds before now store Kept old new written =
     subst (DealtFeedMakesSteps before) (sym written.calls.view) refl

@@ -15,8 +15,8 @@ use Rattle.report_text.specs.{report_mark_text, printed_session_text, report_tex
 use Rattle.report_text.specs.declared.mark.Mark.TheVariants.{Opened, Saved}
 use Rattle.report_text.specs.declared.session.Session.{Session}
 use Rattle.command_words.specs.declared.settings.Settings.{Settings}
-use Rattle.report_session.specs.Session.{AreSessionReportsOfCaller, AreSessionReports, SessionReports}
-use Rattle.report_session.specs.Session.{session_reports_of_calling_thread, session_caller_parts, session_part}
+use Rattle.report_session.specs.Session.{AreReportsOfCaller, AreSessionReports, SessionReports}
+use Rattle.report_session.specs.Session.{calling_thread_reports, session_caller_parts, session_part}
 use Rattle.report_session.specs.Session.{session_parts, session_reports_in, session_text_of_reports}
 use Rattle.report_session.proofs.LastReportLemmas.{last_report_is_among_all}
 
@@ -133,10 +133,10 @@ pub shown_session_keeps_property : (P : Reported → Type 0) (store : Bool) (rep
     → All P (session_reports_in reports) → All P (shown_session_reports store reports)
 shown_session_keeps_property P store reports keeps all =
     let others = flat_map (λ made. made) reports.callers in
-    let calling = shown_session_front_of_all P (session_reports_of_calling_thread reports) others all in
+    let calling = shown_session_front_of_all P (calling_thread_reports reports) others all in
     let rounds = shown_session_front_of_all P reports.rounds (reports.last ∷ []) calling in
     let last = last_report_is_among_all P reports.rounds reports.last calling in
-    let called = shown_session_back_of_all P (session_reports_of_calling_thread reports) others all in
+    let called = shown_session_back_of_all P (calling_thread_reports reports) others all in
     All-append P (map (shown_session_report store) reports.rounds)
     (map (shown_session_report false) others ++ shown_session_report store reports.last ∷ [])
     (All-map P (shown_session_report store) reports.rounds (λ k d lt. keeps store _ (rounds k d lt)))
@@ -146,14 +146,14 @@ shown_session_keeps_property P store reports keeps all =
 
 -- how many reports callers made
 shown_session_count_of_callers : (opening : List ShardValue) (settings : Settings) (count : ℕ) (callers : List (List Reported))
-    → All (AreSessionReportsOfCaller opening settings count) callers
+    → All (AreReportsOfCaller opening settings count) callers
     → length (flat_map (λ made. made) callers) ≡ length callers * count
 shown_session_count_of_callers opening settings count [] all = omega arith
 shown_session_count_of_callers opening settings count (reports ∷ callers) all =
-    let first : AreSessionReportsOfCaller opening settings count reports =
-    All-head (AreSessionReportsOfCaller opening settings count) reports callers all in
+    let first : AreReportsOfCaller opening settings count reports =
+    All-head (AreReportsOfCaller opening settings count) reports callers all in
     let rest = shown_session_count_of_callers opening settings count callers
-    (All-tail (AreSessionReportsOfCaller opening settings count) reports callers all) in
+    (All-tail (AreReportsOfCaller opening settings count) reports callers all) in
     omega (arith, first.as_many, rest, length-append reports (flat_map (λ made. made) callers))
 
 -- how many reports the text of a session shows

@@ -21,7 +21,7 @@ use Rattle.recovery.specs.declared.fault.OpenFault.TheVariants as opening
 use Rattle.command_words.specs.declared.settings.Settings.{Settings}
 use Rattle.report_session.specs.Rounds.{DiskFailedInRound, RoundFaults, SinkFailedInRound}
 use Rattle.report_session.specs.Saves.{store_settings_for_saves}
-use Rattle.report_session.specs.Session.{AreSessionReportsOfCaller, BeginsSession, SessionBreaksOffInRounds}
+use Rattle.report_session.specs.Session.{AreReportsOfCaller, BeginsSession, SessionBreaksOffInRounds}
 use Rattle.report_session.specs.Session.{SessionGoesOnFrom, IsShownInSession, SessionKeeping, SessionBaseRepresents}
 use Rattle.report_session.specs.Session.{SessionSaving, IsSessionOverShards, session_caller_parts, session_ends}
 use Rattle.report_session.specs.Session.{session_opening, session_parts, session_saved_cuts, session_save_line}
@@ -156,8 +156,8 @@ pub record IsDealtFeedOpening (shards : List ShardValue) (opened : Opened) : Typ
   pub shape : HasCoreShape (length shards) (core_capacity shards) opened.cut
 
 -- no shard starts past the end of its list
-abbrev pub DealtFeedStartsBeforeEnds : List ShardValue → Type 0
-DealtFeedStartsBeforeEnds opening = (shard : ℕ) → slice_index (session_start opening) shard ≤ slice_index (session_ends opening) shard
+abbrev pub FeedStartsBeforeEnds : List ShardValue → Type 0
+FeedStartsBeforeEnds opening = (shard : ℕ) → slice_index (session_start opening) shard ≤ slice_index (session_ends opening) shard
 
 -- the reports of the other callers
 abbrev pub dealt_feed_other_reports : List Called → List (List Reported)
@@ -191,11 +191,11 @@ pub record IsDealtFeedGathered (board : PositionWordsValue) (settings : Settings
   pub pass : IsPassOfBoard board gathered.pass
   pub ends : FeedHasSeenEnds board.opening (view gathered.pass)
   pub rounds : List Reported
-  pub are_rounds : AreSessionReportsOfCaller board.opening settings settings.rounds rounds
+  pub are_rounds : AreReportsOfCaller board.opening settings settings.rounds rounds
   pub written : Appends old new (session_parts settings.store rounds)
   pub kept : Kept (session_saved_cuts settings.store board.opening rounds)
   pub as_many : length gathered.called.items ≡ settings.callers
-  pub callers : All (AreSessionReportsOfCaller board.opening settings settings.rounds) (dealt_feed_other_reports gathered.called.items)
+  pub callers : All (AreReportsOfCaller board.opening settings settings.rounds) (dealt_feed_other_reports gathered.called.items)
 
 -- and the cut into which the calling thread read
 pub record IsDealtFeedResult (board : PositionWordsValue) (settings : Settings) (Kept : List CutValue → Type 0)
@@ -224,7 +224,7 @@ pub record DealtFeedCanSaveCut (reads : Option (List ℕ)) (possible : List ℕ 
   pub no_earlier : AreCutPositionsNotPast saver.positions (cut_positions cut)
 
 -- bytes of the calling thread's rounds were written, before they broke off
-pub record DealtFeedBreaksOffInRounds (opening : List ShardValue) (settings : Settings) (Kept : SessionSaving)
+pub record FeedBreaksOffInRounds (opening : List ShardValue) (settings : Settings) (Kept : SessionSaving)
     (old new : Option (List ℕ)) : Type 0 where
   pub front : List ℕ
   pub breaks_off : SessionBreaksOffInRounds opening settings Kept front

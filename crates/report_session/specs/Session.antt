@@ -68,7 +68,7 @@ NeverFallInSession opened reports = (shard : ℕ) → shard < length opened
     (slice_index opened shard ∷ map (λ reported. slice_index reported.report.positions shard) reports)
 
 -- this many reports of one caller: each is shown, and their positions never fall
-pub record AreSessionReportsOfCaller (opening : List ShardValue) (settings : Settings) (count : ℕ) (reports : List Reported)
+pub record AreReportsOfCaller (opening : List ShardValue) (settings : Settings) (count : ℕ) (reports : List Reported)
     : Type 0 where
   pub as_many : length reports ≡ count
   pub shown : All (IsShownInSession opening settings) reports
@@ -81,21 +81,21 @@ pub record SessionReports : Type 0 where
   pub last : Reported
 
 -- those of the calling thread: its rounds, and the last one
-abbrev pub session_reports_of_calling_thread : SessionReports → List Reported
-session_reports_of_calling_thread reports = reports.rounds ++ reports.last ∷ []
+abbrev pub calling_thread_reports : SessionReports → List Reported
+calling_thread_reports reports = reports.rounds ++ reports.last ∷ []
 
 -- all reports of a session: those of the calling thread, and those of the other callers
 abbrev pub session_reports_in : SessionReports → List Reported
-session_reports_in reports = session_reports_of_calling_thread reports ++ flat_map (λ made. made) reports.callers
+session_reports_in reports = calling_thread_reports reports ++ flat_map (λ made. made) reports.callers
 
 -- the reports that the settings ask for: the calling thread makes its rounds and the last report, which counts all
 -- records, and each other caller makes as many rounds
 pub record AreSessionReports (opening : List ShardValue) (settings : Settings) (reports : SessionReports)
     : Type 0 where
-  pub calling : AreSessionReportsOfCaller opening settings (settings.rounds + 1) (session_reports_of_calling_thread reports)
+  pub calling : AreReportsOfCaller opening settings (settings.rounds + 1) (calling_thread_reports reports)
   pub at_ends : reports.last.report.positions ≡ session_ends opening
   pub as_many : length reports.callers ≡ settings.callers
-  pub callers : All (AreSessionReportsOfCaller opening settings settings.rounds) reports.callers
+  pub callers : All (AreReportsOfCaller opening settings settings.rounds) reports.callers
 
 -- the cuts that are saved after these reports: with a store, the cut at the positions of each
 abbrev pub session_saved_cuts : Bool → List ShardValue → List Reported → List CutValue
@@ -146,7 +146,7 @@ pub record IsSessionOverShards (opening : List ShardValue) (settings : Settings)
   pub reports : SessionReports
   pub are_reports : AreSessionReports opening settings reports
   pub spelled : text ≡ session_text_of_reports settings.store (session_start opening) reports tail
-  pub kept : Kept (session_saved_cuts settings.store opening (session_reports_of_calling_thread reports))
+  pub kept : Kept (session_saved_cuts settings.store opening (calling_thread_reports reports))
 
 -- a strict prefix of a text
 abbrev pub IsStrictSessionBeginning : List ℕ → List ℕ → Type 0
@@ -173,7 +173,7 @@ pub record SessionBreaksOffBetween (opening : List ShardValue) (settings : Setti
     : Type 0 where
   pub rounds : List Reported
   pub few : length rounds ≤ settings.rounds
-  pub are_reports : AreSessionReportsOfCaller opening settings (length rounds) rounds
+  pub are_reports : AreReportsOfCaller opening settings (length rounds) rounds
   pub written : front ≡ session_parts settings.store rounds
   pub kept : Kept (session_saved_cuts settings.store opening rounds) []
 
@@ -183,7 +183,7 @@ pub record SessionBreaksOffWithin (opening : List ShardValue) (settings : Settin
   pub rounds : List Reported
   pub next : Reported
   pub few : length rounds < settings.rounds
-  pub are_reports : AreSessionReportsOfCaller opening settings (length rounds + 1) (rounds ++ next ∷ [])
+  pub are_reports : AreReportsOfCaller opening settings (length rounds + 1) (rounds ++ next ∷ [])
   pub more : List ℕ
   pub breaks_off : SessionBreaksOffAround (report_text next.report) (session_save_line settings.store next.report.positions)
       (session_saved_cuts settings.store opening (next ∷ [])) (session_after_saves settings.store opening rounds Kept) more

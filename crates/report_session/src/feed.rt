@@ -5,7 +5,7 @@ ghost use Rattle.shard_state.specs.{HasCoreShape, core_capacity};
 ghost use Rattle.pass_tokens.specs.{IsPassOfBoard, first_view, view};
 ghost use Rattle.command_words.specs.{AreLimitedSettings, AreWideSettings};
 ghost use Rattle.report_session.specs.DealtFeed.{IsDealtFeedFault, IsDealtFeedResult, IsDealtFeedGathered};
-ghost use Rattle.report_session.specs.DealtFeed.{DealtFeedBreaksOffInRounds, DealtFeedRunsPlan, dealt_feed_plan};
+ghost use Rattle.report_session.specs.DealtFeed.{FeedBreaksOffInRounds, DealtFeedRunsPlan, dealt_feed_plan};
 ghost use Rattle.report_session.specs.Saves.{CanMakeSaves, SavesInPart, SavesInTurn};
 
 use crate::LiveRounds;
@@ -57,7 +57,7 @@ pub(crate) fn feed<'a, R: Threads + Wait + Sync, K: Sink, D: Disk, G: Gate + Syn
     ensures fed { IfOk result (IsDealtFeedResult board.now settings.now
         (SavesInTurn D.Disk saver.old saver.new disk.old disk.new) (K.taken sink.old) (K.taken sink.new)) }
     ensures faults { OnOk result ((K.faults sink.new ≡ K.faults sink.old) × (D.faults disk.new ≡ D.faults disk.old)) }
-    ensures part { OnErr result (DealtFeedBreaksOffInRounds board.now.opening settings.now
+    ensures part { OnErr result (FeedBreaksOffInRounds board.now.opening settings.now
         (SavesInPart D.Disk saver.old disk.old disk.new) (K.taken sink.old) (K.taken sink.new)) }
     ensures fault { IfErr result (IsDealtFeedFault (record { sink = K.faults sink.old; disk = D.faults disk.old })
         (record { sink = K.faults sink.new; disk = D.faults disk.new })) }
@@ -114,7 +114,7 @@ fn run_feed<R: Threads + Wait + Sync, K: Sink, D: Disk, G: Gate + Sync>(
         (K.taken rounds.old.sink.now) (K.taken rounds.new.sink.now)) }
     ensures faults { OnOk result ((K.faults rounds.new.sink.now ≡ K.faults rounds.old.sink.now)
         × (D.faults rounds.new.disk.now ≡ D.faults rounds.old.disk.now)) }
-    ensures part { OnErr result (DealtFeedBreaksOffInRounds board.now.opening settings.now
+    ensures part { OnErr result (FeedBreaksOffInRounds board.now.opening settings.now
         (SavesInPart D.Disk rounds.old.saver.now rounds.old.disk.now rounds.new.disk.now)
         (K.taken rounds.old.sink.now) (K.taken rounds.new.sink.now)) }
     ensures fault { IfErr result (IsDealtFeedFault (record { sink = K.faults rounds.old.sink.now; disk = D.faults rounds.old.disk.now })

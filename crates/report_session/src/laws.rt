@@ -16,7 +16,7 @@ ghost use Rattle.checkpoint.specs.declared.settings.StoreSettings.{StoreSettings
 ghost use Rattle.checkpoint.specs.{StoreBelongs, IsStoreOfLists, StoreOpensTo, SavedValue};
 ghost use Rattle.checkpoint.specs.{store_sequence};
 ghost use Rattle.report_session.specs.Session.{AreSessionReports, IsSession, IsSessionInPart, IsShownInSession};
-ghost use Rattle.report_session.specs.Session.{SessionReports, session_reports_of_calling_thread, session_ends};
+ghost use Rattle.report_session.specs.Session.{SessionReports, calling_thread_reports, session_ends};
 ghost use Rattle.report_session.specs.Session.{new_session_shards, session_part, session_reports_in, session_saves};
 ghost use Rattle.report_session.specs.Session.{session_text_of_reports, session_start, IsWholeReport};
 ghost use Rattle.dealt_capture.specs.{rules_by_formula};
@@ -82,7 +82,7 @@ pub fn saves_belong()
 pub fn last_saves_are_at_the_ends()
     ensures { (opening : List ShardValue) (settings : Settings) (reports : SessionReports) (opened : Option SavedValue)
         → AreSessionReports opening settings reports
-        → IsSomeAnd (last_of_saves opened (session_saves settings opening opened (session_reports_of_calling_thread reports))) (λ saved.
+        → IsSomeAnd (last_of_saves opened (session_saves settings opening opened (calling_thread_reports reports))) (λ saved.
         (cut_positions saved.cut ≡ session_ends opening) × (saved.sequence ≡ store_sequence opened + (settings.rounds + 1))) }
 {}
 

@@ -75,7 +75,7 @@ impl<K: Sink, D: Disk, G: Gate> Rounds for LiveRounds<'_, K, D, G> {
         × (after.saver.ghost_name ≡ before.saver.ghost_name)
         × (after.cut.ghost_name ≡ before.cut.ghost_name)
         × HasCoreShape (length view.opening) (core_capacity view.opening) after.cut.now
-        × EndRounds view.opening before.phi before.rounds view later (is_some before.saver.now)
+        × EndRounds view.opening before.phi (is_some before.saver.now) before.rounds view later
         (SavesInTurn D.Disk before.saver.now after.saver.now before.disk.now after.disk.now)
         (SavesBreakOff D.Disk before.saver.now after.saver.now before.disk.now after.disk.now)
         (K.taken before.sink.now) (K.taken after.sink.now)
@@ -131,11 +131,11 @@ fn make_round<R: Wait, K: Sink, D: Disk, G: Gate>(
     requires most { phi ≤ threshold_million }
     requires wide { IsWideShare phi (core_capacity board.now.opening) }
     requires can_save { IfSome saver.old (CanMakeSaves (D.reads disk.old) (D.image_now disk.old) board.now.opening (view pass.old) 1) }
-    ensures whole { OnOk result (WritesRounds board.now.opening phi 1 (view pass.old) (view pass.new) (is_some saver.old)
+    ensures whole { OnOk result (WritesRounds board.now.opening phi (is_some saver.old) 1 (view pass.old) (view pass.new)
         (SavesInTurn D.Disk saver.old saver.new disk.old disk.new) (K.taken sink.old) (K.taken sink.new)) }
     ensures fits { OnOk result (IfSome saver.new (SavesFitBoard board.now.opening (view pass.new))) }
     ensures faults { OnOk result ((K.faults sink.new ≡ K.faults sink.old) × (D.faults disk.new ≡ D.faults disk.old)) }
-    ensures broken { IfErr result (BreaksRound board.now.opening phi (view pass.old) (view pass.new) (is_some saver.old)
+    ensures broken { IfErr result (BreaksRound board.now.opening phi (is_some saver.old) (view pass.old) (view pass.new)
         (SavesBreakOff D.Disk saver.old saver.new disk.old disk.new) (K.taken sink.old) (K.taken sink.new)
         (record { sink = K.faults sink.old; disk = D.faults disk.old }) (record { sink = K.faults sink.new; disk = D.faults disk.new })) }
     ensures unused { saver.old ≡ None → (saver.new ≡ None) × (disk.new ≡ disk.old) }

@@ -14,13 +14,13 @@ ghost use Rattle.recovery.specs.{OpeningContinuesList};
 ghost use Rattle.report_text.specs.{ReportTextShowsPositions, report_mark_text};
 ghost use Rattle.report_text.specs.declared.mark.Mark.TheVariants.{Opened as OpenedMark};
 ghost use Rattle.command_words.specs.{AreLimitedSettings, AreWideSettings};
-ghost use Rattle.report_session.specs.Session.{WritesAnswer, AreSessionReportsOfCaller, BeginsSession};
+ghost use Rattle.report_session.specs.Session.{WritesAnswer, AreReportsOfCaller, BeginsSession};
 ghost use Rattle.report_session.specs.Session.{SessionBreaksOffAround, SessionBaseRepresents, IsSessionOverShards};
 ghost use Rattle.report_session.specs.Session.{session_caller_parts, session_opening, session_parts};
 ghost use Rattle.report_session.specs.Session.{resumed_session_shards, new_session_shards, session_start};
 ghost use Rattle.report_session.specs.DealtFeed.{DealtFeedCanSaveCut, DealtFeedGoesOn, IsDealtFeedBase};
 ghost use Rattle.report_session.specs.DealtFeed.{IsDealtFeedFault, IsDealtFeedOpening, IsDealtFeedRest};
-ghost use Rattle.report_session.specs.DealtFeed.{DealtFeedStartsBeforeEnds, dealt_feed_other_reports};
+ghost use Rattle.report_session.specs.DealtFeed.{FeedStartsBeforeEnds, dealt_feed_other_reports};
 ghost use Rattle.report_session.specs.Saves.{CanMakeSaves, Saves, SavesInPart, SavesInTurn};
 
 use crate::base::Base;
@@ -134,7 +134,7 @@ pub(crate) fn openings_stand(dealt: &Dealt, base: &Option<Cut>, capacity: u32)
     ensures shards { AreCoreShards (session_opening capacity dealt.now base.now) }
     ensures many { length (session_opening capacity dealt.now base.now) ≡ length dealt.now }
     ensures alike { core_capacity (session_opening capacity dealt.now base.now) ≡ capacity }
-    ensures starts { DealtFeedStartsBeforeEnds (session_opening capacity dealt.now base.now) }
+    ensures starts { FeedStartsBeforeEnds (session_opening capacity dealt.now base.now) }
     ensures positions { ReportTextShowsPositions (session_start (session_opening capacity dealt.now base.now)) }
     ensures represents { SessionBaseRepresents dealt.now base.now (session_opening capacity dealt.now base.now) }
 {
@@ -219,7 +219,7 @@ fn write_feed<R: Threads + Wait + Sync, K: Sink, D: Disk, G: Gate + Sync>(
     requires wide { AreWideSettings settings.now }
     requires opened { IsDealtFeedOpening opened.board.opening opened }
     requires alike { core_capacity opened.board.opening ≡ settings.now.capacity }
-    requires starts { DealtFeedStartsBeforeEnds opened.board.opening }
+    requires starts { FeedStartsBeforeEnds opened.board.opening }
     requires line { line.now ≡ report_mark_text OpenedMark (session_start opened.board.opening) }
     requires tail { 0 < length tail.now }
     requires used { is_some saver ≡ settings.now.store }
@@ -298,7 +298,7 @@ fn rest_of_session<R: Wait>(
     requires pass { IsPassOfBoard board.now fed.gathered.pass }
     requires ends { FeedHasSeenEnds board.now.opening (view fed.gathered.pass) }
     requires shape { HasCoreShape (length board.now.opening) (core_capacity board.now.opening) fed.cut }
-    requires callers { All (AreSessionReportsOfCaller board.now.opening settings.now settings.now.rounds) (dealt_feed_other_reports fed.gathered.called.items) }
+    requires callers { All (AreReportsOfCaller board.now.opening settings.now settings.now.rounds) (dealt_feed_other_reports fed.gathered.called.items) }
     requires alike { core_capacity board.now.opening ≡ settings.now.capacity }
     ensures rest { IfOk result (IsDealtFeedRest board.now settings.now fed.gathered.called.items tail.now) }
     ensures shape { IfOk result (λ rest. HasCoreShape (length board.now.opening) (core_capacity board.now.opening) rest.cut) }
@@ -331,7 +331,7 @@ fn reports_text(
     settings: &Settings,
     called: &[Called],
 ) -> Result<Vec<u8>, AllocError>
-    requires { All (AreSessionReportsOfCaller board.now.opening settings.now settings.now.rounds) (dealt_feed_other_reports called.now) }
+    requires { All (AreReportsOfCaller board.now.opening settings.now settings.now.rounds) (dealt_feed_other_reports called.now) }
     ensures { IfOk result (λ text. text.items ≡ session_caller_parts (dealt_feed_other_reports called.now)) }
 {
     let _shards = board.shards();
@@ -349,7 +349,7 @@ fn put_reports(
     reports: &Reports,
     text: &mut Vec<u8>,
 ) -> Result<(), AllocError>
-    requires { AreSessionReportsOfCaller board.now.opening settings.now settings.now.rounds reports.now }
+    requires { AreReportsOfCaller board.now.opening settings.now settings.now.rounds reports.now }
     ensures { OnOk result (text.new.items ≡ text.old.items ++ session_parts false reports.now) }
 {
     let _shards = board.shards();

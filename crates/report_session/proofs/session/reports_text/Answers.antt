@@ -2,7 +2,7 @@ use Rattle.std.proofs.Common.{false, ◌∙◌, ◌++◌, take, sym, ap, subst, 
 use Rattle.std.proofs.lemmas.List.{length-map, take_all}
 use Rattle.gate_workers.specs.declared.gathered.Called.{Called}
 use Rattle.report_session.specs.DealtFeed.{dealt_feed_other_reports}
-use Rattle.report_session.specs.Session.{AreSessionReportsOfCaller, session_caller_parts, session_parts}
+use Rattle.report_session.specs.Session.{AreReportsOfCaller, session_caller_parts, session_parts}
 use Rattle.report_session.proofs.SessionThreadLemmas.{session_thread_caller_at_index, session_thread_adds_caller}
 use Rattle.report_session.proofs.session.reports_text.Goals as goal
 
@@ -14,7 +14,7 @@ put_reports-requires c =
     let index = c.loop-caller.caller-index in
     let called = c.args.called.now in
     let d = c.caller-item.result in
-    subst (AreSessionReportsOfCaller c.args.board.now.opening c.args.settings.now c.args.settings.now.rounds)
+    subst (AreReportsOfCaller c.args.board.now.opening c.args.settings.now c.args.settings.now.rounds)
     (session_thread_caller_at_index called index d ∙ ap (λ (caller : Called). caller.reports) (sym c.caller-item.is))
     (c.requires index d.reports
     (omega (arith, c.loop-caller-test.true, length-map called (λ (caller : Called). caller.reports))))

@@ -3,7 +3,7 @@ use Rattle.shard_state.specs.{core_capacity}
 use Rattle.report_text.specs.{ReportTextShowsPositions, report_mark_text}
 use Rattle.report_text.specs.declared.mark.Mark.TheVariants.{Opened}
 use Rattle.report_session.specs.Session.{WritesAnswer, BeginsSession, IsSessionOverShards, session_start}
-use Rattle.report_session.specs.DealtFeed.{IsDealtFeedOpening, DealtFeedStartsBeforeEnds}
+use Rattle.report_session.specs.DealtFeed.{IsDealtFeedOpening, FeedStartsBeforeEnds}
 use Rattle.report_session.specs.Saves.{Saves, SavesInPart}
 use Rattle.report_session.proofs.BaseLemmas.{base_goes_on, base_saver_is_ready}
 use Rattle.report_session.proofs.SessionThreadLemmas.{session_thread_on_err_implies, session_thread_on_ok_implies}
@@ -31,7 +31,7 @@ write_feed-requires-clause-alike g c = λ lifetimes outlive.
 
 pub write_feed-requires-clause-starts : goal.write_feed-requires-clause-starts
 write_feed-requires-clause-starts g c = λ lifetimes outlive.
-    subst DealtFeedStartsBeforeEnds (sym c.in_ok-opened.ensures.opening) c.openings_stand.ensures.starts
+    subst FeedStartsBeforeEnds (sym c.in_ok-opened.ensures.opening) c.openings_stand.ensures.starts
 
 pub write_feed-requires-clause-line : goal.write_feed-requires-clause-line
 write_feed-requires-clause-line g c = λ lifetimes outlive.

@@ -129,14 +129,14 @@ loop-round-preserved g c =
           (seen_positions_allowed_settings _ _ opening _ _ c.args.self.now.saver.now c.requires.ready.5) g.met.D.Disk.reading_is_image first
           second)
           far.written
-          (subst (λ store. WritesRounds opening c.args.self.now.phi 1 (view c.loop-round.pass)
-          (view c.make_round-made.new.pass) store
+          (subst (λ store. WritesRounds opening c.args.self.now.phi store 1
+          (view c.loop-round.pass) (view c.make_round-made.new.pass)
           (SavesInTurn g.D.Disk
           c.loop-round.self.saver.now c.make_round-made.new.saver c.loop-round.self.disk.now c.make_round-made.new.disk)
           (g.K.Sink.taken c.loop-round.self.sink.now) (g.K.Sink.taken c.make_round-made.new.sink))
           (round_saver_stays_or_none c.args.self.now.saver.now c.loop-round.self.saver.now _ far.written.kept.saver)
-          (subst (λ phi. WritesRounds opening phi 1 (view c.loop-round.pass) (view c.make_round-made.new.pass)
-          (is_some c.loop-round.self.saver.now)
+          (subst (λ phi. WritesRounds opening phi (is_some c.loop-round.self.saver.now) 1 (view c.loop-round.pass)
+          (view c.make_round-made.new.pass)
           (SavesInTurn g.D.Disk
           c.loop-round.self.saver.now c.make_round-made.new.saver c.loop-round.self.disk.now c.make_round-made.new.disk)
           (g.K.Sink.taken c.loop-round.self.sink.now) (g.K.Sink.taken c.make_round-made.new.sink)) far.same_share made));

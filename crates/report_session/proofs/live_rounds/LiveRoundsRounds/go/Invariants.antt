@@ -22,7 +22,7 @@ invariant-loop-round g l = record {
   sink_faults : g.K.Sink.faults l.self.sink.now ≡ g.K.Sink.faults l.fn.self.sink.now;
   disk_faults : g.D.Disk.faults l.self.disk.now ≡ g.D.Disk.faults l.fn.self.disk.now;
   fits : IfSome l.self.saver.now (SavesFitBoard l.board.opening (view l.pass));
-  written : WritesRounds l.board.opening l.fn.self.phi l.round (view l.fn.pass) (view l.pass) (is_some l.fn.self.saver.now)
+  written : WritesRounds l.board.opening l.fn.self.phi (is_some l.fn.self.saver.now) l.round (view l.fn.pass) (view l.pass)
       (SavesInTurn g.D.Disk l.fn.self.saver.now
       l.self.saver.now l.fn.self.disk.now l.self.disk.now)
       (g.K.Sink.taken l.fn.self.sink.now) (g.K.Sink.taken l.self.sink.now);
