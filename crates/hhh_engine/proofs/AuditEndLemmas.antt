@@ -1,7 +1,6 @@
 -- How an audit of a session ended, step by step.
 use Rattle.std.proofs.Common.{◌≡◌, ◌≤◌, ◌<◌, ◌+◌, ◌++◌, ◌∙◌, ℕ, List, length, Option, None, Some, IfSome}
 use Rattle.std.proofs.Common.{inl, inr, ⊎_elim, refl, sym, ap, subst, arith, append-nil}
-use Rattle.std.specs.Prelude.{⊤}
 use Rattle.std.specs.Io.KnownBytes.{Appends, Consumes, IsAtEnd}
 use Rattle.std.proofs.lemmas.Bool.{cases_lt}
 use Rattle.std.proofs.lemmas.List.{length-append}
@@ -21,7 +20,7 @@ use Rattle.hhh_engine.specs.Answer.{IsUnfinishedAnswer}
 use Rattle.session_audit.specs.{AreAudited, IsAuditText, IsSoundAudit, IsUnsoundAudit, IsAuditingAnswer, AuditingSays}
 use Rattle.hhh_engine.specs.Reading.{AreAuditingInputs, HasNoAudit}
 use Rattle.hhh_engine.specs.Tasks.{audit_task}
-use Rattle.hhh_engine.specs.Ending.{course, EndsByAuditFinding, Ends, EndingSourceFaults}
+use Rattle.hhh_engine.specs.Ending.{course, Ends, EndingSourceFaults}
 use Rattle.hhh_engine.specs.Inputs.{InputBytes, HoldsOfAuditInputs, inputs}
 use Rattle.dealt_capture.specs.{IsCaptureFile, DealingRules}
 use Rattle.run_status.specs.{status_of_session}

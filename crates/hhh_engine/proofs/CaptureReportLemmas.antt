@@ -1,7 +1,6 @@
 -- The session over a capture, by the dealt lists over which it was written.
 use Rattle.std.proofs.Common.{◌≡◌, ◌⊎◌, inl, inr, ⊎_elim, ℕ, true, List, [], Option, None, Some, IfSome, refl, ap}
 use Rattle.std.proofs.Common.{subst}
-use Rattle.outside_io.specs.{FaultCountRose}
 use Rattle.prefix_lattice.specs.{RecordValue}
 use Rattle.recovery.specs.declared.fault.OpenFault.{OpenFault}
 use Rattle.recovery.specs.declared.fault.OpenFault.TheVariants as opening
@@ -117,57 +116,63 @@ pub capture_report_ends : {K D : Type 0} (k : SinkOf K) (d : DiskOf D) (settings
     → DealtFeedEnds k d settings lists tail sink written old new status
     → Ends (report_task d settings rules left left_now old new) (course k left before now sink written) status
 capture_report_ends k d settings rules left left_now before now sink written old new lists tail Done dealt read same ends = (
-      read,
-      capture_report_writes_session settings rules (SavesAreKeptOnDisk d old new) left (d.reads old) lists tail (k.taken sink) (k.taken written) dealt ends.0,
-      same,
-      ap (λ (f : RoundFaults). f.sink) ends.1,
-    )
-capture_report_ends k d settings rules left left_now before now sink written old new lists tail WriteFault dealt read same ends =
-    (read, capture_report_writes_in_part settings rules (SavesAreKeptOnDisk d old new) left (d.reads old) lists tail (k.taken sink) (k.taken written) dealt ends.0, ends.1.rose, same)
+  read,
+  capture_report_writes_session settings rules (SavesAreKeptOnDisk d old new) left (d.reads old) lists tail (k.taken sink) (k.taken written) dealt ends.0,
+  same,
+  ap (λ (f : RoundFaults). f.sink) ends.1,
+)
+capture_report_ends k d settings rules left left_now before now sink written old new lists tail WriteFault dealt read same ends = (
+  read,
+  capture_report_writes_in_part settings rules (SavesAreKeptOnDisk d old new) left (d.reads old) lists tail
+      (k.taken sink) (k.taken written) dealt ends.0,
+  ends.1.rose,
+  same,
+)
 capture_report_ends k d settings rules left left_now before now sink written old new lists tail DiskFault dealt read same ends = (
-      read,
-      capture_report_if_known left (λ file. IsDealtFeedCapture settings rules file lists tail) IsCaptureFile
-          (λ file capture. (capture.dealt.frames, capture.dealt.capture)) dealt,
-      ⊎_elim (λ none. inl none)
-          (λ part. inr (capture_report_writes_in_part settings rules (SavesAreKeptOnDisk d old new) left (d.reads old) lists tail (k.taken sink) (k.taken written) dealt part)) ends.0,
-      ends.1.rose,
-      same,
-      ends.1.sink,
-    )
+  read,
+  capture_report_if_known left (λ file. IsDealtFeedCapture settings rules file lists tail) IsCaptureFile
+      (λ file capture. (capture.dealt.frames, capture.dealt.capture)) dealt,
+  ⊎_elim (λ none. inl none)
+      (λ part. inr (capture_report_writes_in_part settings rules (SavesAreKeptOnDisk d old new) left (d.reads old) lists tail
+      (k.taken sink) (k.taken written) dealt part)) ends.0,
+  ends.1.rose,
+  same,
+  ends.1.sink,
+)
 capture_report_ends k d settings rules left left_now before now sink written old new lists tail NotFormatted dealt read same ends = (
-      capture_report_refuses_store settings rules left (d.reads old) (IsAsBeforeSaves d old new) lists tail opening.NotFormatted dealt ends.0,
-      read,
-      ends.1,
-      same,
-      ap (λ (f : RoundFaults). f.sink) ends.2,
-    )
+  capture_report_refuses_store settings rules left (d.reads old) (IsAsBeforeSaves d old new) lists tail opening.NotFormatted dealt ends.0,
+  read,
+  ends.1,
+  same,
+  ap (λ (f : RoundFaults). f.sink) ends.2,
+)
 capture_report_ends k d settings rules left left_now before now sink written old new lists tail (Damaged slot) dealt read same ends = (
-      capture_report_refuses_store settings rules left (d.reads old) (IsAsBeforeSaves d old new) lists tail (opening.Damaged slot) dealt ends.0,
-      read,
-      ends.1,
-      same,
-      ap (λ (f : RoundFaults). f.sink) ends.2,
-    )
+  capture_report_refuses_store settings rules left (d.reads old) (IsAsBeforeSaves d old new) lists tail (opening.Damaged slot) dealt ends.0,
+  read,
+  ends.1,
+  same,
+  ap (λ (f : RoundFaults). f.sink) ends.2,
+)
 capture_report_ends k d settings rules left left_now before now sink written old new lists tail (OtherSettings stored asked) dealt read same ends = (
-      capture_report_refuses_store settings rules left (d.reads old) (IsAsBeforeSaves d old new) lists tail (opening.OtherSettings stored asked) dealt ends.0,
-      read,
-      ends.1,
-      same,
-      ap (λ (f : RoundFaults). f.sink) ends.2,
-    )
+  capture_report_refuses_store settings rules left (d.reads old) (IsAsBeforeSaves d old new) lists tail (opening.OtherSettings stored asked) dealt ends.0,
+  read,
+  ends.1,
+  same,
+  ap (λ (f : RoundFaults). f.sink) ends.2,
+)
 capture_report_ends k d settings rules left left_now before now sink written old new lists tail (OtherCapture stored asked) dealt read same ends = (
-      capture_report_refuses_store settings rules left (d.reads old) (IsAsBeforeSaves d old new) lists tail (opening.OtherCapture stored asked) dealt ends.0,
-      read,
-      ends.1,
-      same,
-      ap (λ (f : RoundFaults). f.sink) ends.2,
-    )
+  capture_report_refuses_store settings rules left (d.reads old) (IsAsBeforeSaves d old new) lists tail (opening.OtherCapture stored asked) dealt ends.0,
+  read,
+  ends.1,
+  same,
+  ap (λ (f : RoundFaults). f.sink) ends.2,
+)
 capture_report_ends k d settings rules left left_now before now sink written old new lists tail OutOfMemory dealt read same ends = (
-      capture_report_nothing_or_part settings rules (SavesAreKeptOnDisk d old new) left (d.reads old) lists tail (IsAtEnd left_now)
-          ((written ≡ sink) × IsAsBeforeSaves d old new) (k.taken sink) (k.taken written) dealt read ends.0,
-      same,
-      ap (λ (f : RoundFaults). f.sink) ends.1,
-    )
+  capture_report_nothing_or_part settings rules (SavesAreKeptOnDisk d old new) left (d.reads old) lists tail (IsAtEnd left_now)
+      ((written ≡ sink) × IsAsBeforeSaves d old new) (k.taken sink) (k.taken written) dealt read ends.0,
+  same,
+  ap (λ (f : RoundFaults). f.sink) ends.1,
+)
 capture_report_ends k d settings rules left left_now before now sink written old new lists tail (BadWords kind) dealt read same ends = absurd ends
 capture_report_ends k d settings rules left left_now before now sink written old new lists tail (BadCapture fault) dealt read same ends = absurd ends
 capture_report_ends k d settings rules left left_now before now sink written old new lists tail ReadFault dealt read same ends = absurd ends

@@ -3,7 +3,6 @@ use Rattle.std.proofs.Common.{◌≡◌, ◌∙◌, ℕ, List, None}
 use Rattle.std.proofs.Common.{sym, ap, subst}
 use Rattle.slot_disk.specs.{IsStoreOfKnownSlots, closed_known_slots}
 use Rattle.checkpoint.specs.declared.settings.StoreSettings.{StoreSettings}
-use Rattle.recovery.specs.declared.fault.OpenFault.TheVariants as opening
 use Rattle.checkpoint.specs.{FormattedStoresAreEmpty, StoreOpensTo}
 use Rattle.checkpoint.specs.{header_of_settings}
 

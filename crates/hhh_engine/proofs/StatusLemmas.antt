@@ -18,7 +18,6 @@ use Rattle.command_words.specs.{AreLimitedSettings, AskForCommand, IsLimitedComm
 use Rattle.command_words.specs.declared.command.Command.{Command}
 use Rattle.command_words.specs.declared.command.Command.TheVariants.{Weigh, Report, Format, Audit, Make, Demo}
 use Rattle.command_words.specs.declared.settings.Settings.{Settings}
-use Rattle.std.specs.Prelude.{⊤}
 use Rattle.report_text.specs.{HasSessionTextFault, IsSessionText, longest_session_text_length}
 use Rattle.report_text.specs.declared.session.Session.{Session}
 use Rattle.report_text.specs.declared.session_fault.TextFault.{TextFault}
@@ -27,7 +26,7 @@ use Rattle.session_audit.specs.{IsAuditText, IsSoundAudit, IsUnsoundAudit}
 use Rattle.hhh_engine.specs.Answer.{IsAnswer, IsAnswerInPart, IsUnfinishedAnswer, IsWeighAnswerInPart}
 use Rattle.hhh_engine.specs.Ending.{Course, Task, Ends, AuditFindsAtEnding, IsRefusedStoreAtEnding, HappenedToDiskAtEnding}
 use Rattle.hhh_engine.specs.Ending.{SourceFaultsRoseAtEnding, RefusesAtEnding, RefusesStoreAtEnding}
-use Rattle.hhh_engine.specs.Ending.{EndingSourceFaults, EndsAnswered}
+use Rattle.hhh_engine.specs.Ending.{EndsAnswered}
 use Rattle.hhh_engine.specs.Inputs.{InputsCanBeAnswered, HasKnownInputCapture, HasKnownInputStore, UsesInputCapture}
 use Rattle.hhh_engine.specs.Inputs.{InputBytes, InputsWereAccepted, InputsWereRead}
 use Rattle.dealt_capture.specs.{IsCaptureFile, AreDealtRecords, DealingRules}

@@ -232,6 +232,7 @@ module _ {K : Type 0} (task : Task) (c : Course K) where
   abbrev RefusedFor : OpenFault → Type 0
   RefusedFor fault = task.refuses fault × task.read × Unwritten × NoReadFault × NoWriteFault
 
+  -- it ended with this status
   abbrev pub Ends : Status → Type 0
   Ends Done = task.read × WritesAnswer task.is_text c.old c.new × NoReadFault × NoWriteFault
   Ends (BadWords kind) = ⊥

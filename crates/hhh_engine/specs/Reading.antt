@@ -5,13 +5,8 @@ use Rattle.frame_records.specs.{IsRefusedCaptureFile}
 use Rattle.run_status.specs.declared.status.Status.{Status}
 use Rattle.run_status.specs.declared.status.Status.TheVariants.{BadCapture, ReadFault, OutOfMemory}
 use Rattle.run_status.specs.declared.status.Status.TheVariants.{BadReport}
-use Rattle.std.specs.Prelude.{◌≡◌}
-use Rattle.prefix_lattice.specs.{RecordValue}
-use Rattle.frame_records.specs.declared.records.Records.{Records}
-use Rattle.report_text.specs.{report_tail_text}
-use Rattle.recovery.specs.declared.fault.OpenFault.TheVariants as opening
 use Rattle.command_words.specs.declared.settings.Settings.{Settings}
-use Rattle.dealt_capture.specs.{AreDealtRecords, DealingRules}
+use Rattle.dealt_capture.specs.{DealingRules}
 use Rattle.session_audit.specs.{AreAudited}
 use Rattle.hhh_engine.specs.Ending.{SourceFaultsRoseAtEnding, EndingSourceFaults, TextRefusedAtEnding}
 use Rattle.hhh_engine.specs.Inputs.{InputBytes, HoldsOfAuditInputs}

@@ -10,12 +10,13 @@ pub use command_words::{
 };
 pub use exact_audit::Verdict;
 pub use laws::{
-    demos_have_one_text, made_captures_are_captures, own_reports_are_good, own_sessions_are_audited_good,
-    runs_follow_formulas,
+    demos_have_one_text, made_captures_are_captures, own_reports_are_good,
+    own_sessions_are_audited_good, runs_follow_formulas,
 };
 pub use report_session::{
-    LiveRounds, last_reports_are_one, last_saves_are_at_the_ends, resumed_sessions_end_alike, saves_belong,
-    sessions_lose_no_save, sessions_without_rounds_have_one_report, stores_belong_throughout,
+    LiveRounds, last_reports_are_one, last_saves_are_at_the_ends, resumed_sessions_end_alike,
+    saves_belong, sessions_lose_no_save, sessions_without_rounds_have_one_report,
+    stores_belong_throughout,
 };
 pub use run_status::{Status, fault_line};
 pub use session_audit::audits_have_one_answer;

@@ -91,25 +91,25 @@ dealt_report_stops_at_fault k d settings lists tail sink old new opening.DiskFau
 dealt_report_stops_at_fault k d settings lists tail sink old new opening.OutOfMemory same used refused rose kept =
     (inl (refl, same), dealt_report_faults_are_equal (k.faults sink) (d.faults old) (d.faults new) (kept (λ is. cc is)))
 dealt_report_stops_at_fault k d settings lists tail sink old new opening.NotFormatted same used refused rose kept = (
-      dealt_report_refuses_lists settings lists (d.reads old) (IsAsBeforeSaves d old new) opening.NotFormatted same (λ is. cc is) used refused,
-      refl,
-      dealt_report_faults_are_equal (k.faults sink) (d.faults old) (d.faults new) (kept (λ is. cc is)),
-    )
+  dealt_report_refuses_lists settings lists (d.reads old) (IsAsBeforeSaves d old new) opening.NotFormatted same (λ is. cc is) used refused,
+  refl,
+  dealt_report_faults_are_equal (k.faults sink) (d.faults old) (d.faults new) (kept (λ is. cc is)),
+)
 dealt_report_stops_at_fault k d settings lists tail sink old new (opening.Damaged slot) same used refused rose kept = (
-      dealt_report_refuses_lists settings lists (d.reads old) (IsAsBeforeSaves d old new) (opening.Damaged slot) same (λ is. cc is) used refused,
-      refl,
-      dealt_report_faults_are_equal (k.faults sink) (d.faults old) (d.faults new) (kept (λ is. cc is)),
-    )
+  dealt_report_refuses_lists settings lists (d.reads old) (IsAsBeforeSaves d old new) (opening.Damaged slot) same (λ is. cc is) used refused,
+  refl,
+  dealt_report_faults_are_equal (k.faults sink) (d.faults old) (d.faults new) (kept (λ is. cc is)),
+)
 dealt_report_stops_at_fault k d settings lists tail sink old new (opening.OtherSettings stored asked) same used refused rose kept = (
-      dealt_report_refuses_lists settings lists (d.reads old) (IsAsBeforeSaves d old new) (opening.OtherSettings stored asked) same (λ is. cc is) used refused,
-      refl,
-      dealt_report_faults_are_equal (k.faults sink) (d.faults old) (d.faults new) (kept (λ is. cc is)),
-    )
+  dealt_report_refuses_lists settings lists (d.reads old) (IsAsBeforeSaves d old new) (opening.OtherSettings stored asked) same (λ is. cc is) used refused,
+  refl,
+  dealt_report_faults_are_equal (k.faults sink) (d.faults old) (d.faults new) (kept (λ is. cc is)),
+)
 dealt_report_stops_at_fault k d settings lists tail sink old new (opening.OtherCapture stored asked) same used refused rose kept = (
-      dealt_report_refuses_lists settings lists (d.reads old) (IsAsBeforeSaves d old new) (opening.OtherCapture stored asked) same (λ is. cc is) used refused,
-      refl,
-      dealt_report_faults_are_equal (k.faults sink) (d.faults old) (d.faults new) (kept (λ is. cc is)),
-    )
+  dealt_report_refuses_lists settings lists (d.reads old) (IsAsBeforeSaves d old new) (opening.OtherCapture stored asked) same (λ is. cc is) used refused,
+  refl,
+  dealt_report_faults_are_equal (k.faults sink) (d.faults old) (d.faults new) (kept (λ is. cc is)),
+)
 
 -- the store was refused, or there was no memory for the base
 pub dealt_report_ends_without_base : {K D : Type 0} (k : SinkOf K) (d : DiskOf D) (settings : Settings)
@@ -154,33 +154,48 @@ pub dealt_report_ends_broken_off : {K D : Type 0} (k : SinkOf K) (d : DiskOf D) 
     → IsDealtFeedFault (dealt_feed_faults k d sink old) (dealt_feed_faults k d written new) status
     → DealtFeedEnds k d settings lists tail sink written old new status
 dealt_report_ends_broken_off k d settings lists tail base Kept Same sink written old new WriteFault begins represents keeps unmoved part fault = (
-      ⊎_elim
-          (λ same. dealt_report_in_part settings lists tail (SavesAreKeptOnDisk d old new) (d.reads old) base Kept (k.taken sink) (k.taken written) begins represents keeps
-          (session_text_without_a_byte (session_opening settings.capacity lists base) settings Kept tail (k.taken sink) (k.taken written)
-          (ap k.taken same.0) (unmoved same.1).1))
-          (λ some. dealt_report_in_part settings lists tail (SavesAreKeptOnDisk d old new) (d.reads old) base Kept (k.taken sink) (k.taken written) begins represents keeps some) part,
-      fault,
-    )
+  ⊎_elim
+      (λ same. dealt_report_in_part settings lists tail (SavesAreKeptOnDisk d old new) (d.reads old) base Kept
+      (k.taken sink) (k.taken written) begins represents keeps
+      (session_text_without_a_byte (session_opening settings.capacity lists base) settings Kept tail
+      (k.taken sink) (k.taken written)
+      (ap k.taken same.0) (unmoved same.1).1))
+      (λ some. dealt_report_in_part settings lists tail (SavesAreKeptOnDisk d old new) (d.reads old) base Kept
+      (k.taken sink) (k.taken written) begins represents keeps some) part,
+  fault,
+)
 dealt_report_ends_broken_off k d settings lists tail base Kept Same sink written old new DiskFault begins represents keeps unmoved part fault = (
-      ⊎_elim (λ same. inl (same.0, (unmoved same.1).0))
-          (λ some. inr (dealt_report_in_part settings lists tail (SavesAreKeptOnDisk d old new) (d.reads old) base Kept (k.taken sink) (k.taken written) begins represents keeps some)) part,
-      fault,
-    )
+  ⊎_elim (λ same. inl (same.0, (unmoved same.1).0))
+      (λ some. inr (dealt_report_in_part settings lists tail (SavesAreKeptOnDisk d old new) (d.reads old) base Kept
+      (k.taken sink) (k.taken written) begins represents keeps some)) part,
+  fault,
+)
 dealt_report_ends_broken_off k d settings lists tail base Kept Same sink written old new OutOfMemory begins represents keeps unmoved part fault = (
-      ⊎_elim (λ same. inl (same.0, (unmoved same.1).0))
-          (λ some. inr (dealt_report_in_part settings lists tail (SavesAreKeptOnDisk d old new) (d.reads old) base Kept (k.taken sink) (k.taken written) begins represents keeps some)) part,
-      fault,
-    )
-dealt_report_ends_broken_off k d settings lists tail base Kept Same sink written old new Done begins represents keeps unmoved part fault = absurd fault
-dealt_report_ends_broken_off k d settings lists tail base Kept Same sink written old new (BadWords kind) begins represents keeps unmoved part fault = absurd fault
-dealt_report_ends_broken_off k d settings lists tail base Kept Same sink written old new (BadCapture wrong) begins represents keeps unmoved part fault = absurd fault
-dealt_report_ends_broken_off k d settings lists tail base Kept Same sink written old new ReadFault begins represents keeps unmoved part fault = absurd fault
-dealt_report_ends_broken_off k d settings lists tail base Kept Same sink written old new NotFormatted begins represents keeps unmoved part fault = absurd fault
-dealt_report_ends_broken_off k d settings lists tail base Kept Same sink written old new (Damaged slot) begins represents keeps unmoved part fault = absurd fault
-dealt_report_ends_broken_off k d settings lists tail base Kept Same sink written old new (OtherSettings stored asked) begins represents keeps unmoved part fault = absurd fault
-dealt_report_ends_broken_off k d settings lists tail base Kept Same sink written old new (OtherCapture stored asked) begins represents keeps unmoved part fault = absurd fault
-dealt_report_ends_broken_off k d settings lists tail base Kept Same sink written old new (AuditNo report verdict) begins represents keeps unmoved part fault = absurd fault
-dealt_report_ends_broken_off k d settings lists tail base Kept Same sink written old new (BadReport wrong) begins represents keeps unmoved part fault = absurd fault
+  ⊎_elim (λ same. inl (same.0, (unmoved same.1).0))
+      (λ some. inr (dealt_report_in_part settings lists tail (SavesAreKeptOnDisk d old new) (d.reads old) base Kept
+      (k.taken sink) (k.taken written) begins represents keeps some)) part,
+  fault,
+)
+dealt_report_ends_broken_off k d settings lists tail base Kept Same sink written old new Done
+    begins represents keeps unmoved part fault = absurd fault
+dealt_report_ends_broken_off k d settings lists tail base Kept Same sink written old new (BadWords kind)
+    begins represents keeps unmoved part fault = absurd fault
+dealt_report_ends_broken_off k d settings lists tail base Kept Same sink written old new (BadCapture wrong)
+    begins represents keeps unmoved part fault = absurd fault
+dealt_report_ends_broken_off k d settings lists tail base Kept Same sink written old new ReadFault
+    begins represents keeps unmoved part fault = absurd fault
+dealt_report_ends_broken_off k d settings lists tail base Kept Same sink written old new NotFormatted
+    begins represents keeps unmoved part fault = absurd fault
+dealt_report_ends_broken_off k d settings lists tail base Kept Same sink written old new (Damaged slot)
+    begins represents keeps unmoved part fault = absurd fault
+dealt_report_ends_broken_off k d settings lists tail base Kept Same sink written old new (OtherSettings stored asked)
+    begins represents keeps unmoved part fault = absurd fault
+dealt_report_ends_broken_off k d settings lists tail base Kept Same sink written old new (OtherCapture stored asked)
+    begins represents keeps unmoved part fault = absurd fault
+dealt_report_ends_broken_off k d settings lists tail base Kept Same sink written old new (AuditNo report verdict)
+    begins represents keeps unmoved part fault = absurd fault
+dealt_report_ends_broken_off k d settings lists tail base Kept Same sink written old new (BadReport wrong)
+    begins represents keeps unmoved part fault = absurd fault
 
 -- the session was written whole
 pub dealt_report_is_written : (settings : Settings) (lists : List (List RecordValue)) (tail : List ℕ) (keeping : SessionKeeping)

@@ -125,27 +125,28 @@ module _ {K D : Type 0} (k : SinkOf K) (d : DiskOf D) (settings : Settings) (lis
   Faultless = dealt_feed_faults k d written new ≡ dealt_feed_faults k d sink old
 
   -- a part of the session was written
-  abbrev WritesSome : Type 0
-  WritesSome =
+  abbrev WritesFeedInPart : Type 0
+  WritesFeedInPart =
       DealtFeedWritesInPart settings lists tail (SavesAreKeptOnDisk d old new) (d.reads old) (k.taken sink) (k.taken written)
 
   -- the store is refused for this fault
-  abbrev RefusedFor : OpenFault → Type 0
-  RefusedFor fault =
+  abbrev RefusesFeedFor : OpenFault → Type 0
+  RefusesFeedFor fault =
       DealtFeedRefusesStore settings lists (d.reads old) (IsAsBeforeSaves d old new) fault × Unwritten × Faultless
 
+  -- it ended with this status
   abbrev pub DealtFeedEnds : Status → Type 0
   DealtFeedEnds Done =
       DealtFeedWrites settings lists tail (SavesAreKeptOnDisk d old new) (d.reads old) (k.taken sink) (k.taken written) × Faultless
-  DealtFeedEnds WriteFault = WritesSome × SinkFailedInRound (dealt_feed_faults k d sink old) (dealt_feed_faults k d written new)
+  DealtFeedEnds WriteFault = WritesFeedInPart × SinkFailedInRound (dealt_feed_faults k d sink old) (dealt_feed_faults k d written new)
   DealtFeedEnds DiskFault =
-      ((Unwritten × IsAsBeforeSaves d old new) ⊎ WritesSome)
+      ((Unwritten × IsAsBeforeSaves d old new) ⊎ WritesFeedInPart)
       × DiskFailedInRound (dealt_feed_faults k d sink old) (dealt_feed_faults k d written new)
-  DealtFeedEnds NotFormatted = RefusedFor opening.NotFormatted
-  DealtFeedEnds (Damaged slot) = RefusedFor (opening.Damaged slot)
-  DealtFeedEnds (OtherSettings stored asked) = RefusedFor (opening.OtherSettings stored asked)
-  DealtFeedEnds (OtherCapture stored asked) = RefusedFor (opening.OtherCapture stored asked)
-  DealtFeedEnds OutOfMemory = ((Unwritten × IsAsBeforeSaves d old new) ⊎ WritesSome) × Faultless
+  DealtFeedEnds NotFormatted = RefusesFeedFor opening.NotFormatted
+  DealtFeedEnds (Damaged slot) = RefusesFeedFor (opening.Damaged slot)
+  DealtFeedEnds (OtherSettings stored asked) = RefusesFeedFor (opening.OtherSettings stored asked)
+  DealtFeedEnds (OtherCapture stored asked) = RefusesFeedFor (opening.OtherCapture stored asked)
+  DealtFeedEnds OutOfMemory = ((Unwritten × IsAsBeforeSaves d old new) ⊎ WritesFeedInPart) × Faultless
   DealtFeedEnds _ = ⊥
 
 -- shards on a board whose records are not counted further yet, its first pass, and a cut of its shape

@@ -8,12 +8,12 @@ ghost use Rattle.report_session.specs.DealtFeed.{HasNoDealtFeedBase, IsDealtFeed
 ghost use Rattle.report_session.specs.Saves.{store_settings_for_saves as settings_of_store};
 ghost use Rattle.run_status.specs.declared.status.Status.TheVariants.{OutOfMemory};
 
-use command_words::Settings;
-use run_status::Status;
 use checkpoint::{Saver, StoreSettings};
+use command_words::Settings;
 use deal_rules::Dealt;
 use hhh_report::Positions;
 use recovery::{Opened, reopen};
+use run_status::Status;
 use shard_state::Cut;
 use slot_disk::Disk;
 use std::alloc::{AllocError, Global};

@@ -9,12 +9,12 @@ ghost use Rattle.report_session.specs.DealtFeed.{FeedBreaksOffInRounds, DealtFee
 ghost use Rattle.report_session.specs.Saves.{CanMakeSaves, SavesInPart, SavesInTurn};
 
 use crate::LiveRounds;
-use command_words::Settings;
-use run_status::Status;
 use checkpoint::Saver;
+use command_words::Settings;
 use gate_workers::{Gate, Gathered, ThreadPlan, calls_follow_calls, run_threads};
 use outside_io::Sink;
 use pass_tokens::{Board, Pass};
+use run_status::Status;
 use shard_state::Cut;
 use slot_disk::Disk;
 use std::alloc::Global;

@@ -8,7 +8,6 @@ ghost use Rattle.pass_tokens.specs.{IsPassOfBoard, view};
 ghost use Rattle.report_session.specs.Rounds.{BreaksRound, EndRounds, WritesRounds};
 ghost use Rattle.report_session.specs.Saves.{CanMakeSaves, SavesBreakOff, SavesFitBoard, SavesInTurn};
 
-use run_status::Status;
 use crate::saving::{save_cut, saved_line};
 use crate::writing::write;
 use checkpoint::{Saver, stores_open_to_one};
@@ -16,6 +15,7 @@ use gate_workers::{Gate, Rounds, calls_follow_calls, report_once};
 use outside_io::Sink;
 use pass_tokens::{Board, Pass};
 use report_text::print;
+use run_status::Status;
 use shard_state::Cut;
 use slot_disk::Disk;
 use std::alloc::Global;

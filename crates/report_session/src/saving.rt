@@ -7,10 +7,10 @@ ghost use Rattle.report_session.specs.Saves.{SavesInPart, SavesInTurn};
 ghost use Rattle.report_session.specs.Session.{session_save_line};
 ghost use Rattle.run_status.specs.declared.status.Status.TheVariants.{DiskFault, OutOfMemory};
 
-use run_status::Status;
 use checkpoint::{SaveFault, Saver, stores_open_to_one};
 use hhh_report::Positions;
 use report_text::{Mark, print_positions};
+use run_status::Status;
 use shard_state::Cut;
 use slot_disk::Disk;
 use std::alloc::{AllocError, Global};

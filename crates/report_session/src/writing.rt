@@ -5,8 +5,8 @@ ghost use Rattle.std.specs.Io.KnownBytes.{Appends};
 ghost use Rattle.outside_io.specs.{AppendsBeginning, FaultCountRose};
 ghost use Rattle.run_status.specs.declared.status.Status.TheVariants.{WriteFault};
 
-use run_status::Status;
 use outside_io::{Sink, write_all};
+use run_status::Status;
 
 /// Writes a text.
 pub(crate) fn write<K: Sink>(sink: &mut K, text: &[u8]) -> Result<(), Status>

@@ -45,7 +45,11 @@ pub struct Answer {
 
 /// Audits the reports of a session in their order, by the dealt records of a capture: how many reports there are if all are
 /// sound, else what is wrong with the first that is not.
-pub fn audit_session(alloc: Global, settings: &Settings, audited: &Audited) -> Result<Answer, AllocError>
+pub fn audit_session(
+    alloc: Global,
+    settings: &Settings,
+    audited: &Audited,
+) -> Result<Answer, AllocError>
     requires { AreLimitedSettings settings.now }
     ensures { IfOk result (IsAuditingAnswer settings.now audited.now.dealt audited.now.session.reports) }
 {

@@ -5,8 +5,8 @@ ghost use Rattle.std.specs.Io.KnownBytes.{Consumes, IsAtEnd};
 ghost use Rattle.report_text.specs.{longest_session_text_length};
 ghost use Rattle.session_audit.specs.Auditing.{AuditingHasNoBytes};
 
-use run_status::Status;
 use outside_io::Source;
+use run_status::Status;
 use std::alloc::{AllocError, Global};
 
 // One byte more than the longest text that is read as a session: it shows that a text is too long.

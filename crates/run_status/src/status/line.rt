@@ -4,8 +4,8 @@ ghost use Rattle.std.specs.Prelude.{◌≡◌, ◌++◌, codes, decimal, IfOk, O
 ghost use Rattle.run_status.specs.Status.{status_line, status_text, words_status_text, fault_status_text};
 ghost use Rattle.run_status.specs.Status.{session_status_text};
 
-use crate::decimal_text::push_number;
 use crate::Status;
+use crate::decimal_text::push_number;
 use command_words::WordsKind;
 use pcap_frames::{CaptureFault, FaultKind};
 use report_text::TextFault;

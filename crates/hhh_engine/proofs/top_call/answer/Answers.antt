@@ -13,7 +13,8 @@ pub returns-in-Weigh-clause-ends : goal.returns-in-Weigh-clause-ends
 returns-in-Weigh-clause-ends g c =
     status_as_named_command g.S.Source g.T.Source g.K.Sink g.D.Disk _ _ _ c.args.command.now
     (Weigh c.in-Weigh.prefix c.in-Weigh.settings) c.weigh.result c.in-Weigh.is
-    (status_beside_disk (weigh_task c.in-Weigh.prefix c.in-Weigh.settings (g.S.Source.left c.args.capture.now) (g.S.Source.left c.weigh.new.capture)) _ _ _ c.weigh.result (λ failed. failed) refl
+    (status_beside_disk (weigh_task c.in-Weigh.prefix c.in-Weigh.settings (g.S.Source.left c.args.capture.now)
+    (g.S.Source.left c.weigh.new.capture)) _ _ _ c.weigh.result (λ failed. failed) refl
     (IsAsBeforeSaves-untouched g.D.Disk c.args.disk.now c.args.disk.now g.met.D.Disk.only_now refl) (c.weigh.ensures _))
 
 pub returns-in-Report-clause-ends : goal.returns-in-Report-clause-ends
