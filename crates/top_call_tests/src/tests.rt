@@ -5,8 +5,10 @@ mod audits;
 mod captures;
 mod disk_faults;
 mod gates;
+mod hostile_inputs;
 mod indexed_lines;
 mod made;
+mod one_failing_call;
 mod refusals;
 mod reports;
 mod rounds;
@@ -131,6 +133,8 @@ fn answers_and_refuses(rt: HostRuntime) -> Result<(), Fail> {
     reports::counts_frames_without_a_record(&rt, alloc, &dealers)?;
     refusals::refuses_words(&rt, alloc, &dealers)?;
     refusals::refuses_captures(&rt, alloc, &dealers)?;
+    hostile_inputs::each_front_of_a_capture(&rt, alloc, &dealers)?;
+    hostile_inputs::a_frame_of_all_ones(&rt, alloc, &dealers)?;
     refusals::tells_the_faults_of_source_and_sink(&rt, alloc, &dealers)?;
     rounds::reports_in_rounds(&rt, alloc, &dealers)?;
     rounds::ends_at_the_first_fault(&rt, alloc, &dealers)?;
@@ -151,8 +155,62 @@ fn goes_on_from_stores(rt: HostRuntime) -> Result<(), Fail> {
     stores::saves_each_round(&rt, alloc, &dealers)?;
     stores::formats(&rt, alloc, &dealers)?;
     stores::refuses_stores(&rt, alloc, &dealers)?;
+    hostile_inputs::damaged_stores(&rt, alloc, &dealers)?;
     stores::tells_the_faults_of_the_disk(&rt, alloc, &dealers)?;
     disk_faults::goes_on_after_each_fault(&rt, alloc, &dealers)
+}
+
+#[test]
+fn goes_on_after_one_failing_call(rt: HostRuntime) -> Result<(), Fail> {
+    let alloc = rt.alloc();
+    let dealers = Dealers {
+        round: Dealer::new(DealKind::RoundRobin, Box::new(alloc, by_place)?),
+        source: Dealer::new(DealKind::BySource, Box::new(alloc, by_source)?),
+        free: Dealer::new(DealKind::Free, Box::new(alloc, by_both)?),
+    };
+    one_failing_call::a_source_fails(&rt, alloc, &dealers)?;
+    one_failing_call::a_sink_fails(&rt, alloc, &dealers)?;
+    one_failing_call::a_disk_fails(&rt, alloc, &dealers)
+}
+
+// A run on a fresh store makes twenty calls of the disk: two to open it, and six for each of its three saves.
+#[test]
+fn goes_on_after_two_stops(rt: HostRuntime) -> Result<(), Fail> {
+    let alloc = rt.alloc();
+    let dealers = Dealers {
+        round: Dealer::new(DealKind::RoundRobin, Box::new(alloc, by_place)?),
+        source: Dealer::new(DealKind::BySource, Box::new(alloc, by_source)?),
+        free: Dealer::new(DealKind::Free, Box::new(alloc, by_both)?),
+    };
+    let stopped = one_failing_call::the_disk_stops_twice(&rt, alloc, &dealers, 0, 7)?;
+    assert_eq!(rt; stopped, 7);
+    Ok(())
+}
+
+#[test]
+fn goes_on_after_two_stops_in_a_round(rt: HostRuntime) -> Result<(), Fail> {
+    let alloc = rt.alloc();
+    let dealers = Dealers {
+        round: Dealer::new(DealKind::RoundRobin, Box::new(alloc, by_place)?),
+        source: Dealer::new(DealKind::BySource, Box::new(alloc, by_source)?),
+        free: Dealer::new(DealKind::Free, Box::new(alloc, by_both)?),
+    };
+    let stopped = one_failing_call::the_disk_stops_twice(&rt, alloc, &dealers, 7, 7)?;
+    assert_eq!(rt; stopped, 7);
+    Ok(())
+}
+
+#[test]
+fn goes_on_after_two_stops_at_the_end(rt: HostRuntime) -> Result<(), Fail> {
+    let alloc = rt.alloc();
+    let dealers = Dealers {
+        round: Dealer::new(DealKind::RoundRobin, Box::new(alloc, by_place)?),
+        source: Dealer::new(DealKind::BySource, Box::new(alloc, by_source)?),
+        free: Dealer::new(DealKind::Free, Box::new(alloc, by_both)?),
+    };
+    let stopped = one_failing_call::the_disk_stops_twice(&rt, alloc, &dealers, 14, 7)?;
+    assert_eq!(rt; stopped, 6);
+    Ok(())
 }
 
 #[test]

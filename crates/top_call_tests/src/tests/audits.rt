@@ -247,7 +247,27 @@ pub(crate) fn finds_each_change<R: Abort + Threads + Wait + Sync>(
     Ok(())
 }
 
-const BAD_TEXTS: [(&str, TextFault); 4] = [
+const BAD_TEXTS: [(&str, TextFault); 9] = [
+    (
+        "opened 0 0\nreport\nat 1\ntotal 100\nthreshold 1\nline 10.1.2.3/32 20.1.2.3/32 100 100\ndone\nframes 1\nskipped 0 0 0\nend\n",
+        TextFault::BadLine(3),
+    ),
+    (
+        "opened 0\nreport\nat 1\ntotal 100\nthreshold 0\nline 10.1.2.3/32 20.1.2.3/32 100 100\ndone\nframes 1\nskipped 0 0 0\nend\n",
+        TextFault::BadLine(5),
+    ),
+    (
+        "opened 0\nreport\nat 1\ntotal 100\nthreshold 1\nline 10.1.2.3/32 20.1.2.3/32 101 100\ndone\nframes 1\nskipped 0 0 0\nend\n",
+        TextFault::BadLine(6),
+    ),
+    (
+        "opened 0\nreport\nat 1\ntotal 100\nthreshold 1\nline 10.1.2.3/32 20.1.2.3/32 100 100\nline 10.1.2.3/32 20.1.2.3/32 100 100\ndone\nframes 1\nskipped 0 0 0\nend\n",
+        TextFault::BadLine(7),
+    ),
+    (
+        "opened 0\nreport\nat 16777217\ntotal 100\nthreshold 1\nline 10.1.2.3/32 20.1.2.3/32 100 100\ndone\nframes 1\nskipped 0 0 0\nend\n",
+        TextFault::BadLine(3),
+    ),
     (
         "opened 0\nreport\nat 0\ntotal 00\nthreshold 1\ndone\nframes 0\nskipped 0 0 0\nend\n",
         TextFault::BadLine(4),
