@@ -24,6 +24,12 @@ proved := $(basename $(notdir $(wildcard $(KIT)/rlibs/*.rlib)))
 $(crates): begun
 	build/prove.py $@
 
+# `make check-NAME FLAGS=..` checks a crate while it is written, once those below are proved.
+$(foreach rule,$(rules),$(eval check-$(subst $(comma), ,$(rule))))
+check-%:
+	build/prove.py --check $* $(FLAGS)
+$(if $(filter check-%,$(MAKECMDGOALS)),$(eval export CHECKED := 1))
+
 begun:
 	build/prove.py --begin
 

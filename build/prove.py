@@ -5,6 +5,9 @@ usage: prove.py --begin    finds the crates that have to be proved: those of whi
                            below has changed since. Other proofs don't change what was proved
        prove.py CRATE      proves a crate if it has to be
        prove.py --link     makes the program of what was proved
+       prove.py --check CRATE [FLAG..]
+                           checks a crate as it is, over the libraries of those below and what earlier such checks
+                           kept. It makes nothing. The flags are those of `rattle check`
 
 Nothing is made of a crate unless it is proved: then a library, which holds what other crates may cite and no proofs, or
 of `hhh` an object file. What the prover says goes to crates/hhh/out/logs/CRATE.log. The file `seconds` there gets a line
@@ -38,8 +41,13 @@ JOBS_OF = {"gate_workers": 2, "report_session": processors, "hhh_engine": proces
 
 def crates_of_the_program():
     """The crates of the program, lowest first, each with what it stands on."""
+    return crates_under("hhh")
+
+
+def crates_under(highest):
+    """A crate and all that it needs, lowest first, each with what it stands on."""
     lines = [line.split(":") for line in (top / "crates.txt").read_text().splitlines() if not line.startswith("#")]
-    needed, found = {"hhh"}, {}
+    needed, found = {highest}, {}
     for head, below in reversed(lines):
         crate = head.split()[0]
         if crate in needed:
@@ -70,7 +78,7 @@ def begin():
         log.unlink()
     (logs / "seconds").touch()
     (logs / "stale").write_text("".join(f"{crate} {sum}\n" for crate, sum in stale.items()))
-    if stale:
+    if stale and "CHECKED" not in os.environ:
         number = f"{len(stale)} crate{'s' if len(stale) > 1 else ''}"
         say(f"proving {number} and building the program, {about(minutes_left())} on {processors} processors; logs: {shown(logs)}")
 
@@ -97,15 +105,27 @@ def prove(crate):
     say(f"proved {proved} of {len(stale)}: {crate}{left}")
 
 
-def words_of(crate):
-    """What the prover is called with."""
-    crates = crates_of_the_program()
+def check(crate, flags):
+    kept = libraries / "kept" / crate
+    kept.mkdir(parents=True, exist_ok=True)
+    words = [*common_words(crate), "--incremental", kept, *flags, "src/main.rt" if crate == "hhh" else "src/lib.rt"]
+    sys.exit(subprocess.run([kit / "bin/rattle", "check", *words], cwd=top / "crates" / crate, stdin=subprocess.DEVNULL).returncode)
+
+
+def common_words(crate):
+    """What the prover is called with to check or to build a crate."""
+    crates = crates_under(crate)
     words = ["--crate-name", crate]
     for name in ["std", *crates[crate]]:
         words += ["--extern", f"{name}={(libraries if name in crates else kit / 'rlibs') / name}.rlib"]
     words += ["-L", f"dependency={kit}/rlibs", "-L", f"dependency={libraries}"]
     words += ["--antt-project", f"{kit}/rattle/logic/antt-project.json", "--logic-built", f"{kit}/logic_built"]
-    words += ["--jobs", str(min(processors, JOBS_OF.get(crate, 1)))]
+    return [*words, "--jobs", str(min(processors, JOBS_OF.get(crate, 1)))]
+
+
+def words_of(crate):
+    """What the prover is called with to build a crate's library, or the program."""
+    words = common_words(crate)
     if crate == "hhh":
         return [*words, "--backend", "llvm", "--toolchain", f"{kit}/toolchain", "-o", libraries / "hhh.o", "src/main.rt"]
     return [*words, "--statements", "-o", libraries / f"{crate}.rlib", "src/lib.rt"]
@@ -189,4 +209,6 @@ if __name__ == "__main__":
     # Ends the prover too.
     for number in (signal.SIGINT, signal.SIGTERM):
         signal.signal(number, lambda *_: sys.exit(1))
+    if sys.argv[1] == "--check":
+        check(sys.argv[2], sys.argv[3:])
     {"--begin": begin, "--link": link}.get(sys.argv[1], lambda: prove(sys.argv[1]))()
