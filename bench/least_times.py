@@ -2,8 +2,8 @@
 """Runs programs in turn, and prints the least processor time of each in milliseconds: least_times.py TURNS < COMMANDS
 
 Each line of the input is a command, or a number and a command that is run so many times at once. A turn runs each line
-once, so that other work on the machine meets all of them. With a second argument, `wall`, a line has the least time by
-the clock after the least processor time.
+once, so that other work on the machine meets all of them. What the commands write is dropped. With a second argument,
+`wall`, a line has the least time by the clock after the least processor time.
 """
 
 import os
@@ -14,8 +14,9 @@ import time
 def times_of(words):
     """The processor time of all processes of a line, and the time by the clock, in milliseconds."""
     copies, command = (int(words[0]), words[1:]) if words[0].isdigit() else (1, words)
+    drop = (os.POSIX_SPAWN_OPEN, 1, os.devnull, os.O_WRONLY, 0)
     start = time.monotonic()
-    processes = [os.posix_spawn(command[0], command, os.environ) for _ in range(copies)]
+    processes = [os.posix_spawn(command[0], command, os.environ, file_actions=[drop]) for _ in range(copies)]
     ends = [os.wait4(process, 0) for process in processes]
     wall = time.monotonic() - start
     if any(status for _, status, _ in ends):

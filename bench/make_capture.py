@@ -1,9 +1,10 @@
 #!/usr/bin/env python3
-"""Writes a capture of random IPv4 traffic: make_capture.py SEED FRAMES short|whole|skewed|met|crossed|nested > FILE
+"""Writes a capture of random IPv4 traffic: make_capture.py SEED FRAMES KIND > FILE
 
-Addresses come from a linear congruential generator; of each side a quarter is one host, a
-quarter falls into a /22, and the rest spreads over a /8. Lengths on the wire go 100, 200, 300, 400 in turn.
-`short` frames hold the 34 bytes up to the end of the IPv4 header, `whole` frames all their bytes.
+KIND is `short`, `whole`, `skewed`, `met`, `crossed`, `nested`, `paired`, `heavy`, `forged` or `listed`. Addresses come
+from a linear congruential generator; of each side a quarter is one host, a quarter falls into a /22, and the rest spreads
+over a /8. Lengths on the wire go 100, 200, 300, 400 in turn. `short` frames hold the 34 bytes up to the end of the IPv4
+header, `whole` frames all their bytes.
 
 `skewed` frames are as short, and of each side three quarters fall to 255 hosts, which are strewn over the /8:
 as often to host 1 as to 2 and 3 together, to 4 up to 7, and so on up to 128 to 255. So a host has about
@@ -20,9 +21,22 @@ network has a line, none of its parts has one, and nearly each pair of a source 
 `nested` frames are as short, and made against the query too. Of each side there are a tenth as many hosts as frames, all
 of one /16. Each has five frames with each of two hosts of the other side, and the order is random. So at a threshold of
 ten packets each host has a line, neither the /16 nor a prefix above it has one, and all nine of these keep each pair.
+
+`paired` frames are as short, and made against the audit: each pair of hosts has two frames, and shares no network of a
+/16 or longer with another pair, and no pair of /8 networks. So there may be a line of two packets for nearly each pair of
+hosts at 22 nodes. There are at most 62,500 pairs.
+
+`heavy` frames are as short, have random pairs of addresses, and claim lengths from 2^31 to 2^32 on the wire, so that
+counts outgrow the ranks of a table.
+
+`forged` frames are `skewed` ones, but for the middle one, which claims a length of 4,093,509,168 bytes on the wire.
+
+`listed` frames are as short, have a length of 100 bytes on the wire each, and the pairs of addresses that standard input
+lists: a source and a destination, as numbers, in each line. The last pair is repeated up to the number of frames.
 """
 
 import bisect
+import itertools
 import random
 import struct
 import sys
@@ -34,6 +48,7 @@ STREWING = 0x9E3779
 # The multiplier of the first turn of a search, and how many homes the index of a table of 512 entries has.
 FIRST_TURN = 0x9E3779B97F4A7C15
 HOMES = 8 * 512
+FORGED_LENGTH = 4_093_509_168
 FILE_HEADER = struct.pack("<IHHIIII", 0xA1B2C3D4, 2, 4, 0, 0, 262144, 1)
 ETHERNET = bytes.fromhex("020000000002" "020000000001" "0800")
 
@@ -112,20 +127,65 @@ def nested_pairs(seed, count):
     return pairs
 
 
-def frames(seed, count, kind):
+def paired_pairs(count):
+    """Pairs of addresses, each twice: a /8 network of the one side meets each /8 network of the other once."""
+    for pair in range((count + 1) // 2):
+        turn, net = divmod(pair, 250)
+        source = (net + 1) << 24 | turn << 16 | 1
+        destination = ((net + turn) % 250 + 1) << 24 | turn << 16 | 2
+        yield source, destination
+        yield source, destination
+
+
+def heavy_pairs(seed):
+    """Pairs of any addresses, without end."""
+    source = random.Random(seed)
+    while True:
+        yield source.getrandbits(32), source.getrandbits(32)
+
+
+def listed_pairs():
+    """The pairs that standard input lists, and the last of them without end."""
+    for line in sys.stdin:
+        source, destination = map(int, line.split())
+        yield source, destination
+    yield from itertools.repeat((source, destination))
+
+
+def pairs_of(seed, count, kind):
     if kind == "met":
-        pairs = met_pairs()
-    elif kind == "crossed":
-        pairs = crossed_pairs(seed, count)
-    elif kind == "nested":
-        pairs = nested_pairs(seed, count)
-    else:
-        pairs = random_pairs(seed, skewed_address if kind == "skewed" else address)
-    for place, (source, destination) in zip(range(count), pairs):
-        wire = 100 * (1 + place % 4)
+        return met_pairs()
+    if kind == "crossed":
+        return crossed_pairs(seed, count)
+    if kind == "nested":
+        return nested_pairs(seed, count)
+    if kind == "paired":
+        return paired_pairs(count)
+    if kind == "heavy":
+        return heavy_pairs(seed)
+    if kind == "listed":
+        return listed_pairs()
+    return random_pairs(seed, skewed_address if kind in ("skewed", "forged") else address)
+
+
+def wire_lengths(seed, count, kind):
+    if kind == "heavy":
+        source = random.Random(seed + 1)
+        return (source.randrange(1 << 31, 1 << 32) for _ in range(count))
+    if kind == "listed":
+        return itertools.repeat(100, count)
+    lengths = [100 * (1 + place % 4) for place in range(count)]
+    if kind == "forged":
+        lengths[count // 2] = FORGED_LENGTH
+    return lengths
+
+
+def frames(seed, count, kind):
+    pairs = zip(wire_lengths(seed, count, kind), pairs_of(seed, count, kind))
+    for place, (wire, (source, destination)) in enumerate(pairs):
         captured = wire if kind == "whole" else 34
         yield struct.pack("<IIII", place, 0, captured, wire) + ETHERNET + struct.pack(
-            ">BBHHHBBHII", 0x45, 0, wire - 14, 0, 0, 64, 17, 0, source, destination
+            ">BBHHHBBHII", 0x45, 0, wire - 14 & 0xFFFF, 0, 0, 64, 17, 0, source, destination
         ) + bytes(captured - 34)
 
 

@@ -1,10 +1,11 @@
-# What the measurements share. A script that reads this has set `here` to the folder of both, and `rounds`.
+# What the measurements share. A script that reads this has set `here` to the folder of both, and `rounds` if it measures
+# by `measure`. PROGRAM may name a program that is built already.
 work=$(mktemp -d)
 trap 'rm -rf "$work"' EXIT
-hhh=$here/../crates/hhh/out/hhh
+hhh=${PROGRAM:-$here/../crates/hhh/out/hhh}
 
-# Where the program is missing or old, it is proved and built first.
-"$here/../hhh" weigh 0.0.0.0/0 0.0.0.0/0 <"$here/../crates/hhh/stdin" >/dev/null
+# Where the program of the repository is missing or old, it is proved and built first.
+[ "${PROGRAM:-}" ] || "$here/../hhh" weigh 0.0.0.0/0 0.0.0.0/0 <"$here/../crates/hhh/stdin" >/dev/null
 
 # Makes a capture of 1,000,000 frames of this kind, named by the kind.
 make_capture() {

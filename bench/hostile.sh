@@ -1,0 +1,142 @@
+#!/bin/sh
+# Measures the program over input that is made against it: hostile.sh [TURNS [PART...]]. For each input it prints the
+# processor time in seconds, and the ratio to an ordinary (`skewed`) capture of as many frames with the same options, both
+# the least of three turns, or of TURNS. No aim is judged. PART is `index`, `ranks`, `forged`, `query`, `keys`, `lines` or
+# `large`; without one all but `large` are measured, in some five minutes. Needs cc, python3 and /usr/bin/time.
+set -eu
+here=$(dirname "$(readlink -f "$0")")
+turns=${1:-3}
+. "$here/measure.sh"
+compile hostile_keys
+
+# Makes a capture of so many frames of this kind, in the file KIND.FRAMES: KIND FRAMES. `listed` ones read pairs.
+make_frames() {
+    python3 "$here/make_capture.py" 7 "$2" "$1" >"$work/$1.$2"
+}
+
+# Prints the line of a measurement from two command lines, of which the second has the hostile input: NAME.
+compare() {
+    python3 "$here/least_times.py" "$turns" | paste -sd ' ' - | awk -v name="$1" '{
+        printf "%s: %.3f s, ratio %.2f\n", name, $2 / 1000, $2 / $1
+    }'
+}
+
+# `report` over a hostile capture: NAME KIND FRAMES OPTION...
+compare_reports() {
+    name=$1
+    hostile=$2.$3
+    ordinary=skewed.$3
+    shift 3
+    printf '%s\n' "$hhh report --capture $work/$ordinary $*" "$hhh report --capture $work/$hostile $*" | compare "$name"
+}
+
+# The session of a report over a capture, in the file SESSION: CAPTURE SESSION OPTION...
+make_session() {
+    capture=$1
+    session=$2
+    shift 2
+    "$hhh" report --capture "$work/$capture" "$@" >"$work/$session"
+}
+
+# The command line of an audit: CAPTURE SESSION OPTION...
+audit_line() {
+    capture=$1
+    session=$2
+    shift 2
+    echo "$hhh audit --capture $work/$capture --report $work/$session $*"
+}
+
+# The index of the tables: the windows of one key are full of other keys, and then that key comes again and again.
+index() {
+    make_frames skewed 60000
+    for tables in "512 1" "512 4" "4096 1"; do
+        set -- $tables
+        "$work/hostile_keys" deep "$1" "$2" | make_frames listed 60000
+        compare_reports "a deep key, capacity $1, shards $2" listed 60000 --capacity "$1" --shards "$2"
+    done
+}
+
+# The ranks of the tables: weights near 2^32, by which counts outgrow a rank.
+ranks() {
+    make_frames skewed 60000
+    make_frames heavy 60000
+    for capacity in 512 4096; do
+        compare_reports "weights near 2^32, capacity $capacity" heavy 60000 --capacity $capacity
+    done
+}
+
+# A forged length. By bytes nothing else has a line; by packets the session is that of the true lengths.
+forged() {
+    make_frames skewed 60000
+    make_frames forged 60000
+    compare_reports "a forged length" forged 60000
+    for weigh in bytes packets; do
+        make_session skewed.60000 ordinary.$weigh --weigh $weigh
+        make_session forged.60000 forged.$weigh --weigh $weigh
+        for lengths in ordinary forged; do
+            echo "$lengths lengths, --weigh $weigh: $(grep -c '^line' "$work/$lengths.$weigh") lines"
+        done
+    done
+    cmp "$work/ordinary.packets" "$work/forged.packets" && echo "--weigh packets: the same session, byte for byte"
+}
+
+# The query: two captures whose lines have many pairs.
+query() {
+    make_frames skewed 20000
+    for kind in crossed nested; do
+        make_frames $kind 20000
+        compare_reports "$kind, 2,000 a side" $kind 20000 --shards 1 --weigh packets --capacity 4096 --phi 500
+    done
+}
+
+# The keys of the audit: those of nine nodes begin at one group, in a map of at most 147,456 keys.
+keys() {
+    for count in 73500 147000; do
+        make_frames skewed $count
+        "$work/hostile_keys" met 14 $count | make_frames listed $count
+        for kind in skewed listed; do
+            make_session $kind.$count $kind.session
+            audit_line $kind.$count $kind.session
+        done | compare "audit, $count keys that share 14 bits of their hash"
+    done
+}
+
+# Texts of many lines, in one report and in a report that is repeated, beside the program's own session.
+lines() {
+    make_frames paired 4000
+    set -- --shards 1 --weigh packets --capacity 4000 --phi 500
+    make_session paired.4000 own "$@"
+    for count in 5 10 20; do
+        python3 "$here/hostile_session.py" lines $count "$work/paired.4000" >"$work/lines"
+        python3 "$here/hostile_session.py" repeat $count "$work/own" >"$work/repeated"
+        for text in lines repeated; do
+            { audit_line paired.4000 own "$@" && audit_line paired.4000 $text "$@"; } |
+                compare "audit, $(grep -c '^line' "$work/$text") $text"
+        done
+    done
+}
+
+# An audit of a text by `hostile_session.py` over no record, once, with its peak memory: NAME WORD...
+audit_text() {
+    name=$1
+    shift
+    python3 "$here/hostile_session.py" "$@" >"$work/text"
+    /usr/bin/time -q -f '%U %S %M' -o "$work/times" \
+        "$hhh" audit --capture "$work/skewed.0" --shards 1 --report "$work/text" >"$work/verdict" 2>/dev/null || :
+    awk -v name="$name" -v bytes="$(wc -c <"$work/text")" -v verdict="$(cat "$work/verdict")" '{
+        printf "audit, %s: %d bytes, %.1f s, peak memory %d kB; %s\n", name, bytes, $1 + $2, $3, verdict
+    }' "$work/times"
+}
+
+# Texts of nearly the greatest length, which take 300 MB of disk and 2 GB of memory.
+large() {
+    make_frames skewed 0
+    make_session skewed.0 own --shards 1
+    audit_text "reports on no record" repeat 7255000 "$work/own"
+    audit_text "a report of lines without a weight" unsound 7500000
+}
+
+shift $(($# > 0))
+for part in ${*:-index ranks forged query keys lines}; do
+    $part
+done
