@@ -19,51 +19,33 @@ from pathlib import Path
 
 import session_text
 import store_bytes
-
-SECONDS = 60
-FAULTS = {
-    7: "hhh: store not formatted\n",
-    8: "hhh: store damaged: slot {}\n",
-    9: "hhh: store has other settings\n",
-    10: "hhh: store is of another capture\n",
-}
+from stored_capture import StoredCapture, test
 
 program, runs, seed, captures = sys.argv[1], int(sys.argv[2]), int(sys.argv[3]), sys.argv[4:]
 source = random.Random(seed)
 
 
-def run(*words):
-    return subprocess.run([program, *words], capture_output=True, text=True, timeout=SECONDS)
-
-
-class Store:
+class Store(StoredCapture):
     """A store as some run left it, and what a report over it must give."""
 
-    def __init__(self, capture, path):
-        self.capture, self.path = capture, path
-        shards, capacity = source.randint(1, 4), source.randint(4, 64)
-        weigh, deal = source.choice(store_bytes.WEIGHINGS), source.choice(store_bytes.DEALINGS)
-        self.settings = shards, capacity, weigh, deal
-        self.lists = session_text.deal(session_text.read_capture(capture), shards, deal, weigh)
-        self.ends = [len(records) for records in self.lists]
-        self.digest = store_bytes.digest_of(self.settings, self.lists)
-        words = ["--shards", str(shards), "--capacity", str(capacity), "--weigh", weigh, "--deal", deal]
-        self.report = ["--capture", capture, *words, "--phi", str(-(-2_000_000 // capacity))]
-        self.true_report = session_text.last_report(run("report", *self.report).stdout)
-        run("format", "--store", path, *words)
+    def __init__(self, capture, store):
+        super().__init__(program, capture, (source.randint(1, 4), source.randint(4, 64),
+            source.choice(store_bytes.WEIGHINGS), source.choice(store_bytes.DEALINGS)))
+        self.store = store
+        self.format_store(store)
         self.kind = source.choice(("formatted", "one save", "rounds", "killed", "killed"))
         if self.kind == "one save":
-            run("report", *self.report, "--store", path)
+            self.run(self.report("--store", store))
         elif self.kind == "rounds":
-            run("report", *self.report, "--store", path, "--rounds", str(source.randint(1, 4)))
+            self.run(self.report("--store", store, "--rounds", str(source.randint(1, 4))))
         elif self.kind == "killed":
             self.kill_run(source.randint(1, 4))
-        self.image = Path(path).read_bytes()
-        assert store_bytes.opening(self.image, self.settings, self.lists, self.digest)[0] == 0, "a run left no sound store"
+        self.image = Path(store).read_bytes()
+        assert self.opening(self.image)[0] == 0, "a run left no sound store"
 
     def kill_run(self, saves):
-        words = [program, "report", *self.report, "--store", self.path, "--rounds", "8", "--block", "16", "--workers", "1"]
-        with subprocess.Popen(words, stdout=subprocess.PIPE, text=True) as killed:
+        command = self.report("--store", self.store, "--rounds", "8", "--block", "16", "--workers", "1")
+        with subprocess.Popen(command, stdout=subprocess.PIPE, text=True) as killed:
             for line in killed.stdout:
                 saves -= line.startswith("saved")
                 if not saves:
@@ -78,29 +60,15 @@ class Store:
         return bytes(image), place
 
 
-def test(holds, what):
-    if not holds:
-        raise AssertionError(what)
-
-
 def test_damage(store, image, text):
     """Runs a report over damaged bytes. Answers how it ended."""
-    wanted, where = store_bytes.opening(image, store.settings, store.lists, store.digest)
-    Path(store.path).write_bytes(image)
-    ended = run("report", *store.report, "--store", store.path, "--rounds", str(source.randint(0, 2)))
-    after = Path(store.path).read_bytes()
-    test(ended.returncode == wanted, f"{ended.returncode} {ended.stderr} in place of {wanted}")
-    if wanted:
-        test(ended.stdout == "" and after == image, "something was written")
-        test(ended.stderr == FAULTS[wanted].format(where), ended.stderr)
-        return str(wanted)
-    test(session_text.numbers(ended.stdout.split("\n")[0]) == where, "opened elsewhere")
-    opened = store_bytes.opening(after, store.settings, store.lists, store.digest)
-    test(opened == (0, store.ends), f"the store then opens to {opened}")
-    if session_text.last_report(ended.stdout) == store.true_report:
+    Path(store.store).write_bytes(image)
+    ended = store.go_on(store.store, "--rounds", str(source.randint(0, 2)))
+    if ended.returncode:
+        return str(ended.returncode)
+    if session_text.last_report(ended.stdout) == store.last_report:
         return "0, the true report"
-    Path(text).write_text(ended.stdout)
-    audit = run("audit", *store.report, "--report", text)
+    audit = store.audit(ended.stdout, text)
     test(audit.returncode in (0, 11), f"audit: {audit.returncode} {audit.stderr}")
     return "0, another report, " + ("sound by its audit" if audit.returncode == 0 else "refused by its audit")
 
@@ -116,7 +84,7 @@ with tempfile.TemporaryDirectory() as folder:
         except (AssertionError, subprocess.TimeoutExpired) as fault:
             wrong += 1
             change = f"byte {place}: {store.image[place]} to {image[place]}"
-            print(store.settings, store.capture, store.kind, change, fault, flush=True)
+            print(store.settings, store.path, store.kind, change, fault, flush=True)
 for end, count in sorted(ends.items()):
     print(f"{count} ended with {end}")
 print(f"{runs} stores damaged, {wrong} wrong")

@@ -26,6 +26,7 @@ from pathlib import Path
 import plain_audit
 import session_text
 import store_bytes
+from stored_capture import SECONDS, StoredCapture, least_share, test
 
 HERE = Path(__file__).resolve().parent
 PER_SETTINGS = 20
@@ -33,7 +34,6 @@ MOST_AUDITED = 60_000  # records of all reports of a session
 MOST_READ = 50_000  # room for entries of a table in all cuts of a session
 MOST_PLAIN = 100_000  # pairs of addresses that the plain audit sums in a session
 MOST_STORED = 500_000  # bytes of a store that `store_bytes.py` reads
-SECONDS = 120
 
 program, sessions, seed, captures = sys.argv[1], int(sys.argv[2]), int(sys.argv[3]), sys.argv[4:]
 source = random.Random(seed)
@@ -46,27 +46,15 @@ def up_to(least, most):
     return min(most, int(least * ((most + 1) / least) ** source.random()))
 
 
-class Settings:
+class Settings(StoredCapture):
     """A capture and the settings that decide its last report."""
 
     def __init__(self, capture):
-        self.path = capture
-        self.capture = session_text.read_capture(capture)
-        self.shards = source.randint(1, 16)
-        self.capacity = up_to(2, 4096)
-        self.phi = up_to(-(-2_000_000 // self.capacity), 1_000_000)
-        self.weigh = source.choice(("bytes", "packets"))
-        self.deal = source.choice(("round", "source", "free"))
-        self.lists = session_text.deal(self.capture, self.shards, self.deal, self.weigh)
-        self.ends = [len(records) for records in self.lists]
-        self.store = (self.shards, self.capacity, self.weigh, self.deal)
-        self.digest = store_bytes.digest_of(self.store, self.lists)
-        self.store_words = ["--shards", str(self.shards), "--capacity", str(self.capacity), "--weigh", self.weigh,
-            "--deal", self.deal]
-        self.words = [*self.store_words, "--phi", str(self.phi)]
-        one_worker = subprocess.run([program, "report", "--capture", self.path, *self.words, "--workers", "1"],
-            capture_output=True, text=True, check=True, timeout=SECONDS)
-        self.last_report = session_text.last_report(one_worker.stdout)
+        self.shards, self.capacity = source.randint(1, 16), up_to(2, 4096)
+        self.phi = up_to(least_share(self.capacity), 1_000_000)
+        self.weigh = source.choice(store_bytes.WEIGHINGS)
+        self.deal = source.choice(store_bytes.DEALINGS)
+        super().__init__(program, capture, (self.shards, self.capacity, self.weigh, self.deal), self.phi)
 
     def draw_words(self):
         """Workers, callers, rounds and block of a session that isn't too long to audit, and the number of its reports."""
@@ -77,20 +65,10 @@ class Settings:
         return [str(word) for word in words], callers, rounds
 
 
-def test(holds, what):
-    if not holds:
-        raise AssertionError(what)
-
-
-def format_store(settings, store):
-    subprocess.run([program, "format", "--store", store, *settings.store_words], stdout=subprocess.DEVNULL, check=True)
-
-
 def stop_after_saves(settings, store):
     """Kills a run after some of its saves. Answers the positions of the last line `saved` that it wrote."""
-    format_store(settings, store)
-    command = [program, "report", "--capture", settings.path, *settings.words, "--store", store, "--rounds", "4",
-        "--block", str(up_to(1, 4096)), "--workers", "2"]
+    settings.format_store(store)
+    command = settings.report("--store", store, "--rounds", "4", "--block", str(up_to(1, 4096)), "--workers", "2")
     saves, text = source.randint(1, 4), ""
     with subprocess.Popen(command, stdout=subprocess.PIPE, text=True) as run:
         for line in run.stdout:
@@ -115,7 +93,7 @@ def prepare(settings, store):
         return stop_after_saves(settings, store), False
     if kind == "fresh":
         Path(store).unlink(missing_ok=True)
-    format_store(settings, store)
+    settings.format_store(store)
     return [0] * settings.shards, True
 
 
@@ -160,20 +138,17 @@ def run_session(settings, folder):
     words, callers, rounds = settings.draw_words()
     has_store = source.random() < 0.5
     floor, opens_there = prepare(settings, store) if has_store else ([0] * settings.shards, True)
-    command = [program, "report", "--capture", settings.path, *settings.words, *words]
-    command += ["--store", store] if has_store else []
+    command = settings.report(*words, *(["--store", store] if has_store else []))
     try:
-        run = subprocess.run(command, capture_output=True, text=True, timeout=SECONDS)
+        run = settings.run(command)
         test(run.returncode == 0 and run.stderr == "", f"status {run.returncode} {run.stderr}")
-        Path(text).write_text(run.stdout)
         session = session_text.read_session(run.stdout)
         test_session(settings, session, callers, rounds, floor, opens_there, has_store)
         test(session_text.last_report(run.stdout) == settings.last_report, "another last report")
-        audit = subprocess.run([program, "audit", "--capture", settings.path, *settings.words, "--report", text],
-            capture_output=True, text=True, timeout=SECONDS)
+        audit = settings.audit(run.stdout, text)
         test((audit.returncode, audit.stdout) == (0, f"good {len(session.reports)}\n"), f"audit: {audit.stdout}{audit.stderr}")
         if has_store and Path(store).stat().st_size <= MOST_STORED:
-            opened = store_bytes.opening(Path(store).read_bytes(), settings.store, settings.lists, settings.digest)
+            opened = settings.opening(Path(store).read_bytes())
             test(opened == (0, settings.ends), f"the store then opens to {opened}")
         counts["sessions"] += 1
         counts["reports"] += len(session.reports)

@@ -134,3 +134,35 @@ def last_saved(text):
         if line.startswith(("opened", "saved")):
             found = numbers(line)
     return found
+
+
+# What may follow a line with this word. A line `saved` has the positions of the report before it.
+NEXT_WORDS = {
+    None: ["opened"],
+    "opened": ["report"],
+    "report": ["at"],
+    "at": ["total"],
+    "total": ["threshold"],
+    "threshold": ["line", "done"],
+    "line": ["line", "done"],
+    "done": ["saved", "report", "frames"],
+    "saved": ["report", "frames"],
+    "frames": ["skipped"],
+    "skipped": ["end"],
+    "end": [],
+}
+
+
+def fault_of_beginning(text):
+    """The first line that can't be there in a session of which this is the beginning, or none."""
+    *whole, rest = text.split("\n")
+    last, positions = None, None
+    for line in whole:
+        word = line.split(" ")[0]
+        if word not in NEXT_WORDS[last] or (word == "saved" and numbers(line) != positions):
+            return line
+        positions = numbers(line) if word == "at" else positions
+        last = word
+    word, space, _ = rest.partition(" ")
+    fits = [next_word for next_word in NEXT_WORDS[last] if (next_word == word if space else next_word.startswith(word))]
+    return None if rest == "" or fits else rest

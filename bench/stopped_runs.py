@@ -18,21 +18,16 @@ import time
 from pathlib import Path
 
 import session_text
-import store_bytes
+from stored_capture import StoredCapture
 
 program, capture, kills = sys.argv[1], sys.argv[2], int(sys.argv[3])
-SETTINGS = (4, 512, "bytes", "round")
-REPORT = [program, "report", "--capture", capture, "--shards", "4", "--rounds", "8", "--block", "16"]
-
-
-def format_store(store):
-    subprocess.run([program, "format", "--store", store, "--shards", "4"], stdout=subprocess.DEVNULL, check=True)
+ROUNDS = ["--rounds", "8", "--block", "16"]
 
 
 def run(store, output, seconds):
     """How a run ended, or None if it was killed before, and its text."""
     with open(output, "w") as text:
-        process = subprocess.Popen(REPORT + ["--store", store], stdout=text)
+        process = subprocess.Popen(counted.report(*ROUNDS, "--store", store), stdout=text)
         try:
             status = process.wait(timeout=seconds)
         except subprocess.TimeoutExpired:
@@ -48,27 +43,26 @@ def faults_of(store, output, status, text, floor):
     if first and any(now < before for now, before in zip(session_text.numbers(first), floor)):
         yield f"{first} after saved {floor}"
     if status is not None:
-        if status or session_text.last_report(text) != wanted:
+        if status or session_text.last_report(text) != counted.last_report:
             yield f"another last report, or status {status}"
         return
     saved = session_text.last_saved(text) or floor
-    status, opened = store_bytes.opening(Path(store).read_bytes(), SETTINGS, lists, digest)
+    status, opened = counted.opening(Path(store).read_bytes())
     if status or any(now < before for now, before in zip(opened, saved)):
         yield f"the store opens to {status} {opened} after saved {saved}"
     shutil.copyfile(store, store + ".copy")
     status, text = run(store + ".copy", output, None)
-    if status or session_text.last_report(text) != wanted or session_text.numbers(text.split("\n")[0]) != opened:
+    if status or session_text.last_report(text) != counted.last_report or session_text.numbers(text.split("\n")[0]) != opened:
         yield f"status {status} over the copy, another last report or opened elsewhere than at {opened}"
 
 
-lists = session_text.deal(session_text.read_capture(capture), 4, "round", "bytes")
-digest = store_bytes.digest_of(SETTINGS, lists)
+counted = StoredCapture(program, capture, (4, 512, "bytes", "round"), 10_000)
 with tempfile.TemporaryDirectory() as folder:
     store, output = f"{folder}/store", f"{folder}/output"
     begun = time.monotonic()
-    wanted = session_text.last_report(subprocess.run(REPORT, capture_output=True, text=True, check=True).stdout)
+    counted.run(counted.report(*ROUNDS))
     longest = 1.5 * (time.monotonic() - begun)
-    format_store(store)
+    counted.format_store(store)
     floor, killed, ended_runs, resumed, copies, wrong = [0] * 4, 0, 0, 0, 0, 0
     while killed < kills:
         status, text = run(store, output, random.uniform(0, longest))
@@ -83,7 +77,7 @@ with tempfile.TemporaryDirectory() as folder:
             copies += any(floor)
         else:
             ended_runs += 1
-            format_store(store)
+            counted.format_store(store)
             floor = [0] * 4
 print(f"{killed} runs killed, {copies} of them with a save past position 0, {resumed} runs begun past position 0, "
     f"{ended_runs} ended with the report of a run without a store, {wrong} wrong")

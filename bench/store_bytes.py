@@ -16,6 +16,10 @@ class Damaged(Exception):
     """The bytes are no body."""
 
 
+class DamagedSlot(Exception):
+    """Under the open gate of this slot is no body."""
+
+
 def header_of(settings):
     shards, capacity, weighing, dealing = settings
     front = struct.pack(">4sBBHBB", b"HHHS", 1, shards, capacity, WEIGHINGS.index(weighing), DEALINGS.index(dealing))
@@ -93,6 +97,29 @@ def read_body(image, slot, settings):
     return sequence, digest, positions, totals
 
 
+def open_bodies(image, settings):
+    """What the bodies under open gates spell, by their slots."""
+    bodies = {}
+    for slot in range(2):
+        if image[slot] == 1:
+            try:
+                bodies[slot] = read_body(image, slot, settings)
+            except Damaged:
+                raise DamagedSlot(slot)
+    return bodies
+
+
+def newest_of(bodies):
+    """The newest of the slots with these bodies."""
+    return max(bodies, key=lambda number: (bodies[number][0], -number))
+
+
+def newest_sequence(image, settings):
+    """The sequence of the newest slot of a store that isn't damaged, or 0 where no gate is open."""
+    bodies = open_bodies(image, settings)
+    return bodies[newest_of(bodies)][0] if bodies else 0
+
+
 def opening(image, settings, lists, digest):
     """The status with which a run over these lists ends, and the positions at which it opens or the damaged slot."""
     stored = read_header(image[2:FRONT]) if len(image) >= FRONT else None
@@ -100,16 +127,13 @@ def opening(image, settings, lists, digest):
         return 7, None
     if stored != settings:
         return 9, None
-    bodies = {}
-    for slot in range(2):
-        if image[slot] == 1:
-            try:
-                bodies[slot] = read_body(image, slot, settings)
-            except Damaged:
-                return 8, slot
+    try:
+        bodies = open_bodies(image, settings)
+    except DamagedSlot as damaged:
+        return 8, damaged.args[0]
     if not bodies:
         return 0, [0] * settings[0]
-    slot = max(bodies, key=lambda number: (bodies[number][0], -number))
+    slot = newest_of(bodies)
     sequence, found, positions, totals = bodies[slot]
     if found != digest:
         return 10, None

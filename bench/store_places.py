@@ -23,14 +23,11 @@ from collections import Counter
 from pathlib import Path
 
 import session_text
-import store_bytes
+from stored_capture import StoredCapture
 
 program, capture = sys.argv[1:3]
 pairs = int(sys.argv[3]) if sys.argv[3:] else 50
 PAGE = 4096
-SETTINGS = (2, 64, "bytes", "round")
-STORE = ["--shards", "2", "--capacity", "64"]
-REPORT = [program, "report", "--capture", capture, *STORE, "--phi", "50000"]
 NOBODY = 65534
 runs, faults = Counter(), []
 
@@ -41,7 +38,7 @@ def run(*words, **options):
 
 
 def format_store(store):
-    return run(program, "format", "--store", store, *STORE)
+    return run(*counted.format(store))
 
 
 def test(holds, what):
@@ -51,22 +48,20 @@ def test(holds, what):
 
 
 def opens_to(store):
-    return store_bytes.opening(Path(store).read_bytes(), SETTINGS, lists, digest)
+    return counted.opening(Path(store).read_bytes())
 
 
 def has_true_end(ended):
-    return ended[0] == 0 and session_text.last_report(ended[1]) == wanted
+    return ended[0] == 0 and session_text.last_report(ended[1]) == counted.last_report
 
 
 def begins_session(text):
     """Whether a text is that of a session, or its beginning, and its whole reports have a good audit."""
-    if not "opened 0 0\n".startswith(text[:11]):
+    try:
+        counted.test_beginning(text, part)
+    except AssertionError:
         return False
-    whole = session_text.whole_reports(text)
-    if whole is None:
-        return True
-    Path(part).write_text(whole)
-    return run(program, "audit", "--capture", capture, "--report", part, *STORE, "--phi", "50000")[0] == 0
+    return "opened 0 0\n".startswith(text[:11])
 
 
 def full_disk(mounted):
@@ -82,7 +77,7 @@ def full_disk(mounted):
         test(ends_well or failed, f"format, {free} pages free: {status} {text}{line}")
         if not ends_well:
             continue
-        status, text, line = run(*REPORT, "--store", store, "--rounds", "2")
+        status, text, line = run(*counted.report("--store", store, "--rounds", "2"))
         runs[f"report on a full disk ended with {status}"] += 1
         if status == 0:
             test(has_true_end((status, text)), "another last report")
@@ -91,7 +86,7 @@ def full_disk(mounted):
         test((status, line) == (6, "hhh: disk fault\n") and begins_session(text), f"report, {free} pages free: {status} {line}")
         runs[f"after a disk fault the bytes of the store open to {opens_to(store)[0]}"] += 1
         Path(filler).unlink()
-        test(format_store(store)[0] == 0 and has_true_end(run(*REPORT, "--store", store)), "no report after formatting anew")
+        test(format_store(store)[0] == 0 and has_true_end(run(*counted.report("--store", store))), "no report after formatting anew")
     Path(filler).unlink(missing_ok=True)
 
 
@@ -105,7 +100,7 @@ def unwritable(mounted, folder):
     os.chmod(folder, 0o755)
     subprocess.run(["mount", "-o", "remount,ro", mounted], check=True)
     for path, options in ((store, {}), (own, {"user": NOBODY, "group": NOBODY, "extra_groups": []})):
-        for command in ([program, "format", "--store", path, *STORE], [*REPORT, "--store", path]):
+        for command in (counted.format(path), counted.report("--store", path)):
             ended = run(*command, **options)
             runs[f"{command[1]} over a store that can't be written ended with {ended[0]}"] += 1
             test(ended == (6, "", "hhh: disk fault\n") and Path(path).read_bytes() == before, f"{command[1]} {path}: {ended}")
@@ -114,7 +109,7 @@ def unwritable(mounted, folder):
 
 def begin_two(words, store):
     """Begins two runs at once. Answers how each ended."""
-    both = [subprocess.Popen([*words, *REPORT, "--store", store, "--rounds", "8", "--block", "64"], stdout=subprocess.PIPE,
+    both = [subprocess.Popen([*words, *counted.report("--store", store, "--rounds", "8", "--block", "64")], stdout=subprocess.PIPE,
         stderr=subprocess.PIPE, text=True) for _ in range(2)]
     texts = [process.communicate(timeout=120) for process in both]
     return [(process.returncode, *text) for process, text in zip(both, texts)]
@@ -126,7 +121,7 @@ def two_at_once(store):
         ends = begin_two([], store)
         good = sum(has_true_end(end) for end in ends)
         opens = opens_to(store)[0]
-        later = run(*REPORT, "--store", store)
+        later = run(*counted.report("--store", store))
         ended = " and ".join(sorted(str(end[0]) for end in ends))
         true = "true" if has_true_end(later) else "not true" if later[0] == 0 else later[2][:-1]
         runs[f"two at once ended with {ended}, {good} true last reports; the store opens to {opens}, later {true}"] += 1
@@ -139,18 +134,15 @@ def two_at_once(store):
             well = [end for end in ends if end[0] == 0]
             refused = [end for end in ends if end == (1, "", "")]
             opened = sorted(end[1].split("\n")[0] for end in well)
-            starts = ["opened 0 0", "opened " + " ".join(map(str, ends_of))][:len(well)]
+            starts = ["opened 0 0", "opened " + " ".join(map(str, counted.ends))][:len(well)]
             test(all(map(has_true_end, well)) and opened == sorted(starts), f"under flock: {statuses} {opened}")
             test(len(well) + len(refused) == 2 and (not refused or "--nonblock" in words), f"under flock: {statuses}")
-            test(opens_to(store) == (0, ends_of), "the store doesn't open to the ends")
+            test(opens_to(store) == (0, counted.ends), "the store doesn't open to the ends")
 
 
-lists = session_text.deal(session_text.read_capture(capture), 2, "round", "bytes")
-ends_of = [len(records) for records in lists]
-digest = store_bytes.digest_of(SETTINGS, lists)
+counted = StoredCapture(program, capture, (2, 64, "bytes", "round"), 50_000)
 with tempfile.TemporaryDirectory() as folder:
     part, mounted = f"{folder}/part", f"{folder}/mounted"
-    wanted = session_text.last_report(run(*REPORT)[1])
     os.mkdir(mounted)
     subprocess.run(["mount", "-t", "tmpfs", "-o", "size=1m", "none", mounted], check=True)
     try:
