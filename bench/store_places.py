@@ -86,7 +86,8 @@ def full_disk(mounted):
         test((status, line) == (6, "hhh: disk fault\n") and begins_session(text), f"report, {free} pages free: {status} {line}")
         runs[f"after a disk fault the bytes of the store open to {opens_to(store)[0]}"] += 1
         Path(filler).unlink()
-        test(format_store(store)[0] == 0 and has_true_end(run(*counted.report("--store", store))), "no report after formatting anew")
+        formatted = format_store(store)[0] == 0
+        test(formatted and has_true_end(run(*counted.report("--store", store))), "no report after formatting anew")
     Path(filler).unlink(missing_ok=True)
 
 
@@ -109,8 +110,8 @@ def unwritable(mounted, folder):
 
 def begin_two(words, store):
     """Begins two runs at once. Answers how each ended."""
-    both = [subprocess.Popen([*words, *counted.report("--store", store, "--rounds", "8", "--block", "64")], stdout=subprocess.PIPE,
-        stderr=subprocess.PIPE, text=True) for _ in range(2)]
+    command = [*words, *counted.report("--store", store, "--rounds", "8", "--block", "64")]
+    both = [subprocess.Popen(command, stdout=subprocess.PIPE, stderr=subprocess.PIPE, text=True) for _ in range(2)]
     texts = [process.communicate(timeout=120) for process in both]
     return [(process.returncode, *text) for process, text in zip(both, texts)]
 
