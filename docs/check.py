@@ -15,7 +15,7 @@ those of the code. The map in ARCHITECTURE.md has a row for each crate, and the 
 crates.
 
 checks/code.py: a file takes definitions of another crate from its face alone, `Rattle.NAME.specs.{..}`, and its lemmas
-from two files; so do the programs of bench/, which nothing else reads; and a face passes on nothing that nobody takes
+from two files, besides examples; so do the programs of bench/, which nothing else reads; and a face passes on nothing that nobody takes
 from it. No two crates define one name. The old text of a wrong body stands once in its file, no wrong body is in both
 folders, and at most ten of a crate are in must-fail/. What a file of lemmas holds has in its name a word of the file's
 noun, and no two crates have such files, or files of definitions, of the same noun. No line of specs/, proofs/ or a
