@@ -16,10 +16,10 @@ crates.
 
 checks/code.py: a file takes definitions of another crate from its face alone, `Rattle.NAME.specs.{..}`, and its lemmas
 from two files, besides examples; so do the programs of bench/, which nothing else reads; and a face passes on nothing that nobody takes
-from it. No two crates define one name. The old text of a wrong body stands once in its file, no wrong body is in both
-folders, and at most ten of a crate are in must-fail/. What a file of lemmas holds has in its name a word of the file's
-noun, and no two crates have such files, or files of definitions, of the same noun. No line of specs/, proofs/ or a
-contract is longer than 160 characters.
+from it. A crate and its face have each name once; two crates may have the same name. The old text of a wrong body
+stands once in its file, no wrong body is in both folders, and at most ten of a crate are in must-fail/. What a file of
+lemmas holds has in its name a word of the file's noun. No line of specs/, proofs/ or a contract is longer than 160
+characters.
 
 checks/commands.py: the manual page hhh.1 shows what each command takes as `command_words` has it, and explains each
 command and option; if it has a version, it is that of VERSION. A command line in OPERATORS.md has options of its

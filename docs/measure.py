@@ -22,6 +22,7 @@ WIDEST_LINE = 120
 HEAD = re.compile(r"(?:unfoldable |abbrev )?(?:pub )?(?:record |data )?(?:pub )?([^\s:({]+)")
 STARTS = re.compile(r"(abbrev|unfoldable|pub record|pub data|record|data) ")
 WORD = re.compile(r"[\w◌-]+")
+IMPORT = re.compile(r"(?m)^(?:pub )?use Rattle\.(\w+)\.specs\.\{([^}]*)\}")
 
 
 def code_lines(text):
@@ -40,11 +41,27 @@ def blocks(path):
 
 
 def definitions():
-    found = {}
-    for crate in crates:
-        for path in sorted((top / "crates" / crate / "specs").glob("*.antt")):
-            for name, lines in blocks(path):
-                found.setdefault(name, (crate, path.stem, lines))
+    """The lines of each definition by its crate and its name, and its file."""
+    return {(crate, name): (path.stem, lines) for crate in crates
+            for path in sorted((top / "crates" / crate / "specs").glob("*.antt")) for name, lines in blocks(path)}
+
+
+def imported(path, crate, passed):
+    """What a file imports from the faces of other crates: what each name means there."""
+    lists = IMPORT.findall(path.read_text() if path.exists() else "")
+    return {name: passed[other][name] for other, listed in lists if other != crate
+            for name in listed.split(", ") if name in passed.get(other, {})}
+
+
+def meanings(known):
+    """What each name in each file of specs means, as a crate and a name: a definition of its crate, or what it imports."""
+    passed, found = {}, {}
+    for crate in stands_on():
+        specs = top / "crates" / crate / "specs"
+        own = {name: (home, name) for home, name in known if home == crate}
+        passed[crate] = own | imported(specs / "Lib.antt", crate, passed)
+        for path in specs.glob("*.antt"):
+            found[crate, path.stem] = own | imported(path, crate, passed)
     return found
 
 
@@ -66,15 +83,15 @@ def width(lines):
 
 
 def reached(known, start):
-    """The definitions reached from a text, in the order in which they are."""
-    seen, open_names = {}, [word for word in WORD.findall(start) if word in known]
+    """The definitions reached from one, in the order in which they are: the file and the lines of each."""
+    meaning, seen, open_names = meanings(known), {}, [start]
     while open_names:
-        name = open_names.pop(0)
-        if name in seen:
-            continue
-        crate, file, lines = known[name]
-        seen[name] = (crate, file, for_report(name, lines))
-        open_names += [word for line in seen[name][2] for word in WORD.findall(line) if word in known and word not in seen]
+        crate, name = open_names.pop(0)
+        if (crate, name) not in seen:
+            file, lines = known[crate, name]
+            seen[crate, name] = (file, for_report(name, lines))
+            words = [word for line in seen[crate, name][1] for word in WORD.findall(line)]
+            open_names += [meaning[crate, file][word] for word in words if word in meaning[crate, file]]
     return seen
 
 
@@ -163,23 +180,23 @@ def sizes():
 def main():
     known = definitions()
     run = function(top / "crates/hhh_engine/src/top_call.rt", "run")
-    record = known["RunEnds"][2]
+    record = known["hhh_engine", "RunEnds"][1]
     print(f"run: {len(run)} lines with its signature; RunEnds: {len(record)} lines, "
           f"{sum(len(line.strip()) for line in record)} characters")
-    found = reached(known, "WritesText")
-    print(f"done of report reaches {len(found)} definitions, {sum(width(lines) for _, _, lines in found.values())} lines of "
-          f"{len({(crate, file) for crate, file, _ in found.values()})} files in {len({crate for crate, _, _ in found.values()})} crates")
+    found = reached(known, ("hhh_engine", "WritesText"))
+    print(f"done of report reaches {len(found)} definitions, {sum(width(lines) for _, lines in found.values())} lines of "
+          f"{len({(crate, file) for (crate, _), (file, _) in found.items()})} files in {len({crate for crate, _ in found})} crates")
     if "reached" in sys.argv[1:]:
-        for name, (crate, file, lines) in found.items():
+        for (crate, name), (file, lines) in found.items():
             print(f"  {crate}/{file}: {name} {width(lines)}")
     largest = sorted(sizes(), key=lambda row: -row[2])
     print("largest source: %s %d lines" % max((source, crate) for crate, source, _ in largest)[::-1])
     print("largest proofs: %s %d lines" % (largest[0][0], largest[0][2]))
     functions = [row for row in parameters_of_functions() if row[2] > MANY_PARAMETERS]
     print(f"functions above {MANY_PARAMETERS} parameters: {len(functions)}: " + ", ".join(f"{name} {count}" for _, name, count in functions))
-    many = [(name, count) for name, (_, _, lines) in known.items() if (count := parameters_of_definition(lines)) > MANY_PARAMETERS]
+    many = [(name, count) for (_, name), (_, lines) in known.items() if (count := parameters_of_definition(lines)) > MANY_PARAMETERS]
     print(f"definitions above {MANY_PARAMETERS} parameters: {len(many)}: " + ", ".join(f"{name} {count}" for name, count in sorted(many, key=lambda row: -row[1])))
-    names = list(known)
+    names = [name for _, name in known]
     long = [name for name in names if len(name) > LONG_NAME]
     print(f"definitions: {len(names)}, mean name {sum(map(len, names)) / len(names):.1f} characters, {len(long)} above {LONG_NAME}: " + ", ".join(long))
     graph = stands_on()

@@ -2,7 +2,7 @@
 
 import re
 
-from checks.repository import ALL_DEFINITIONS, CRATES, EDIT_FOLDERS, TOP, check, edits, faults, page_text, source_files
+from checks.repository import CRATES, EDIT_FOLDERS, TOP, check, edits, faults, homes, page_text, source_files
 
 # The longest line of definitions, proofs and contracts that is read in one go.
 LONGEST_STATEMENT = 160
@@ -99,31 +99,25 @@ def check_lines(crate):
             check(len(line) <= LONGEST_STATEMENT or is_fixed, f"{path.relative_to(TOP)}:{number} has {len(line)} characters")
 
 
-def check_nouns():
-    """No two crates have a file of lemmas, or of definitions, of the same noun."""
-    files = [path for part in ("proofs/*Lemmas", "specs/*") for path in (TOP / "crates").glob(f"*/{part}.antt") if path.stem != "Lib"]
-    files.sort(key=lambda path: path.stem)
-    for path, following in zip(files, files[1:]):
-        check(path.stem != following.stem, f"{path.relative_to(TOP)} and {following.relative_to(TOP)} have the same noun")
-
-
-def check_homes():
-    """No two crates define one name."""
-    defined = {}
-    for crate in CRATES:
-        for name in ALL_DEFINITIONS[crate]:
-            check(name not in defined, f"{crate} and {defined.get(name)} both define {name}")
-            defined[name] = crate
+def check_homes(crate):
+    """A crate and its face have each name once. Two crates may have the same name."""
+    files = {}
+    for name, file in homes(crate):
+        check(name not in files, f"specs/{file} and specs/{files.get(name)} of {crate} both define {name}")
+        files[name] = file
+    face = page_text(f"crates/{crate}/specs/Lib.antt")
+    for other, passed in re.findall(r"(?m)^pub use Rattle\.(\w+)\.specs\.\{(.*)\}", face):
+        for name in (name.strip() for name in passed.split(",")):
+            check(name not in files, f"the face of {crate} passes on {name} of {other}, and specs/{files.get(name)} defines that name")
 
 
 def check_code():
     check_programs()
-    check_nouns()
-    check_homes()
     taken = taken_from_faces()
     for crate in CRATES:
         check_imports(crate)
         check_face(crate, taken[crate])
         check_edits(crate)
+        check_homes(crate)
         check_lemmas(crate)
         check_lines(crate)

@@ -7,7 +7,7 @@ from checks.repository import TOP, check, faults
 
 def forms():
     """What each command takes: its positionals, its options, and those of them that are required."""
-    text = (TOP / "crates" / "command_words" / "specs" / "Forms.antt").read_text()
+    text = (TOP / "crates" / "command_words" / "specs" / "FormNames.antt").read_text()
     words = dict(re.findall(r'word_of (\w+) = codes "(\w+)"', text))
     return {
         words[variant]: {field: re.findall(r'"(\w+)"', items) for field, items in re.findall(r"(\w+) =([^;]*)", fields)}
@@ -40,7 +40,7 @@ def check_manual(known):
     explained = set(re.findall(r"(?m)^\.It Fl -(\w+)", sections["OPTIONS"]))
     check_same("hhh.1", "option --", options_in(text), all_options(known), explained)
     texts = (TOP / "crates" / "run_status" / "specs" / "Status.antt").read_text()
-    for part in re.findall(r'(?m)^\w*status_text .* = codes "([^"]+)"', texts):
+    for part in re.findall(r'(?m)^(?:words|fault|session|status)_text .* = codes "([^"]+)"', texts):
         check(part == "done" or part.strip() in sections["DIAGNOSTICS"], f"DIAGNOSTICS of hhh.1 doesn't explain: {part}")
 
 

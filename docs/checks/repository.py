@@ -37,14 +37,12 @@ def blocks(path):
         yield [line for line in lines if line.startswith("-- ")], [line for line in lines if not line.startswith("--")]
 
 
-def definitions(crate):
+def homes(crate):
     """Each definition of a crate's specs/ that has a comment, and its file, in the order of the files."""
-    found = {}
     for path in sorted((TOP / "crates" / crate / "specs").glob("*.antt")):
         for comment, code in blocks(path):
             if comment and code and re.match(r"(?:abbrev|unfoldable|pub record|pub data) ", code[0]):
-                found[HEAD.match(code[0])[1]] = path.stem
-    return found
+                yield HEAD.match(code[0])[1], path.stem
 
 
 def fields(crate):
@@ -109,6 +107,6 @@ def crates_below(crate):
     return found
 
 
-ALL_DEFINITIONS = {crate: definitions(crate) for crate in CRATES}
+ALL_DEFINITIONS = {crate: dict(homes(crate)) for crate in CRATES}
 ALL_CLAUSES = {crate: clauses(crate) for crate in CRATES}
 ALL_WRONG_BODIES = {crate: wrong_bodies(crate) for crate in CRATES}

@@ -4,21 +4,21 @@ use Rattle.std.proofs.Common.{◌∙◌, append_assoc, arith}
 use Rattle.std.specs.List.{flat_map}
 use Rattle.std.proofs.lemmas.List.{length-append, append-nil}
 use Rattle.shard_state.specs.{SnapshotValue, CutValue, IsCut}
-use Rattle.checkpoint.specs.NumberBytes.{number_bytes}
+use Rattle.checkpoint.specs.Numbers.{number_bytes}
 use Rattle.checkpoint.specs.Saved.{SavedValue}
-use Rattle.checkpoint.specs.Body.{BodyKeysFit, IsSavedBody, IsBody, body_content_bytes, body_snapshot_bytes}
-use Rattle.checkpoint.specs.Body.{body_table_bytes}
-use Rattle.checkpoint.specs.Span.{body_span, table_span}
+use Rattle.checkpoint.specs.Body.{KeysFit, IsSaved, IsBody, content_bytes, snapshot_bytes}
+use Rattle.checkpoint.specs.Body.{table_bytes}
+use Rattle.checkpoint.specs.Lengths.{body_span, table_span}
 use Rattle.space_saving.specs.declared.entry.Entry.{Entry}
-use Rattle.checkpoint.specs.Spellings.{BeginsWithSpelling, ListFitsSpelling, SnapshotFitsSpelling, TableFitsSpelling}
+use Rattle.checkpoint.specs.Decoding.{BeginsWith, ListFits, SnapshotFits, TableFits}
 use Rattle.checkpoint.proofs.PartLengthLemmas.{part_length_is_at_most, part_length_of_table}
 use Rattle.checkpoint.proofs.PrefixFreeLemmas.{prefix_free_tables_fit}
 use Rattle.checkpoint.proofs.NumberBytesLemmas.{length-number_bytes}
 use Rattle.checkpoint.proofs.SpellingLemmas.{spellings_in_bytes_are_apart, spelling_front_is_same}
 
 -- the snapshots of a cut that may be saved
-pub body_parts_fit_shards : (shards capacity : ℕ) (saved : SavedValue) → IsSavedBody shards capacity saved
-    → ListFitsSpelling (SnapshotFitsSpelling capacity) shards saved.cut.shards
+pub body_parts_fit_shards : (shards capacity : ℕ) (saved : SavedValue) → IsSaved shards capacity saved
+    → ListFits (SnapshotFits capacity) shards saved.cut.shards
 body_parts_fit_shards shards capacity saved is = record {
   as_many = is.shape;
   each = λ k d within. record {
@@ -29,26 +29,26 @@ body_parts_fit_shards shards capacity saved is = record {
 }
 
 -- the spellings of those snapshots, with nothing after them
-pub body_part_spells_shards : (shards capacity : ℕ) (saved : SavedValue) → IsSavedBody shards capacity saved
-    → BeginsWithSpelling (flat_map body_snapshot_bytes) (ListFitsSpelling (SnapshotFitsSpelling capacity) shards)
-    (flat_map body_snapshot_bytes saved.cut.shards) saved.cut.shards []
+pub body_part_spells_shards : (shards capacity : ℕ) (saved : SavedValue) → IsSaved shards capacity saved
+    → BeginsWith (flat_map snapshot_bytes) (ListFits (SnapshotFits capacity) shards)
+    (flat_map snapshot_bytes saved.cut.shards) saved.cut.shards []
 body_part_spells_shards shards capacity saved is = record {
   fits = body_parts_fit_shards shards capacity saved is;
-  spelled = sym (append-nil (flat_map body_snapshot_bytes saved.cut.shards));
+  spelled = sym (append-nil (flat_map snapshot_bytes saved.cut.shards));
 }
 
 -- a body's bytes are at least 48
 pub body_parts_are_long : (shards capacity : ℕ) (saved : SavedValue) (bytes : List ℕ) → IsBody shards capacity saved bytes
-    → (48 ≤ length bytes) × (length bytes ≡ 8 + length (body_content_bytes saved))
+    → (48 ≤ length bytes) × (length bytes ≡ 8 + length (content_bytes saved))
 body_parts_are_long shards capacity saved bytes is =
-    let all = flat_map body_snapshot_bytes saved.cut.shards in
+    let all = flat_map snapshot_bytes saved.cut.shards in
     let sequence = number_bytes 8 saved.sequence in
-    let whole : length bytes ≡ 8 + length (body_content_bytes saved) =
+    let whole : length bytes ≡ 8 + length (content_bytes saved) =
     omega (
       arith,
       ap length is.spelled,
-      length-append (number_bytes 8 (8 + length (body_content_bytes saved))) (body_content_bytes saved),
-      length-number_bytes 8 (8 + length (body_content_bytes saved)),
+      length-append (number_bytes 8 (8 + length (content_bytes saved))) (content_bytes saved),
+      length-number_bytes 8 (8 + length (content_bytes saved)),
     ) in (
       omega (
         arith,
@@ -64,14 +64,14 @@ body_parts_are_long shards capacity saved bytes is =
 -- the length in front of a body
 pub record BodyFrontPart (saved : SavedValue) (count : ℕ) (bytes after : List ℕ) : Type 0 where
   pub count_is : count ≡ length bytes
-  pub after_is : after ≡ body_content_bytes saved
+  pub after_is : after ≡ content_bytes saved
 
 pub body_has_front_part : (shards capacity : ℕ) (saved : SavedValue) (bytes after : List ℕ) (count : ℕ) → length bytes < 2 ^ 64
     → count < 2 ^ 64 → bytes ≡ number_bytes 8 count ++ after → IsBody shards capacity saved bytes
     → BodyFrontPart saved count bytes after
 body_has_front_part shards capacity saved bytes after count small few is_count is =
     let long = body_parts_are_long shards capacity saved bytes is in
-    let first = spellings_in_bytes_are_apart 8 count (8 + length (body_content_bytes saved)) _ _ few (omega (arith, long.1, small))
+    let first = spellings_in_bytes_are_apart 8 count (8 + length (content_bytes saved)) _ _ few (omega (arith, long.1, small))
     (sym is_count ∙ is.spelled) in
     record { count_is = first.0 ∙ sym long.1; after_is = first.1 }
 
@@ -79,27 +79,27 @@ body_has_front_part shards capacity saved bytes after count small few is_count i
 pub record BodyHeadParts (shards capacity : ℕ) (saved : SavedValue) (sequence : ℕ) (digest rest : List ℕ) : Type 0 where
   pub sequence_is : sequence ≡ saved.sequence
   pub digest_is : digest ≡ saved.digest
-  pub shards_begin : BeginsWithSpelling (flat_map body_snapshot_bytes) (ListFitsSpelling (SnapshotFitsSpelling capacity) shards) rest saved.cut.shards []
+  pub shards_begin : BeginsWith (flat_map snapshot_bytes) (ListFits (SnapshotFits capacity) shards) rest saved.cut.shards []
 
 pub body_has_sequence_part : (shards capacity : ℕ) (saved : SavedValue) (after middle : List ℕ) (sequence : ℕ) → sequence < 2 ^ 64
-    → IsSavedBody shards capacity saved → after ≡ body_content_bytes saved → after ≡ number_bytes 8 sequence ++ middle
-    → (sequence ≡ saved.sequence) × (middle ≡ saved.digest ++ flat_map body_snapshot_bytes saved.cut.shards)
+    → IsSaved shards capacity saved → after ≡ content_bytes saved → after ≡ number_bytes 8 sequence ++ middle
+    → (sequence ≡ saved.sequence) × (middle ≡ saved.digest ++ flat_map snapshot_bytes saved.cut.shards)
 body_has_sequence_part shards capacity saved after middle sequence small is is_content is_sequence =
     spellings_in_bytes_are_apart 8 sequence saved.sequence _ _ small (omega (arith, is.early)) (sym is_sequence ∙ is_content)
 
 pub body_has_head_parts : (shards capacity : ℕ) (saved : SavedValue) (after middle rest digest : List ℕ) (sequence : ℕ) → sequence < 2 ^ 64
-    → IsSavedBody shards capacity saved → after ≡ body_content_bytes saved → after ≡ number_bytes 8 sequence ++ middle
+    → IsSaved shards capacity saved → after ≡ content_bytes saved → after ≡ number_bytes 8 sequence ++ middle
     → length digest ≡ 32 → middle ≡ digest ++ rest → BodyHeadParts shards capacity saved sequence digest rest
 body_has_head_parts shards capacity saved after middle rest digest sequence small is is_content is_sequence long is_digest =
     let first = body_has_sequence_part shards capacity saved after middle sequence small is is_content is_sequence in
-    let second = spelling_front_is_same digest saved.digest rest (flat_map body_snapshot_bytes saved.cut.shards) (long ∙ sym is.digest)
+    let second = spelling_front_is_same digest saved.digest rest (flat_map snapshot_bytes saved.cut.shards) (long ∙ sym is.digest)
     (sym is_digest ∙ first.1) in
     record {
       sequence_is = first.0;
       digest_is = second.0;
       shards_begin = record {
         fits = body_parts_fit_shards shards capacity saved is;
-        spelled = second.1 ∙ sym (append-nil (flat_map body_snapshot_bytes saved.cut.shards));
+        spelled = second.1 ∙ sym (append-nil (flat_map snapshot_bytes saved.cut.shards));
       };
     }
 
@@ -107,15 +107,15 @@ body_has_head_parts shards capacity saved after middle rest digest sequence smal
 pub body_is_read_from_parts : (shards capacity : ℕ) (bytes after middle rest digest : List ℕ) (count sequence : ℕ) (cut : CutValue)
     → bytes ≡ number_bytes 8 count ++ after → after ≡ number_bytes 8 sequence ++ middle → middle ≡ digest ++ rest
     → count ≡ length bytes → length digest ≡ 32 → 1 ≤ sequence → sequence ≤ 2 ^ 62 → IsCut cut → cut.capacity ≡ capacity
-    → BeginsWithSpelling (flat_map body_snapshot_bytes) (ListFitsSpelling (SnapshotFitsSpelling capacity) shards) rest cut.shards []
+    → BeginsWith (flat_map snapshot_bytes) (ListFits (SnapshotFits capacity) shards) rest cut.shards []
     → IsBody shards capacity (record { sequence = sequence; digest = digest; cut = cut }) bytes
 body_is_read_from_parts shards capacity bytes after middle rest digest count sequence cut is_count is_sequence is_digest whole long first last is_cut alike
     begins =
     let saved : SavedValue = record { sequence = sequence; digest = digest; cut = cut } in
-    let is_rest : rest ≡ flat_map body_snapshot_bytes cut.shards = begins.spelled ∙ append-nil (flat_map body_snapshot_bytes cut.shards) in
-    let content : after ≡ body_content_bytes saved =
+    let is_rest : rest ≡ flat_map snapshot_bytes cut.shards = begins.spelled ∙ append-nil (flat_map snapshot_bytes cut.shards) in
+    let content : after ≡ content_bytes saved =
     is_sequence ∙ ap (λ (l : List ℕ). number_bytes 8 sequence ++ l) (is_digest ∙ ap (λ (l : List ℕ). digest ++ l) is_rest) in
-    let counted : count ≡ 8 + length (body_content_bytes saved) =
+    let counted : count ≡ 8 + length (content_bytes saved) =
     whole ∙ omega (arith, ap length is_count, length-append (number_bytes 8 count) after, length-number_bytes 8 count, ap length content) in
     record {
       is_saved = record {
@@ -128,19 +128,19 @@ body_is_read_from_parts shards capacity bytes after middle rest digest count seq
         keys = λ k d within. (begins.fits.each k d within).keys;
       };
       spelled = is_count ∙ ap (λ (l : List ℕ). number_bytes 8 count ++ l) content
-          ∙ ap (λ (n : ℕ). number_bytes 8 n ++ body_content_bytes saved) counted;
+          ∙ ap (λ (n : ℕ). number_bytes 8 n ++ content_bytes saved) counted;
     }
 
 -- a body that was written
 pub body_is_made_from_parts : (sequence : ℕ) (digest : List ℕ) (cut : CutValue) (count : ℕ) (first second third last : List ℕ)
-    → 1 ≤ sequence → sequence ≤ 2 ^ 62 → length digest ≡ 32 → IsCut cut → count ≡ 48 + length (flat_map body_snapshot_bytes cut.shards)
+    → 1 ≤ sequence → sequence ≤ 2 ^ 62 → length digest ≡ 32 → IsCut cut → count ≡ 48 + length (flat_map snapshot_bytes cut.shards)
     → first ≡ number_bytes 8 count → second ≡ first ++ number_bytes 8 sequence → third ≡ second ++ digest
-    → last ≡ third ++ flat_map body_snapshot_bytes cut.shards → All BodyKeysFit cut.shards
+    → last ≡ third ++ flat_map snapshot_bytes cut.shards → All KeysFit cut.shards
     → IsBody (length cut.shards) cut.capacity (record { sequence = sequence; digest = digest; cut = cut }) last
 body_is_made_from_parts sequence digest cut count first second third last least most long is_cut counted is_first is_second is_third is_last keys =
     let saved : SavedValue = record { sequence = sequence; digest = digest; cut = cut } in
-    let all = flat_map body_snapshot_bytes cut.shards in
-    let lengths : count ≡ 8 + length (body_content_bytes saved) =
+    let all = flat_map snapshot_bytes cut.shards in
+    let lengths : count ≡ 8 + length (content_bytes saved) =
     omega (
       arith,
       counted,
@@ -149,7 +149,7 @@ body_is_made_from_parts sequence digest cut count first second third last least 
       length-number_bytes 8 sequence,
       long,
     ) in
-    let grouped : ((number_bytes 8 count ++ number_bytes 8 sequence) ++ digest) ++ all ≡ number_bytes 8 count ++ body_content_bytes saved =
+    let grouped : ((number_bytes 8 count ++ number_bytes 8 sequence) ++ digest) ++ all ≡ number_bytes 8 count ++ content_bytes saved =
     append_assoc (number_bytes 8 count ++ number_bytes 8 sequence) digest all
     ∙ append_assoc (number_bytes 8 count) (number_bytes 8 sequence) (digest ++ all) in
     record {
@@ -164,25 +164,25 @@ body_is_made_from_parts sequence digest cut count first second third last least 
       };
       spelled = is_last ∙ ap (λ (l : List ℕ). l ++ all) is_third ∙ ap (λ (l : List ℕ). (l ++ digest) ++ all) is_second
           ∙ ap (λ (l : List ℕ). ((l ++ number_bytes 8 sequence) ++ digest) ++ all) is_first ∙ grouped
-          ∙ ap (λ (n : ℕ). number_bytes 8 n ++ body_content_bytes saved) lengths;
+          ∙ ap (λ (n : ℕ). number_bytes 8 n ++ content_bytes saved) lengths;
     }
 
 -- a table of a capacity has at most as many bytes as its span
-body_part_of_table_fits : (capacity : ℕ) (entries : List Entry) → TableFitsSpelling capacity entries
-    → length (body_table_bytes entries) ≤ table_span capacity
+body_part_of_table_fits : (capacity : ℕ) (entries : List Entry) → TableFits capacity entries
+    → length (table_bytes entries) ≤ table_span capacity
 body_part_of_table_fits capacity entries fits = omega (arith, part_length_of_table entries, fits.are_entries.is_table.fits)
 
 -- a snapshot of a capacity has at most this many bytes
-body_part_of_shard_fits : (capacity : ℕ) (snapshot : SnapshotValue) → SnapshotFitsSpelling capacity snapshot
-    → length (body_snapshot_bytes snapshot) ≤ 8 + 25 * table_span capacity
+body_part_of_shard_fits : (capacity : ℕ) (snapshot : SnapshotValue) → SnapshotFits capacity snapshot
+    → length (snapshot_bytes snapshot) ≤ 8 + 25 * table_span capacity
 body_part_of_shard_fits capacity snapshot fits =
     let each = prefix_free_tables_fit capacity snapshot fits in
     omega (
       arith,
-      length-append (number_bytes 8 snapshot.position) (flat_map body_table_bytes snapshot.tables),
+      length-append (number_bytes 8 snapshot.position) (flat_map table_bytes snapshot.tables),
       length-number_bytes 8 snapshot.position,
       ap (λ (n : ℕ). n * table_span capacity) fits.is_snapshot.shape,
-      part_length_is_at_most body_table_bytes (table_span capacity) snapshot.tables
+      part_length_is_at_most table_bytes (table_span capacity) snapshot.tables
           (λ k d within. body_part_of_table_fits capacity _ (each k d within)),
     )
 
@@ -191,10 +191,10 @@ pub body_parts_fit_span : (shards capacity : ℕ) (saved : SavedValue) (bytes : 
     → length bytes ≤ body_span shards capacity
 body_parts_fit_span shards capacity saved bytes is =
     let fits = body_parts_fit_shards shards capacity saved is.is_saved in
-    let all = flat_map body_snapshot_bytes saved.cut.shards in
+    let all = flat_map snapshot_bytes saved.cut.shards in
     let sequence = number_bytes 8 saved.sequence in
     let long = body_parts_are_long shards capacity saved bytes is in
-    let content : length (body_content_bytes saved) ≡ 40 + length all =
+    let content : length (content_bytes saved) ≡ 40 + length all =
     omega (
       arith,
       length-append sequence (saved.digest ++ all),
@@ -203,7 +203,7 @@ body_parts_fit_span shards capacity saved bytes is =
       is.is_saved.digest,
     ) in
     let few : length all ≤ length saved.cut.shards * (8 + 25 * table_span capacity) =
-    part_length_is_at_most body_snapshot_bytes (8 + 25 * table_span capacity) saved.cut.shards
+    part_length_is_at_most snapshot_bytes (8 + 25 * table_span capacity) saved.cut.shards
     (λ k d within. body_part_of_shard_fits capacity _ (fits.each k d within)) in
     let counted : length saved.cut.shards * (8 + 25 * table_span capacity) ≡ shards * (8 + 25 * table_span capacity) =
     ap (λ (n : ℕ). n * (8 + 25 * table_span capacity)) fits.as_many in

@@ -5,18 +5,18 @@ use Rattle.prefix_lattice.specs.{RecordValue}
 use Rattle.frame_records.specs.declared.weigh.Weigh.TheVariants.{Bytes, Packets}
 use Rattle.deal_rules.specs.declared.deal_kind.DealKind.TheVariants.{RoundRobin, Free}
 use Rattle.space_saving.specs.declared.entry.Entry.{Entry}
-use Rattle.shard_state.specs.{empty_snapshot, no_snapshot_entries}
+use Rattle.shard_state.specs.{empty_snapshot, no_entries}
 use Rattle.checkpoint.specs.declared.settings.StoreSettings.{StoreSettings}
-use Rattle.checkpoint.specs.NumberBytes.{number_bytes}
-use Rattle.checkpoint.specs.HeaderSettings.{AreHeaderSettings, header_of_settings}
-use Rattle.checkpoint.specs.Span.{span_of_settings, table_span}
+use Rattle.checkpoint.specs.Numbers.{number_bytes}
+use Rattle.checkpoint.specs.Header.{AreSettings, settings_header}
+use Rattle.checkpoint.specs.Lengths.{span_of, table_span}
 use Rattle.checkpoint.specs.Saved.{SavedValue}
-use Rattle.checkpoint.specs.Body.{IsSavedBody, IsBody, BodyKeysFit, HasShortBodyKeys, body_entry_bytes}
-use Rattle.checkpoint.specs.Body.{body_table_bytes}
-use Rattle.checkpoint.specs.Body.{body_bytes, greatest_body_sequence}
-use Rattle.checkpoint.specs.Digest.{digested_list_bytes, digested_bytes}
-use Rattle.checkpoint.specs.Spellings.{BeginsWithSpelling, BeginsWithNoSpelling, ListFitsSpelling, EntryFitsSpelling}
-use Rattle.checkpoint.specs.Spellings.{TableFitsSpelling, SnapshotFitsSpelling}
+use Rattle.checkpoint.specs.Body.{IsSaved, IsBody, KeysFit, HasShortKeys, entry_bytes}
+use Rattle.checkpoint.specs.Body.{table_bytes}
+use Rattle.checkpoint.specs.Body.{body_bytes, greatest_sequence}
+use Rattle.checkpoint.specs.Digest.{list_bytes, digested}
+use Rattle.checkpoint.specs.Decoding.{BeginsWith, BeginsWithNone, ListFits, EntryFits}
+use Rattle.checkpoint.specs.Decoding.{TableFits, SnapshotFits}
 use Rattle.checkpoint.proofs.PartLengthLemmas.{part_length_of_entry}
 
 -- one shard with tables of 512 entries, by bytes, dealt in turn
@@ -30,36 +30,36 @@ pub high_byte_comes_first : number_bytes 4 258 ≡ 0 ∷ 0 ∷ 1 ∷ 2 ∷ []
 unfolding number_bytes
 high_byte_comes_first = refl
 
-pub letters_are_HHHS : take 4 (header_of_settings (settings 16 4096)) ≡ 0x48 ∷ 0x48 ∷ 0x48 ∷ 0x53 ∷ []
+pub letters_are_HHHS : take 4 (settings_header (settings 16 4096)) ≡ 0x48 ∷ 0x48 ∷ 0x48 ∷ 0x53 ∷ []
 letters_are_HHHS = refl
 
 -- the version, the shards, the capacity, the weighing and the dealing
-pub header_names_the_settings : take 6 (drop 4 (header_of_settings (settings 16 4096))) ≡ 1 ∷ 16 ∷ 0x10 ∷ 0 ∷ 1 ∷ 2 ∷ []
+pub header_names_the_settings : take 6 (drop 4 (settings_header (settings 16 4096))) ≡ 1 ∷ 16 ∷ 0x10 ∷ 0 ∷ 1 ∷ 2 ∷ []
 header_names_the_settings = refl
 
-pub header_has_62_bytes : length (header_of_settings (settings 16 4096)) ≡ 62
+pub header_has_62_bytes : length (settings_header (settings 16 4096)) ≡ 62
 header_has_62_bytes = refl
 
-pub settings_have_at_most_16_shards : AreHeaderSettings (settings 17 512) → ⊥
+pub settings_have_at_most_16_shards : AreSettings (settings 17 512) → ⊥
 settings_have_at_most_16_shards are = omega (arith, are.few)
 
-pub span_of_the_smallest_store : span_of_settings (settings 1 2) ≡ 1556
+pub span_of_the_smallest_store : span_of (settings 1 2) ≡ 1556
 span_of_the_smallest_store = refl
 
-pub span_of_the_greatest_store : span_of_settings (settings 16 4096) ≡ 39326576
+pub span_of_the_greatest_store : span_of (settings 16 4096) ≡ 39326576
 span_of_the_greatest_store = refl
 
 -- an entry of key 5, count 7 and error 3
 abbrev entry : Entry
 entry = record { key = 5; count = 7; error = 3 }
 
-pub entry_has_24_bytes : body_entry_bytes entry
+pub entry_has_24_bytes : entry_bytes entry
     ≡ 0 ∷ 0 ∷ 0 ∷ 0 ∷ 0 ∷ 0 ∷ 0 ∷ 5 ∷ 0 ∷ 0 ∷ 0 ∷ 0 ∷ 0 ∷ 0 ∷ 0 ∷ 7 ∷ 0 ∷ 0 ∷ 0 ∷ 0 ∷ 0 ∷ 0 ∷ 0 ∷ 3 ∷ []
 unfolding number_bytes
 entry_has_24_bytes = refl
 
 -- the total and the number of entries
-pub table_begins_with_its_total : take 12 (body_table_bytes (entry ∷ [])) ≡ 0 ∷ 0 ∷ 0 ∷ 0 ∷ 0 ∷ 0 ∷ 0 ∷ 7 ∷ 0 ∷ 0 ∷ 0 ∷ 1 ∷ []
+pub table_begins_with_its_total : take 12 (table_bytes (entry ∷ [])) ≡ 0 ∷ 0 ∷ 0 ∷ 0 ∷ 0 ∷ 0 ∷ 0 ∷ 7 ∷ 0 ∷ 0 ∷ 0 ∷ 1 ∷ []
 unfolding number_bytes
 table_begins_with_its_total = refl
 
@@ -73,24 +73,24 @@ nothing_yet sequence digest = record {
 
 -- 48 bytes, 8 for the position, and 12 for each of 25 tables: 356
 pub length_counts_its_own_bytes : take 8 (body_bytes (nothing_yet 1 (number_bytes 32 0))) ≡ 0 ∷ 0 ∷ 0 ∷ 0 ∷ 0 ∷ 0 ∷ 1 ∷ 100 ∷ []
-unfolding number_bytes no_snapshot_entries
+unfolding number_bytes no_entries
 length_counts_its_own_bytes = refl
 
 pub body_has_as_many_bytes : length (body_bytes (nothing_yet 1 (number_bytes 32 0))) ≡ 356
-unfolding number_bytes no_snapshot_entries
+unfolding number_bytes no_entries
 body_has_as_many_bytes = refl
 
-pub sequence_0_is_not_saved : (digest : List ℕ) → IsSavedBody 1 2 (nothing_yet 0 digest) → ⊥
+pub sequence_0_is_not_saved : (digest : List ℕ) → IsSaved 1 2 (nothing_yet 0 digest) → ⊥
 sequence_0_is_not_saved digest is = omega (arith, is.sequenced)
 
-pub sequence_above_the_last_is_not_saved : (digest : List ℕ) → IsSavedBody 1 2 (nothing_yet (greatest_body_sequence + 1) digest) → ⊥
+pub sequence_above_the_last_is_not_saved : (digest : List ℕ) → IsSaved 1 2 (nothing_yet (greatest_sequence + 1) digest) → ⊥
 sequence_above_the_last_is_not_saved digest is = omega (arith, is.early)
 
-pub digest_of_31_bytes_is_not_saved : IsSavedBody 1 2 (nothing_yet 1 (number_bytes 31 0)) → ⊥
+pub digest_of_31_bytes_is_not_saved : IsSaved 1 2 (nothing_yet 1 (number_bytes 31 0)) → ⊥
 unfolding number_bytes
 digest_of_31_bytes_is_not_saved is = omega (arith, is.digest)
 
-pub cut_of_another_capacity_is_not_saved : (digest : List ℕ) → IsSavedBody 1 4 (nothing_yet 1 digest) → ⊥
+pub cut_of_another_capacity_is_not_saved : (digest : List ℕ) → IsSaved 1 4 (nothing_yet 1 digest) → ⊥
 cut_of_another_capacity_is_not_saved digest is = omega (arith, is.alike)
 
 pub cut_of_one_shard_is_no_body_of_two : (digest bytes : List ℕ) → IsBody 2 2 (nothing_yet 1 digest) bytes → ⊥
@@ -100,45 +100,45 @@ cut_of_one_shard_is_no_body_of_two digest bytes is = omega (arith, is.is_saved.s
 abbrev packet : RecordValue
 packet = record { src = 0x0a010203; dst = 0x14010203; weight = 100 }
 
-pub list_begins_with_its_length : digested_list_bytes (packet ∷ [])
+pub list_begins_with_its_length : list_bytes (packet ∷ [])
     ≡ 0 ∷ 0 ∷ 0 ∷ 1 ∷ 10 ∷ 1 ∷ 2 ∷ 3 ∷ 20 ∷ 1 ∷ 2 ∷ 3 ∷ 0 ∷ 0 ∷ 0 ∷ 100 ∷ []
 unfolding number_bytes
 list_begins_with_its_length = refl
 
-pub digest_is_of_the_header_and_the_lists : drop 62 (digested_bytes one_shard ((packet ∷ []) ∷ [])) ≡ digested_list_bytes (packet ∷ [])
+pub digest_is_of_the_header_and_the_lists : drop 62 (digested one_shard ((packet ∷ []) ∷ [])) ≡ list_bytes (packet ∷ [])
 unfolding number_bytes
 digest_is_of_the_header_and_the_lists = refl
 
 -- lists of other shards are another text
-pub lists_are_not_joined : take 4 (drop 62 (digested_bytes (settings 2 4) ([] ∷ (packet ∷ []) ∷ []))) ≡ 0 ∷ 0 ∷ 0 ∷ 0 ∷ []
+pub lists_are_not_joined : take 4 (drop 62 (digested (settings 2 4) ([] ∷ (packet ∷ []) ∷ []))) ≡ 0 ∷ 0 ∷ 0 ∷ 0 ∷ []
 unfolding number_bytes
 lists_are_not_joined = refl
 
 -- a key of 2^64 has no 8 bytes
-pub keys_fit_8_bytes : HasShortBodyKeys (record { key = 18446744073709551616; count = 7; error = 3 } ∷ []) → ⊥
+pub keys_fit_8_bytes : HasShortKeys (record { key = 18446744073709551616; count = 7; error = 3 } ∷ []) → ⊥
 keys_fit_8_bytes fit = let short = fit 0 entry (omega arith) in omega (arith, short)
 
-pub keys_of_no_table_fit : BodyKeysFit (record { capacity = 2; position = 0; tables = [] })
+pub keys_of_no_table_fit : KeysFit (record { capacity = 2; position = 0; tables = [] })
 keys_of_no_table_fit k d within = absurd (omega (arith, within))
 
 pub table_of_512_entries_has_12300_bytes : table_span 512 ≡ 12300
 table_of_512_entries_has_12300_bytes = refl
 
-pub entry_fits : EntryFitsSpelling entry
+pub entry_fits : EntryFits entry
 entry_fits = record { key = omega arith; count = omega arith; error = omega arith }
 
 -- the bytes of an entry, and a byte 9 after them
-pub bytes_begin_with_an_entry : BeginsWithSpelling body_entry_bytes EntryFitsSpelling (body_entry_bytes entry ++ 9 ∷ []) entry (9 ∷ [])
+pub bytes_begin_with_an_entry : BeginsWith entry_bytes EntryFits (entry_bytes entry ++ 9 ∷ []) entry (9 ∷ [])
 bytes_begin_with_an_entry = record { fits = entry_fits; spelled = refl }
 
-pub two_bytes_begin_with_no_entry : BeginsWithNoSpelling body_entry_bytes EntryFitsSpelling (0 ∷ 5 ∷ [])
+pub two_bytes_begin_with_no_entry : BeginsWithNone entry_bytes EntryFits (0 ∷ 5 ∷ [])
 two_bytes_begin_with_no_entry value rest begins =
-    omega (arith, ap length begins.spelled, length-append (body_entry_bytes value) rest, part_length_of_entry value)
+    omega (arith, ap length begins.spelled, length-append (entry_bytes value) rest, part_length_of_entry value)
 
-pub no_entry_is_none : ListFitsSpelling EntryFitsSpelling 0 []
+pub no_entry_is_none : ListFits EntryFits 0 []
 no_entry_is_none = record { as_many = refl; each = λ k d within. absurd (omega (arith, within)) }
 
-pub empty_table_fits : TableFitsSpelling 2 []
+pub empty_table_fits : TableFits 2 []
 empty_table_fits = record {
   are_entries = record {
     is_table = record { fits = omega arith; ascending = tt; distinct = tt; small_errors = λ k d within. absurd (omega (arith, within)) };
@@ -147,5 +147,5 @@ empty_table_fits = record {
   keys = λ k d within. absurd (omega (arith, within));
 }
 
-pub snapshot_of_another_capacity_does_not_fit : SnapshotFitsSpelling 4 (empty_snapshot 2) → ⊥
+pub snapshot_of_another_capacity_does_not_fit : SnapshotFits 4 (empty_snapshot 2) → ⊥
 snapshot_of_another_capacity_does_not_fit fits = omega (arith, fits.capacity_is)

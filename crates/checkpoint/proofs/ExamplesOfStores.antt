@@ -4,17 +4,17 @@ use Rattle.std.specs.Prelude.{slice_index}
 use Rattle.prefix_lattice.specs.{RecordValue}
 use Rattle.frame_records.specs.declared.weigh.Weigh.TheVariants.{Bytes}
 use Rattle.deal_rules.specs.declared.deal_kind.DealKind.TheVariants.{RoundRobin}
-use Rattle.shard_state.specs.{CutValue, empty_snapshot, no_snapshot_entries}
+use Rattle.shard_state.specs.{CutValue, empty_snapshot, no_entries}
 use Rattle.slot_disk.specs.{known_slots_of}
 use Rattle.checkpoint.specs.declared.settings.StoreSettings.{StoreSettings}
-use Rattle.checkpoint.specs.HeaderSettings.{header_of_settings}
+use Rattle.checkpoint.specs.Header.{settings_header}
 use Rattle.checkpoint.specs.Saved.{SavedValue}
-use Rattle.checkpoint.specs.Store.{StoreSlotHolds, StoreHolds, IsSoundStore, newest_in_store, newest_slot_in_store}
-use Rattle.checkpoint.specs.Store.{IsNotNewestInStore, StoreOpensTo}
-use Rattle.checkpoint.specs.Store.{store_positions, store_sequence, IsStoreOfLists, StoreBelongs, StoresOpenToSame}
-use Rattle.checkpoint.specs.Store.{StoreOpensAsOldOrNew}
-use Rattle.checkpoint.specs.Saver.{SaverState, IsNewestForSaver, saver_of, IsKnownToSaver, DiskMatchesSaver}
-use Rattle.checkpoint.specs.Saver.{saver_after_save, next_saved}
+use Rattle.checkpoint.specs.Store.{SlotHolds, StoreHolds, IsSoundStore, newest_in, newest_slot_in}
+use Rattle.checkpoint.specs.Store.{IsNotNewest, StoreOpensTo}
+use Rattle.checkpoint.specs.Store.{store_positions, store_sequence, IsStoreOf, StoreBelongs, OpenToSame}
+use Rattle.checkpoint.specs.Store.{OpensOldOrNew}
+use Rattle.checkpoint.specs.Saver.{SaverState, IsNewestSave, saver_of, IsKnownSaver, DiskMatches}
+use Rattle.checkpoint.specs.Saver.{saver_after, next_saved}
 
 -- this many shards with tables of two entries
 abbrev settings : ℕ → StoreSettings
@@ -22,19 +22,19 @@ settings shards = record { shards = shards; capacity = 2; weigh = Bytes; deal = 
 
 -- a store of one shard with these gates and no body
 abbrev store : ℕ → ℕ → List ℕ
-store first second = first ∷ second ∷ header_of_settings (settings 1)
+store first second = first ∷ second ∷ settings_header (settings 1)
 
 -- a cut of no record, and one of no record at position 9, which no test here looks into
 abbrev cut : CutValue
 cut = record { capacity = 2; shards = empty_snapshot 2 ∷ [] }
 
 abbrev later_cut : CutValue
-later_cut = record { capacity = 2; shards = record { capacity = 2; position = 9; tables = no_snapshot_entries } ∷ [] }
+later_cut = record { capacity = 2; shards = record { capacity = 2; position = 9; tables = no_entries } ∷ [] }
 
 abbrev saved : ℕ → SavedValue
 saved sequence = record { sequence = sequence; digest = []; cut = cut }
 
-pub closed_slot_holds_nothing : StoreSlotHolds (settings 1) 1 (store 0 0) None
+pub closed_slot_holds_nothing : SlotHolds (settings 1) 1 (store 0 0) None
 closed_slot_holds_nothing = refl
 
 pub formatted_store_holds_nothing : StoreHolds (settings 1) (store 0 0) None None
@@ -48,26 +48,26 @@ pub store_of_one_shard_is_none_of_two : IsSoundStore (settings 2) (store 0 0) �
 store_of_one_shard_is_none_of_two sound =
     let shards : 1 ≡ 2 = ap (λ (l : List ℕ). slice_index l 5) sound.2.header in omega (arith, shards)
 
-pub greater_sequence_is_newest : newest_in_store (Some (saved 1)) (Some (saved 2)) ≡ Some (saved 2)
+pub greater_sequence_is_newest : newest_in (Some (saved 1)) (Some (saved 2)) ≡ Some (saved 2)
 greater_sequence_is_newest = refl
 
-pub first_is_newest_of_equals : newest_in_store (Some (saved 2)) (Some (saved 2)) ≡ Some (saved 2)
+pub first_is_newest_of_equals : newest_in (Some (saved 2)) (Some (saved 2)) ≡ Some (saved 2)
 first_is_newest_of_equals = refl
 
-pub first_slot_is_newest_of_equals : newest_slot_in_store (Some (saved 2)) (Some (saved 2)) ≡ 0
+pub first_slot_is_newest_of_equals : newest_slot_in (Some (saved 2)) (Some (saved 2)) ≡ 0
 first_slot_is_newest_of_equals = refl
 
-pub second_slot_is_newest : newest_slot_in_store (Some (saved 1)) (Some (saved 2)) ≡ 1
+pub second_slot_is_newest : newest_slot_in (Some (saved 1)) (Some (saved 2)) ≡ 1
 second_slot_is_newest = refl
 
 -- so the first save goes to slot 0, and the second to slot 1
-pub first_save_may_go_to_slot_0 : IsNotNewestInStore 0 None None
+pub first_save_may_go_to_slot_0 : IsNotNewest 0 None None
 first_save_may_go_to_slot_0 = inl refl
 
-pub second_save_may_go_to_slot_1 : IsNotNewestInStore 1 (Some (saved 1)) None
+pub second_save_may_go_to_slot_1 : IsNotNewest 1 (Some (saved 1)) None
 second_save_may_go_to_slot_1 = inl refl
 
-pub newest_may_not_be_written : IsNotNewestInStore 0 (Some (saved 1)) None → ⊥
+pub newest_may_not_be_written : IsNotNewest 0 (Some (saved 1)) None → ⊥
 newest_may_not_be_written (inl same) = cc same
 newest_may_not_be_written (inr none) = cc none
 
@@ -83,25 +83,25 @@ cut_opens_at_its_positions = refl
 pub no_sequence_is_0 : store_sequence None ≡ 0
 no_sequence_is_0 = refl
 
-pub nothing_is_of_any_lists : (lists : List (List RecordValue)) → IsStoreOfLists (settings 1) lists None
+pub nothing_is_of_any_lists : (lists : List (List RecordValue)) → IsStoreOf (settings 1) lists None
 nothing_is_of_any_lists lists = tt
 
 pub formatted_store_belongs : (lists : List (List RecordValue)) → StoreBelongs (settings 1) lists (store 0 0)
 formatted_store_belongs lists = (None, formatted_store_opens_to_nothing, tt)
 
 -- a gate that a crash left as 255 is closed
-pub torn_gate_opens_alike : StoresOpenToSame (settings 1) (store 0 0) (store 255 0)
+pub torn_gate_opens_alike : OpenToSame (settings 1) (store 0 0) (store 255 0)
 torn_gate_opens_alike = (
   None,
   formatted_store_opens_to_nothing,
   (None, None, record { long = omega arith; header = refl; first_slot = refl; second_slot = refl }, refl),
 )
 
-pub torn_gate_leaves_the_old : StoreOpensAsOldOrNew (settings 1) (store 0 0) (saved 1) (store 255 0)
+pub torn_gate_leaves_the_old : OpensOldOrNew (settings 1) (store 0 0) (saved 1) (store 255 0)
 torn_gate_leaves_the_old = inl torn_gate_opens_alike
 
 -- the saver of that store, before its first save and after it
-pub no_gate_is_open : IsNewestForSaver (settings 1) (known_slots_of (store 0 0)) None
+pub no_gate_is_open : IsNewestSave (settings 1) (known_slots_of (store 0 0)) None
 no_gate_is_open = (refl, refl)
 
 abbrev saver : SaverState
@@ -110,7 +110,7 @@ saver = saver_of (known_slots_of (store 0 0)) (settings 1) [] None
 pub saver_begins_at_0 : saver.positions ≡ 0 ∷ []
 saver_begins_at_0 = refl
 
-pub saver_knows_the_store : IsKnownToSaver saver (store 0 0)
+pub saver_knows_the_store : IsKnownSaver saver (store 0 0)
 saver_knows_the_store = record {
   slots_are = refl;
   first = None;
@@ -121,16 +121,16 @@ saver_knows_the_store = record {
   positions_are = refl;
 }
 
-pub disk_stands_for_the_saver : DiskMatchesSaver (Some (store 0 0)) (λ image. image ≡ store 0 0) saver
+pub disk_stands_for_the_saver : DiskMatches (Some (store 0 0)) (λ image. image ≡ store 0 0) saver
 disk_stands_for_the_saver bytes is =
     let same : store 0 0 ≡ bytes = cc is in
-    record { is_known = subst (IsKnownToSaver saver) same saver_knows_the_store; only = λ image was. was ∙ same }
+    record { is_known = subst (IsKnownSaver saver) same saver_knows_the_store; only = λ image was. was ∙ same }
 
 pub first_save_has_sequence_1 : (next_saved saver cut).sequence ≡ 1
 first_save_has_sequence_1 = refl
 
-pub first_save_opens_gate_0 : (saver_after_save saver later_cut).slots ≡ known_slots_of (store 1 0)
+pub first_save_opens_gate_0 : (saver_after saver later_cut).slots ≡ known_slots_of (store 1 0)
 first_save_opens_gate_0 = refl
 
-pub saver_goes_on_at_the_cut : (saver_after_save saver later_cut).positions ≡ 9 ∷ []
+pub saver_goes_on_at_the_cut : (saver_after saver later_cut).positions ≡ 9 ∷ []
 saver_goes_on_at_the_cut = refl

@@ -8,16 +8,16 @@ use Rattle.frame_records.specs.declared.weigh.Weigh.TheVariants.{Bytes, Packets}
 use Rattle.deal_rules.specs.declared.deal_kind.DealKind.{DealKind}
 use Rattle.deal_rules.specs.declared.deal_kind.DealKind.TheVariants.{RoundRobin, BySource, Free}
 use Rattle.checkpoint.specs.declared.settings.StoreSettings.{StoreSettings}
-use Rattle.checkpoint.specs.HeaderSettings.{header_of_settings, header_weighing_byte, header_dealing_byte, header_zeros}
-use Rattle.checkpoint.specs.Store.{StoreHeadersSpellOneThing}
+use Rattle.checkpoint.specs.Header.{settings_header, weighing_byte, dealing_byte, zeros}
+use Rattle.checkpoint.specs.Store.{HeadersAreOne}
 
-header_weighing_is_same : (weigh other : Weigh) → header_weighing_byte weigh ≡ header_weighing_byte other → weigh ≡ other
+header_weighing_is_same : (weigh other : Weigh) → weighing_byte weigh ≡ weighing_byte other → weigh ≡ other
 header_weighing_is_same Bytes Bytes same = refl
 header_weighing_is_same Bytes Packets same = absurd (omega (arith, same))
 header_weighing_is_same Packets Bytes same = absurd (omega (arith, same))
 header_weighing_is_same Packets Packets same = refl
 
-header_deal_kind_is_same : (deal other : DealKind) → header_dealing_byte deal ≡ header_dealing_byte other → deal ≡ other
+header_deal_kind_is_same : (deal other : DealKind) → dealing_byte deal ≡ dealing_byte other → deal ≡ other
 header_deal_kind_is_same RoundRobin RoundRobin same = refl
 header_deal_kind_is_same RoundRobin BySource same = absurd (omega (arith, same))
 header_deal_kind_is_same RoundRobin Free same = absurd (omega (arith, same))
@@ -40,11 +40,11 @@ header_settings_are_same settings others shards capacity weigh deal =
 
 -- what follows the capacity in a header
 abbrev header_after_capacity : StoreSettings → List ℕ
-header_after_capacity settings = header_weighing_byte settings.weigh ∷ header_dealing_byte settings.deal ∷ replicate header_zeros 0
+header_after_capacity settings = weighing_byte settings.weigh ∷ dealing_byte settings.deal ∷ replicate zeros 0
 
-pub headers_spell_one : StoreHeadersSpellOneThing
+pub headers_spell_one : HeadersAreOne
 headers_spell_one settings others are are_others same =
-    let byte : (place : ℕ) → slice_index (header_of_settings settings) place ≡ slice_index (header_of_settings others) place =
+    let byte : (place : ℕ) → slice_index (settings_header settings) place ≡ slice_index (settings_header others) place =
     λ place. ap (λ (l : List ℕ). slice_index l place) same in
     let capacity : settings.capacity ≡ others.capacity =
     sym (big_number-reads_back 2 settings.capacity (header_after_capacity settings) (omega (arith, are.most)))

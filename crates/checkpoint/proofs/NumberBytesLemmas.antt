@@ -6,7 +6,7 @@ use Rattle.std.proofs.lemmas.List.{take-append-drop, length-take, get_or-take, g
 use Rattle.std.proofs.lemmas.Nat.{be_bytes_4, be_bytes_8}
 use Rattle.byteorder.specs.Endian.{big_from}
 use Rattle.byteorder.specs.Numbers.{length-bytes_high_first}
-use Rattle.checkpoint.specs.NumberBytes.{number_bytes}
+use Rattle.checkpoint.specs.Numbers.{number_bytes}
 
 -- a list of numbers below 256
 abbrev pub AreNumberBytes : List ℕ → Type 0

@@ -4,13 +4,13 @@ use Rattle.std.proofs.Common.{append_assoc, arith}
 use Rattle.std.proofs.Math.Nat.{mul-le-mul_right}
 use Rattle.shard_state.specs.{CutValue, SnapshotValue}
 use Rattle.checkpoint.specs.declared.settings.StoreSettings.{StoreSettings}
-use Rattle.checkpoint.specs.NumberBytes.{number_bytes}
-use Rattle.checkpoint.specs.HeaderSettings.{AreHeaderSettings}
-use Rattle.checkpoint.specs.Span.{body_span, table_span}
+use Rattle.checkpoint.specs.Numbers.{number_bytes}
+use Rattle.checkpoint.specs.Header.{AreSettings}
+use Rattle.checkpoint.specs.Lengths.{body_span, table_span}
 use Rattle.checkpoint.specs.Saved.{SavedValue}
-use Rattle.checkpoint.specs.Body.{IsBody, body_content_bytes, body_snapshot_bytes}
-use Rattle.checkpoint.specs.Body.{BodiesAreApart, BodiesSpellOneThing}
-use Rattle.checkpoint.specs.Spellings.{SnapshotFitsSpelling}
+use Rattle.checkpoint.specs.Body.{IsBody, content_bytes, snapshot_bytes}
+use Rattle.checkpoint.specs.Body.{AreApart, SpellOneThing}
+use Rattle.checkpoint.specs.Decoding.{SnapshotFits}
 use Rattle.checkpoint.proofs.BodyPartLemmas.{body_parts_fit_span, body_parts_are_long, body_has_head_parts}
 use Rattle.checkpoint.proofs.BodyPartLemmas.{body_has_front_part, body_part_spells_shards}
 use Rattle.checkpoint.proofs.PrefixFreeLemmas.{snapshots_are_prefix_free}
@@ -18,30 +18,30 @@ use Rattle.checkpoint.proofs.ReadListLemmas.{read_list_is_same}
 use Rattle.checkpoint.proofs.SpellingLemmas.{spellings_in_bytes_are_apart, spelling_front_is_same}
 
 -- each span is below 2^32
-one_body_span_is_small : (settings : StoreSettings) → AreHeaderSettings settings → body_span settings.shards settings.capacity < 2 ^ 32
+one_body_span_is_small : (settings : StoreSettings) → AreSettings settings → body_span settings.shards settings.capacity < 2 ^ 32
 one_body_span_is_small settings are =
     let most : settings.shards * (8 + 25 * table_span settings.capacity) ≤ 16 * (8 + 25 * table_span settings.capacity) =
     mul-le-mul_right (8 + 25 * table_span settings.capacity) are.few in
     omega (arith, most, are.most)
 
 -- a body's length is a small number
-pub one_body_is_short : (settings : StoreSettings) (saved : SavedValue) (body : List ℕ) → AreHeaderSettings settings
+pub one_body_is_short : (settings : StoreSettings) (saved : SavedValue) (body : List ℕ) → AreSettings settings
     → IsBody settings.shards settings.capacity saved body → length body < 2 ^ 32
 one_body_is_short settings saved body are is =
     omega (arith, body_parts_fit_span settings.shards settings.capacity saved body is, one_body_span_is_small settings are)
 
-pub one_body_in_same_bytes : BodiesAreApart
+pub one_body_in_same_bytes : AreApart
 one_body_in_same_bytes settings others saved other body second rest after are are_others is is_second same =
     let long = body_parts_are_long settings.shards settings.capacity saved body is in
     let long_second = body_parts_are_long others.shards others.capacity other second is_second in
     let short = one_body_is_short settings saved body are is in
     let short_second = one_body_is_short others other second are_others is_second in
-    let count = 8 + length (body_content_bytes saved) in
-    let count_second = 8 + length (body_content_bytes other) in
-    let grouped : number_bytes 8 count ++ (body_content_bytes saved ++ rest) ≡ number_bytes 8 count_second ++ (body_content_bytes other ++ after) =
-    sym (append_assoc (number_bytes 8 count) (body_content_bytes saved) rest)
+    let count = 8 + length (content_bytes saved) in
+    let count_second = 8 + length (content_bytes other) in
+    let grouped : number_bytes 8 count ++ (content_bytes saved ++ rest) ≡ number_bytes 8 count_second ++ (content_bytes other ++ after) =
+    sym (append_assoc (number_bytes 8 count) (content_bytes saved) rest)
     ∙ ap (λ (l : List ℕ). l ++ rest) (sym is.spelled) ∙ same ∙ ap (λ (l : List ℕ). l ++ after) is_second.spelled
-    ∙ append_assoc (number_bytes 8 count_second) (body_content_bytes other) after in
+    ∙ append_assoc (number_bytes 8 count_second) (content_bytes other) after in
     let counts = spellings_in_bytes_are_apart 8 count count_second _ _ (omega (arith, long.1, short)) (omega (arith, long_second.1, short_second)) grouped in
     (spelling_front_is_same body second rest after (long.1 ∙ counts.0 ∙ sym long_second.1) same).0
 
@@ -55,16 +55,16 @@ one_body_saved_is_same saved other sequence digest capacity shards =
     ∙ ap (λ (n : ℕ). with_cut (record { capacity = n; shards = saved.cut.shards })) capacity
     ∙ ap (λ (l : List SnapshotValue). with_cut (record { capacity = other.cut.capacity; shards = l })) shards
 
-pub one_body_spells_one_value : BodiesSpellOneThing
+pub one_body_spells_one_value : SpellOneThing
 one_body_spells_one_value settings saved other body are is is_other =
     let shards = settings.shards in
     let capacity = settings.capacity in
     let long = body_parts_are_long shards capacity saved body is in
     let short = one_body_is_short settings saved body are is in
-    let front = body_has_front_part shards capacity other body (body_content_bytes saved) (8 + length (body_content_bytes saved))
+    let front = body_has_front_part shards capacity other body (content_bytes saved) (8 + length (content_bytes saved))
     (omega (arith, short)) (omega (arith, long.1, short)) is.spelled is_other in
-    let head = body_has_head_parts shards capacity other (body_content_bytes saved) _ _ saved.digest saved.sequence
+    let head = body_has_head_parts shards capacity other (content_bytes saved) _ _ saved.digest saved.sequence
     (omega (arith, is.is_saved.early)) is_other.is_saved front.after_is refl is.is_saved.digest refl in
-    let same = read_list_is_same body_snapshot_bytes (SnapshotFitsSpelling capacity) (snapshots_are_prefix_free capacity are.most) _ [] [] shards
+    let same = read_list_is_same snapshot_bytes (SnapshotFits capacity) (snapshots_are_prefix_free capacity are.most) _ [] [] shards
     saved.cut.shards other.cut.shards (body_part_spells_shards shards capacity saved is.is_saved) head.shards_begin in
     one_body_saved_is_same saved other head.sequence_is head.digest_is (is.is_saved.alike ∙ sym is_other.is_saved.alike) same.0

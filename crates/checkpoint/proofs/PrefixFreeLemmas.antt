@@ -9,9 +9,9 @@ use Rattle.prefix_lattice.proofs.NodePlaceLemmas.{node_index-node_at_place, IsNo
 use Rattle.space_saving.specs.declared.entry.Entry.{Entry}
 use Rattle.space_saving.specs.{table_total, AreTableEntries}
 use Rattle.shard_state.specs.{SnapshotValue}
-use Rattle.checkpoint.specs.NumberBytes.{number_bytes}
-use Rattle.checkpoint.specs.Body.{body_entry_bytes, body_table_bytes, body_snapshot_bytes}
-use Rattle.checkpoint.specs.Spellings.{EntryFitsSpelling, TableFitsSpelling, SnapshotFitsSpelling}
+use Rattle.checkpoint.specs.Numbers.{number_bytes}
+use Rattle.checkpoint.specs.Body.{entry_bytes, table_bytes, snapshot_bytes}
+use Rattle.checkpoint.specs.Decoding.{EntryFits, TableFits, SnapshotFits}
 use Rattle.checkpoint.proofs.SpellingLemmas.{SpellingsAreApart, spellings_in_bytes_are_apart}
 use Rattle.checkpoint.proofs.SpellingLemmas.{joined_spellings_are_apart}
 
@@ -19,7 +19,7 @@ use Rattle.checkpoint.proofs.SpellingLemmas.{joined_spellings_are_apart}
 pub prefix_free_parts_regroup : (a b c r : List ℕ) → (a ++ (b ++ c)) ++ r ≡ a ++ (b ++ (c ++ r))
 prefix_free_parts_regroup a b c r = append_assoc a (b ++ c) r ∙ ap (λ (l : List ℕ). a ++ l) (append_assoc b c r)
 
-pub entries_are_prefix_free : SpellingsAreApart body_entry_bytes EntryFitsSpelling
+pub entries_are_prefix_free : SpellingsAreApart entry_bytes EntryFits
 entries_are_prefix_free x y r s fits_x fits_y same =
     let grouped = sym (prefix_free_parts_regroup (number_bytes 8 x.key) (number_bytes 8 x.count) (number_bytes 8 x.error) r) ∙ same
     ∙ prefix_free_parts_regroup (number_bytes 8 y.key) (number_bytes 8 y.count) (number_bytes 8 y.error) s in
@@ -35,27 +35,27 @@ entries_are_prefix_free x y r s fits_x fits_y same =
         ∙ ap (λ (n : ℕ). record { key = y.key; count = y.count; error = n }) error
 
 -- the numbers of each entry of a table fit
-pub prefix_free_entries_fit : (capacity : ℕ) (entries : List Entry) → TableFitsSpelling capacity entries → All EntryFitsSpelling entries
+pub prefix_free_entries_fit : (capacity : ℕ) (entries : List Entry) → TableFits capacity entries → All EntryFits entries
 prefix_free_entries_fit capacity entries fits k d within =
     let least = get_or-le-sum_by (λ (e : Entry). e.count) entries k d within in
     let small = fits.are_entries.is_table.small_errors k d within in
     let bounded = fits.are_entries.bounded in
     record { key = fits.keys k d within; count = omega (arith, least, bounded); error = omega (arith, least, bounded, small.0) }
 
-pub tables_are_prefix_free : (capacity : ℕ) → capacity ≤ 4096 → SpellingsAreApart body_table_bytes (TableFitsSpelling capacity)
+pub tables_are_prefix_free : (capacity : ℕ) → capacity ≤ 4096 → SpellingsAreApart table_bytes (TableFits capacity)
 tables_are_prefix_free capacity most x y r s fits_x fits_y same =
-    let grouped = sym (prefix_free_parts_regroup (number_bytes 8 (table_total x)) (number_bytes 4 (length x)) (flat_map body_entry_bytes x) r) ∙ same
-    ∙ prefix_free_parts_regroup (number_bytes 8 (table_total y)) (number_bytes 4 (length y)) (flat_map body_entry_bytes y) s in
+    let grouped = sym (prefix_free_parts_regroup (number_bytes 8 (table_total x)) (number_bytes 4 (length x)) (flat_map entry_bytes x) r) ∙ same
+    ∙ prefix_free_parts_regroup (number_bytes 8 (table_total y)) (number_bytes 4 (length y)) (flat_map entry_bytes y) s in
     let total = spellings_in_bytes_are_apart 8 (table_total x) (table_total y) _ _
     (omega (arith, fits_x.are_entries.bounded)) (omega (arith, fits_y.are_entries.bounded)) grouped in
     let count = spellings_in_bytes_are_apart 4 (length x) (length y) _ _
     (omega (arith, fits_x.are_entries.is_table.fits)) (omega (arith, fits_y.are_entries.is_table.fits)) total.1 in
-    joined_spellings_are_apart body_entry_bytes EntryFitsSpelling entries_are_prefix_free x y r s count.0
+    joined_spellings_are_apart entry_bytes EntryFits entries_are_prefix_free x y r s count.0
     (prefix_free_entries_fit capacity x fits_x) (prefix_free_entries_fit capacity y fits_y) count.1
 
 -- each table of a snapshot fits
-pub prefix_free_tables_fit : (capacity : ℕ) (snapshot : SnapshotValue) → SnapshotFitsSpelling capacity snapshot
-    → All (TableFitsSpelling capacity) snapshot.tables
+pub prefix_free_tables_fit : (capacity : ℕ) (snapshot : SnapshotValue) → SnapshotFits capacity snapshot
+    → All (TableFits capacity) snapshot.tables
 prefix_free_tables_fit capacity snapshot fits k d within =
     let few : k < 25 = omega (arith, fits.is_snapshot.shape) in
     let at_node = fits.is_snapshot.tables (node_at k) (IsNode-node_at_place k few) in
@@ -67,13 +67,13 @@ prefix_free_tables_fit capacity snapshot fits k d within =
       keys = fits.keys k d within;
     }
 
-pub snapshots_are_prefix_free : (capacity : ℕ) → capacity ≤ 4096 → SpellingsAreApart body_snapshot_bytes (SnapshotFitsSpelling capacity)
+pub snapshots_are_prefix_free : (capacity : ℕ) → capacity ≤ 4096 → SpellingsAreApart snapshot_bytes (SnapshotFits capacity)
 snapshots_are_prefix_free capacity most x y r s fits_x fits_y same =
-    let grouped = sym (append_assoc (number_bytes 8 x.position) (flat_map body_table_bytes x.tables) r) ∙ same
-    ∙ append_assoc (number_bytes 8 y.position) (flat_map body_table_bytes y.tables) s in
+    let grouped = sym (append_assoc (number_bytes 8 x.position) (flat_map table_bytes x.tables) r) ∙ same
+    ∙ append_assoc (number_bytes 8 y.position) (flat_map table_bytes y.tables) s in
     let position = spellings_in_bytes_are_apart 8 x.position y.position _ _
     (omega (arith, fits_x.is_snapshot.placed)) (omega (arith, fits_y.is_snapshot.placed)) grouped in
-    let tables = joined_spellings_are_apart body_table_bytes (TableFitsSpelling capacity) (tables_are_prefix_free capacity most) x.tables y.tables r s
+    let tables = joined_spellings_are_apart table_bytes (TableFits capacity) (tables_are_prefix_free capacity most) x.tables y.tables r s
     (fits_x.is_snapshot.shape ∙ sym fits_y.is_snapshot.shape) (prefix_free_tables_fit capacity x fits_x) (prefix_free_tables_fit capacity y fits_y)
     position.1 in
     (same_snapshot x y (fits_x.capacity_is ∙ sym fits_y.capacity_is) position.0 tables.0, tables.1)

@@ -9,10 +9,10 @@ use Rattle.prefix_lattice.specs.{NodeValue, IsPrefixKey, node_index, node_at}
 use Rattle.prefix_lattice.proofs.NodePlaceLemmas.{node_index-node_at_place, IsNode-node_at_place}
 use Rattle.space_saving.specs.declared.entry.Entry.{Entry}
 use Rattle.space_saving.specs.{TableValue, table_total}
-use Rattle.shard_state.specs.{SnapshotValue, IsSnapshot, snapshot_table_at, snapshot_total}
-use Rattle.checkpoint.specs.NumberBytes.{number_bytes}
-use Rattle.checkpoint.specs.Body.{body_table_bytes, body_snapshot_bytes}
-use Rattle.checkpoint.specs.Spellings.{BeginsWithSpelling, ListFitsSpelling, TableFitsSpelling, SnapshotFitsSpelling}
+use Rattle.shard_state.specs.{SnapshotValue, IsSnapshot, table_at, snapshot_total}
+use Rattle.checkpoint.specs.Numbers.{number_bytes}
+use Rattle.checkpoint.specs.Body.{table_bytes, snapshot_bytes}
+use Rattle.checkpoint.specs.Decoding.{BeginsWith, ListFits, TableFits, SnapshotFits}
 use Rattle.checkpoint.proofs.NumberBytesLemmas.{length-number_bytes}
 use Rattle.checkpoint.proofs.SpellingLemmas.{spellings_in_bytes_are_apart}
 use Rattle.checkpoint.proofs.PrefixFreeLemmas.{prefix_free_tables_fit}
@@ -25,7 +25,7 @@ snapshot_with_entries capacity entries = record { capacity = capacity; entries =
 
 -- the table at a node is the one at the node's index
 pub snapshot_gets_table : (snapshot : SnapshotValue) (node : NodeValue) (index : ℕ) (table : TableValue)
-    → table ≡ snapshot_table_at node snapshot → node_index node ≡ index → index < length snapshot.tables
+    → table ≡ table_at node snapshot → node_index node ≡ index → index < length snapshot.tables
     → slice_get snapshot.tables index ≡ Some table.entries
 snapshot_gets_table snapshot node index table is placed within =
     slice_get-get_or snapshot.tables index [] within
@@ -34,10 +34,10 @@ snapshot_gets_table snapshot node index table is placed within =
 
 -- a snapshot's bytes are at least 8
 pub snapshot_is_long : (capacity : ℕ) (bytes : List ℕ) (snapshot : SnapshotValue) (rest : List ℕ)
-    → BeginsWithSpelling body_snapshot_bytes (SnapshotFitsSpelling capacity) bytes snapshot rest → 8 ≤ length bytes
+    → BeginsWith snapshot_bytes (SnapshotFits capacity) bytes snapshot rest → 8 ≤ length bytes
 snapshot_is_long capacity bytes snapshot rest begins =
     let position = number_bytes 8 snapshot.position in
-    let tables = flat_map body_table_bytes snapshot.tables in
+    let tables = flat_map table_bytes snapshot.tables in
     omega (
       arith,
       ap length begins.spelled,
@@ -49,13 +49,13 @@ snapshot_is_long capacity bytes snapshot rest begins =
 -- what was read in front of a snapshot's tables
 pub record SnapshotFront (capacity position : ℕ) (snapshot : SnapshotValue) (middle rest : List ℕ) : Type 0 where
   pub position_is : position ≡ snapshot.position
-  pub tables_begin : BeginsWithSpelling (flat_map body_table_bytes) (ListFitsSpelling (TableFitsSpelling capacity) 25) middle snapshot.tables rest
+  pub tables_begin : BeginsWith (flat_map table_bytes) (ListFits (TableFits capacity) 25) middle snapshot.tables rest
 
 pub snapshot_has_front : (capacity : ℕ) (bytes middle rest : List ℕ) (position : ℕ) (snapshot : SnapshotValue)
-    → position < 2 ^ 64 → bytes ≡ number_bytes 8 position ++ middle → BeginsWithSpelling body_snapshot_bytes (SnapshotFitsSpelling capacity) bytes snapshot rest
+    → position < 2 ^ 64 → bytes ≡ number_bytes 8 position ++ middle → BeginsWith snapshot_bytes (SnapshotFits capacity) bytes snapshot rest
     → SnapshotFront capacity position snapshot middle rest
 snapshot_has_front capacity bytes middle rest position snapshot small is begins =
-    let grouped = sym is ∙ begins.spelled ∙ append_assoc (number_bytes 8 snapshot.position) (flat_map body_table_bytes snapshot.tables) rest in
+    let grouped = sym is ∙ begins.spelled ∙ append_assoc (number_bytes 8 snapshot.position) (flat_map table_bytes snapshot.tables) rest in
     let first = spellings_in_bytes_are_apart 8 position snapshot.position _ _ small (omega (arith, begins.fits.is_snapshot.placed)) grouped in
     record {
       position_is = first.0;
@@ -76,7 +76,7 @@ pub record AreSnapshotTables (capacity : ℕ) (snapshot : SnapshotValue) (tables
   pub shape : length tables ≡ 25
   pub alike : (place : ℕ) (table : TableValue) → slice_get tables place ≡ Some table → IsTableOfSnapshot capacity snapshot place table
 
-pub snapshot_tables_are_alike : (capacity : ℕ) (snapshot : SnapshotValue) (tables : List TableValue) → SnapshotFitsSpelling capacity snapshot
+pub snapshot_tables_are_alike : (capacity : ℕ) (snapshot : SnapshotValue) (tables : List TableValue) → SnapshotFits capacity snapshot
     → All (λ (table : TableValue). table.capacity ≡ capacity) tables → map entries_in_snapshot tables ≡ snapshot.tables
     → AreSnapshotTables capacity snapshot tables
 snapshot_tables_are_alike capacity snapshot tables fits alike same = record {
@@ -114,13 +114,13 @@ snapshot_has_same_capacity given capacity (first ∷ rest) shape alike =
 pub snapshot_was_decoded : (capacity : ℕ) (bytes middle rest : List ℕ) (position : ℕ) (tables : List TableValue) (snapshot : SnapshotValue)
     → IsSnapshot snapshot → snapshot.position ≡ position → map (snapshot_with_entries snapshot.capacity) snapshot.tables ≡ tables
     → All (λ (table : TableValue). table.capacity ≡ capacity) tables → bytes ≡ number_bytes 8 position ++ middle
-    → BeginsWithSpelling (flat_map body_table_bytes) (ListFitsSpelling (TableFitsSpelling capacity) 25) middle (map entries_in_snapshot tables) rest
-    → BeginsWithSpelling body_snapshot_bytes (SnapshotFitsSpelling capacity) bytes snapshot rest
+    → BeginsWith (flat_map table_bytes) (ListFits (TableFits capacity) 25) middle (map entries_in_snapshot tables) rest
+    → BeginsWith snapshot_bytes (SnapshotFits capacity) bytes snapshot rest
 snapshot_was_decoded capacity bytes middle rest position tables snapshot is_snapshot placed made alike is begins =
     let same : map entries_in_snapshot tables ≡ snapshot.tables = ap (map entries_in_snapshot) (sym made)
     ∙ snapshot_entries_come_back snapshot.capacity snapshot.tables in
-    let whole : BeginsWithSpelling (flat_map body_table_bytes) (ListFitsSpelling (TableFitsSpelling capacity) 25) middle snapshot.tables rest =
-    subst (λ (l : List (List Entry)). BeginsWithSpelling (flat_map body_table_bytes) (ListFitsSpelling (TableFitsSpelling capacity) 25) middle l rest)
+    let whole : BeginsWith (flat_map table_bytes) (ListFits (TableFits capacity) 25) middle snapshot.tables rest =
+    subst (λ (l : List (List Entry)). BeginsWith (flat_map table_bytes) (ListFits (TableFits capacity) 25) middle l rest)
     same begins in
     record {
       fits = record {
@@ -131,5 +131,5 @@ snapshot_was_decoded capacity bytes middle rest position tables snapshot is_snap
       };
       spelled = is ∙ ap (λ (p : ℕ). number_bytes 8 p ++ middle) (sym placed)
           ∙ ap (λ (l : List ℕ). number_bytes 8 snapshot.position ++ l) whole.spelled
-          ∙ sym (append_assoc (number_bytes 8 snapshot.position) (flat_map body_table_bytes snapshot.tables) rest);
+          ∙ sym (append_assoc (number_bytes 8 snapshot.position) (flat_map table_bytes snapshot.tables) rest);
     }

@@ -8,7 +8,7 @@ use Rattle.std.proofs.lemmas.List.Elements.{All-head, All-tail}
 use Rattle.std.proofs.lemmas.List.Concat.{flat_map-cons}
 use Rattle.byteorder.specs.Numbers.{length-bytes_high_first, big_number-reads_back}
 use Rattle.byteorder.specs.Endian.{big_from}
-use Rattle.checkpoint.specs.NumberBytes.{number_bytes}
+use Rattle.checkpoint.specs.Numbers.{number_bytes}
 
 -- no spelling of a value that fits begins that of another, and each spells one value
 abbrev pub SpellingsAreApart : {A : Type 0} → (A → List ℕ) → (A → Type 0) → Type 0

@@ -2,61 +2,61 @@
 use Rattle.std.proofs.Common.{◌≡◌, ◌⊎◌, ℕ, zero, suc, ◌+◌, ◌<◌, ◌≤◌, Bool, true, false, List, length, Option, Some}
 use Rattle.std.proofs.Common.{None}
 use Rattle.std.proofs.Common.{refl, sym, ap, subst, ◌∙◌, inl, inr, ⊎_elim, arith, le-ltb, lt-ltb, nat_lt, if◌then◌else◌}
-use Rattle.slot_disk.specs.{Closed, Whole, closed_known_slots, layout_slot_content, layout_front_bytes}
-use Rattle.slot_disk.specs.{other_slot_of_put, shown_in_layout, known_slots_of, layout_gate_is_open, layout_body}
-use Rattle.slot_disk.specs.{layout_number_at, KnownSlotsState, IsWholeForPut}
+use Rattle.slot_disk.specs.{Closed, Whole, closed_known_slots, slot_content, front_bytes}
+use Rattle.slot_disk.specs.{other_slot_of, shown_in, known_slots_of, is_gate_open, slot_body}
+use Rattle.slot_disk.specs.{number_at, KnownSlotsState, IsWhole}
 use Rattle.byteorder.specs.Endian.{big_from}
 use Rattle.byteorder.specs.Numbers.{big_number-reads_back}
 use Rattle.slot_disk.specs.{IsReadyForPut, PutMayLeave, IsPut}
 use Rattle.checkpoint.specs.declared.settings.StoreSettings.{StoreSettings}
-use Rattle.checkpoint.specs.HeaderSettings.{AreHeaderSettings, header_of_settings}
-use Rattle.checkpoint.specs.Span.{span_of_settings}
+use Rattle.checkpoint.specs.Header.{AreSettings, settings_header}
+use Rattle.checkpoint.specs.Lengths.{span_of}
 use Rattle.checkpoint.specs.Saved.{SavedValue}
-use Rattle.checkpoint.specs.Body.{IsBody, body_content_bytes}
-use Rattle.checkpoint.specs.NumberBytes.{number_bytes}
-use Rattle.checkpoint.specs.Store.{StoreSlotHolds, StoreHolds, newest_in_store, newest_slot_in_store}
-use Rattle.checkpoint.specs.Store.{IsNotNewestInStore, StoreOpensAsOldOrNew}
-use Rattle.checkpoint.specs.Store.{StoreHasNewest, store_sequence}
-use Rattle.checkpoint.specs.Store.{StoreBodiesFitSlots, FormattedStoresAreEmpty, StorePutsOpenOldOrNew}
-use Rattle.checkpoint.specs.Store.{StorePutsOpenNewBody}
-use Rattle.checkpoint.specs.Store.{StoresAreReady, StoreSlotsHoldOneThing, StoresOpenToOneThing}
+use Rattle.checkpoint.specs.Body.{IsBody, content_bytes}
+use Rattle.checkpoint.specs.Numbers.{number_bytes}
+use Rattle.checkpoint.specs.Store.{SlotHolds, StoreHolds, newest_in, newest_slot_in}
+use Rattle.checkpoint.specs.Store.{IsNotNewest, OpensOldOrNew}
+use Rattle.checkpoint.specs.Store.{HasNewest, store_sequence}
+use Rattle.checkpoint.specs.Store.{BodiesFit, FormatIsEmpty, PutsOpenEither}
+use Rattle.checkpoint.specs.Store.{PutsOpenNew}
+use Rattle.checkpoint.specs.Store.{AreReady, SlotsHoldOne, OpenToOne}
 use Rattle.checkpoint.proofs.BodyPartLemmas.{body_parts_fit_span, body_parts_are_long}
 use Rattle.checkpoint.proofs.OneBodyLemmas.{one_body_is_short, one_body_spells_one_value}
 
 -- a slot with the same content holds the same
 store_slot_holds_same : (settings : StoreSettings) (slot : ℕ) (old image : List ℕ) (held : Option SavedValue)
-    → layout_slot_content (span_of_settings settings) slot image ≡ layout_slot_content (span_of_settings settings) slot old
-    → StoreSlotHolds settings slot old held → StoreSlotHolds settings slot image held
+    → slot_content (span_of settings) slot image ≡ slot_content (span_of settings) slot old
+    → SlotHolds settings slot old held → SlotHolds settings slot image held
 store_slot_holds_same settings slot old image None same shut = same ∙ shut
 store_slot_holds_same settings slot old image (Some saved) same whole = (whole.0, same ∙ whole.1, whole.2)
 
 -- a slot that a put was to write holds what it held, nothing, or the new body
 store_slot_may_hold_new : (settings : StoreSettings) (slot : ℕ) (saved : SavedValue) (body old image : List ℕ) (held : Option SavedValue)
-    → IsBody settings.shards settings.capacity saved body → StoreSlotHolds settings slot old held
-    → PutMayLeave (span_of_settings settings) slot body old image
-    → StoreSlotHolds settings slot image held ⊎ (StoreSlotHolds settings slot image None ⊎ StoreSlotHolds settings slot image (Some saved))
+    → IsBody settings.shards settings.capacity saved body → SlotHolds settings slot old held
+    → PutMayLeave (span_of settings) slot body old image
+    → SlotHolds settings slot image held ⊎ (SlotHolds settings slot image None ⊎ SlotHolds settings slot image (Some saved))
 store_slot_may_hold_new settings slot saved body old image held is holds may =
     ⊎_elim (λ same. inl (store_slot_holds_same settings slot old image held same holds))
     (λ changed. inr (⊎_elim (λ shut. inl shut) (λ whole. inr (body, whole, is)) changed)) may.slot_holds
 
 -- the later one is the newest
 store_takes_later_second : (saved later : SavedValue) → saved.sequence < later.sequence
-    → newest_in_store (Some saved) (Some later) ≡ Some later
+    → newest_in (Some saved) (Some later) ≡ Some later
 store_takes_later_second saved later lt =
     ap (λ (b : Bool). if b then Some later else Some saved) (lt-ltb saved.sequence later.sequence lt)
 
 store_takes_later_first : (saved other_one : SavedValue) → other_one.sequence < saved.sequence
-    → newest_in_store (Some saved) (Some other_one) ≡ Some saved
+    → newest_in (Some saved) (Some other_one) ≡ Some saved
 store_takes_later_first saved other_one lt =
     ap (λ (b : Bool). if b then Some other_one else Some saved) (le-ltb saved.sequence other_one.sequence (omega (arith, lt)))
 
 store_takes_first_slot : (saved other_one : SavedValue) → other_one.sequence < saved.sequence
-    → newest_slot_in_store (Some saved) (Some other_one) ≡ 0
+    → newest_slot_in (Some saved) (Some other_one) ≡ 0
 store_takes_first_slot saved other_one lt =
     ap (λ (b : Bool). let n : ℕ = (if b then 1 else 0) in n) (le-ltb saved.sequence other_one.sequence (omega (arith, lt)))
 
 store_takes_second_slot : (saved later : SavedValue) → saved.sequence < later.sequence
-    → newest_slot_in_store (Some saved) (Some later) ≡ 1
+    → newest_slot_in (Some saved) (Some later) ≡ 1
 store_takes_second_slot saved later lt =
     ap (λ (b : Bool). let n : ℕ = (if b then 1 else 0) in n) (lt-ltb saved.sequence later.sequence lt)
 
@@ -66,74 +66,74 @@ pub record StoreIsReplaced (before closed written : Option SavedValue) (slot_wri
   pub written_is : written ≡ Some saved
   pub slot_is : slot_written ≡ slot
 
-store_replaces_first : (first second : Option SavedValue) (saved : SavedValue) → IsNotNewestInStore 0 first second
-    → store_sequence (newest_in_store first second) < saved.sequence
-    → StoreIsReplaced (newest_in_store first second) (newest_in_store None second) (newest_in_store (Some saved) second)
-    (newest_slot_in_store (Some saved) second) 0 saved
+store_replaces_first : (first second : Option SavedValue) (saved : SavedValue) → IsNotNewest 0 first second
+    → store_sequence (newest_in first second) < saved.sequence
+    → StoreIsReplaced (newest_in first second) (newest_in None second) (newest_in (Some saved) second)
+    (newest_slot_in (Some saved) second) 0 saved
 store_replaces_first None None saved free lt = record { closed_is = refl; written_is = refl; slot_is = refl }
 store_replaces_first None (Some one) saved free lt =
     record { closed_is = refl; written_is = store_takes_later_first saved one lt; slot_is = store_takes_first_slot saved one lt }
 store_replaces_first (Some one) None saved free lt = absurd (⊎_elim (λ same. cc same) (λ none. cc none) free)
 store_replaces_first (Some one) (Some two) saved free lt = by_test (nat_lt one.sequence two.sequence) free lt
   where
-    by_test : (b : Bool) → (0 ≡ other_slot_of_put (if b then 1 else 0)) ⊎ ((if b then Some two else Some one) ≡ None)
+    by_test : (b : Bool) → (0 ≡ other_slot_of (if b then 1 else 0)) ⊎ ((if b then Some two else Some one) ≡ None)
         → store_sequence (if b then Some two else Some one) < saved.sequence
-        → StoreIsReplaced (if b then Some two else Some one) (Some two) (newest_in_store (Some saved) (Some two))
-        (newest_slot_in_store (Some saved) (Some two)) 0 saved
+        → StoreIsReplaced (if b then Some two else Some one) (Some two) (newest_in (Some saved) (Some two))
+        (newest_slot_in (Some saved) (Some two)) 0 saved
     by_test true free lt =
         record { closed_is = refl; written_is = store_takes_later_first saved two lt; slot_is = store_takes_first_slot saved two lt }
     by_test false free lt = absurd (⊎_elim (λ same. cc same) (λ none. cc none) free)
 
-store_replaces_second : (first second : Option SavedValue) (saved : SavedValue) → IsNotNewestInStore 1 first second
-    → store_sequence (newest_in_store first second) < saved.sequence
-    → StoreIsReplaced (newest_in_store first second) (newest_in_store first None) (newest_in_store first (Some saved))
-    (newest_slot_in_store first (Some saved)) 1 saved
+store_replaces_second : (first second : Option SavedValue) (saved : SavedValue) → IsNotNewest 1 first second
+    → store_sequence (newest_in first second) < saved.sequence
+    → StoreIsReplaced (newest_in first second) (newest_in first None) (newest_in first (Some saved))
+    (newest_slot_in first (Some saved)) 1 saved
 store_replaces_second None None saved free lt = record { closed_is = refl; written_is = refl; slot_is = refl }
 store_replaces_second None (Some one) saved free lt = absurd (⊎_elim (λ same. cc same) (λ none. cc none) free)
 store_replaces_second (Some one) None saved free lt =
     record { closed_is = refl; written_is = store_takes_later_second one saved lt; slot_is = store_takes_second_slot one saved lt }
 store_replaces_second (Some one) (Some two) saved free lt = by_test (nat_lt one.sequence two.sequence) free lt
   where
-    by_test : (b : Bool) → (1 ≡ other_slot_of_put (if b then 1 else 0)) ⊎ ((if b then Some two else Some one) ≡ None)
+    by_test : (b : Bool) → (1 ≡ other_slot_of (if b then 1 else 0)) ⊎ ((if b then Some two else Some one) ≡ None)
         → store_sequence (if b then Some two else Some one) < saved.sequence
-        → StoreIsReplaced (if b then Some two else Some one) (Some one) (newest_in_store (Some one) (Some saved))
-        (newest_slot_in_store (Some one) (Some saved)) 1 saved
+        → StoreIsReplaced (if b then Some two else Some one) (Some one) (newest_in (Some one) (Some saved))
+        (newest_slot_in (Some one) (Some saved)) 1 saved
     by_test true free lt = absurd (⊎_elim (λ same. cc same) (λ none. cc none) free)
     by_test false free lt =
         record { closed_is = refl; written_is = store_takes_later_second one saved lt; slot_is = store_takes_second_slot one saved lt }
 
 -- slot 0 of a sound store is written: the image is as the old store, or the slot is closed, or holds the new body
 store_with_first_written : (settings : StoreSettings) (saved : SavedValue) (body old image : List ℕ) (first second : Option SavedValue)
-    → StoreHolds settings old first second → IsNotNewestInStore 0 first second → IsBody settings.shards settings.capacity saved body
-    → store_sequence (newest_in_store first second) < saved.sequence → PutMayLeave (span_of_settings settings) 0 body old image
-    → StoreOpensAsOldOrNew settings old saved image
+    → StoreHolds settings old first second → IsNotNewest 0 first second → IsBody settings.shards settings.capacity saved body
+    → store_sequence (newest_in first second) < saved.sequence → PutMayLeave (span_of settings) 0 body old image
+    → OpensOldOrNew settings old saved image
 store_with_first_written settings saved body old image first second holds free is lt may =
     let replaced = store_replaces_first first second saved free lt in
     let beside = store_slot_holds_same settings 1 old image second may.beside.other_slot holds.second_slot in
-    let store_of : (held : Option SavedValue) → StoreSlotHolds settings 0 image held → StoreHolds settings image held second =
+    let store_of : (held : Option SavedValue) → SlotHolds settings 0 image held → StoreHolds settings image held second =
     λ held here. record { long = may.beside.long; header = may.beside.header ∙ holds.header; first_slot = here; second_slot = beside } in
-    ⊎_elim (λ same. inl (newest_in_store first second, (first, second, holds, refl), (first, second, store_of first same, refl)))
+    ⊎_elim (λ same. inl (newest_in first second, (first, second, holds, refl), (first, second, store_of first same, refl)))
     (λ changed. ⊎_elim
-    (λ shut. inl (newest_in_store first second, (first, second, holds, refl), (None, second, store_of None shut, replaced.closed_is)))
+    (λ shut. inl (newest_in first second, (first, second, holds, refl), (None, second, store_of None shut, replaced.closed_is)))
     (λ whole. inr (Some saved, second, store_of (Some saved) whole, replaced.written_is)) changed)
     (store_slot_may_hold_new settings 0 saved body old image first is holds.first_slot may)
 
 store_with_second_written : (settings : StoreSettings) (saved : SavedValue) (body old image : List ℕ) (first second : Option SavedValue)
-    → StoreHolds settings old first second → IsNotNewestInStore 1 first second → IsBody settings.shards settings.capacity saved body
-    → store_sequence (newest_in_store first second) < saved.sequence → PutMayLeave (span_of_settings settings) 1 body old image
-    → StoreOpensAsOldOrNew settings old saved image
+    → StoreHolds settings old first second → IsNotNewest 1 first second → IsBody settings.shards settings.capacity saved body
+    → store_sequence (newest_in first second) < saved.sequence → PutMayLeave (span_of settings) 1 body old image
+    → OpensOldOrNew settings old saved image
 store_with_second_written settings saved body old image first second holds free is lt may =
     let replaced = store_replaces_second first second saved free lt in
     let beside = store_slot_holds_same settings 0 old image first may.beside.other_slot holds.first_slot in
-    let store_of : (held : Option SavedValue) → StoreSlotHolds settings 1 image held → StoreHolds settings image first held =
+    let store_of : (held : Option SavedValue) → SlotHolds settings 1 image held → StoreHolds settings image first held =
     λ held here. record { long = may.beside.long; header = may.beside.header ∙ holds.header; first_slot = beside; second_slot = here } in
-    ⊎_elim (λ same. inl (newest_in_store first second, (first, second, holds, refl), (first, second, store_of second same, refl)))
+    ⊎_elim (λ same. inl (newest_in first second, (first, second, holds, refl), (first, second, store_of second same, refl)))
     (λ changed. ⊎_elim
-    (λ shut. inl (newest_in_store first second, (first, second, holds, refl), (first, None, store_of None shut, replaced.closed_is)))
+    (λ shut. inl (newest_in first second, (first, second, holds, refl), (first, None, store_of None shut, replaced.closed_is)))
     (λ whole. inr (first, Some saved, store_of (Some saved) whole, replaced.written_is)) changed)
     (store_slot_may_hold_new settings 1 saved body old image second is holds.second_slot may)
 
-pub stores_open_old_or_new : StorePutsOpenOldOrNew
+pub stores_open_old_or_new : PutsOpenEither
 stores_open_old_or_new settings zero saved body old image first second within holds free is lt may =
     store_with_first_written settings saved body old image first second holds free is lt may
 stores_open_old_or_new settings (suc zero) saved body old image first second within holds free is lt may =
@@ -143,9 +143,9 @@ stores_open_old_or_new settings (suc (suc slot)) saved body old image first seco
 
 -- once a put is done, the slot is the newest, and holds the new body
 pub store_holds_new_body : (settings : StoreSettings) (slot : ℕ) (saved : SavedValue) (body old image : List ℕ)
-    (first second : Option SavedValue) → slot < 2 → StoreHolds settings old first second → IsNotNewestInStore slot first second
-    → IsBody settings.shards settings.capacity saved body → store_sequence (newest_in_store first second) < saved.sequence
-    → IsPut (span_of_settings settings) slot body old image → StoreHasNewest settings slot saved image
+    (first second : Option SavedValue) → slot < 2 → StoreHolds settings old first second → IsNotNewest slot first second
+    → IsBody settings.shards settings.capacity saved body → store_sequence (newest_in first second) < saved.sequence
+    → IsPut (span_of settings) slot body old image → HasNewest settings slot saved image
 store_holds_new_body settings zero saved body old image first second within holds free is lt put =
     let replaced = store_replaces_first first second saved free lt in
     let beside = store_slot_holds_same settings 1 old image second put.beside.other_slot holds.second_slot in
@@ -179,37 +179,37 @@ store_holds_new_body settings (suc zero) saved body old image first second withi
 store_holds_new_body settings (suc (suc slot)) saved body old image first second within holds free is lt put =
     absurd (omega (arith, within))
 
-pub stores_open_the_new : StorePutsOpenNewBody
+pub stores_open_the_new : PutsOpenNew
 stores_open_the_new settings slot saved body old image first second within holds free is lt put =
     let new = store_holds_new_body settings slot saved body old image first second within holds free is lt put in
     (new.first, new.second, new.holds, new.newest_is)
 
 -- a store whose gates are closed
-pub closed_store_holds : (settings : StoreSettings) (image : List ℕ) → layout_front_bytes ≤ length image
-    → known_slots_of image ≡ closed_known_slots (header_of_settings settings) → StoreHolds settings image None None
+pub closed_store_holds : (settings : StoreSettings) (image : List ℕ) → front_bytes ≤ length image
+    → known_slots_of image ≡ closed_known_slots (settings_header settings) → StoreHolds settings image None None
 closed_store_holds settings image long slots =
-    let shut_first : layout_gate_is_open 0 image ≡ false = ap (λ (s : KnownSlotsState). s.first_open) slots in
-    let shut_second : layout_gate_is_open 1 image ≡ false = ap (λ (s : KnownSlotsState). s.second_open) slots in
+    let shut_first : is_gate_open 0 image ≡ false = ap (λ (s : KnownSlotsState). s.first_open) slots in
+    let shut_second : is_gate_open 1 image ≡ false = ap (λ (s : KnownSlotsState). s.second_open) slots in
     record {
       long = long;
       header = ap (λ (s : KnownSlotsState). s.header) slots;
-      first_slot = ap (λ (b : Bool). if b then shown_in_layout (layout_body (span_of_settings settings) 0 image) else Closed) shut_first;
-      second_slot = ap (λ (b : Bool). if b then shown_in_layout (layout_body (span_of_settings settings) 1 image) else Closed) shut_second;
+      first_slot = ap (λ (b : Bool). if b then shown_in (slot_body (span_of settings) 0 image) else Closed) shut_first;
+      second_slot = ap (λ (b : Bool). if b then shown_in (slot_body (span_of settings) 1 image) else Closed) shut_second;
     }
 
-pub formatted_stores_are_empty : FormattedStoresAreEmpty
+pub formatted_stores_are_empty : FormatIsEmpty
 formatted_stores_are_empty settings image long slots = (None, None, closed_store_holds settings image long slots, refl)
 
 -- a slot that holds something is whole, and one that holds nothing is closed
 store_slot_is_sound : (settings : StoreSettings) (slot : ℕ) (image : List ℕ) (held : Option SavedValue)
-    → StoreSlotHolds settings slot image held
-    → IsWholeForPut (layout_slot_content (span_of_settings settings) slot image) ⊎ (layout_slot_content (span_of_settings settings) slot image ≡ Closed)
+    → SlotHolds settings slot image held
+    → IsWhole (slot_content (span_of settings) slot image) ⊎ (slot_content (span_of settings) slot image ≡ Closed)
 store_slot_is_sound settings slot image None shut = inr shut
 store_slot_is_sound settings slot image (Some saved) whole = inl (whole.0, whole.1)
 
 -- of two slots, the one that isn't written is whole, or both are closed
 store_is_ready_for_first : (settings : StoreSettings) (image : List ℕ) (first second : Option SavedValue)
-    → StoreHolds settings image first second → IsNotNewestInStore 0 first second → IsReadyForPut (span_of_settings settings) 0 image
+    → StoreHolds settings image first second → IsNotNewest 0 first second → IsReadyForPut (span_of settings) 0 image
 store_is_ready_for_first settings image None None holds free =
     record { other_holds = inr (holds.second_slot, holds.first_slot); slot_holds = inr holds.first_slot }
 store_is_ready_for_first settings image first (Some two) holds free = record {
@@ -219,7 +219,7 @@ store_is_ready_for_first settings image first (Some two) holds free = record {
 store_is_ready_for_first settings image (Some one) None holds free = absurd (⊎_elim (λ same. cc same) (λ none. cc none) free)
 
 store_is_ready_for_second : (settings : StoreSettings) (image : List ℕ) (first second : Option SavedValue)
-    → StoreHolds settings image first second → IsNotNewestInStore 1 first second → IsReadyForPut (span_of_settings settings) 1 image
+    → StoreHolds settings image first second → IsNotNewest 1 first second → IsReadyForPut (span_of settings) 1 image
 store_is_ready_for_second settings image None None holds free =
     record { other_holds = inr (holds.first_slot, holds.second_slot); slot_holds = inr holds.second_slot }
 store_is_ready_for_second settings image (Some one) second holds free = record {
@@ -228,15 +228,15 @@ store_is_ready_for_second settings image (Some one) second holds free = record {
 }
 store_is_ready_for_second settings image None (Some two) holds free = absurd (⊎_elim (λ same. cc same) (λ none. cc none) free)
 
-pub stores_are_ready : StoresAreReady
+pub stores_are_ready : AreReady
 stores_are_ready settings zero image first second within holds free = store_is_ready_for_first settings image first second holds free
 stores_are_ready settings (suc zero) image first second within holds free =
     store_is_ready_for_second settings image first second holds free
 stores_are_ready settings (suc (suc slot)) image first second within holds free = absurd (omega (arith, within))
 
 -- under the settings a slot holds one thing
-store_slot_holds_one : (settings : StoreSettings) (slot : ℕ) (image : List ℕ) (held again : Option SavedValue) → AreHeaderSettings settings
-    → StoreSlotHolds settings slot image held → StoreSlotHolds settings slot image again → held ≡ again
+store_slot_holds_one : (settings : StoreSettings) (slot : ℕ) (image : List ℕ) (held again : Option SavedValue) → AreSettings settings
+    → SlotHolds settings slot image held → SlotHolds settings slot image again → held ≡ again
 store_slot_holds_one settings slot image None None are holds holds_again = refl
 store_slot_holds_one settings slot image None (Some saved) are holds holds_again =
     let shut : Closed ≡ Whole holds_again.0 = sym holds ∙ holds_again.1 in cc shut
@@ -248,29 +248,29 @@ store_slot_holds_one settings slot image (Some saved) (Some other_one) are holds
     ap Some (one_body_spells_one_value settings saved other_one holds.0 are holds.2
     (subst (IsBody settings.shards settings.capacity other_one) (sym same) holds_again.2))
 
-pub stores_hold_one : StoreSlotsHoldOneThing
+pub stores_hold_one : SlotsHoldOne
 stores_hold_one settings image first second again other_one are holds holds_again = (
   store_slot_holds_one settings 0 image first again are holds.first_slot holds_again.first_slot,
   store_slot_holds_one settings 1 image second other_one are holds.second_slot holds_again.second_slot,
 )
 
-pub stores_open_to_one : StoresOpenToOneThing
+pub stores_open_to_one : OpenToOne
 stores_open_to_one settings image opened again are opens opens_again =
     let same = stores_hold_one settings image opens.0 opens.1 opens_again.0 opens_again.1 are opens.2 opens_again.2 in
-    sym opens.3 ∙ ap (λ (held : Option SavedValue). newest_in_store held opens.1) same.0
-    ∙ ap (λ (held : Option SavedValue). newest_in_store opens_again.0 held) same.1 ∙ opens_again.3
+    sym opens.3 ∙ ap (λ (held : Option SavedValue). newest_in held opens.1) same.0
+    ∙ ap (λ (held : Option SavedValue). newest_in opens_again.0 held) same.1 ∙ opens_again.3
 
 -- a body begins with its length
-store_body_says_length : (settings : StoreSettings) (saved : SavedValue) (body : List ℕ) → AreHeaderSettings settings
-    → IsBody settings.shards settings.capacity saved body → layout_number_at 0 body ≡ length body
-unfolding layout_number_at number_bytes
+store_body_says_length : (settings : StoreSettings) (saved : SavedValue) (body : List ℕ) → AreSettings settings
+    → IsBody settings.shards settings.capacity saved body → number_at 0 body ≡ length body
+unfolding number_at number_bytes
 store_body_says_length settings saved body are is =
     let long = body_parts_are_long settings.shards settings.capacity saved body is in
     let short = one_body_is_short settings saved body are is in
-    let count = 8 + length (body_content_bytes saved) in
-    ap (big_from 0 8) is.spelled ∙ big_number-reads_back 8 count (body_content_bytes saved) (omega (arith, long.1, short)) ∙ sym long.1
+    let count = 8 + length (content_bytes saved) in
+    ap (big_from 0 8) is.spelled ∙ big_number-reads_back 8 count (content_bytes saved) (omega (arith, long.1, short)) ∙ sym long.1
 
-pub store_has_room_for_body : StoreBodiesFitSlots
+pub store_has_room_for_body : BodiesFit
 store_has_room_for_body settings saved body are is =
     let long = body_parts_are_long settings.shards settings.capacity saved body is in
     record {

@@ -5,70 +5,70 @@ use Rattle.std.specs.List.{flat_map}
 use Rattle.space_saving.specs.declared.entry.Entry.{Entry}
 use Rattle.space_saving.specs.{table_total}
 use Rattle.shard_state.specs.{IsCut, SnapshotValue}
-use Rattle.checkpoint.specs.NumberBytes.{number_bytes}
+use Rattle.checkpoint.specs.Numbers.{number_bytes}
 use Rattle.checkpoint.specs.Saved.{SavedValue}
 use Rattle.checkpoint.specs.declared.settings.StoreSettings.{StoreSettings}
-use Rattle.checkpoint.specs.HeaderSettings.{AreHeaderSettings}
+use Rattle.checkpoint.specs.Header.{AreSettings}
 
 -- the greatest sequence of a body
-abbrev pub greatest_body_sequence : ℕ
-greatest_body_sequence = 2 ^ 62
+abbrev pub greatest_sequence : ℕ
+greatest_sequence = 2 ^ 62
 
 -- how many bytes a digest has
-abbrev pub body_digest_length : ℕ
-body_digest_length = 32
+abbrev pub digest_length : ℕ
+digest_length = 32
 
 -- an entry: its key, its count and its error, in 8 bytes each
-abbrev pub body_entry_bytes : Entry → List ℕ
-body_entry_bytes entry = number_bytes 8 entry.key ++ (number_bytes 8 entry.count ++ number_bytes 8 entry.error)
+abbrev pub entry_bytes : Entry → List ℕ
+entry_bytes entry = number_bytes 8 entry.key ++ (number_bytes 8 entry.count ++ number_bytes 8 entry.error)
 
 -- a table: its total in 8 bytes, the number of its entries in 4, and the entries in their order
-abbrev pub body_table_bytes : List Entry → List ℕ
-body_table_bytes entries =
-    number_bytes 8 (table_total entries) ++ (number_bytes 4 (length entries) ++ flat_map body_entry_bytes entries)
+abbrev pub table_bytes : List Entry → List ℕ
+table_bytes entries =
+    number_bytes 8 (table_total entries) ++ (number_bytes 4 (length entries) ++ flat_map entry_bytes entries)
 
 -- a snapshot: its position in 8 bytes, and the tables in the order of their nodes' indexes
-abbrev pub body_snapshot_bytes : SnapshotValue → List ℕ
-body_snapshot_bytes snapshot = number_bytes 8 snapshot.position ++ flat_map body_table_bytes snapshot.tables
+abbrev pub snapshot_bytes : SnapshotValue → List ℕ
+snapshot_bytes snapshot = number_bytes 8 snapshot.position ++ flat_map table_bytes snapshot.tables
 
 -- what follows the length of a body: the sequence in 8 bytes, the digest, and the snapshots of the shards in order
-abbrev pub body_content_bytes : SavedValue → List ℕ
-body_content_bytes saved = number_bytes 8 saved.sequence ++ (saved.digest ++ flat_map body_snapshot_bytes saved.cut.shards)
+abbrev pub content_bytes : SavedValue → List ℕ
+content_bytes saved = number_bytes 8 saved.sequence ++ (saved.digest ++ flat_map snapshot_bytes saved.cut.shards)
 
 -- the body: its length in 8 bytes, which counts these too, and what follows
 abbrev pub body_bytes : SavedValue → List ℕ
-body_bytes saved = number_bytes 8 (8 + length (body_content_bytes saved)) ++ body_content_bytes saved
+body_bytes saved = number_bytes 8 (8 + length (content_bytes saved)) ++ content_bytes saved
 
 -- each key of a table fits 8 bytes
-abbrev pub HasShortBodyKeys : List Entry → Type 0
-HasShortBodyKeys entries = All (λ entry. entry.key < 2 ^ 64) entries
+abbrev pub HasShortKeys : List Entry → Type 0
+HasShortKeys entries = All (λ entry. entry.key < 2 ^ 64) entries
 
 -- each key of each table of a snapshot fits 8 bytes
-abbrev pub BodyKeysFit : SnapshotValue → Type 0
-BodyKeysFit snapshot = All HasShortBodyKeys snapshot.tables
+abbrev pub KeysFit : SnapshotValue → Type 0
+KeysFit snapshot = All HasShortKeys snapshot.tables
 
 -- what may be saved in a store of this many shards and this capacity
-pub record IsSavedBody (shards capacity : ℕ) (saved : SavedValue) : Type 0 where
+pub record IsSaved (shards capacity : ℕ) (saved : SavedValue) : Type 0 where
   pub sequenced : 1 ≤ saved.sequence
-  pub early : saved.sequence ≤ greatest_body_sequence
-  pub digest : length saved.digest ≡ body_digest_length
+  pub early : saved.sequence ≤ greatest_sequence
+  pub digest : length saved.digest ≡ digest_length
   pub shape : length saved.cut.shards ≡ shards
   pub alike : saved.cut.capacity ≡ capacity
   pub cut : IsCut saved.cut
-  pub keys : All BodyKeysFit saved.cut.shards
+  pub keys : All KeysFit saved.cut.shards
 
 -- the bytes are a body that spells this, in a store of this many shards and this capacity
 pub record IsBody (shards capacity : ℕ) (saved : SavedValue) (bytes : List ℕ) : Type 0 where
-  pub is_saved : IsSavedBody shards capacity saved
+  pub is_saved : IsSaved shards capacity saved
   pub spelled : bytes ≡ body_bytes saved
 
 -- no body begins another one: bodies that begin the same bytes are the same
-abbrev pub BodiesAreApart : Type 0
-BodiesAreApart = (settings others : StoreSettings) (saved other : SavedValue) (body second rest after : List ℕ)
-    → AreHeaderSettings settings → AreHeaderSettings others → IsBody settings.shards settings.capacity saved body
+abbrev pub AreApart : Type 0
+AreApart = (settings others : StoreSettings) (saved other : SavedValue) (body second rest after : List ℕ)
+    → AreSettings settings → AreSettings others → IsBody settings.shards settings.capacity saved body
     → IsBody others.shards others.capacity other second → body ++ rest ≡ second ++ after → body ≡ second
 
 -- under the settings of a store a body spells one sequence, one digest and one cut
-abbrev pub BodiesSpellOneThing : Type 0
-BodiesSpellOneThing = (settings : StoreSettings) (saved other : SavedValue) (body : List ℕ) → AreHeaderSettings settings
+abbrev pub SpellOneThing : Type 0
+SpellOneThing = (settings : StoreSettings) (saved other : SavedValue) (body : List ℕ) → AreSettings settings
     → IsBody settings.shards settings.capacity saved body → IsBody settings.shards settings.capacity other body → saved ≡ other

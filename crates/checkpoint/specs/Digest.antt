@@ -4,21 +4,21 @@ use Rattle.std.specs.List.{flat_map}
 use Rattle.sha2.specs.Sha256.{sha256}
 use Rattle.prefix_lattice.specs.{RecordValue}
 use Rattle.checkpoint.specs.declared.settings.StoreSettings.{StoreSettings}
-use Rattle.checkpoint.specs.NumberBytes.{number_bytes}
-use Rattle.checkpoint.specs.HeaderSettings.{header_of_settings}
+use Rattle.checkpoint.specs.Numbers.{number_bytes}
+use Rattle.checkpoint.specs.Header.{settings_header}
 
 -- a record: its source, its destination and its weight, in 4 bytes each
-abbrev pub digested_record_bytes : RecordValue → List ℕ
-digested_record_bytes rec = number_bytes 4 rec.src ++ (number_bytes 4 rec.dst ++ number_bytes 4 rec.weight)
+abbrev pub record_bytes : RecordValue → List ℕ
+record_bytes rec = number_bytes 4 rec.src ++ (number_bytes 4 rec.dst ++ number_bytes 4 rec.weight)
 
 -- the records of a shard: how many, in 4 bytes, and the records in their order
-abbrev pub digested_list_bytes : List RecordValue → List ℕ
-digested_list_bytes list = number_bytes 4 (length list) ++ flat_map digested_record_bytes list
+abbrev pub list_bytes : List RecordValue → List ℕ
+list_bytes list = number_bytes 4 (length list) ++ flat_map record_bytes list
 
 -- the text whose digest it is: the header of the store, and the dealt lists in the order of the shards
-abbrev pub digested_bytes : StoreSettings → List (List RecordValue) → List ℕ
-digested_bytes settings lists = header_of_settings settings ++ flat_map digested_list_bytes lists
+abbrev pub digested : StoreSettings → List (List RecordValue) → List ℕ
+digested settings lists = settings_header settings ++ flat_map list_bytes lists
 
 -- the digest of dealt lists under settings: SHA-256 (FIPS 180-4) of that text
-unfoldable pub digest_of_lists : StoreSettings → List (List RecordValue) → List ℕ
-digest_of_lists settings lists = sha256 (digested_bytes settings lists)
+unfoldable pub lists_digest : StoreSettings → List (List RecordValue) → List ℕ
+lists_digest settings lists = sha256 (digested settings lists)

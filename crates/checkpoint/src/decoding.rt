@@ -5,13 +5,13 @@ ghost use Rattle.std.specs.Prelude.{IsErrOf, vec_capacity};
 ghost use Rattle.std.specs.List.{flat_map};
 ghost use Rattle.space_saving.specs.declared.entry.Entry.{Entry};
 ghost use Rattle.prefix_lattice.specs.{node_count};
-ghost use Rattle.shard_state.specs.{IsCut, SnapshotValue, least_table_capacity, most_table_capacity};
-ghost use Rattle.checkpoint.specs.HeaderSettings.{AreHeaderSettings};
+ghost use Rattle.shard_state.specs.{IsCut, SnapshotValue, least_capacity, most_capacity};
+ghost use Rattle.checkpoint.specs.Header.{AreSettings};
 ghost use Rattle.checkpoint.specs.Saved.{SavedValue, saved_value};
-ghost use Rattle.checkpoint.specs.Body.{IsBody, body_entry_bytes, body_table_bytes, body_snapshot_bytes};
-ghost use Rattle.checkpoint.specs.Span.{entry_span};
-ghost use Rattle.checkpoint.specs.Spellings.{ListFitsSpelling, BeginsWithSpelling, BeginsWithNoSpelling};
-ghost use Rattle.checkpoint.specs.Spellings.{EntryFitsSpelling, SnapshotFitsSpelling, TableFitsSpelling};
+ghost use Rattle.checkpoint.specs.Body.{IsBody, entry_bytes, table_bytes, snapshot_bytes};
+ghost use Rattle.checkpoint.specs.Lengths.{entry_span};
+ghost use Rattle.checkpoint.specs.Decoding.{ListFits, BeginsWith, BeginsWithNone};
+ghost use Rattle.checkpoint.specs.Decoding.{EntryFits, SnapshotFits, TableFits};
 
 use crate::lengths::NODES;
 use crate::numbers::{first_count, first_digest, first_number};
@@ -30,7 +30,7 @@ const LAST_SEQUENCE: u64 = 1 << 62;
 ///
 /// Whatever the bytes say, memory is allocated for the tables of one cut and of one shard under the settings.
 pub fn decode(alloc: Global, bytes: &[u8], settings: &StoreSettings) -> Result<Saved, DecodeFault>
-    requires { AreHeaderSettings settings.now }
+    requires { AreSettings settings.now }
     ensures body { IfOk result (λ saved. IsBody settings.now.shards settings.now.capacity
         (saved_value saved) bytes.now) }
     ensures damaged { IsErrOf result DecodeFault.Damaged → (saved : SavedValue) → IsBody settings.now.shards settings.now.capacity saved bytes.now → ⊥ }
@@ -60,13 +60,13 @@ pub fn decode(alloc: Global, bytes: &[u8], settings: &StoreSettings) -> Result<S
 
 // The cut whose snapshots these bytes, all of them, spell.
 fn read_cut(alloc: Global, settings: &StoreSettings, bytes: &[u8]) -> Result<Cut, DecodeFault>
-    requires { AreHeaderSettings settings.now }
+    requires { AreSettings settings.now }
     ensures cut { IfOk result IsCut }
     ensures capacity { IfOk result (λ cut. cut.capacity ≡ settings.now.capacity) }
-    ensures read { IfOk result (λ cut. BeginsWithSpelling (flat_map body_snapshot_bytes)
-        (ListFitsSpelling (SnapshotFitsSpelling settings.now.capacity) settings.now.shards) bytes.now cut.shards []) }
-    ensures damaged { IsErrOf result DecodeFault.Damaged → (shards : List SnapshotValue) → BeginsWithSpelling (flat_map body_snapshot_bytes)
-        (ListFitsSpelling (SnapshotFitsSpelling settings.now.capacity) settings.now.shards) bytes.now shards [] → ⊥ }
+    ensures read { IfOk result (λ cut. BeginsWith (flat_map snapshot_bytes)
+        (ListFits (SnapshotFits settings.now.capacity) settings.now.shards) bytes.now cut.shards []) }
+    ensures damaged { IsErrOf result DecodeFault.Damaged → (shards : List SnapshotValue) → BeginsWith (flat_map snapshot_bytes)
+        (ListFits (SnapshotFits settings.now.capacity) settings.now.shards) bytes.now shards [] → ⊥ }
 {
     let (cut, rest) = read_snapshots(alloc, settings, bytes)?;
     if !rest.is_empty() {
@@ -81,12 +81,12 @@ fn read_snapshots<'a>(
     settings: &StoreSettings,
     bytes: &'a [u8],
 ) -> Result<(Cut, &'a [u8]), DecodeFault>
-    requires { AreHeaderSettings settings.now }
+    requires { AreSettings settings.now }
     ensures capacity { IfOk result (λ read. read.0.capacity ≡ settings.now.capacity) }
-    ensures read { IfOk result (λ read. BeginsWithSpelling (flat_map body_snapshot_bytes)
-        (ListFitsSpelling (SnapshotFitsSpelling settings.now.capacity) settings.now.shards) bytes.now read.0.shards read.1.now) }
+    ensures read { IfOk result (λ read. BeginsWith (flat_map snapshot_bytes)
+        (ListFits (SnapshotFits settings.now.capacity) settings.now.shards) bytes.now read.0.shards read.1.now) }
     ensures damaged { IsErrOf result DecodeFault.Damaged →
-        BeginsWithNoSpelling (flat_map body_snapshot_bytes) (ListFitsSpelling (SnapshotFitsSpelling settings.now.capacity) settings.now.shards) bytes.now }
+        BeginsWithNone (flat_map snapshot_bytes) (ListFits (SnapshotFits settings.now.capacity) settings.now.shards) bytes.now }
 {
     let mut cut = Cut::with_room(alloc, settings.shards, settings.capacity)?;
     let mut rest = bytes;
@@ -104,10 +104,10 @@ fn read_snapshot(
     capacity: u32,
     bytes: &[u8],
 ) -> Result<(Snapshot, &[u8]), DecodeFault>
-    requires least { least_table_capacity ≤ capacity }
-    requires most { capacity ≤ most_table_capacity }
-    ensures read { IfOk result (λ read. BeginsWithSpelling body_snapshot_bytes (SnapshotFitsSpelling capacity) bytes.now read.0 read.1.now) }
-    ensures damaged { IsErrOf result DecodeFault.Damaged → BeginsWithNoSpelling body_snapshot_bytes (SnapshotFitsSpelling capacity) bytes.now }
+    requires least { least_capacity ≤ capacity }
+    requires most { capacity ≤ most_capacity }
+    ensures read { IfOk result (λ read. BeginsWith snapshot_bytes (SnapshotFits capacity) bytes.now read.0 read.1.now) }
+    ensures damaged { IsErrOf result DecodeFault.Damaged → BeginsWithNone snapshot_bytes (SnapshotFits capacity) bytes.now }
 {
     if bytes.len() < 8 {
         return Err(DecodeFault::Damaged);
@@ -127,13 +127,13 @@ fn read_tables(
     capacity: u32,
     bytes: &[u8],
 ) -> Result<(Vec<Flat>, &[u8]), DecodeFault>
-    requires least { least_table_capacity ≤ capacity }
-    requires most { capacity ≤ most_table_capacity }
+    requires least { least_capacity ≤ capacity }
+    requires most { capacity ≤ most_capacity }
     ensures capacity { IfOk result (λ read. All (λ table. table.capacity ≡ capacity) read.0.items) }
-    ensures read { IfOk result (λ read. BeginsWithSpelling (flat_map body_table_bytes) (ListFitsSpelling (TableFitsSpelling capacity) node_count)
+    ensures read { IfOk result (λ read. BeginsWith (flat_map table_bytes) (ListFits (TableFits capacity) node_count)
         bytes.now (map (λ table. table.entries) read.0.items) read.1.now) }
     ensures damaged { IsErrOf result DecodeFault.Damaged →
-        BeginsWithNoSpelling (flat_map body_table_bytes) (ListFitsSpelling (TableFitsSpelling capacity) node_count) bytes.now }
+        BeginsWithNone (flat_map table_bytes) (ListFits (TableFits capacity) node_count) bytes.now }
 {
     let mut tables = Vec::with_capacity(alloc, usize::from(NODES))?;
     let mut rest = bytes;
@@ -147,11 +147,11 @@ fn read_tables(
 
 // The table that these bytes begin with, and the bytes after it.
 fn read_table(alloc: Global, capacity: u32, bytes: &[u8]) -> Result<(Flat, &[u8]), DecodeFault>
-    requires least { least_table_capacity ≤ capacity }
-    requires most { capacity ≤ most_table_capacity }
+    requires least { least_capacity ≤ capacity }
+    requires most { capacity ≤ most_capacity }
     ensures capacity { IfOk result (λ read. read.0.capacity ≡ capacity) }
-    ensures read { IfOk result (λ read. BeginsWithSpelling body_table_bytes (TableFitsSpelling capacity) bytes.now read.0.entries read.1.now) }
-    ensures damaged { IsErrOf result DecodeFault.Damaged → BeginsWithNoSpelling body_table_bytes (TableFitsSpelling capacity) bytes.now }
+    ensures read { IfOk result (λ read. BeginsWith table_bytes (TableFits capacity) bytes.now read.0.entries read.1.now) }
+    ensures damaged { IsErrOf result DecodeFault.Damaged → BeginsWithNone table_bytes (TableFits capacity) bytes.now }
 {
     if bytes.len() < 12 {
         return Err(DecodeFault::Damaged);
@@ -180,10 +180,10 @@ fn read_entries(
 ) -> Result<(Vec<Entry>, &[u8]), DecodeFault>
     requires few { count ≤ capacity }
     ensures reserved { IfOk result (λ read. capacity ≤ vec_capacity read.0) }
-    ensures read { IfOk result (λ read. BeginsWithSpelling (flat_map body_entry_bytes) (ListFitsSpelling EntryFitsSpelling count)
+    ensures read { IfOk result (λ read. BeginsWith (flat_map entry_bytes) (ListFits EntryFits count)
         bytes.now read.0.items read.1.now) }
     ensures damaged { IsErrOf result DecodeFault.Damaged
-        → BeginsWithNoSpelling (flat_map body_entry_bytes) (ListFitsSpelling EntryFitsSpelling count) bytes.now }
+        → BeginsWithNone (flat_map entry_bytes) (ListFits EntryFits count) bytes.now }
 {
     let mut entries = Vec::with_capacity(alloc, capacity as usize)?;
     let mut rest = bytes;
@@ -201,7 +201,7 @@ fn read_entries(
 // The entry in the first bytes, and the bytes after it.
 fn first_entry(bytes: &[u8]) -> (Entry, &[u8])
     requires { entry_span ≤ length bytes.now }
-    ensures { BeginsWithSpelling body_entry_bytes EntryFitsSpelling bytes.now result.0 result.1.now }
+    ensures { BeginsWith entry_bytes EntryFits bytes.now result.0 result.1.now }
 {
     let (key, rest) = first_number(bytes);
     let (count, rest) = first_number(rest);

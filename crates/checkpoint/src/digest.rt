@@ -3,9 +3,9 @@
 ghost use Rattle.std.specs.Prelude.{◌≡◌, ◌≤◌, ℕ, List, ◌++◌, length};
 ghost use Rattle.std.specs.List.{flat_map};
 ghost use Rattle.sha2.specs.Hashers.{Holds256};
-ghost use Rattle.checkpoint.specs.NumberBytes.{number_bytes};
-ghost use Rattle.checkpoint.specs.HeaderSettings.{AreHeaderSettings};
-ghost use Rattle.checkpoint.specs.Digest.{digest_of_lists, digested_list_bytes, digested_record_bytes};
+ghost use Rattle.checkpoint.specs.Numbers.{number_bytes};
+ghost use Rattle.checkpoint.specs.Header.{AreSettings};
+ghost use Rattle.checkpoint.specs.Digest.{lists_digest, list_bytes, record_bytes};
 ghost use Rattle.prefix_lattice.specs.{record_limit};
 
 use crate::{StoreSettings, header_of};
@@ -18,9 +18,9 @@ use sha2::{Digest, Sha256};
 /// each shard in order the number of its records in 4 bytes and its records, each as source, destination and weight in
 /// 4 bytes. Each record is hashed once where it is. It allocates no memory.
 pub fn digest_of(dealt: &Dealt, settings: &StoreSettings) -> [u8; 32]
-    requires settings { AreHeaderSettings settings.now }
+    requires settings { AreSettings settings.now }
     requires shards { length dealt.now ≡ settings.now.shards }
-    ensures { result ≡ digest_of_lists settings.now dealt.now }
+    ensures { result ≡ lists_digest settings.now dealt.now }
 {
     let mut hasher = Sha256::new();
     let header = header_of(settings);
@@ -31,7 +31,7 @@ pub fn digest_of(dealt: &Dealt, settings: &StoreSettings) -> [u8; 32]
 
 // Hashes the lists of the shards, in order.
 fn hash_lists(hasher: &mut Sha256, dealt: &Dealt)
-    ensures { (text : List ℕ) → Holds256 hasher.old text → Holds256 hasher.new (text ++ flat_map digested_list_bytes dealt.now) }
+    ensures { (text : List ℕ) → Holds256 hasher.old text → Holds256 hasher.new (text ++ flat_map list_bytes dealt.now) }
 {
     for shard in 0..dealt.shards() {
         hash_list(hasher, dealt.list(shard));
@@ -41,14 +41,14 @@ fn hash_lists(hasher: &mut Sha256, dealt: &Dealt)
 // Hashes the number of records of a shard, and the records in their order.
 fn hash_list(hasher: &mut Sha256, list: &RecordList)
     requires { length list.now ≤ record_limit }
-    ensures { (text : List ℕ) → Holds256 hasher.old text → Holds256 hasher.new (text ++ digested_list_bytes list.now) }
+    ensures { (text : List ℕ) → Holds256 hasher.old text → Holds256 hasher.new (text ++ list_bytes list.now) }
 {
     hash_number(hasher, list.len() as u32);
     hash_records(hasher, list);
 }
 
 fn hash_records(hasher: &mut Sha256, list: &RecordList)
-    ensures { (text : List ℕ) → Holds256 hasher.old text → Holds256 hasher.new (text ++ flat_map digested_record_bytes list.now) }
+    ensures { (text : List ℕ) → Holds256 hasher.old text → Holds256 hasher.new (text ++ flat_map record_bytes list.now) }
 {
     for place in 0..list.len() {
         hash_record(hasher, list.at(place));
@@ -56,7 +56,7 @@ fn hash_records(hasher: &mut Sha256, list: &RecordList)
 }
 
 fn hash_record(hasher: &mut Sha256, rec: &Record)
-    ensures { (text : List ℕ) → Holds256 hasher.old text → Holds256 hasher.new (text ++ digested_record_bytes rec.now) }
+    ensures { (text : List ℕ) → Holds256 hasher.old text → Holds256 hasher.new (text ++ record_bytes rec.now) }
 {
     hash_number(hasher, rec.src);
     hash_number(hasher, rec.dst);

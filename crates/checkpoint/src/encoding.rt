@@ -4,10 +4,10 @@ ghost use Rattle.std.specs.Prelude.{◌≡◌, ◌+◌, ◌*◌, ◌<◌, ◌≤
 ghost use Rattle.std.specs.List.{flat_map};
 ghost use Rattle.prefix_lattice.specs.{shard_limit};
 ghost use Rattle.shard_state.specs.{IsSnapshot};
-ghost use Rattle.checkpoint.specs.Span.{body_span};
-ghost use Rattle.checkpoint.specs.Body.{body_entry_bytes, body_table_bytes, body_snapshot_bytes, HasShortBodyKeys};
-ghost use Rattle.checkpoint.specs.Body.{BodyKeysFit};
-ghost use Rattle.checkpoint.specs.Body.{IsBody, greatest_body_sequence};
+ghost use Rattle.checkpoint.specs.Lengths.{body_span};
+ghost use Rattle.checkpoint.specs.Body.{entry_bytes, table_bytes, snapshot_bytes, HasShortKeys};
+ghost use Rattle.checkpoint.specs.Body.{KeysFit};
+ghost use Rattle.checkpoint.specs.Body.{IsBody, greatest_sequence};
 
 use crate::lengths::{NODES, body_length};
 use crate::numbers::{push_count, push_number};
@@ -25,7 +25,7 @@ pub fn encode(
     cut: &Cut,
 ) -> Result<Vec<u8>, AllocError>
     requires sequenced { 1 ≤ sequence }
-    requires early { sequence ≤ greatest_body_sequence }
+    requires early { sequence ≤ greatest_sequence }
     requires few { length cut.now.shards ≤ shard_limit }
     ensures body { IfOk result (λ body. IsBody (length cut.now.shards) cut.now.capacity
         (record { sequence = sequence; digest = digest.now; cut = cut.now }) body.items) }
@@ -42,8 +42,8 @@ pub fn encode(
 
 // Appends the snapshots of the shards, in order.
 fn push_snapshots(out: &mut Vec<u8>, cut: &Cut) -> Result<(), AllocError>
-    ensures spelled { OnOk result (out.new.items ≡ out.old.items ++ flat_map body_snapshot_bytes cut.now.shards) }
-    ensures keys { OnOk result (All BodyKeysFit cut.now.shards) }
+    ensures spelled { OnOk result (out.new.items ≡ out.old.items ++ flat_map snapshot_bytes cut.now.shards) }
+    ensures keys { OnOk result (All KeysFit cut.now.shards) }
 {
     for shard in 0..cut.shards() {
         push_snapshot(out, cut.shard(shard))?;
@@ -53,8 +53,8 @@ fn push_snapshots(out: &mut Vec<u8>, cut: &Cut) -> Result<(), AllocError>
 
 // Appends the position and the tables of a shard.
 fn push_snapshot(out: &mut Vec<u8>, snapshot: &Snapshot) -> Result<(), AllocError>
-    ensures spelled { OnOk result (out.new.items ≡ out.old.items ++ body_snapshot_bytes snapshot.now) }
-    ensures keys { OnOk result (BodyKeysFit snapshot.now) }
+    ensures spelled { OnOk result (out.new.items ≡ out.old.items ++ snapshot_bytes snapshot.now) }
+    ensures keys { OnOk result (KeysFit snapshot.now) }
 {
     push_number(out, snapshot.position())?;
     push_tables(out, snapshot)
@@ -63,8 +63,8 @@ fn push_snapshot(out: &mut Vec<u8>, snapshot: &Snapshot) -> Result<(), AllocErro
 // Appends the tables of a shard, in the order of their nodes' indexes.
 fn push_tables(out: &mut Vec<u8>, snapshot: &Snapshot) -> Result<(), AllocError>
     requires { IsSnapshot snapshot.now }
-    ensures spelled { OnOk result (out.new.items ≡ out.old.items ++ flat_map body_table_bytes snapshot.now.tables) }
-    ensures keys { OnOk result (BodyKeysFit snapshot.now) }
+    ensures spelled { OnOk result (out.new.items ≡ out.old.items ++ flat_map table_bytes snapshot.now.tables) }
+    ensures keys { OnOk result (KeysFit snapshot.now) }
 {
     for index in 0..NODES {
         let node = Node::from_index(index).unwrap();
@@ -75,8 +75,8 @@ fn push_tables(out: &mut Vec<u8>, snapshot: &Snapshot) -> Result<(), AllocError>
 
 // Appends the total of a table, the number of its entries, and the entries.
 fn push_table(out: &mut Vec<u8>, table: &Flat) -> Result<(), AllocError>
-    ensures spelled { OnOk result (out.new.items ≡ out.old.items ++ body_table_bytes table.now.entries) }
-    ensures keys { OnOk result (HasShortBodyKeys table.now.entries) }
+    ensures spelled { OnOk result (out.new.items ≡ out.old.items ++ table_bytes table.now.entries) }
+    ensures keys { OnOk result (HasShortKeys table.now.entries) }
 {
     let _capacity = table.capacity();
     push_number(out, table.total())?;
@@ -86,8 +86,8 @@ fn push_table(out: &mut Vec<u8>, table: &Flat) -> Result<(), AllocError>
 
 // Appends the entries of a table, in the order of rising counts.
 fn push_entries(out: &mut Vec<u8>, table: &Flat) -> Result<(), AllocError>
-    ensures spelled { OnOk result (out.new.items ≡ out.old.items ++ flat_map body_entry_bytes table.now.entries) }
-    ensures keys { OnOk result (HasShortBodyKeys table.now.entries) }
+    ensures spelled { OnOk result (out.new.items ≡ out.old.items ++ flat_map entry_bytes table.now.entries) }
+    ensures keys { OnOk result (HasShortKeys table.now.entries) }
 {
     for place in 0..table.len() {
         push_entry(out, table.entry(place))?;
@@ -97,7 +97,7 @@ fn push_entries(out: &mut Vec<u8>, table: &Flat) -> Result<(), AllocError>
 
 // Appends the key, the count and the error of an entry.
 fn push_entry(out: &mut Vec<u8>, entry: Entry) -> Result<(), AllocError>
-    ensures spelled { OnOk result (out.new.items ≡ out.old.items ++ body_entry_bytes entry) }
+    ensures spelled { OnOk result (out.new.items ≡ out.old.items ++ entry_bytes entry) }
     ensures key { entry.key < 2 ^ 64 }
 {
     push_number(out, entry.key)?;

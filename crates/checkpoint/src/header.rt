@@ -4,8 +4,8 @@ ghost use Rattle.std.specs.Prelude.{◌≡◌, ◌≤◌, ◌↔◌, None, Some,
 ghost use Rattle.deal_rules.specs.declared.deal_kind.DealKind.{DealKind};
 ghost use Rattle.frame_records.specs.declared.weigh.Weigh.{Weigh};
 ghost use Rattle.checkpoint.specs.declared.settings.StoreSettings.{StoreSettings};
-ghost use Rattle.checkpoint.specs.HeaderSettings.{AreHeaderSettings, header_of_settings, header_weighing_byte};
-ghost use Rattle.checkpoint.specs.HeaderSettings.{header_dealing_byte};
+ghost use Rattle.checkpoint.specs.Header.{AreSettings, settings_header, weighing_byte};
+ghost use Rattle.checkpoint.specs.Header.{dealing_byte};
 
 use crate::StoreSettings;
 use byteorder::{BigEndian, ByteOrder};
@@ -17,8 +17,8 @@ const VERSION: u8 = 1;
 
 /// The header that spells these settings: the 62 bytes after the gates of a store.
 pub fn header_of(settings: &StoreSettings) -> [u8; 62]
-    requires { AreHeaderSettings settings.now }
-    ensures { result ≡ header_of_settings settings.now }
+    requires { AreSettings settings.now }
+    ensures { result ≡ settings_header settings.now }
 {
     let mut capacity = [0; 2];
     BigEndian::write_u16(&mut capacity, settings.capacity as u16);
@@ -42,7 +42,7 @@ pub fn header_of(settings: &StoreSettings) -> [u8; 62]
 /// The settings that a header spells. `None` exactly if it spells none: other letters, another version, shards,
 /// capacity, weighing or dealing outside their ranges, or a byte that isn't zero in the rest.
 pub fn read_header(bytes: &[u8; 62]) -> Option<StoreSettings>
-    ensures { (settings : StoreSettings) → (result ≡ Some settings) ↔ (AreHeaderSettings settings × (bytes.now ≡ header_of_settings settings)) }
+    ensures { (settings : StoreSettings) → (result ≡ Some settings) ↔ (AreSettings settings × (bytes.now ≡ settings_header settings)) }
 {
     let settings = StoreSettings {
         shards: u32::from(bytes[5]),
@@ -61,7 +61,7 @@ pub fn read_header(bytes: &[u8; 62]) -> Option<StoreSettings>
 
 // The byte of a way of weighing.
 fn weigh_byte(weigh: Weigh) -> u8
-    ensures { result ≡ header_weighing_byte weigh }
+    ensures { result ≡ weighing_byte weigh }
 {
     match weigh {
         Weigh::Bytes => 0,
@@ -71,7 +71,7 @@ fn weigh_byte(weigh: Weigh) -> u8
 
 // The way of weighing with this byte.
 fn weigh_of(byte: u8) -> Option<Weigh>
-    ensures { (weigh : Weigh) → (result ≡ Some weigh) ↔ (byte ≡ header_weighing_byte weigh) }
+    ensures { (weigh : Weigh) → (result ≡ Some weigh) ↔ (byte ≡ weighing_byte weigh) }
 {
     match byte {
         0 => Some(Weigh::Bytes),
@@ -82,7 +82,7 @@ fn weigh_of(byte: u8) -> Option<Weigh>
 
 // The byte of a kind of dealing.
 fn deal_byte(deal: DealKind) -> u8
-    ensures { result ≡ header_dealing_byte deal }
+    ensures { result ≡ dealing_byte deal }
 {
     match deal {
         DealKind::RoundRobin => 0,
@@ -93,7 +93,7 @@ fn deal_byte(deal: DealKind) -> u8
 
 // The kind of dealing with this byte.
 fn deal_of(byte: u8) -> Option<DealKind>
-    ensures { (deal : DealKind) → (result ≡ Some deal) ↔ (byte ≡ header_dealing_byte deal) }
+    ensures { (deal : DealKind) → (result ≡ Some deal) ↔ (byte ≡ dealing_byte deal) }
 {
     match byte {
         0 => Some(DealKind::RoundRobin),
@@ -105,7 +105,7 @@ fn deal_of(byte: u8) -> Option<DealKind>
 
 // Whether a store may have these settings.
 fn are_allowed(settings: &StoreSettings) -> bool
-    ensures { IsTrue result ↔ AreHeaderSettings settings.now }
+    ensures { IsTrue result ↔ AreSettings settings.now }
 {
     (1..=16).contains(&settings.shards) && (2..=4096).contains(&settings.capacity)
 }

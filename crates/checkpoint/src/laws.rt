@@ -1,59 +1,59 @@
 //! What holds of bodies and of stores, each law the contract of a function with an empty body.
 
-ghost use Rattle.checkpoint.specs.Body.{BodiesAreApart, BodiesSpellOneThing};
-ghost use Rattle.checkpoint.specs.Store.{StoreBodiesFitSlots, FormattedStoresAreEmpty, StoreHeadersSpellOneThing};
-ghost use Rattle.checkpoint.specs.Store.{StorePutsOpenOldOrNew};
-ghost use Rattle.checkpoint.specs.Store.{StorePutsOpenNewBody, StoresAreReady, StoreSlotsHoldOneThing};
-ghost use Rattle.checkpoint.specs.Store.{StoresOpenToOneThing};
+ghost use Rattle.checkpoint.specs.Body.{AreApart, SpellOneThing};
+ghost use Rattle.checkpoint.specs.Store.{BodiesFit, FormatIsEmpty, HeadersAreOne};
+ghost use Rattle.checkpoint.specs.Store.{PutsOpenEither};
+ghost use Rattle.checkpoint.specs.Store.{PutsOpenNew, AreReady, SlotsHoldOne};
+ghost use Rattle.checkpoint.specs.Store.{OpenToOne};
 
 /// No body begins another one, whatever the settings. So bytes that follow a body don't change what is read.
 pub fn bodies_are_apart()
-    ensures { BodiesAreApart }
+    ensures { AreApart }
 {}
 
 /// A body spells one sequence, one digest and one cut under the settings of its store. So what `decode` reads from what
 /// `encode` wrote is what was written.
 pub fn bodies_spell_one()
-    ensures { BodiesSpellOneThing }
+    ensures { SpellOneThing }
 {}
 
 /// A header spells one set of settings.
 pub fn headers_spell_one()
-    ensures { StoreHeadersSpellOneThing }
+    ensures { HeadersAreOne }
 {}
 
 /// Under its settings each slot of a store holds one thing at most.
 pub fn stores_hold_one()
-    ensures { StoreSlotsHoldOneThing }
+    ensures { SlotsHoldOne }
 {}
 
 /// Under its settings a store opens to one thing at most.
 pub fn stores_open_to_one()
-    ensures { StoresOpenToOneThing }
+    ensures { OpenToOne }
 {}
 
 /// What `format` of `slot_disk` leaves, where its header is that of the settings, is a sound store with no gate open.
 pub fn formatted_stores_are_empty()
-    ensures { FormattedStoresAreEmpty }
+    ensures { FormatIsEmpty }
 {}
 
 /// A body fits a slot of the span of its settings, so it may be put there.
 pub fn bodies_fit_slots()
-    ensures { StoreBodiesFitSlots }
+    ensures { BodiesFit }
 {}
 
 /// A sound store is ready for a put into a slot that isn't the newest.
 pub fn stores_are_ready()
-    ensures { StoresAreReady }
+    ensures { AreReady }
 {}
 
 /// A put of a later body over a sound store, into a slot that isn't the newest, leaves at any moment a sound store that
 /// opens as the old one did, or to the new body.
 pub fn puts_open_old_or_new()
-    ensures { StorePutsOpenOldOrNew }
+    ensures { PutsOpenEither }
 {}
 
 /// Once such a put is done, the store opens to the new body.
 pub fn puts_open_the_new()
-    ensures { StorePutsOpenNewBody }
+    ensures { PutsOpenNew }
 {}

@@ -4,9 +4,9 @@ ghost use Rattle.std.specs.Prelude.{◌≡◌, ◌+◌, ◌*◌, ◌≤◌, leng
 ghost use Rattle.std.specs.List.{flat_map};
 ghost use Rattle.prefix_lattice.specs.{shard_limit};
 ghost use Rattle.shard_state.specs.{IsCut, IsSnapshot};
-ghost use Rattle.space_saving.specs.{most_table_capacity};
-ghost use Rattle.checkpoint.specs.Body.{body_table_bytes, body_snapshot_bytes};
-ghost use Rattle.checkpoint.specs.Span.{body_front_span, snapshot_span, table_span};
+ghost use Rattle.space_saving.specs.{most_capacity};
+ghost use Rattle.checkpoint.specs.Body.{table_bytes, snapshot_bytes};
+ghost use Rattle.checkpoint.specs.Lengths.{front_span, snapshot_span, table_span};
 
 use prefix_lattice::Node;
 use shard_state::{Cut, Snapshot};
@@ -18,7 +18,7 @@ pub(crate) const NODES: u8 = 25;
 /// How many bytes the body of a cut of at most 16 shards has.
 pub(crate) fn body_length(cut: &Cut) -> usize
     requires { length cut.now.shards ≤ shard_limit }
-    ensures is { result ≡ body_front_span + length (flat_map body_snapshot_bytes cut.now.shards) }
+    ensures is { result ≡ front_span + length (flat_map snapshot_bytes cut.now.shards) }
     ensures kept { IsCut cut.now }
 {
     let mut length = 48;
@@ -30,8 +30,8 @@ pub(crate) fn body_length(cut: &Cut) -> usize
 
 fn snapshot_length(snapshot: &Snapshot) -> usize
     requires { IsSnapshot snapshot.now }
-    ensures is { result ≡ length (body_snapshot_bytes snapshot.now) }
-    ensures bounded { result ≤ snapshot_span most_table_capacity }
+    ensures is { result ≡ length (snapshot_bytes snapshot.now) }
+    ensures bounded { result ≤ snapshot_span most_capacity }
 {
     let mut length = 8;
     for index in 0..NODES {
@@ -42,8 +42,8 @@ fn snapshot_length(snapshot: &Snapshot) -> usize
 }
 
 fn table_length(table: &Flat) -> usize
-    ensures is { result ≡ length (body_table_bytes table.now.entries) }
-    ensures bounded { result ≤ table_span most_table_capacity }
+    ensures is { result ≡ length (table_bytes table.now.entries) }
+    ensures bounded { result ≤ table_span most_capacity }
 {
     let _capacity = table.capacity();
     12 + 24 * table.len()

@@ -1,8 +1,8 @@
 //! Numbers and digests in the bytes of a body.
 
 ghost use Rattle.std.specs.Prelude.{◌≡◌, ◌+◌, ◌≤◌, ◌++◌, length, OnOk};
-ghost use Rattle.checkpoint.specs.Body.{body_digest_length};
-ghost use Rattle.checkpoint.specs.NumberBytes.{number_bytes};
+ghost use Rattle.checkpoint.specs.Body.{digest_length};
+ghost use Rattle.checkpoint.specs.Numbers.{number_bytes};
 
 use byteorder::{BigEndian, ByteOrder};
 use std::alloc::AllocError;
@@ -49,8 +49,8 @@ pub(crate) fn first_count(bytes: &[u8]) -> (u32, &[u8])
 
 /// The digest in the first bytes, and the bytes after it.
 pub(crate) fn first_digest(bytes: &[u8]) -> ([u8; 32], &[u8])
-    requires { body_digest_length ≤ length bytes.now }
-    ensures rest { length result.1.now + body_digest_length ≡ length bytes.now }
+    requires { digest_length ≤ length bytes.now }
+    ensures rest { length result.1.now + digest_length ≡ length bytes.now }
     ensures spelled { bytes.now ≡ result.0 ++ result.1.now }
 {
     let (front, rest) = bytes.split_at(32);

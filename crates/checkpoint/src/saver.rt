@@ -1,14 +1,14 @@
 //! Saves cuts into a store.
 
 ghost use Rattle.std.specs.Prelude.{◌≡◌, ◌<◌, ◌≤◌, ℕ, List, Some, Err, replicate, is_some, IfOk, IsErrOf, OnOk};
-ghost use Rattle.outside_io.specs.{FaultCountRose};
-ghost use Rattle.hhh_report.specs.{AreCutPositionsNotPast};
+ghost use Rattle.outside_io.specs.{FaultRose};
+ghost use Rattle.hhh_report.specs.{AreNotPast};
 ghost use Rattle.shard_state.specs.{HasCoreShape, cut_positions};
-ghost use Rattle.slot_disk.specs.{IfImageKnown, CrashLeavesAtAnyMoment, other_slot_of_put};
-ghost use Rattle.checkpoint.specs.HeaderSettings.{AreHeaderSettings, header_of_settings};
-ghost use Rattle.checkpoint.specs.Body.{greatest_body_sequence};
-ghost use Rattle.checkpoint.specs.Store.{StoreOpensAsOldOrNew, StoreOpensTo};
-ghost use Rattle.checkpoint.specs.Saver.{SaverState, DiskMatchesSaver, IsNewestForSaver, saver_after_save, next_saved};
+ghost use Rattle.slot_disk.specs.{IfImageKnown, CrashLeaves, other_slot_of};
+ghost use Rattle.checkpoint.specs.Header.{AreSettings, settings_header};
+ghost use Rattle.checkpoint.specs.Body.{greatest_sequence};
+ghost use Rattle.checkpoint.specs.Store.{OpensOldOrNew, StoreOpensTo};
+ghost use Rattle.checkpoint.specs.Saver.{SaverState, DiskMatches, IsNewestSave, saver_after, next_saved};
 ghost use Rattle.checkpoint.specs.Saver.{saver_of};
 
 use crate::{Newest, SaveFault, StoreSettings, encode, span};
@@ -32,7 +32,7 @@ pub struct Saver {
 
 impl Model for Saver {
     ghost use Rattle.std.specs.Prelude.{◌<◌};
-    ghost use Rattle.checkpoint.specs.HeaderSettings.{AreHeaderSettings};
+    ghost use Rattle.checkpoint.specs.Header.{AreSettings};
     ghost use Rattle.checkpoint.specs.Saver.{SaverState};
 
     ghost Value = { SaverState };
@@ -46,7 +46,7 @@ impl Model for Saver {
       positions = s.positions;
     } };
 
-    ghost invariant = { λ s. AreHeaderSettings s.settings × (s.newest_slot < 2) };
+    ghost invariant = { λ s. AreSettings s.settings × (s.newest_slot < 2) };
 }
 
 impl Saver {
@@ -59,9 +59,9 @@ impl Saver {
         digest: [u8; 32],
         newest: &Option<Newest>,
     ) -> Result<Saver, AllocError>
-        requires settings { AreHeaderSettings settings }
-        requires header { slots.header ≡ header_of_settings settings }
-        requires newest { IsNewestForSaver settings slots newest.now }
+        requires settings { AreSettings settings }
+        requires header { slots.header ≡ settings_header settings }
+        requires newest { IsNewestSave settings slots newest.now }
         ensures { IfOk result (λ saver. saver ≡ saver_of slots settings digest newest.now) }
     {
         match newest {
@@ -91,21 +91,21 @@ impl Saver {
     /// The memory for the body is allocated before the first call of the disk: if that fails, the saver is handed back
     /// and the disk is unchanged. After `DiskFault` the store is opened again.
     pub fn save<D: Disk>(self, alloc: Global, disk: &mut D, cut: &Cut) -> Result<Saver, SaveFault>
-        requires early { self.sequence < greatest_body_sequence }
-        requires stands { DiskMatchesSaver (D.reads disk.old) (D.image_now disk.old) self }
+        requires early { self.sequence < greatest_sequence }
+        requires stands { DiskMatches (D.reads disk.old) (D.image_now disk.old) self }
         requires shape { HasCoreShape self.settings.shards self.settings.capacity cut.now }
-        requires no_earlier { AreCutPositionsNotPast self.positions (cut_positions cut.now) }
+        requires no_earlier { AreNotPast self.positions (cut_positions cut.now) }
         ensures known { is_some (D.reads disk.new) ≡ is_some (D.reads disk.old) }
-        ensures saved { IfOk result (λ saver. saver ≡ saver_after_save self cut.now) }
-        ensures stands { IfOk result (λ saver. DiskMatchesSaver (D.reads disk.new) (D.image_now disk.new) saver) }
+        ensures saved { IfOk result (λ saver. saver ≡ saver_after self cut.now) }
+        ensures stands { IfOk result (λ saver. DiskMatches (D.reads disk.new) (D.image_now disk.new) saver) }
         ensures opens { OnOk result (IfImageKnown (D.reads disk.new) (λ _. (image : List ℕ) → D.image_now disk.new image
             → StoreOpensTo self.settings image (Some (next_saved self cut.now)))) }
         ensures any_moment { IfImageKnown (D.reads disk.old)
-            (λ old. CrashLeavesAtAnyMoment D.moment D.image_since disk.old disk.new (StoreOpensAsOldOrNew self.settings old (next_saved self cut.now))) }
+            (λ old. CrashLeaves D.moment D.image_since disk.old disk.new (OpensOldOrNew self.settings old (next_saved self cut.now))) }
         ensures handed_back { (saver : SaverState) → result ≡ Err (SaveFault.OutOfMemory saver) → saver ≡ self }
         ensures untouched { (saver : SaverState) → result ≡ Err (SaveFault.OutOfMemory saver) → disk.new ≡ disk.old }
         ensures later { D.faults disk.old ≤ D.faults disk.new }
-        ensures fault { IsErrOf result SaveFault.DiskFault → FaultCountRose (D.faults disk.old) (D.faults disk.new) }
+        ensures fault { IsErrOf result SaveFault.DiskFault → FaultRose (D.faults disk.old) (D.faults disk.new) }
         ensures no_fault { (IsErrOf result SaveFault.DiskFault → ⊥) → D.faults disk.new ≡ D.faults disk.old }
     {
         let Ok(body) = encode(alloc, self.sequence + 1, &self.digest, cut) else {
@@ -150,7 +150,7 @@ impl Saver {
 // The other of two slots.
 fn other_slot(slot: u8) -> u8
     requires { slot < 2 }
-    ensures { result ≡ other_slot_of_put slot }
+    ensures { result ≡ other_slot_of slot }
 {
     1 - slot
 }

@@ -1,8 +1,8 @@
 //! The settings of a store.
 
 ghost use Rattle.std.specs.Prelude.{◌≡◌, ◌<◌, ◌^◌};
-ghost use Rattle.checkpoint.specs.HeaderSettings.{AreHeaderSettings};
-ghost use Rattle.checkpoint.specs.Span.{span_of_settings};
+ghost use Rattle.checkpoint.specs.Header.{AreSettings};
+ghost use Rattle.checkpoint.specs.Lengths.{span_of};
 
 use deal_rules::DealKind;
 use frame_records::Weigh;
@@ -23,8 +23,8 @@ pub struct StoreSettings {
 /// The most bytes of a body under these settings, 1,556 to 39,326,576. It is also the distance of the two bodies of a
 /// store.
 pub fn span(settings: &StoreSettings) -> u64
-    requires { AreHeaderSettings settings.now }
-    ensures span { result ≡ span_of_settings settings.now }
+    requires { AreSettings settings.now }
+    ensures span { result ≡ span_of settings.now }
     ensures bounded { result < 2 ^ 32 }
 {
     let table = 12 + 24 * u64::from(settings.capacity);

@@ -7,20 +7,20 @@ use Rattle.std.proofs.lemmas.Fmt.{first_decimal, decimal_injective}
 use Rattle.frame_records.specs.declared.weigh.Weigh.TheVariants.{Bytes, Packets}
 use Rattle.deal_rules.specs.declared.deal_kind.DealKind.TheVariants.{RoundRobin, Free}
 use Rattle.command_words.specs.Arguments.{Argument, positional, option}
-use Rattle.command_words.specs.Options.{option_name_of, option_place_of, OptionKind, number, choice, option_kind_of}
-use Rattle.command_words.specs.Options.{IsOptionNumber, IsAllowedByOption}
-use Rattle.command_words.specs.Options.{IsGoodOptionText, IsGoodOption, IsNoOptionNumber, IsOutsideOptionLimits}
-use Rattle.command_words.specs.Options.{IsNoOptionChoice}
-use Rattle.command_words.specs.Options.{capacity_option_limit, phi_option_limit, seed_option_limit, frames_option_limit}
-use Rattle.command_words.specs.Settings.{SettingValues, setting_values_in, store_setting_in, SetsNumberSetting}
-use Rattle.command_words.specs.Settings.{SetsWeighSetting, SetsDealSetting, SetsStoreSetting}
-use Rattle.command_words.specs.Settings.{weigh_setting_word, deal_setting_word}
-use Rattle.command_words.specs.Settings.{SetsSettings, AreWideSettings, AreLimitedSettings, GivesNumberSetting}
-use Rattle.command_words.specs.Settings.{GivesTrafficSettings, AreTrafficSettings}
-use Rattle.command_words.specs.Options.{block_option_limit, workers_option_limit, callers_option_limit}
-use Rattle.command_words.specs.Options.{rounds_option_limit}
-use Rattle.command_words.specs.Values.{AreGoodValues, IsFirstBadValue, HasValueFault}
-use Rattle.command_words.specs.GivenValues.{IsBadGivenNumber, IsBadGivenChoice, SetsGiven}
+use Rattle.command_words.specs.Options.{name_of, place_of, OptionKind, number, choice, kind_of}
+use Rattle.command_words.specs.Options.{IsNumber, IsAllowed}
+use Rattle.command_words.specs.Options.{IsGoodText, IsGood, IsNoNumber, IsOutside}
+use Rattle.command_words.specs.Options.{IsNoChoice}
+use Rattle.command_words.specs.Options.{capacity_limit, phi_limit, seed_limit, frames_limit}
+use Rattle.command_words.specs.Settings.{SettingValues, settings_in, store_setting, SetsNumber}
+use Rattle.command_words.specs.Settings.{SetsWeigh, SetsDeal, SetsStore}
+use Rattle.command_words.specs.Settings.{weigh_word, deal_word}
+use Rattle.command_words.specs.Settings.{SetsAll, AreWide, AreLimited, GivesNumber}
+use Rattle.command_words.specs.Settings.{GivesTraffic, AreForTraffic}
+use Rattle.command_words.specs.Options.{block_limit, workers_limit, callers_limit}
+use Rattle.command_words.specs.Options.{rounds_limit}
+use Rattle.command_words.specs.Values.{AreGood, IsFirstBad, HasValueFault}
+use Rattle.command_words.specs.Given.{IsBadNumber, IsBadChoice, SetsGiven}
 use Rattle.command_words.specs.declared.command_word.CommandWord.TheVariants as command
 use Rattle.command_words.specs.declared.opt.Opt.{Opt}
 use Rattle.command_words.specs.declared.opt.Opt.TheVariants.{Seed, Frames, Weigh, Shards, Capacity, Phi, Deal}
@@ -30,30 +30,30 @@ use Rattle.command_words.specs.declared.words_kind.WordsKind.TheVariants.{BadNum
 use Rattle.command_words.proofs.TextSearchLemmas.{text_search_finds_contained, text_search_finds_none}
 use Rattle.command_words.proofs.Examples.{arguments}
 
-pub name_of_the_share : option_name_of Phi ≡ codes "phi"
+pub name_of_the_share : name_of Phi ≡ codes "phi"
 name_of_the_share = refl
 
-pub share_is_looked_at_behind_the_capacity : option_place_of Capacity < option_place_of Phi
+pub share_is_looked_at_behind_the_capacity : place_of Capacity < place_of Phi
 share_is_looked_at_behind_the_capacity = omega arith
 
 -- a number from 2 to 4096, and 512 by default
 abbrev from_2_to_4096 : OptionKind
 from_2_to_4096 = number 2 4096 512
 
-pub limits_of_the_capacity : option_kind_of Capacity ≡ from_2_to_4096
+pub limits_of_the_capacity : kind_of Capacity ≡ from_2_to_4096
 limits_of_the_capacity = refl
 
-pub words_for_weighing : option_kind_of Weigh ≡ choice (weigh_setting_word Bytes) (weigh_setting_word Packets ∷ [])
+pub words_for_weighing : kind_of Weigh ≡ choice (weigh_word Bytes) (weigh_word Packets ∷ [])
 words_for_weighing = refl
 
-pub word_for_free_dealing : deal_setting_word Free ≡ codes "free"
+pub word_for_free_dealing : deal_word Free ≡ codes "free"
 word_for_free_dealing = refl
 
-pub number_in_decimal : IsOptionNumber (codes "512") 512
+pub number_in_decimal : IsNumber (codes "512") 512
 unfolding digits
 number_in_decimal = record { spelled = refl; bounded = omega arith }
 
-pub no_number_has_a_leading_zero : (value : ℕ) → IsOptionNumber (codes "01") value → ⊥
+pub no_number_has_a_leading_zero : (value : ℕ) → IsNumber (codes "01") value → ⊥
 unfolding digits
 no_number_has_a_leading_zero zero is_number = let same : codes "01" ≡ codes "0" = is_number.spelled in cc
 no_number_has_a_leading_zero (suc value) is_number =
@@ -63,45 +63,45 @@ no_number_has_a_leading_zero (suc value) is_number =
     omega (arith, first)
 
 -- 16 shards are the most, and one is the least
-pub sixteen_shards : IsGoodOptionText (option_kind_of Shards) (codes "16")
+pub sixteen_shards : IsGoodText (kind_of Shards) (codes "16")
 unfolding digits
 sixteen_shards = (16, record { spelled = refl; bounded = omega arith }, (omega arith, omega arith))
 
-pub seventeen_shards : IsOutsideOptionLimits (option_kind_of Shards) (codes "17")
+pub seventeen_shards : IsOutside (kind_of Shards) (codes "17")
 unfolding digits
 seventeen_shards = (17, record { spelled = refl; bounded = omega arith }, inr (omega arith))
 
-pub one_shard_is_allowed : IsAllowedByOption (option_kind_of Shards) 1
+pub one_shard_is_allowed : IsAllowed (kind_of Shards) 1
 one_shard_is_allowed = (omega arith, omega arith)
 
-pub no_shard_is_not_allowed : IsAllowedByOption (option_kind_of Shards) 0 → ⊥
+pub no_shard_is_not_allowed : IsAllowed (kind_of Shards) 0 → ⊥
 no_shard_is_not_allowed allowed = omega (arith, allowed.0)
 
-pub shards_with_a_leading_zero : IsNoOptionNumber (option_kind_of Shards) (codes "01")
+pub shards_with_a_leading_zero : IsNoNumber (kind_of Shards) (codes "01")
 shards_with_a_leading_zero = no_number_has_a_leading_zero
 
 -- an option has a good value, or is missing
-pub free_is_good : IsGoodOption Deal (Some (codes "free"))
+pub free_is_good : IsGood Deal (Some (codes "free"))
 free_is_good = (text_search_finds_contained (codes "round" ∷ codes "source" ∷ codes "free" ∷ []) (codes "free")).0 refl
 
-pub nothing_is_good : IsGoodOption Deal None
+pub nothing_is_good : IsGood Deal None
 nothing_is_good = tt
 
-pub no_dealing_by_hash : IsNoOptionChoice (option_kind_of Deal) (codes "hash")
+pub no_dealing_by_hash : IsNoChoice (kind_of Deal) (codes "hash")
 no_dealing_by_hash = text_search_finds_none (codes "round" ∷ codes "source" ∷ codes "free" ∷ []) (codes "hash") refl
 
-pub shards_that_are_no_number : IsBadGivenNumber Shards (Some (codes "01")) (BadNumber Shards)
+pub shards_that_are_no_number : IsBadNumber Shards (Some (codes "01")) (BadNumber Shards)
 shards_that_are_no_number = (refl, no_number_has_a_leading_zero)
 
-pub dealing_that_is_no_choice : IsBadGivenChoice Deal (Some (codes "hash")) (BadChoice Deal)
+pub dealing_that_is_no_choice : IsBadChoice Deal (Some (codes "hash")) (BadChoice Deal)
 dealing_that_is_no_choice = (refl, no_dealing_by_hash)
 
 -- in `--deal hash --shards 17` the shards are checked first
 abbrev two_bad_values : SettingValues
 two_bad_values =
-    setting_values_in command.Report (option (codes "deal") (codes "hash") ∷ option (codes "shards") (codes "17") ∷ [])
+    settings_in command.Report (option (codes "deal") (codes "hash") ∷ option (codes "shards") (codes "17") ∷ [])
 
-good_before_shards : (other : Opt) → option_place_of other < option_place_of Shards → IsGoodOption other (two_bad_values other)
+good_before_shards : (other : Opt) → place_of other < place_of Shards → IsGood other (two_bad_values other)
 good_before_shards Seed before = tt
 good_before_shards Frames before = tt
 good_before_shards Weigh before = tt
@@ -114,7 +114,7 @@ good_before_shards Workers before = absurd (omega (arith, before))
 good_before_shards Callers before = absurd (omega (arith, before))
 good_before_shards Rounds before = absurd (omega (arith, before))
 
-pub shards_are_the_first_bad : IsFirstBadValue IsOutsideOptionLimits two_bad_values Shards
+pub shards_are_the_first_bad : IsFirstBad IsOutside two_bad_values Shards
 shards_are_the_first_bad = record {
   before = good_before_shards;
   text = codes "17";
@@ -128,7 +128,7 @@ shards_are_the_fault = shards_are_the_first_bad
 pub dealing_is_not_the_fault : HasValueFault two_bad_values (BadChoice Deal) → ⊥
 unfolding digits
 dealing_is_not_the_fault fault =
-    let good : IsGoodOptionText (option_kind_of Shards) (codes "17") = fault.before Shards (omega arith) in
+    let good : IsGoodText (kind_of Shards) (codes "17") = fault.before Shards (omega arith) in
     let same : good.0 ≡ 17 = decimal_injective good.0 17 good.1.bounded (omega arith) (sym good.1.spelled) in
     omega (arith, same, good.2.1)
 
@@ -147,7 +147,7 @@ defaults = record {
   store = false;
 }
 
-pub nothing_sets_the_defaults : SetsSettings (setting_values_in command.Report []) (store_setting_in []) defaults
+pub nothing_sets_the_defaults : SetsAll (settings_in command.Report []) (store_setting []) defaults
 nothing_sets_the_defaults = record {
   weigh = refl;
   shards = refl;
@@ -161,7 +161,7 @@ nothing_sets_the_defaults = record {
   store = refl;
 }
 
-pub defaults_are_within_their_limits : AreLimitedSettings defaults
+pub defaults_are_within_their_limits : AreLimited defaults
 defaults_are_within_their_limits = record {
   some_shards = omega arith;
   few_shards = omega arith;
@@ -177,55 +177,55 @@ defaults_are_within_their_limits = record {
   few_rounds = omega arith;
 }
 
-pub too_many_shards : AreLimitedSettings (record defaults { shards = 17 }) → ⊥
+pub too_many_shards : AreLimited (record defaults { shards = 17 }) → ⊥
 too_many_shards limited = omega (arith, limited.few_shards)
 
 -- tables of 512 can't hide a prefix of a hundredth of the total; tables of 17 can hide one of 117,647 parts per million
-pub defaults_are_wide : AreWideSettings defaults
+pub defaults_are_wide : AreWide defaults
 defaults_are_wide = omega arith
 
-pub tables_too_small_for_a_share : AreWideSettings (record defaults { phi = 117647; capacity = 17 }) → ⊥
+pub tables_too_small_for_a_share : AreWide (record defaults { phi = 117647; capacity = 17 }) → ⊥
 tables_too_small_for_a_share wide = omega (arith, wide)
 
 -- what `--weigh=packets 10.0.0.0/8 --capture a.pcap 20.0.0.0/8` says
-pub weighing_that_is_said : setting_values_in command.Weigh arguments Weigh ≡ Some (codes "packets")
+pub weighing_that_is_said : settings_in command.Weigh arguments Weigh ≡ Some (codes "packets")
 weighing_that_is_said = refl
 
-pub capacity_that_is_not_said : setting_values_in command.Weigh arguments Capacity ≡ None
+pub capacity_that_is_not_said : settings_in command.Weigh arguments Capacity ≡ None
 capacity_that_is_not_said = refl
 
-pub packets_by_their_word : SetsWeighSetting (setting_values_in command.Weigh arguments Weigh) Packets
+pub packets_by_their_word : SetsWeigh (settings_in command.Weigh arguments Weigh) Packets
 packets_by_their_word = refl
 
-pub in_turn_by_default : SetsDealSetting (setting_values_in command.Weigh arguments Deal) RoundRobin
+pub in_turn_by_default : SetsDeal (settings_in command.Weigh arguments Deal) RoundRobin
 in_turn_by_default = refl
 
-pub no_store_by_default : SetsStoreSetting (store_setting_in arguments) false
+pub no_store_by_default : SetsStore (store_setting arguments) false
 no_store_by_default = refl
 
-pub store_by_its_path : SetsStoreSetting (Some (codes "S")) true
+pub store_by_its_path : SetsStore (Some (codes "S")) true
 store_by_its_path = refl
 
-pub capacity_by_default : SetsNumberSetting Capacity (setting_values_in command.Weigh arguments Capacity) 512
+pub capacity_by_default : SetsNumber Capacity (settings_in command.Weigh arguments Capacity) 512
 capacity_by_default = refl
 
-pub sixteen_shards_by_their_number : SetsNumberSetting Shards (Some (codes "16")) 16
+pub sixteen_shards_by_their_number : SetsNumber Shards (Some (codes "16")) 16
 unfolding digits
 sixteen_shards_by_their_number = (record { spelled = refl; bounded = omega arith }, (omega arith, omega arith))
 
 -- ---- the greatest of each setting
 
-pub greatest_tables : IsAllowedByOption (option_kind_of Capacity) capacity_option_limit
+pub greatest_tables : IsAllowed (kind_of Capacity) capacity_limit
 greatest_tables = (omega arith, omega arith)
 
-pub greatest_share_is_the_whole : IsAllowedByOption (option_kind_of Phi) phi_option_limit
+pub greatest_share_is_the_whole : IsAllowed (kind_of Phi) phi_limit
 greatest_share_is_the_whole = (omega arith, omega arith)
 
-pub greatest_settings : AreLimitedSettings (record defaults {
-  block = block_option_limit;
-  workers = workers_option_limit;
-  callers = callers_option_limit;
-  rounds = rounds_option_limit;
+pub greatest_settings : AreLimited (record defaults {
+  block = block_limit;
+  workers = workers_limit;
+  callers = callers_limit;
+  rounds = rounds_limit;
 })
 greatest_settings = record {
   some_shards = omega arith;
@@ -248,62 +248,62 @@ greatest_settings = record {
 abbrev pub traffic_arguments : List Argument
 traffic_arguments = positional (codes "7") ∷ positional (codes "3") ∷ []
 
-pub seed_by_its_place : setting_values_in command.Make traffic_arguments Seed ≡ Some (codes "7")
+pub seed_by_its_place : settings_in command.Make traffic_arguments Seed ≡ Some (codes "7")
 seed_by_its_place = refl
 
-pub frames_by_their_place : setting_values_in command.Make traffic_arguments Frames ≡ Some (codes "3")
+pub frames_by_their_place : settings_in command.Make traffic_arguments Frames ≡ Some (codes "3")
 frames_by_their_place = refl
 
-pub no_shards_among_them : setting_values_in command.Make traffic_arguments Shards ≡ None
+pub no_shards_among_them : settings_in command.Make traffic_arguments Shards ≡ None
 no_shards_among_them = refl
 
-pub seed_is_looked_at_first : (other : Opt) → option_place_of other < option_place_of Seed → ⊥
+pub seed_is_looked_at_first : (other : Opt) → place_of other < place_of Seed → ⊥
 seed_is_looked_at_first other before = omega (arith, before)
 
-pub three_frames : GivesNumberSetting Frames (Some (codes "3")) 3
+pub three_frames : GivesNumber Frames (Some (codes "3")) 3
 unfolding digits
 three_frames = (record { spelled = refl; bounded = omega arith }, (omega arith, omega arith))
 
-pub three_frames_of_seed_seven : GivesTrafficSettings (setting_values_in command.Make traffic_arguments) 7 3
+pub three_frames_of_seed_seven : GivesTraffic (settings_in command.Make traffic_arguments) 7 3
 unfolding digits
 three_frames_of_seed_seven = record {
   seed_given = (record { spelled = refl; bounded = omega arith }, (omega arith, omega arith));
   frames_given = three_frames;
 }
 
-pub no_number_is_given_by_nothing : GivesNumberSetting Frames None 1 → ⊥
+pub no_number_is_given_by_nothing : GivesNumber Frames None 1 → ⊥
 no_number_is_given_by_nothing gives = gives
 
-pub greatest_seed_of_64_bits : IsAllowedByOption (option_kind_of Seed) seed_option_limit
+pub greatest_seed_of_64_bits : IsAllowed (kind_of Seed) seed_limit
 greatest_seed_of_64_bits = (omega arith, omega arith)
 
-pub no_seed_is_outside : IsOutsideOptionLimits (option_kind_of Seed) (codes "7") → ⊥
+pub no_seed_is_outside : IsOutside (kind_of Seed) (codes "7") → ⊥
 no_seed_is_outside outside = go outside.2
   where
     bounded : outside.0 < 2 ^ 64
     bounded = outside.1.bounded
 
-    go : (outside.0 < 0) ⊎ (seed_option_limit < outside.0) → ⊥
+    go : (outside.0 < 0) ⊎ (seed_limit < outside.0) → ⊥
     go (inl below) = omega (arith, below)
     go (inr above) = omega (arith, above, bounded)
 
-pub million_frames_can_be_made : AreTrafficSettings seed_option_limit frames_option_limit
+pub million_frames_can_be_made : AreForTraffic seed_limit frames_limit
 million_frames_can_be_made = record { is_seed = omega arith; some_frames = omega arith; few_frames = omega arith }
 
-pub no_frame_can_not_be_made : AreTrafficSettings 7 0 → ⊥
+pub no_frame_can_not_be_made : AreForTraffic 7 0 → ⊥
 no_frame_can_not_be_made made = omega (arith, made.some_frames)
 
-pub no_frame_is_outside : IsOutsideOptionLimits (option_kind_of Frames) (codes "0")
+pub no_frame_is_outside : IsOutside (kind_of Frames) (codes "0")
 unfolding digits
 no_frame_is_outside = (0, record { spelled = refl; bounded = omega arith }, inl (omega arith))
 
-pub more_than_a_million_frames_are_outside : IsOutsideOptionLimits (option_kind_of Frames) (codes "1000001")
+pub more_than_a_million_frames_are_outside : IsOutside (kind_of Frames) (codes "1000001")
 unfolding digits
 more_than_a_million_frames_are_outside =
     (1000001, record { spelled = refl; bounded = omega arith }, inr (omega arith))
 
 -- the positionals are good, and nothing else is given
-pub traffic_is_good : AreGoodValues (setting_values_in command.Make traffic_arguments)
+pub traffic_is_good : AreGood (settings_in command.Make traffic_arguments)
 unfolding digits
 traffic_is_good Seed = (7, record { spelled = refl; bounded = omega arith }, (omega arith, omega arith))
 traffic_is_good Frames = (3, record { spelled = refl; bounded = omega arith }, (omega arith, omega arith))
@@ -317,7 +317,7 @@ traffic_is_good Workers = tt
 traffic_is_good Callers = tt
 traffic_is_good Rounds = tt
 
-pub nothing_gives_the_defaults : SetsGiven (setting_values_in command.Report []) (store_setting_in [])
+pub nothing_gives_the_defaults : SetsGiven (settings_in command.Report []) (store_setting [])
     (record { seed = 0; frames = 1; settings = defaults })
 nothing_gives_the_defaults =
     record { seed_set = refl; frames_set = refl; settings_set = nothing_sets_the_defaults }

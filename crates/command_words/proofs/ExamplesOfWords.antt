@@ -12,19 +12,19 @@ use Rattle.prefix_lattice.specs.{AreLeadingBytes, PrefixValue, SpellsPrefix}
 use Rattle.prefix_lattice.specs.declared.prefix_fault.Side.TheVariants.{Source}
 use Rattle.prefix_lattice.specs.declared.prefix_fault.PrefixFault.TheVariants.{LooseBits}
 use Rattle.frame_records.specs.declared.weigh.Weigh.TheVariants.{Packets}
-use Rattle.command_words.specs.Arguments.{ArgumentText, Argument, positional, option, IsArgumentValue}
-use Rattle.command_words.specs.Arguments.{SpellAllArguments}
-use Rattle.command_words.specs.Arguments.{names_in_arguments, AreWellFormedArguments}
-use Rattle.command_words.specs.Forms.{form_word_of, form_of, AreFormWords}
-use Rattle.command_words.specs.NamedPaths.{NamesPaths}
-use Rattle.command_words.specs.Settings.{setting_values_in}
-use Rattle.command_words.specs.AskedCommand.{CommandHasSides, WordsAskToWeigh, WordsAskToReport, WordsAskToFormat}
-use Rattle.command_words.specs.AskedCommand.{WordsAskToAudit, AskForCommand, IsLimitedCommand}
-use Rattle.command_words.specs.AskedCommand.{WordsAskToMake, WordsAskToDemo}
-use Rattle.command_words.specs.Values.{AreGoodValues}
-use Rattle.command_words.specs.AskedCommand.{CommandHasGoodPositionals, IsBoundedCommand}
-use Rattle.command_words.specs.WordsFault.{WordsHaveBadPrefix, WordsHaveBadValue, WordsHaveNarrowTables, HasWordsFault}
-use Rattle.command_words.specs.Options.{option_place_of, IsGoodOption}
+use Rattle.command_words.specs.Arguments.{ArgumentText, Argument, positional, option, IsValue}
+use Rattle.command_words.specs.Arguments.{SpellAll}
+use Rattle.command_words.specs.Arguments.{names_in, AreWellFormed}
+use Rattle.command_words.specs.FormNames.{word_of, form_of, AreWords}
+use Rattle.command_words.specs.PathTexts.{NamesPaths}
+use Rattle.command_words.specs.Settings.{settings_in}
+use Rattle.command_words.specs.Command.{HasSides, AskToWeigh, AskToReport, AskToFormat}
+use Rattle.command_words.specs.Command.{AskToAudit, AskForCommand, IsLimitedCommand}
+use Rattle.command_words.specs.Command.{AskToMake, AskToDemo}
+use Rattle.command_words.specs.Values.{AreGood}
+use Rattle.command_words.specs.Command.{HasPositionals, IsBounded}
+use Rattle.command_words.specs.WordsRefusal.{HasBadPrefix, HasBadValue, HasNarrowTables, HasWordsFault}
+use Rattle.command_words.specs.Options.{place_of, IsGood}
 use Rattle.command_words.specs.declared.command.Command.TheVariants as command
 use Rattle.command_words.specs.declared.command_word.CommandWord.{CommandWord}
 use Rattle.command_words.specs.declared.command_word.CommandWord.TheVariants.{Weigh, Report, Format, Audit, Make, Demo}
@@ -42,7 +42,7 @@ use Rattle.command_words.proofs.ExamplesOfValues.{defaults_are_within_their_limi
 use Rattle.command_words.proofs.ExamplesOfValues.{seventeen_shards, tables_too_small_for_a_share}
 use Rattle.command_words.proofs.ExamplesOfValues.{traffic_arguments, three_frames_of_seed_seven, no_frame_is_outside}
 
-pub word_of_a_command : form_word_of Report ≡ codes "report"
+pub word_of_a_command : word_of Report ≡ codes "report"
 word_of_a_command = refl
 
 option_of : (command : CommandWord) (name : ArgumentText) → list_any (λ other. bytes_eq other name) (form_of command).options ≡ true
@@ -53,10 +53,10 @@ option_of command name found = (text_search_finds_contained (form_of command).op
 abbrev pub weigh_line : List ArgumentText
 weigh_line = codes "weigh" ∷ words
 
-pub words_of_a_command : AreFormWords weigh_line Weigh arguments
+pub words_of_a_command : AreWords weigh_line Weigh arguments
 words_of_a_command = record { behind = words; begun = refl; well_formed = words_of_weigh }
 
-pub sides_of_the_prefix : CommandHasSides arguments (codes "10.0.0.0/8") (codes "20.0.0.0/8")
+pub sides_of_the_prefix : HasSides arguments (codes "10.0.0.0/8") (codes "20.0.0.0/8")
 sides_of_the_prefix = refl
 
 -- 10.0.0.0/8 20.0.0.0/8
@@ -80,7 +80,7 @@ prefix_is_spelled = record {
 abbrev by_packets : Settings
 by_packets = record defaults { weigh = Packets }
 
-pub asks_for_a_weight : WordsAskToWeigh weigh_line prefix by_packets
+pub asks_for_a_weight : AskToWeigh weigh_line prefix by_packets
 asks_for_a_weight = record {
   arguments = arguments;
   are_words = words_of_a_command;
@@ -105,10 +105,10 @@ asks_for_a_weight = record {
 pub asks_for_the_command : AskForCommand weigh_line (command.Weigh prefix by_packets)
 asks_for_the_command = asks_for_a_weight
 
-pub good_positionals : CommandHasGoodPositionals Weigh arguments
+pub good_positionals : HasPositionals Weigh arguments
 good_positionals = (codes "10.0.0.0/8", codes "20.0.0.0/8", sides_of_the_prefix, (prefix, prefix_is_spelled))
 
-pub report_has_no_positionals : CommandHasGoodPositionals Report []
+pub report_has_no_positionals : HasPositionals Report []
 report_has_no_positionals = tt
 
 -- `weigh` has a capture, and no store
@@ -126,7 +126,7 @@ capture_that_is_named = record {
 abbrev report_line : List ArgumentText
 report_line = codes "report" ∷ []
 
-no_words_of_report : AreFormWords report_line Report []
+no_words_of_report : AreWords report_line Report []
 no_words_of_report = record {
   behind = [];
   begun = refl;
@@ -141,7 +141,7 @@ no_words_of_report = record {
   };
 }
 
-pub asks_for_a_report : WordsAskToReport report_line defaults
+pub asks_for_a_report : AskToReport report_line defaults
 asks_for_a_report = record {
   arguments = [];
   are_words = no_words_of_report;
@@ -170,7 +170,7 @@ store_words = codes "--capacity" ∷ codes "2" ∷ codes "--store=S" ∷ []
 abbrev store_arguments : List Argument
 store_arguments = option (codes "capacity") (codes "2") ∷ option (codes "store") (codes "S") ∷ []
 
-store_words_are_spelled : SpellAllArguments store_words store_arguments
+store_words_are_spelled : SpellAll store_words store_arguments
 store_words_are_spelled = (
   codes "--store=S" ∷ [],
   record {
@@ -189,7 +189,7 @@ store_words_are_spelled = (
   ),
 )
 
-words_of_format : AreFormWords (codes "format" ∷ store_words) Format store_arguments
+words_of_format : AreWords (codes "format" ∷ store_words) Format store_arguments
 words_of_format = record {
   behind = store_words;
   begun = refl;
@@ -207,9 +207,9 @@ words_of_format = record {
           (text_search_tells_apart (codes "capacity") (codes "store") refl) (All-nil (λ other. codes "capacity" ≢ other)))
           (λ i j d before within. absurd (omega (arith, before, within)));
       complete =
-          All-cons (λ name. Contains (names_in_arguments store_arguments) name) (codes "store") []
-          ((text_search_finds_contained (names_in_arguments store_arguments) (codes "store")).0 refl)
-          (All-nil (λ name. Contains (names_in_arguments store_arguments) name));
+          All-cons (λ name. Contains (names_in store_arguments) name) (codes "store") []
+          ((text_search_finds_contained (names_in store_arguments) (codes "store")).0 refl)
+          (All-nil (λ name. Contains (names_in store_arguments) name));
     };
   };
 }
@@ -218,7 +218,7 @@ abbrev small_store : Settings
 small_store = record defaults { capacity = 2; store = true }
 
 -- tables of 2 are too small for the default share, which `format` doesn't check
-pub asks_for_a_store : WordsAskToFormat (codes "format" ∷ store_words) small_store
+pub asks_for_a_store : AskToFormat (codes "format" ∷ store_words) small_store
 unfolding digits
 asks_for_a_store = record {
   arguments = store_arguments;
@@ -240,7 +240,7 @@ asks_for_a_store = record {
 pub asks_for_the_store_by_its_command : AskForCommand (codes "format" ∷ store_words) (command.Format small_store)
 asks_for_the_store_by_its_command = asks_for_a_store
 
-pub shares_of_reports_alone_are_bounded : IsBoundedCommand Format → ⊥
+pub shares_of_reports_alone_are_bounded : IsBounded Format → ⊥
 shares_of_reports_alone_are_bounded bounded = bounded
 
 -- `format` has no capture, so it names none, not even the standard input
@@ -259,10 +259,10 @@ store_that_is_named = record {
 }
 
 -- `format` alone lacks the store that it requires
-lacks_a_store : (given : List Argument) → AreWellFormedArguments (form_of Format) [] given → ⊥
+lacks_a_store : (given : List Argument) → AreWellFormed (form_of Format) [] given → ⊥
 lacks_a_store given well_formed =
     let none : given ≡ [] = one_reading [] given [] well_formed.spelled refl in
-    let same = subst (λ list. AreWellFormedArguments (form_of Format) [] list) none well_formed in
+    let same = subst (λ list. AreWellFormed (form_of Format) [] list) none well_formed in
     let within = All-head (Contains []) (codes "store") [] same.of_form.complete in
     omega (arith, within.1)
 
@@ -276,7 +276,7 @@ audit_words = codes "--report" ∷ codes "R" ∷ []
 abbrev audit_arguments : List Argument
 audit_arguments = option (codes "report") (codes "R") ∷ []
 
-words_of_audit : AreFormWords (codes "audit" ∷ audit_words) Audit audit_arguments
+words_of_audit : AreWords (codes "audit" ∷ audit_words) Audit audit_arguments
 words_of_audit = record {
   behind = audit_words;
   begun = refl;
@@ -297,14 +297,14 @@ words_of_audit = record {
           (option_of Audit (codes "report") refl) (All-nil (λ name. Contains (form_of Audit).options name));
       once = λ i j d before within. absurd (omega (arith, before, within));
       complete =
-          All-cons (λ name. Contains (names_in_arguments audit_arguments) name) (codes "report") []
-          ((text_search_finds_contained (names_in_arguments audit_arguments) (codes "report")).0 refl)
-          (All-nil (λ name. Contains (names_in_arguments audit_arguments) name));
+          All-cons (λ name. Contains (names_in audit_arguments) name) (codes "report") []
+          ((text_search_finds_contained (names_in audit_arguments) (codes "report")).0 refl)
+          (All-nil (λ name. Contains (names_in audit_arguments) name));
     };
   };
 }
 
-pub asks_for_an_audit : WordsAskToAudit (codes "audit" ∷ audit_words) defaults
+pub asks_for_an_audit : AskToAudit (codes "audit" ∷ audit_words) defaults
 asks_for_an_audit = record {
   arguments = audit_arguments;
   are_words = words_of_audit;
@@ -339,10 +339,10 @@ text_that_is_named = record {
 }
 
 -- `audit` alone lacks the text that it requires
-lacks_a_text : (given : List Argument) → AreWellFormedArguments (form_of Audit) [] given → ⊥
+lacks_a_text : (given : List Argument) → AreWellFormed (form_of Audit) [] given → ⊥
 lacks_a_text given well_formed =
     let none : given ≡ [] = one_reading [] given [] well_formed.spelled refl in
-    let same = subst (λ list. AreWellFormedArguments (form_of Audit) [] list) none well_formed in
+    let same = subst (λ list. AreWellFormed (form_of Audit) [] list) none well_formed in
     let within = All-head (Contains []) (codes "report") [] same.of_form.complete in
     omega (arith, within.1)
 
@@ -354,7 +354,7 @@ pub no_command : HasWordsFault [] NoCommand
 no_command = refl
 
 -- no command is called `way`
-way_is_no_command : (command : CommandWord) → codes "way" ≢ form_word_of command
+way_is_no_command : (command : CommandWord) → codes "way" ≢ word_of command
 way_is_no_command Weigh = text_search_tells_apart (codes "way") (codes "weigh") refl
 way_is_no_command Report = text_search_tells_apart (codes "way") (codes "report") refl
 way_is_no_command Format = text_search_tells_apart (codes "way") (codes "format") refl
@@ -366,10 +366,10 @@ pub unknown_command : HasWordsFault (codes "way" ∷ []) UnknownCommand
 unknown_command = (codes "way", [], refl, way_is_no_command)
 
 -- `weigh` alone lacks its positionals
-lacks_positionals : (arguments : List Argument) → AreWellFormedArguments (form_of Weigh) [] arguments → ⊥
+lacks_positionals : (arguments : List Argument) → AreWellFormed (form_of Weigh) [] arguments → ⊥
 lacks_positionals arguments well_formed =
     let none : arguments ≡ [] = one_reading [] arguments [] well_formed.spelled refl in
-    let same = subst (λ given. AreWellFormedArguments (form_of Weigh) [] given) none well_formed in
+    let same = subst (λ given. AreWellFormed (form_of Weigh) [] given) none well_formed in
     omega (arith, same.of_form.as_many)
 
 pub positionals_are_lacking : HasWordsFault (codes "weigh" ∷ []) Refused
@@ -382,14 +382,14 @@ loose_words = codes "10.1.2.0/16" ∷ codes "0.0.0.0/0" ∷ []
 abbrev loose_arguments : List Argument
 loose_arguments = positional (codes "10.1.2.0/16") ∷ positional (codes "0.0.0.0/0") ∷ []
 
-loose_words_are_spelled : SpellAllArguments loose_words loose_arguments
+loose_words_are_spelled : SpellAll loose_words loose_arguments
 loose_words_are_spelled = (
   codes "0.0.0.0/0" ∷ [],
   record { front = codes "10.1.2.0/16" ∷ []; parted = refl; spelled = (λ same. omega (arith, same), refl) },
   ([], record { front = codes "0.0.0.0/0" ∷ []; parted = refl; spelled = (λ same. omega (arith, same), refl) }, refl),
 )
 
-pub bits_past_the_length : WordsHaveBadPrefix (codes "weigh" ∷ loose_words) (LooseBits Source)
+pub bits_past_the_length : HasBadPrefix (codes "weigh" ∷ loose_words) (LooseBits Source)
 unfolding digits
 bits_past_the_length = record {
   arguments = loose_arguments;
@@ -434,7 +434,7 @@ IsOption name = Contains (form_of Report).options name
 abbrev many_shards : List Argument
 many_shards = option (codes "shards") (codes "17") ∷ []
 
-words_for_many_shards : AreFormWords (codes "report" ∷ codes "--shards=17" ∷ []) Report many_shards
+words_for_many_shards : AreWords (codes "report" ∷ codes "--shards=17" ∷ []) Report many_shards
 words_for_many_shards = record {
   behind = codes "--shards=17" ∷ [];
   begun = refl;
@@ -459,8 +459,8 @@ words_for_many_shards = record {
   };
 }
 
-good_before_shards : (other : Opt) → option_place_of other < option_place_of opt.Shards
-    → IsGoodOption other (setting_values_in Report many_shards other)
+good_before_shards : (other : Opt) → place_of other < place_of opt.Shards
+    → IsGood other (settings_in Report many_shards other)
 good_before_shards opt.Seed before = tt
 good_before_shards opt.Frames before = tt
 good_before_shards opt.Weigh before = tt
@@ -473,7 +473,7 @@ good_before_shards opt.Workers before = tt
 good_before_shards opt.Callers before = tt
 good_before_shards opt.Rounds before = tt
 
-pub more_shards_than_there_may_be : WordsHaveBadValue (codes "report" ∷ codes "--shards=17" ∷ []) (OutOfLimits opt.Shards)
+pub more_shards_than_there_may_be : HasBadValue (codes "report" ∷ codes "--shards=17" ∷ []) (OutOfLimits opt.Shards)
 more_shards_than_there_may_be = record {
   command = Report;
   arguments = many_shards;
@@ -489,7 +489,7 @@ narrow_words = codes "--phi" ∷ codes "117647" ∷ codes "--capacity" ∷ codes
 abbrev narrow_arguments : List Argument
 narrow_arguments = option (codes "phi") (codes "117647") ∷ option (codes "capacity") (codes "17") ∷ []
 
-narrow_words_are_spelled : SpellAllArguments narrow_words narrow_arguments
+narrow_words_are_spelled : SpellAll narrow_words narrow_arguments
 narrow_words_are_spelled = (
   codes "--capacity" ∷ codes "17" ∷ [],
   record {
@@ -508,7 +508,7 @@ narrow_words_are_spelled = (
   ),
 )
 
-narrow_words_are_of_report : AreWellFormedArguments (form_of Report) narrow_words narrow_arguments
+narrow_words_are_of_report : AreWellFormed (form_of Report) narrow_words narrow_arguments
 narrow_words_are_of_report = record {
   spelled = narrow_words_are_spelled;
   of_form = record {
@@ -526,7 +526,7 @@ narrow_words_are_of_report = record {
   };
 }
 
-narrow_values_are_good : AreGoodValues (setting_values_in Report narrow_arguments)
+narrow_values_are_good : AreGood (settings_in Report narrow_arguments)
 unfolding digits
 narrow_values_are_good opt.Seed = tt
 narrow_values_are_good opt.Frames = tt
@@ -541,7 +541,7 @@ narrow_values_are_good opt.Workers = tt
 narrow_values_are_good opt.Callers = tt
 narrow_values_are_good opt.Rounds = tt
 
-pub tables_are_too_narrow : WordsHaveNarrowTables (codes "report" ∷ narrow_words)
+pub tables_are_too_narrow : HasNarrowTables (codes "report" ∷ narrow_words)
 unfolding digits
 tables_are_too_narrow = record {
   command = Report;
@@ -572,7 +572,7 @@ bound_is_the_fault = tables_are_too_narrow
 abbrev traffic_words : List ArgumentText
 traffic_words = codes "7" ∷ codes "3" ∷ []
 
-two_numbers_are_spelled : (frames : ArgumentText) → IsArgumentValue frames → SpellAllArguments (codes "7" ∷ frames ∷ [])
+two_numbers_are_spelled : (frames : ArgumentText) → IsValue frames → SpellAll (codes "7" ∷ frames ∷ [])
     (positional (codes "7") ∷ positional frames ∷ [])
 two_numbers_are_spelled frames is_value = (
   frames ∷ [],
@@ -580,9 +580,9 @@ two_numbers_are_spelled frames is_value = (
   ([], record { front = frames ∷ []; parted = refl; spelled = (is_value, refl) }, refl),
 )
 
-two_numbers : (command : CommandWord) (frames : ArgumentText) → IsArgumentValue frames → length (form_of command).positionals ≡ 2
+two_numbers : (command : CommandWord) (frames : ArgumentText) → IsValue frames → length (form_of command).positionals ≡ 2
     → (form_of command).required ≡ []
-    → AreFormWords (form_word_of command ∷ codes "7" ∷ frames ∷ []) command
+    → AreWords (word_of command ∷ codes "7" ∷ frames ∷ []) command
     (positional (codes "7") ∷ positional frames ∷ [])
 two_numbers command frames is_value two none = record {
   behind = codes "7" ∷ frames ∷ [];
@@ -598,7 +598,7 @@ two_numbers command frames is_value two none = record {
   };
 }
 
-pub asks_for_made_traffic : WordsAskToMake (codes "make" ∷ traffic_words) 7 3
+pub asks_for_made_traffic : AskToMake (codes "make" ∷ traffic_words) 7 3
 asks_for_made_traffic = record {
   arguments = traffic_arguments;
   are_words = two_numbers Make (codes "3") (λ same. omega (arith, same)) refl refl;
@@ -620,7 +620,7 @@ no_path_is_named = record {
 }
 
 -- `demo 7 3`
-pub asks_for_a_demo : WordsAskToDemo (codes "demo" ∷ traffic_words) 7 3 defaults
+pub asks_for_a_demo : AskToDemo (codes "demo" ∷ traffic_words) 7 3 defaults
 asks_for_a_demo = record {
   arguments = traffic_arguments;
   are_words = two_numbers Demo (codes "3") (λ same. omega (arith, same)) refl refl;
@@ -647,7 +647,7 @@ asks_for_the_demo_by_its_command = asks_for_a_demo
 abbrev no_frame : List Argument
 no_frame = positional (codes "7") ∷ positional (codes "0") ∷ []
 
-good_before_frames : (other : Opt) → option_place_of other < option_place_of opt.Frames → IsGoodOption other (setting_values_in Make no_frame other)
+good_before_frames : (other : Opt) → place_of other < place_of opt.Frames → IsGood other (settings_in Make no_frame other)
 unfolding digits
 good_before_frames opt.Seed before =
     (7, record { spelled = refl; bounded = omega arith }, (omega arith, omega arith))

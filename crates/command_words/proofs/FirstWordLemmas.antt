@@ -2,11 +2,11 @@
 use Rattle.std.proofs.Common.{◌≡◌, ◌≢◌, ◌↔◌, Bool, List, ◌∷◌, Bor, Err, Result, ap, ◌∙◌, subst}
 use Rattle.clap.specs.declared.parser.matches.ArgMatches.{ArgMatches}
 use Rattle.std.specs.Bool.{IsTrue}
-use Rattle.command_words.specs.Arguments.{ArgumentText, Argument, ArgumentForm, AreWellFormedArguments}
-use Rattle.command_words.specs.Forms.{form_word_of, form_of}
-use Rattle.command_words.specs.Matches.{AreMatchesOf, AreMatchesOfWords}
+use Rattle.command_words.specs.Arguments.{ArgumentText, Argument, ArgumentForm, AreWellFormed}
+use Rattle.command_words.specs.FormNames.{word_of, form_of}
+use Rattle.command_words.specs.Matches.{AreMatchesOf, MatchWords}
 use Rattle.command_words.specs.Arguments.{argument_texts}
-use Rattle.command_words.specs.WordsFault.{HasWordsFault}
+use Rattle.command_words.specs.WordsRefusal.{HasWordsFault}
 use Rattle.command_words.specs.declared.command_word.CommandWord.{CommandWord}
 use Rattle.command_words.specs.declared.words_kind.WordsKind.{WordsKind}
 use Rattle.command_words.specs.declared.words_kind.WordsKind.TheVariants.{UnknownCommand, Refused}
@@ -15,37 +15,37 @@ use Rattle.command_words.specs.declared.words_kind.WordsRefusal.TheVariants.{Bad
 
 -- words that begin with a command's name
 first_word_begins_texts : (words : List (Bor ArgumentText)) (first : Bor ArgumentText) (others : List (Bor ArgumentText)) (word : CommandWord)
-    → words ≡ first ∷ others → first.now ≡ form_word_of word
-    → argument_texts words ≡ form_word_of word ∷ argument_texts others
+    → words ≡ first ∷ others → first.now ≡ word_of word
+    → argument_texts words ≡ word_of word ∷ argument_texts others
 first_word_begins_texts words first others word are first_is = ap argument_texts are ∙ ap (λ text. text ∷ argument_texts others) first_is
 
 -- a first word that is no command's name is a fault
 pub unknown_first_word_is_fault : (words : List (Bor ArgumentText)) (first : Bor ArgumentText) (others : List (Bor ArgumentText)) → words ≡ first ∷ others
-    → ((word : CommandWord) → first.now ≢ form_word_of word)
+    → ((word : CommandWord) → first.now ≢ word_of word)
     → HasWordsFault (argument_texts words) UnknownCommand
 unknown_first_word_is_fault words first others are no_command = (first.now, argument_texts others, ap argument_texts are, no_command)
 
 -- what a test says of a form, it says of an equal form
 pub same_form_by_first_word : (test : Bool) (form other : ArgumentForm) (words : List ArgumentText) → form ≡ other
-    → (IsTrue test ↔ ((arguments : List Argument) × AreWellFormedArguments form words arguments))
-    → IsTrue test ↔ ((arguments : List Argument) × AreWellFormedArguments other words arguments)
+    → (IsTrue test ↔ ((arguments : List Argument) × AreWellFormed form words arguments))
+    → IsTrue test ↔ ((arguments : List Argument) × AreWellFormed other words arguments)
 same_form_by_first_word test form other words same says =
-    subst (λ f. IsTrue test ↔ ((arguments : List Argument) × AreWellFormedArguments f words arguments)) same says
+    subst (λ f. IsTrue test ↔ ((arguments : List Argument) × AreWellFormed f words arguments)) same says
 
 -- words after a command's name that are not well formed are a fault
 pub refused_behind_first_word : (words : List (Bor ArgumentText)) (first : Bor ArgumentText) (others : List (Bor ArgumentText)) (word : CommandWord)
-    → words ≡ first ∷ others → first.now ≡ form_word_of word
-    → ((arguments : List Argument) → AreWellFormedArguments (form_of word) (argument_texts others) arguments → ⊥)
+    → words ≡ first ∷ others → first.now ≡ word_of word
+    → ((arguments : List Argument) → AreWellFormed (form_of word) (argument_texts others) arguments → ⊥)
     → HasWordsFault (argument_texts words) Refused
 refused_behind_first_word words first others word are first_is no_form =
     (word, argument_texts others, first_word_begins_texts words first others word are first_is, no_form)
 
 -- the matches of the words after a command's name are those of the command line
 pub matches_behind_first_word : (words : List (Bor ArgumentText)) (first : Bor ArgumentText) (others : List (Bor ArgumentText)) (word : CommandWord)
-    (matches : ArgMatches) → words ≡ first ∷ others → first.now ≡ form_word_of word
-    → (arguments : List Argument) × AreWellFormedArguments (form_of word) (argument_texts others) arguments
-    → ((arguments : List Argument) → AreWellFormedArguments (form_of word) (argument_texts others) arguments
-    → AreMatchesOf (form_of word) arguments matches) → AreMatchesOfWords (argument_texts words) word matches
+    (matches : ArgMatches) → words ≡ first ∷ others → first.now ≡ word_of word
+    → (arguments : List Argument) × AreWellFormed (form_of word) (argument_texts others) arguments
+    → ((arguments : List Argument) → AreWellFormed (form_of word) (argument_texts others) arguments
+    → AreMatchesOf (form_of word) arguments matches) → MatchWords (argument_texts words) word matches
 matches_behind_first_word words first others word matches are first_is well tells = record {
   arguments = well.0;
   are_words = record {

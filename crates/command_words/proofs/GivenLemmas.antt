@@ -5,17 +5,17 @@ use Rattle.std.specs.List.{All, Contains, list_any}
 use Rattle.std.specs.Str.{bytes_eq}
 use Rattle.frame_records.specs.declared.weigh.Weigh.TheVariants.{Bytes}
 use Rattle.deal_rules.specs.declared.deal_kind.DealKind.TheVariants.{RoundRobin}
-use Rattle.command_words.specs.Arguments.{ArgumentText, Argument, positional, option, AreArgumentsOfForm}
-use Rattle.command_words.specs.Arguments.{names_in_arguments, argument_value_of, named_arguments}
-use Rattle.command_words.specs.Forms.{form_of}
-use Rattle.command_words.specs.GivenValues.{SetsGiven}
-use Rattle.command_words.specs.Options.{OptionKind, number, option_name_of, option_kind_of, IsAllowedByOption}
-use Rattle.command_words.specs.Options.{IsDefaultOfOption, IsGoodOption, IsGoodOptionText}
-use Rattle.command_words.specs.Options.{seed_option_limit, frames_option_limit}
-use Rattle.command_words.specs.Settings.{SettingValues, SetsNumberSetting, SetsWeighSetting, SetsDealSetting}
-use Rattle.command_words.specs.Settings.{SetsStoreSetting, SetsSettings}
-use Rattle.command_words.specs.Settings.{GivesNumberSetting, GivesTrafficSettings, setting_values_in, store_setting_in}
-use Rattle.command_words.specs.Values.{AreGoodValues}
+use Rattle.command_words.specs.Arguments.{ArgumentText, Argument, positional, option, AreOfForm}
+use Rattle.command_words.specs.Arguments.{names_in, value_of, named}
+use Rattle.command_words.specs.FormNames.{form_of}
+use Rattle.command_words.specs.Given.{SetsGiven}
+use Rattle.command_words.specs.Options.{OptionKind, number, name_of, kind_of, IsAllowed}
+use Rattle.command_words.specs.Options.{IsDefault, IsGood, IsGoodText}
+use Rattle.command_words.specs.Options.{seed_limit, frames_limit}
+use Rattle.command_words.specs.Settings.{SettingValues, SetsNumber, SetsWeigh, SetsDeal}
+use Rattle.command_words.specs.Settings.{SetsStore, SetsAll}
+use Rattle.command_words.specs.Settings.{GivesNumber, GivesTraffic, settings_in, store_setting}
+use Rattle.command_words.specs.Values.{AreGood}
 use Rattle.command_words.specs.declared.command_word.CommandWord.{CommandWord}
 use Rattle.command_words.specs.declared.command_word.CommandWord.TheVariants.{Make}
 use Rattle.command_words.specs.declared.opt.Opt.{Opt}
@@ -27,12 +27,12 @@ use Rattle.command_words.proofs.MatchRowLemmas.{match_row_name_is_other}
 
 -- an argument of another name in front gives nothing
 not_given_behind_option : (other value : ArgumentText) (arguments : List Argument) (name : ArgumentText) → other ≢ name
-    → argument_value_of name arguments ≡ None → argument_value_of name (option other value ∷ arguments) ≡ None
+    → value_of name arguments ≡ None → value_of name (option other value ∷ arguments) ≡ None
 not_given_behind_option other value arguments name apart behind = rw (match_row_name_is_other other name apart) behind
 
 -- an option that no argument gives has no value
-not_given_without_option : (arguments : List Argument) (name : ArgumentText) → (Contains (names_in_arguments arguments) name → ⊥)
-    → argument_value_of name arguments ≡ None
+not_given_without_option : (arguments : List Argument) (name : ArgumentText) → (Contains (names_in arguments) name → ⊥)
+    → value_of name arguments ≡ None
 not_given_without_option [] name lacks = refl
 not_given_without_option (positional text ∷ arguments) name lacks = not_given_without_option arguments name lacks
 not_given_without_option (option other value ∷ arguments) name lacks =
@@ -41,15 +41,15 @@ not_given_without_option (option other value ∷ arguments) name lacks =
 
 -- a name that neither a positional nor an option has gives nothing
 not_given_without_name : (names : List ArgumentText) (arguments : List Argument) (name : ArgumentText) → (Contains names name → ⊥)
-    → (Contains (names_in_arguments arguments) name → ⊥) → argument_value_of name (named_arguments names arguments) ≡ None
+    → (Contains (names_in arguments) name → ⊥) → value_of name (named names arguments) ≡ None
 not_given_without_name names [] name apart lacks = refl
 not_given_without_name [] (positional text ∷ arguments) name apart lacks = not_given_without_name [] arguments name apart lacks
 not_given_without_name (first ∷ names) (positional text ∷ arguments) name apart lacks =
-    not_given_behind_option first text (named_arguments names arguments) name
+    not_given_behind_option first text (named names arguments) name
     (λ same. apart (0, omega arith, same))
     (not_given_without_name names arguments name (λ has. apart (suc has.0, omega (arith, has.1), has.2)) lacks)
 not_given_without_name names (option other value ∷ arguments) name apart lacks =
-    not_given_behind_option other value (named_arguments names arguments) name
+    not_given_behind_option other value (named names arguments) name
     (λ same. lacks (0, omega arith, same))
     (not_given_without_name names arguments name apart (λ has. lacks (suc has.0, omega (arith, has.1), has.2)))
 
@@ -60,20 +60,20 @@ unknown_name_is_not_given options names name known lacks has =
     lacks (subst (λ n. Contains options n) has.2 (known has.0 name has.1))
 
 -- what a command's form lacks is missing
-not_given_outside_form : (word : CommandWord) (arguments : List Argument) (at : Opt) → AreArgumentsOfForm (form_of word) arguments
-    → list_any (λ other. bytes_eq other (option_name_of at)) (form_of word).positionals ≡ false
-    → list_any (λ other. bytes_eq other (option_name_of at)) (form_of word).options ≡ false
-    → setting_values_in word arguments at ≡ None
+not_given_outside_form : (word : CommandWord) (arguments : List Argument) (at : Opt) → AreOfForm (form_of word) arguments
+    → list_any (λ other. bytes_eq other (name_of at)) (form_of word).positionals ≡ false
+    → list_any (λ other. bytes_eq other (name_of at)) (form_of word).options ≡ false
+    → settings_in word arguments at ≡ None
 not_given_outside_form word arguments at of_form apart lacks =
-    not_given_without_name (form_of word).positionals arguments (option_name_of at)
-    (text_search_finds_none (form_of word).positionals (option_name_of at) apart)
-    (unknown_name_is_not_given (form_of word).options (names_in_arguments arguments) (option_name_of at) of_form.known
-    (text_search_finds_none (form_of word).options (option_name_of at) lacks))
+    not_given_without_name (form_of word).positionals arguments (name_of at)
+    (text_search_finds_none (form_of word).positionals (name_of at) apart)
+    (unknown_name_is_not_given (form_of word).options (names_in arguments) (name_of at) of_form.known
+    (text_search_finds_none (form_of word).options (name_of at) lacks))
 
 -- what is missing sets the default
-not_given_sets_default : (at : Opt) (default : ℕ) (told : Option ArgumentText) → IsDefaultOfOption (option_kind_of at) default → told ≡ None
-    → SetsNumberSetting at told default
-not_given_sets_default at default told is_default none = subst (λ t. SetsNumberSetting at t default) (sym none) is_default
+not_given_sets_default : (at : Opt) (default : ℕ) (told : Option ArgumentText) → IsDefault (kind_of at) default → told ≡ None
+    → SetsNumber at told default
+not_given_sets_default at default told is_default none = subst (λ t. SetsNumber at t default) (sym none) is_default
 
 -- a command without made traffic
 pub record IsGivenNoTraffic (word : CommandWord) : Type 0 where
@@ -88,9 +88,9 @@ given_settings_alone settings = record { seed = 0; frames = 1; settings = settin
 
 -- settings that are set are what the arguments of such a command give
 pub settings_given : (word : CommandWord) (arguments : List Argument) (settings : Settings) → IsGivenNoTraffic word
-    → AreArgumentsOfForm (form_of word) arguments
-    → SetsSettings (setting_values_in word arguments) (store_setting_in arguments) settings
-    → SetsGiven (setting_values_in word arguments) (store_setting_in arguments) (given_settings_alone settings)
+    → AreOfForm (form_of word) arguments
+    → SetsAll (settings_in word arguments) (store_setting arguments) settings
+    → SetsGiven (settings_in word arguments) (store_setting arguments) (given_settings_alone settings)
 settings_given word arguments settings lacks of_form set = record {
   seed_set = not_given_sets_default opt.Seed 0 _ refl (not_given_outside_form word arguments opt.Seed of_form lacks.no_seed lacks.seed_unknown);
   frames_set =
@@ -114,38 +114,38 @@ default_given_settings = record {
 }
 
 -- the arguments of `make` set nothing else
-pub make_is_given_no_settings : (arguments : List Argument) → AreArgumentsOfForm (form_of Make) arguments
-    → SetsSettings (setting_values_in Make arguments) (store_setting_in arguments) default_given_settings
+pub make_is_given_no_settings : (arguments : List Argument) → AreOfForm (form_of Make) arguments
+    → SetsAll (settings_in Make arguments) (store_setting arguments) default_given_settings
 make_is_given_no_settings arguments of_form = record {
-  weigh = subst (λ told. SetsWeighSetting told Bytes) (sym (no opt.Weigh refl)) refl;
+  weigh = subst (λ told. SetsWeigh told Bytes) (sym (no opt.Weigh refl)) refl;
   shards = not_given_sets_default opt.Shards 4 _ refl (no opt.Shards refl);
   capacity = not_given_sets_default opt.Capacity 512 _ refl (no opt.Capacity refl);
   phi = not_given_sets_default opt.Phi 10000 _ refl (no opt.Phi refl);
-  deal = subst (λ told. SetsDealSetting told RoundRobin) (sym (no opt.Deal refl)) refl;
+  deal = subst (λ told. SetsDeal told RoundRobin) (sym (no opt.Deal refl)) refl;
   block = not_given_sets_default opt.Block 1024 _ refl (no opt.Block refl);
   workers = not_given_sets_default opt.Workers 4 _ refl (no opt.Workers refl);
   callers = not_given_sets_default opt.Callers 0 _ refl (no opt.Callers refl);
   rounds = not_given_sets_default opt.Rounds 0 _ refl (no opt.Rounds refl);
-  store = subst (λ path. SetsStoreSetting path false) (sym no_store) refl;
+  store = subst (λ path. SetsStore path false) (sym no_store) refl;
 }
   where
-    no : (at : Opt) → list_any (λ other. bytes_eq other (option_name_of at)) (form_of Make).positionals ≡ false
-        → setting_values_in Make arguments at ≡ None
+    no : (at : Opt) → list_any (λ other. bytes_eq other (name_of at)) (form_of Make).positionals ≡ false
+        → settings_in Make arguments at ≡ None
     no at apart = not_given_outside_form Make arguments at of_form apart refl
 
-    no_store : store_setting_in arguments ≡ None
+    no_store : store_setting arguments ≡ None
     no_store =
         not_given_without_option arguments (codes "store")
-        (unknown_name_is_not_given [] (names_in_arguments arguments) (codes "store") of_form.known (λ has. omega (arith, has.1)))
+        (unknown_name_is_not_given [] (names_in arguments) (codes "store") of_form.known (λ has. omega (arith, has.1)))
 
 -- a number that is given is set
-given_sets : (at : Opt) (told : Option ArgumentText) (value : ℕ) → GivesNumberSetting at told value → SetsNumberSetting at told value
+given_sets : (at : Opt) (told : Option ArgumentText) (value : ℕ) → GivesNumber at told value → SetsNumber at told value
 given_sets at None value gives = absurd gives
 given_sets at (Some text) value gives = gives
 
 -- traffic that is given, with settings that are set
 pub traffic_given : (values : SettingValues) (path : Option ArgumentText) (seed frames : ℕ) (settings : Settings)
-    → GivesTrafficSettings values seed frames → SetsSettings values path settings
+    → GivesTraffic values seed frames → SetsAll values path settings
     → SetsGiven values path (record { seed = seed; frames = frames; settings = settings })
 traffic_given values path seed frames settings gives set = record {
   seed_set = given_sets opt.Seed _ seed gives.seed_given;
@@ -155,12 +155,12 @@ traffic_given values path seed frames settings gives set = record {
 
 -- a good number sets something
 good_number_is_given : (at : Opt) (least greatest default : ℕ) (told : Option ArgumentText)
-    → option_kind_of at ≡ number least greatest default → IsGoodOption at told → (value : ℕ) × SetsNumberSetting at told value
+    → kind_of at ≡ number least greatest default → IsGood at told → (value : ℕ) × SetsNumber at told value
 good_number_is_given at least greatest default None kind good =
-    (default, subst (λ (k : OptionKind). IsDefaultOfOption k default) (sym kind) refl)
+    (default, subst (λ (k : OptionKind). IsDefault k default) (sym kind) refl)
 good_number_is_given at least greatest default (Some text) kind good =
-    let within = subst (λ (k : OptionKind). IsGoodOptionText k text) kind good in
-    (within.0, (within.1, subst (λ (k : OptionKind). IsAllowedByOption k within.0) (sym kind) within.2))
+    let within = subst (λ (k : OptionKind). IsGoodText k text) kind good in
+    (within.0, (within.1, subst (λ (k : OptionKind). IsAllowed k within.0) (sym kind) within.2))
 
 -- values that are good give something, if they set settings
 pub record HaveGivenSettings (values : SettingValues) (path : Option ArgumentText) (settings : Settings) : Type 0 where
@@ -168,11 +168,11 @@ pub record HaveGivenSettings (values : SettingValues) (path : Option ArgumentTex
   pub same : given.settings ≡ settings
   pub gives : SetsGiven values path given
 
-pub given_by_good_values : (values : SettingValues) (path : Option ArgumentText) (settings : Settings) → AreGoodValues values
-    → SetsSettings values path settings → HaveGivenSettings values path settings
+pub given_by_good_values : (values : SettingValues) (path : Option ArgumentText) (settings : Settings) → AreGood values
+    → SetsAll values path settings → HaveGivenSettings values path settings
 given_by_good_values values path settings good set =
-    let seed = good_number_is_given opt.Seed 0 seed_option_limit 0 (values opt.Seed) refl (good opt.Seed) in
-    let frames = good_number_is_given opt.Frames 1 frames_option_limit 1 (values opt.Frames) refl (good opt.Frames) in
+    let seed = good_number_is_given opt.Seed 0 seed_limit 0 (values opt.Seed) refl (good opt.Seed) in
+    let frames = good_number_is_given opt.Frames 1 frames_limit 1 (values opt.Frames) refl (good opt.Frames) in
     record {
       given = record { seed = seed.0; frames = frames.0; settings = settings };
       same = refl;

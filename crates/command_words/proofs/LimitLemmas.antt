@@ -1,12 +1,12 @@
 -- What the words of a command line set is within limits.
 use Rattle.std.proofs.Common.{◌≡◌, ◌<◌, ◌≤◌, ◌^◌, ℕ, List, Option, Some, None, refl, sym, subst, arith}
 use Rattle.command_words.specs.Arguments.{ArgumentText}
-use Rattle.command_words.specs.Options.{OptionKind, number, option_kind_of, IsAllowedByOption, frames_option_limit}
-use Rattle.command_words.specs.Options.{IsDefaultOfOption}
-use Rattle.command_words.specs.Settings.{SettingValues, SetsNumberSetting, SetsSettings, GivesNumberSetting}
-use Rattle.command_words.specs.Settings.{GivesTrafficSettings, AreLimitedSettings}
-use Rattle.command_words.specs.Settings.{AreTrafficSettings}
-use Rattle.command_words.specs.AskedCommand.{AskForCommand, IsLimitedCommand}
+use Rattle.command_words.specs.Options.{OptionKind, number, kind_of, IsAllowed, frames_limit}
+use Rattle.command_words.specs.Options.{IsDefault}
+use Rattle.command_words.specs.Settings.{SettingValues, SetsNumber, SetsAll, GivesNumber}
+use Rattle.command_words.specs.Settings.{GivesTraffic, AreLimited}
+use Rattle.command_words.specs.Settings.{AreForTraffic}
+use Rattle.command_words.specs.Command.{AskForCommand, IsLimitedCommand}
 use Rattle.command_words.specs.declared.command.Command.{Command}
 use Rattle.command_words.specs.declared.command.Command.TheVariants.{Weigh, Report, Format, Audit, Make, Demo}
 use Rattle.command_words.specs.declared.opt.Opt.{Opt}
@@ -16,17 +16,17 @@ use Rattle.command_words.specs.declared.settings.Settings.{Settings}
 
 -- a number that an option sets is within its limits, if the default is
 set_number_is_in_limits : (opt : Opt) (default least greatest : ℕ) (text : Option ArgumentText) (value : ℕ)
-    → option_kind_of opt ≡ number least greatest default → least ≤ default → default ≤ greatest
-    → SetsNumberSetting opt text value → (least ≤ value) × (value ≤ greatest)
+    → kind_of opt ≡ number least greatest default → least ≤ default → default ≤ greatest
+    → SetsNumber opt text value → (least ≤ value) × (value ≤ greatest)
 set_number_is_in_limits opt default least greatest None value kind low high set =
-    let same : value ≡ default = subst (λ (k : OptionKind). IsDefaultOfOption k value) kind set in
+    let same : value ≡ default = subst (λ (k : OptionKind). IsDefault k value) kind set in
     (subst (λ n. least ≤ n) (sym same) low, subst (λ n. n ≤ greatest) (sym same) high)
 set_number_is_in_limits opt default least greatest (Some text) value kind low high set =
-    subst (λ (k : OptionKind). IsAllowedByOption k value) kind set.1
+    subst (λ (k : OptionKind). IsAllowed k value) kind set.1
 
 -- settings that values set are within their limits
-set_settings_are_in_limits : (values : SettingValues) (path : Option ArgumentText) (settings : Settings) → SetsSettings values path settings
-    → AreLimitedSettings settings
+set_settings_are_in_limits : (values : SettingValues) (path : Option ArgumentText) (settings : Settings) → SetsAll values path settings
+    → AreLimited settings
 set_settings_are_in_limits values path settings set =
     let shards = set_number_is_in_limits Shards 4 1 16 (values Shards) settings.shards refl (omega arith) (omega arith) set.shards in
     let capacity =
@@ -57,19 +57,19 @@ set_settings_are_in_limits values path settings set =
     }
 
 -- a number that is given is below 2^64, and within its limits
-given_number_has_limit : (opt : Opt) (text : Option ArgumentText) (value : ℕ) → GivesNumberSetting opt text value → value < 2 ^ 64
+given_number_has_limit : (opt : Opt) (text : Option ArgumentText) (value : ℕ) → GivesNumber opt text value → value < 2 ^ 64
 given_number_has_limit opt None value gives = absurd gives
 given_number_has_limit opt (Some text) value gives = gives.0.bounded
 
 given_number_is_in_limits : (opt : Opt) (least greatest default : ℕ) (text : Option ArgumentText) (value : ℕ)
-    → option_kind_of opt ≡ number least greatest default → GivesNumberSetting opt text value → (least ≤ value) × (value ≤ greatest)
+    → kind_of opt ≡ number least greatest default → GivesNumber opt text value → (least ≤ value) × (value ≤ greatest)
 given_number_is_in_limits opt least greatest default None value kind gives = absurd gives
-given_number_is_in_limits opt least greatest default (Some text) value kind gives = subst (λ (k : OptionKind). IsAllowedByOption k value) kind gives.1
+given_number_is_in_limits opt least greatest default (Some text) value kind gives = subst (λ (k : OptionKind). IsAllowed k value) kind gives.1
 
 -- traffic that values give can be made
-given_traffic_is_in_limits : (values : SettingValues) (seed frames : ℕ) → GivesTrafficSettings values seed frames → AreTrafficSettings seed frames
+given_traffic_is_in_limits : (values : SettingValues) (seed frames : ℕ) → GivesTraffic values seed frames → AreForTraffic seed frames
 given_traffic_is_in_limits values seed frames gives =
-    let within = given_number_is_in_limits Frames 1 frames_option_limit 1 (values Frames) frames refl gives.frames_given in
+    let within = given_number_is_in_limits Frames 1 frames_limit 1 (values Frames) frames refl gives.frames_given in
     record {
       is_seed = given_number_has_limit Seed (values Seed) seed gives.seed_given;
       some_frames = within.0;

@@ -6,21 +6,21 @@ use Rattle.std.proofs.Math.Path.{fun_ext}
 use Rattle.std.specs.Prelude.{slice_get, Contains, IsSome, unwrap_or}
 use Rattle.clap.specs.Words.{found_of, first_value}
 use Rattle.clap.specs.declared.parser.matches.ArgMatches.{ArgMatches}
-use Rattle.command_words.specs.Arguments.{ArgumentText, Argument, ArgumentForm, positionals_in_arguments}
-use Rattle.command_words.specs.Arguments.{argument_value_of}
-use Rattle.command_words.specs.Scanning.{scanned_text_at}
-use Rattle.command_words.specs.Forms.{form_of}
-use Rattle.command_words.specs.Options.{option_name_of}
-use Rattle.command_words.specs.Settings.{setting_values_in, store_setting_in, SetsNumberSetting, SetsSettings}
-use Rattle.command_words.specs.Settings.{GivesNumberSetting, GivesTrafficSettings}
-use Rattle.command_words.specs.Settings.{AreWideSettings}
-use Rattle.command_words.specs.GivenValues.{SetsGiven}
-use Rattle.command_words.specs.Matches.{AreMatchesOf, AreMatchesOfWords, values_in_matches, store_in_matches}
-use Rattle.command_words.specs.NamedPaths.{NamesPath}
-use Rattle.command_words.specs.Values.{AreGoodValues, HasValueFault}
-use Rattle.command_words.specs.AskedCommand.{CommandHasSides, CommandHasGoodPositionals}
-use Rattle.command_words.specs.WordsFault.{HasWordsFault}
-use Rattle.command_words.specs.AskedCommand.{WordsAskToMake, WordsAskToDemo, IsBoundedCommand}
+use Rattle.command_words.specs.Arguments.{ArgumentText, Argument, ArgumentForm, positionals_in}
+use Rattle.command_words.specs.Arguments.{value_of}
+use Rattle.command_words.specs.Scanning.{text_at}
+use Rattle.command_words.specs.FormNames.{form_of}
+use Rattle.command_words.specs.Options.{name_of}
+use Rattle.command_words.specs.Settings.{settings_in, store_setting, SetsNumber, SetsAll}
+use Rattle.command_words.specs.Settings.{GivesNumber, GivesTraffic}
+use Rattle.command_words.specs.Settings.{AreWide}
+use Rattle.command_words.specs.Given.{SetsGiven}
+use Rattle.command_words.specs.Matches.{AreMatchesOf, MatchWords, values_in, store_in}
+use Rattle.command_words.specs.PathTexts.{NamesPath}
+use Rattle.command_words.specs.Values.{AreGood, HasValueFault}
+use Rattle.command_words.specs.Command.{HasSides, HasPositionals}
+use Rattle.command_words.specs.WordsRefusal.{HasWordsFault}
+use Rattle.command_words.specs.Command.{AskToMake, AskToDemo, IsBounded}
 use Rattle.command_words.specs.declared.command_word.CommandWord.{CommandWord}
 use Rattle.command_words.specs.declared.command_word.CommandWord.TheVariants.{Weigh, Report, Format, Audit, Make, Demo}
 use Rattle.command_words.specs.declared.opt.Opt.{Opt}
@@ -56,20 +56,20 @@ match_name_is_no_positional Demo name small has = small_match_name_is_neither (c
 
 -- the values that matches hold are those of the arguments
 pub matches_tell_values : (word : CommandWord) (arguments : List Argument) (matches : ArgMatches)
-    → AreMatchesOf (form_of word) arguments matches → values_in_matches matches ≡ setting_values_in word arguments
-matches_tell_values word arguments matches told = fun_ext (λ at. told.by_name (option_name_of at))
+    → AreMatchesOf (form_of word) arguments matches → values_in matches ≡ settings_in word arguments
+matches_tell_values word arguments matches told = fun_ext (λ at. told.by_name (name_of at))
 
 -- if they are good, so are those of the arguments
 pub matches_tell_good_values : (word : CommandWord) (arguments : List Argument) (matches : ArgMatches)
-    → AreMatchesOf (form_of word) arguments matches → AreGoodValues (values_in_matches matches)
-    → AreGoodValues (setting_values_in word arguments)
+    → AreMatchesOf (form_of word) arguments matches → AreGood (values_in matches)
+    → AreGood (settings_in word arguments)
 matches_tell_good_values word arguments matches told good =
-    subst (λ values. AreGoodValues values) (matches_tell_values word arguments matches told) good
+    subst (λ values. AreGood values) (matches_tell_values word arguments matches told) good
 
 -- the path that matches hold is the one that the arguments give
 pub matches_tell_path : (word : CommandWord) (arguments : List Argument) (matches : ArgMatches) (name : ArgumentText)
     → AreMatchesOf (form_of word) arguments matches → 90 < match_name_first_byte name
-    → first_value (found_of matches) name ≡ argument_value_of name arguments
+    → first_value (found_of matches) name ≡ value_of name arguments
 matches_tell_path word arguments matches name told small = told.options name (match_name_is_no_positional word name small)
 
 -- the text for a path that is read from matches is the one that the arguments name
@@ -86,22 +86,22 @@ matches_tell_named_path word arguments matches name default text told small give
 -- settings that are read from matches are those of the arguments
 pub matches_tell_settings : (word : CommandWord) (arguments : List Argument) (matches : ArgMatches) (settings : Settings)
     → AreMatchesOf (form_of word) arguments matches
-    → SetsSettings (values_in_matches matches) (store_in_matches matches) settings
-    → SetsSettings (setting_values_in word arguments) (store_setting_in arguments) settings
+    → SetsAll (values_in matches) (store_in matches) settings
+    → SetsAll (settings_in word arguments) (store_setting arguments) settings
 matches_tell_settings word arguments matches settings told set =
-    subst (λ path. SetsSettings (setting_values_in word arguments) path settings)
+    subst (λ path. SetsAll (settings_in word arguments) path settings)
     (matches_tell_path word arguments matches (codes "store") told (omega arith))
-    (subst (λ values. SetsSettings values (store_in_matches matches) settings)
+    (subst (λ values. SetsAll values (store_in matches) settings)
     (matches_tell_values word arguments matches told) set)
 
 -- the first fault of the values that matches hold is the fault of the words, if their positionals are good
 pub matches_tell_fault : (words : List ArgumentText) (word : CommandWord) (matches : ArgMatches)
-    (tells : AreMatchesOfWords words word matches) (kind : WordsKind) → CommandHasGoodPositionals word tells.arguments
-    → HasValueFault (values_in_matches matches) kind → HasWordsFault words kind
+    (tells : MatchWords words word matches) (kind : WordsKind) → HasPositionals word tells.arguments
+    → HasValueFault (values_in matches) kind → HasWordsFault words kind
 matches_tell_fault words word matches tells kind good has =
     go kind (subst (λ values. HasValueFault values kind) (matches_tell_values word tells.arguments matches tells.told) has)
   where
-    go : (kind : WordsKind) → HasValueFault (setting_values_in word tells.arguments) kind → HasWordsFault words kind
+    go : (kind : WordsKind) → HasValueFault (settings_in word tells.arguments) kind → HasWordsFault words kind
     go (BadNumber at) fault = record {
       command = word;
       arguments = tells.arguments;
@@ -127,10 +127,10 @@ matches_tell_fault words word matches tells kind good has =
 
 -- if matches give settings whose tables are too small for their share, that is the fault of the words
 pub matches_tell_narrow_settings : (words : List ArgumentText) (word : CommandWord) (matches : ArgMatches)
-    (tells : AreMatchesOfWords words word matches) (settings : Settings) (kind : WordsKind) → IsBoundedCommand word
-    → AreGoodValues (values_in_matches matches)
-    → SetsSettings (values_in_matches matches) (store_in_matches matches) settings
-    → kind ≡ Bound → (AreWideSettings settings → ⊥) → HasWordsFault words kind
+    (tells : MatchWords words word matches) (settings : Settings) (kind : WordsKind) → IsBounded word
+    → AreGood (values_in matches)
+    → SetsAll (values_in matches) (store_in matches) settings
+    → kind ≡ Bound → (AreWide settings → ⊥) → HasWordsFault words kind
 matches_tell_narrow_settings words word matches tells settings kind bounded good set is narrow =
     subst (λ k. HasWordsFault words k) (sym is) record {
       command = word;
@@ -147,17 +147,17 @@ matches_tell_narrow_settings words word matches tells settings kind bounded good
 pub record MatchesTellTwo (arguments : List Argument) (matches : ArgMatches) (one two : ArgumentText) : Type 0 where
   pub first : ArgumentText
   pub second : ArgumentText
-  pub are : positionals_in_arguments arguments ≡ first ∷ second ∷ []
+  pub are : positionals_in arguments ≡ first ∷ second ∷ []
   pub first_told : first_value (found_of matches) one ≡ Some first
   pub second_told : first_value (found_of matches) two ≡ Some second
 
 -- matches hold both positionals of a form that has two
 matches_tell_two_positionals : (form : ArgumentForm) (arguments : List Argument) (matches : ArgMatches) (one two : ArgumentText)
-    → form.positionals ≡ one ∷ two ∷ [] → length (positionals_in_arguments arguments) ≡ 2
+    → form.positionals ≡ one ∷ two ∷ [] → length (positionals_in arguments) ≡ 2
     → AreMatchesOf form arguments matches → MatchesTellTwo arguments matches one two
-matches_tell_two_positionals form arguments matches one two has many told = go (positionals_in_arguments arguments) refl many
+matches_tell_two_positionals form arguments matches one two has many told = go (positionals_in arguments) refl many
   where
-    go : (texts : List ArgumentText) → positionals_in_arguments arguments ≡ texts → length texts ≡ 2
+    go : (texts : List ArgumentText) → positionals_in arguments ≡ texts → length texts ≡ 2
         → MatchesTellTwo arguments matches one two
     go [] are many = absurd (omega arith)
     go (first ∷ []) are many = absurd (omega arith)
@@ -171,34 +171,34 @@ matches_tell_two_positionals form arguments matches one two has many told = go (
     go (first ∷ second ∷ other ∷ more) are many = absurd (omega arith)
 
 -- matches hold both sides of `weigh`
-pub matches_tell_sides : (arguments : List Argument) (matches : ArgMatches) → length (positionals_in_arguments arguments) ≡ 2
+pub matches_tell_sides : (arguments : List Argument) (matches : ArgMatches) → length (positionals_in arguments) ≡ 2
     → AreMatchesOf (form_of Weigh) arguments matches → MatchesTellTwo arguments matches (codes "SRC") (codes "DST")
 matches_tell_sides arguments matches two told =
     matches_tell_two_positionals (form_of Weigh) arguments matches (codes "SRC") (codes "DST") refl two told
 
 -- a number that is set by a text is given
 match_sets_given_number : (at : Opt) (told : Option ArgumentText) (text : ArgumentText) (value : ℕ) → told ≡ Some text
-    → SetsNumberSetting at told value → GivesNumberSetting at told value
+    → SetsNumber at told value → GivesNumber at told value
 match_sets_given_number at None text value is set = cc
 match_sets_given_number at (Some other) text value is set = set
 
 -- the traffic that is read from matches is what the arguments give
 matches_tell_traffic : (word : CommandWord) (arguments : List Argument) (matches : ArgMatches) (given : Given)
-    → (form_of word).positionals ≡ codes "SEED" ∷ codes "FRAMES" ∷ [] → length (positionals_in_arguments arguments) ≡ 2
+    → (form_of word).positionals ≡ codes "SEED" ∷ codes "FRAMES" ∷ [] → length (positionals_in arguments) ≡ 2
     → AreMatchesOf (form_of word) arguments matches
-    → SetsGiven (values_in_matches matches) (store_in_matches matches) given
-    → GivesTrafficSettings (setting_values_in word arguments) given.seed given.frames
+    → SetsGiven (values_in matches) (store_in matches) given
+    → GivesTraffic (settings_in word arguments) given.seed given.frames
 matches_tell_traffic word arguments matches given has many told sets =
     let two = matches_tell_two_positionals (form_of word) arguments matches (codes "SEED") (codes "FRAMES") has many told in
-    subst (λ values. GivesTrafficSettings values given.seed given.frames) (matches_tell_values word arguments matches told) record {
+    subst (λ values. GivesTraffic values given.seed given.frames) (matches_tell_values word arguments matches told) record {
       seed_given = match_sets_given_number opt.Seed _ two.first given.seed two.first_told sets.seed_set;
       frames_given = match_sets_given_number opt.Frames _ two.second given.frames two.second_told sets.frames_set;
     }
 
 -- so the words of `make` ask for it
-pub matches_tell_make : (words : List ArgumentText) (matches : ArgMatches) (tells : AreMatchesOfWords words Make matches)
-    (given : Given) → SetsGiven (values_in_matches matches) (store_in_matches matches) given
-    → WordsAskToMake words given.seed given.frames
+pub matches_tell_make : (words : List ArgumentText) (matches : ArgMatches) (tells : MatchWords words Make matches)
+    (given : Given) → SetsGiven (values_in matches) (store_in matches) given
+    → AskToMake words given.seed given.frames
 matches_tell_make words matches tells given sets = record {
   arguments = tells.arguments;
   are_words = tells.are_words;
@@ -207,9 +207,9 @@ matches_tell_make words matches tells given sets = record {
 }
 
 -- and those of `demo` ask for a demo of it
-pub matches_tell_demo : (words : List ArgumentText) (matches : ArgMatches) (tells : AreMatchesOfWords words Demo matches)
-    (given : Given) → SetsGiven (values_in_matches matches) (store_in_matches matches) given
-    → AreWideSettings given.settings → WordsAskToDemo words given.seed given.frames given.settings
+pub matches_tell_demo : (words : List ArgumentText) (matches : ArgMatches) (tells : MatchWords words Demo matches)
+    (given : Given) → SetsGiven (values_in matches) (store_in matches) given
+    → AreWide given.settings → AskToDemo words given.seed given.frames given.settings
 matches_tell_demo words matches tells given sets wide = record {
   arguments = tells.arguments;
   are_words = tells.are_words;
@@ -220,28 +220,28 @@ matches_tell_demo words matches tells given sets wide = record {
 }
 
 -- a text that matches hold is found
-pub match_told_is_found : (found : Option (Bor ArgumentText)) (told : Option ArgumentText) (text : ArgumentText) → scanned_text_at found ≡ told
+pub match_told_is_found : (found : Option (Bor ArgumentText)) (told : Option ArgumentText) (text : ArgumentText) → text_at found ≡ told
     → told ≡ Some text → IsSome found
 match_told_is_found None told text is told_is = cc
 match_told_is_found (Some word) told text is told_is = refl
 
 -- what is found is the text that matches hold
 match_found_is_told : (found : Option (Bor ArgumentText)) (told : Option ArgumentText) (text : ArgumentText) (word : Bor ArgumentText)
-    → scanned_text_at found ≡ told → told ≡ Some text → found ≡ Some word → word.now ≡ text
+    → text_at found ≡ told → told ≡ Some text → found ≡ Some word → word.now ≡ text
 match_found_is_told found told text word is told_is found_is =
-    same_some word.now text (sym (ap scanned_text_at found_is) ∙ is ∙ told_is)
+    same_some word.now text (sym (ap text_at found_is) ∙ is ∙ told_is)
   where
     same_some : (text other : ArgumentText) → Path (Option ArgumentText) (Some text) (Some other) → text ≡ other
     same_some text other same = cc
 
 -- what is found for SRC and DST are the sides of `weigh`
-pub matches_found_are_sides : (words : List ArgumentText) (matches : ArgMatches) (tells : AreMatchesOfWords words Weigh matches)
+pub matches_found_are_sides : (words : List ArgumentText) (matches : ArgMatches) (tells : MatchWords words Weigh matches)
     (found_source found_dest : Option (Bor ArgumentText)) (source dest : Bor ArgumentText)
-    → scanned_text_at found_source ≡ first_value (found_of matches) (codes "SRC")
-    → scanned_text_at found_dest ≡ first_value (found_of matches) (codes "DST")
+    → text_at found_source ≡ first_value (found_of matches) (codes "SRC")
+    → text_at found_dest ≡ first_value (found_of matches) (codes "DST")
     → found_source ≡ Some source → found_dest ≡ Some dest → (source_text dest_text : ArgumentText)
     → source_text ≡ source.now → dest_text ≡ dest.now
-    → CommandHasSides tells.arguments source_text dest_text
+    → HasSides tells.arguments source_text dest_text
 matches_found_are_sides words matches tells found_source found_dest source dest source_is dest_is source_found dest_found
     source_text dest_text same_source same_dest =
     let told = matches_tell_sides tells.arguments matches tells.are_words.well_formed.of_form.as_many tells.told in

@@ -9,9 +9,9 @@ use Rattle.std.proofs.lemmas.Slice.Eq.{bytes_eq-Decides}
 use Rattle.clap.specs.Words.{Row, first_of}
 use Rattle.clap.specs.declared.builder.value_parser.Reading.TheVariants.{AsWritten}
 use Rattle.clap.specs.declared.parser.matches.ValueSource.TheVariants.{CommandLine}
-use Rattle.command_words.specs.Arguments.{ArgumentText, Argument, positional, option, positionals_in_arguments}
-use Rattle.command_words.specs.Arguments.{names_in_arguments, argument_value_of}
-use Rattle.command_words.specs.Arguments.{named_arguments}
+use Rattle.command_words.specs.Arguments.{ArgumentText, Argument, positional, option, positionals_in}
+use Rattle.command_words.specs.Arguments.{names_in, value_of}
+use Rattle.command_words.specs.Arguments.{named}
 use Rattle.prefix_lattice.proofs.ListLemmas.{AllPairs-list_head, AllPairs-list_tail}
 
 -- a text is equal to itself, and to no other
@@ -49,28 +49,28 @@ match_row_is_found_behind name id value rows apart = rw (match_row_name_is_other
 
 -- rows and arguments give a name the same value, if those after the first row and the first argument do
 match_row_named_behind : (name other value : ArgumentText) (rows : List Row) (arguments : List Argument)
-    → first_of name rows ≡ argument_value_of name arguments
-    → first_of name (match_row other value ∷ rows) ≡ argument_value_of name (option other value ∷ arguments)
+    → first_of name rows ≡ value_of name arguments
+    → first_of name (match_row other value ∷ rows) ≡ value_of name (option other value ∷ arguments)
 match_row_named_behind name other value rows arguments behind = go (bytes_eq other name) refl
   where
     go : (b : Bool) → bytes_eq other name ≡ b
-        → first_of name (match_row other value ∷ rows) ≡ argument_value_of name (option other value ∷ arguments)
+        → first_of name (match_row other value ∷ rows) ≡ value_of name (option other value ∷ arguments)
     go true is = rw is refl
     go false is = rw is behind
 
 -- a name gives the value of the argument of that name
 pub match_rows_give_named_value : (name : ArgumentText) (ids : List ArgumentText) (arguments : List Argument)
-    → first_of name (match_rows_of ids arguments) ≡ argument_value_of name (named_arguments ids arguments)
+    → first_of name (match_rows_of ids arguments) ≡ value_of name (named ids arguments)
 match_rows_give_named_value name ids [] = refl
 match_rows_give_named_value name [] (positional text ∷ arguments) = match_rows_give_named_value name [] arguments
 match_rows_give_named_value name (id ∷ ids) (positional text ∷ arguments) =
-    match_row_named_behind name id text (match_rows_of ids arguments) (named_arguments ids arguments) (match_rows_give_named_value name ids arguments)
+    match_row_named_behind name id text (match_rows_of ids arguments) (named ids arguments) (match_rows_give_named_value name ids arguments)
 match_rows_give_named_value name ids (option other value ∷ arguments) =
-    match_row_named_behind name other value (match_rows_of ids arguments) (named_arguments ids arguments) (match_rows_give_named_value name ids arguments)
+    match_row_named_behind name other value (match_rows_of ids arguments) (named ids arguments) (match_rows_give_named_value name ids arguments)
 
 -- the name of an option gives its value
 pub match_rows_give_option : (name : ArgumentText) (ids : List ArgumentText) (arguments : List Argument) → All (λ id. id ≢ name) ids
-    → first_of name (match_rows_of ids arguments) ≡ argument_value_of name arguments
+    → first_of name (match_rows_of ids arguments) ≡ value_of name arguments
 match_rows_give_option name ids [] apart = refl
 match_rows_give_option name [] (positional text ∷ arguments) apart = match_rows_give_option name [] arguments apart
 match_rows_give_option name (id ∷ ids) (positional text ∷ arguments) apart =
@@ -82,8 +82,8 @@ match_rows_give_option name ids (option other value ∷ arguments) apart =
 -- the name of a positional gives the positional at the same index
 pub match_rows_give_positional : (place : ℕ) (name : ArgumentText) (ids : List ArgumentText) (arguments : List Argument)
     → slice_get ids place ≡ Some name → AllPairs (λ a b. a ≢ b) ids
-    → All (λ other. other ≢ name) (names_in_arguments arguments)
-    → first_of name (match_rows_of ids arguments) ≡ slice_get (positionals_in_arguments arguments) place
+    → All (λ other. other ≢ name) (names_in arguments)
+    → first_of name (match_rows_of ids arguments) ≡ slice_get (positionals_in arguments) place
 match_rows_give_positional place name ids [] at distinct apart = refl
 match_rows_give_positional place name [] (positional text ∷ arguments) at distinct apart = cc
 match_rows_give_positional zero name (id ∷ ids) (positional text ∷ arguments) at distinct apart =
@@ -93,5 +93,5 @@ match_rows_give_positional (suc place) name (id ∷ ids) (positional text ∷ ar
     (match_row_name_at_place (λ other. id ≢ other) place name ids at (AllPairs-list_head (λ a b. a ≢ b) id ids distinct))
     ∙ match_rows_give_positional place name ids arguments at (AllPairs-list_tail (λ a b. a ≢ b) id ids distinct) apart
 match_rows_give_positional place name ids (option other value ∷ arguments) at distinct apart =
-    match_row_is_found_behind name other value (match_rows_of ids arguments) (All-head (λ o. o ≢ name) other (names_in_arguments arguments) apart)
-    ∙ match_rows_give_positional place name ids arguments at distinct (All-tail (λ o. o ≢ name) other (names_in_arguments arguments) apart)
+    match_row_is_found_behind name other value (match_rows_of ids arguments) (All-head (λ o. o ≢ name) other (names_in arguments) apart)
+    ∙ match_rows_give_positional place name ids arguments at distinct (All-tail (λ o. o ≢ name) other (names_in arguments) apart)

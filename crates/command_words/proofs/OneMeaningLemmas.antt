@@ -3,18 +3,18 @@ use Rattle.std.proofs.Common.{◌≡◌, ◌≢◌, ◌⊎◌, inl, inr, ◌==�
 use Rattle.std.proofs.Common.{Err}
 use Rattle.std.proofs.Common.{Result, refl, sym, ap, ap₂, ◌∙◌, subst}
 use Rattle.std.specs.Result.{IfOk, IsOk}
-use Rattle.prefix_lattice.specs.{PrefixValue, SpellsPrefix, HasPrefixTextFault}
+use Rattle.prefix_lattice.specs.{PrefixValue, SpellsPrefix, HasPrefixFault}
 use Rattle.prefix_lattice.specs.declared.prefix_fault.PrefixFault.{PrefixFault}
-use Rattle.command_words.specs.Arguments.{ArgumentText, Argument, SpellAllArguments, AreWellFormedArguments}
-use Rattle.command_words.specs.Forms.{form_word_of, form_of, AreFormWords}
-use Rattle.command_words.specs.GivenValues.{SetsGiven}
-use Rattle.command_words.specs.Settings.{SettingValues, SetsSettings}
-use Rattle.command_words.specs.Settings.{setting_values_in, store_setting_in, AreWideSettings}
-use Rattle.command_words.specs.AskedCommand.{AskForCommand, CommandHasSides, CommandHasGoodPositionals}
+use Rattle.command_words.specs.Arguments.{ArgumentText, Argument, SpellAll, AreWellFormed}
+use Rattle.command_words.specs.FormNames.{word_of, form_of, AreWords}
+use Rattle.command_words.specs.Given.{SetsGiven}
+use Rattle.command_words.specs.Settings.{SettingValues, SetsAll}
+use Rattle.command_words.specs.Settings.{settings_in, store_setting, AreWide}
+use Rattle.command_words.specs.Command.{AskForCommand, HasSides, HasPositionals}
 use Rattle.command_words.specs.Values.{HasValueFault}
-use Rattle.command_words.specs.WordsFault.{WordsHaveBadValue, HasWordsFault}
-use Rattle.command_words.specs.Values.{AreGoodValues}
-use Rattle.command_words.specs.AskedCommand.{IsBoundedCommand}
+use Rattle.command_words.specs.WordsRefusal.{HasBadValue, HasWordsFault}
+use Rattle.command_words.specs.Values.{AreGood}
+use Rattle.command_words.specs.Command.{IsBounded}
 use Rattle.command_words.specs.declared.command.Command.{Command}
 use Rattle.command_words.specs.declared.command_word.CommandWord.{CommandWord}
 use Rattle.command_words.specs.declared.command_word.CommandWord.TheVariants.{Weigh, Report, Format, Audit, Make, Demo}
@@ -40,9 +40,9 @@ pub record PrefixHasOneMeaning : Type 0 where
   pub one_prefix : (source dest : ArgumentText) (prefix other : PrefixValue) → SpellsPrefix source dest prefix
       → SpellsPrefix source dest other → prefix ≡ other
   pub no_fault : (source dest : ArgumentText) (prefix : PrefixValue) (fault : PrefixFault) → SpellsPrefix source dest prefix
-      → HasPrefixTextFault source dest fault → ⊥
-  pub one_fault : (source dest : ArgumentText) (fault other : PrefixFault) → HasPrefixTextFault source dest fault
-      → HasPrefixTextFault source dest other → fault ≡ other
+      → HasPrefixFault source dest fault → ⊥
+  pub one_fault : (source dest : ArgumentText) (fault other : PrefixFault) → HasPrefixFault source dest fault
+      → HasPrefixFault source dest other → fault ≡ other
 
 -- what words mean: a command that they ask for, or a fault
 abbrev MeaningOfWords : Type 0
@@ -55,7 +55,7 @@ meaning_by_command_word (first ∷ rest) =
     cond (first == 119) Weigh (cond (first == 102) Format
     (cond (first == 97) Audit (cond (first == 109) Make (cond (first == 100) Demo Report))))
 
-meaning_by_command_word-own : (word : CommandWord) → meaning_by_command_word (form_word_of word) ≡ word
+meaning_by_command_word-own : (word : CommandWord) → meaning_by_command_word (word_of word) ≡ word
 meaning_by_command_word-own Weigh = refl
 meaning_by_command_word-own Report = refl
 meaning_by_command_word-own Format = refl
@@ -64,18 +64,18 @@ meaning_by_command_word-own Make = refl
 meaning_by_command_word-own Demo = refl
 
 -- commands of the same name are the same command
-command_word_has_one_meaning : (word other : CommandWord) → form_word_of word ≡ form_word_of other → word ≡ other
+command_word_has_one_meaning : (word other : CommandWord) → word_of word ≡ word_of other → word ≡ other
 command_word_has_one_meaning word other same = sym (meaning_by_command_word-own word) ∙ ap meaning_by_command_word same ∙ meaning_by_command_word-own other
 
 -- words are those of at most one command, and spell at most one list of arguments
 command_line_has_one_meaning : (words : List ArgumentText) (word other : CommandWord) (arguments more : List Argument)
-    → AreFormWords words word arguments → AreFormWords words other more
+    → AreWords words word arguments → AreWords words other more
     → (word ≡ other) × (arguments ≡ more)
 command_line_has_one_meaning words word other arguments more one two =
     let same = sym one.begun ∙ two.begun in (
       command_word_has_one_meaning word other (one_reading_of_head _ _ _ _ same),
       one_reading one.behind arguments more one.well_formed.spelled
-          (subst (λ behind. SpellAllArguments behind more) (sym (one_reading_of_rest _ _ _ _ same)) two.well_formed.spelled),
+          (subst (λ behind. SpellAll behind more) (sym (one_reading_of_rest _ _ _ _ same)) two.well_formed.spelled),
     )
 
 -- what values and the path of a store mean: what they give, or the first fault of the values
@@ -95,12 +95,12 @@ values_have_one_meaning values path (Err kind) (Err other) one two = ap Err (one
 
 -- what the values of a command's arguments mean
 abbrev IsMeaningOfCommandValues : CommandWord → List Argument → Result Given WordsKind → Type 0
-IsMeaningOfCommandValues word arguments read = IsOneMeaningOfValues (setting_values_in word arguments) (store_setting_in arguments) read
+IsMeaningOfCommandValues word arguments read = IsOneMeaningOfValues (settings_in word arguments) (store_setting arguments) read
 
 one_meaning_of_argument_values : (word : CommandWord) (arguments : List Argument) (read other : Result Given WordsKind)
     → IsMeaningOfCommandValues word arguments read → IsMeaningOfCommandValues word arguments other → read ≡ other
 one_meaning_of_argument_values word arguments read other one two =
-    values_have_one_meaning (setting_values_in word arguments) (store_setting_in arguments) read other one two
+    values_have_one_meaning (settings_in word arguments) (store_setting arguments) read other one two
 
 -- what a command means, once its values are read, if nothing else is checked
 abbrev command_meaning_of_values : (Given → Command) → Result Given WordsKind → MeaningOfWords
@@ -128,17 +128,17 @@ demo_command_meaning given = command.Demo given.seed given.frames given.settings
 
 -- what the arguments of `weigh` mean
 data WeighHasMeaning (arguments : List Argument) (outcome : MeaningOfWords) : Type 0 where
-  badly : (source dest : ArgumentText) (fault : PrefixFault) → CommandHasSides arguments source dest
-      → HasPrefixTextFault source dest fault → outcome ≡ Err (BadPrefix fault)
+  badly : (source dest : ArgumentText) (fault : PrefixFault) → HasSides arguments source dest
+      → HasPrefixFault source dest fault → outcome ≡ Err (BadPrefix fault)
       → WeighHasMeaning arguments outcome
   well : (source dest : ArgumentText) (prefix : PrefixValue) (read : Result Given WordsKind)
-      → CommandHasSides arguments source dest → SpellsPrefix source dest prefix
+      → HasSides arguments source dest → SpellsPrefix source dest prefix
       → IsMeaningOfCommandValues Weigh arguments read → outcome ≡ command_meaning_of_values (weigh_command_meaning prefix) read
       → WeighHasMeaning arguments outcome
 
 -- what holds for the two sides holds for the same two texts
 meaning_of_same_sides : (P : ArgumentText → ArgumentText → Type 0) (arguments : List Argument) (source dest other more : ArgumentText)
-    → CommandHasSides arguments source dest → CommandHasSides arguments other more
+    → HasSides arguments source dest → HasSides arguments other more
     → P other more → P source dest
 meaning_of_same_sides P arguments source dest other more one two holds =
     let same = sym one ∙ two in
@@ -152,7 +152,7 @@ weigh_has_one_meaning reading arguments outcome other (badly source dest fault s
     (badly source' dest' fault' sides' has' is') =
     let same =
     reading.one_fault source dest fault fault' has
-    (meaning_of_same_sides (λ s d. HasPrefixTextFault s d fault') arguments source dest source' dest' sides sides' has') in
+    (meaning_of_same_sides (λ s d. HasPrefixFault s d fault') arguments source dest source' dest' sides sides' has') in
     is ∙ ap (λ f. Err (BadPrefix f)) same ∙ sym is'
 weigh_has_one_meaning reading arguments outcome other (badly source dest fault sides has is)
     (well source' dest' prefix' read' sides' spelled' told' is') =
@@ -161,7 +161,7 @@ weigh_has_one_meaning reading arguments outcome other (badly source dest fault s
 weigh_has_one_meaning reading arguments outcome other (well source dest prefix read sides spelled told is)
     (badly source' dest' fault' sides' has' is') =
     absurd (reading.no_fault source dest prefix fault' spelled
-    (meaning_of_same_sides (λ s d. HasPrefixTextFault s d fault') arguments source dest source' dest' sides sides' has'))
+    (meaning_of_same_sides (λ s d. HasPrefixFault s d fault') arguments source dest source' dest' sides sides' has'))
 weigh_has_one_meaning reading arguments outcome other (well source dest prefix read sides spelled told is)
     (well source' dest' prefix' read' sides' spelled' told' is') =
     let same =
@@ -173,8 +173,8 @@ weigh_has_one_meaning reading arguments outcome other (well source dest prefix r
 -- what a command whose share is bounded means, once its values are read
 abbrev IsBoundedMeaning : (Given → Command) → Result Given WordsKind → MeaningOfWords → Type 0
 IsBoundedMeaning asked (Ok given) outcome =
-    (AreWideSettings given.settings × (outcome ≡ Ok (asked given)))
-    ⊎ ((AreWideSettings given.settings → ⊥) × (outcome ≡ Err Bound))
+    (AreWide given.settings × (outcome ≡ Ok (asked given)))
+    ⊎ ((AreWide given.settings → ⊥) × (outcome ≡ Err Bound))
 IsBoundedMeaning asked (Err kind) outcome = outcome ≡ Err kind
 
 bounded_meaning_is_one : (asked : Given → Command) (read : Result Given WordsKind) (outcome other : MeaningOfWords)
@@ -243,11 +243,11 @@ arguments_have_one_meaning reading Demo arguments outcome other one two =
 data WordsHaveMeaning (words : List ArgumentText) (outcome : MeaningOfWords) : Type 0 where
   nothing : words ≡ [] → outcome ≡ Err NoCommand → WordsHaveMeaning words outcome
   unknown : (first : ArgumentText) (behind : List ArgumentText) → words ≡ first ∷ behind
-      → ((word : CommandWord) → first ≢ form_word_of word) → outcome ≡ Err UnknownCommand → WordsHaveMeaning words outcome
-  refused : (word : CommandWord) (behind : List ArgumentText) → words ≡ form_word_of word ∷ behind
-      → ((arguments : List Argument) → AreWellFormedArguments (form_of word) behind arguments → ⊥)
+      → ((word : CommandWord) → first ≢ word_of word) → outcome ≡ Err UnknownCommand → WordsHaveMeaning words outcome
+  refused : (word : CommandWord) (behind : List ArgumentText) → words ≡ word_of word ∷ behind
+      → ((arguments : List Argument) → AreWellFormed (form_of word) behind arguments → ⊥)
       → outcome ≡ Err Refused → WordsHaveMeaning words outcome
-  told : (word : CommandWord) (arguments : List Argument) → AreFormWords words word arguments
+  told : (word : CommandWord) (arguments : List Argument) → AreWords words word arguments
       → ArgumentsHaveMeaning word arguments outcome → WordsHaveMeaning words outcome
 
 -- words with a first word are not empty
@@ -256,20 +256,20 @@ meaning_of_no_words_differs words first behind none are = one_reading_of_empty_l
 
 -- if the first word is no command's name, words don't begin with a command's name
 unknown_word_has_no_meaning : (words : List ArgumentText) (first : ArgumentText) (behind others : List ArgumentText) (word : CommandWord)
-    → words ≡ first ∷ behind → ((word : CommandWord) → first ≢ form_word_of word)
-    → words ≡ form_word_of word ∷ others → ⊥
+    → words ≡ first ∷ behind → ((word : CommandWord) → first ≢ word_of word)
+    → words ≡ word_of word ∷ others → ⊥
 unknown_word_has_no_meaning words first behind others word are is_no_word begun = is_no_word word (one_reading_of_head _ _ _ _ (sym are ∙ begun))
 
 -- words that are refused are not well-formed words of a command
 refused_words_lack_meaning : (words behind : List ArgumentText) (word other : CommandWord) (arguments : List Argument)
-    → words ≡ form_word_of word ∷ behind
-    → ((arguments : List Argument) → AreWellFormedArguments (form_of word) behind arguments → ⊥)
-    → AreFormWords words other arguments → ⊥
+    → words ≡ word_of word ∷ behind
+    → ((arguments : List Argument) → AreWellFormed (form_of word) behind arguments → ⊥)
+    → AreWords words other arguments → ⊥
 refused_words_lack_meaning words behind word other arguments begun is_refused are_words =
     let same = sym are_words.begun ∙ begun in
     is_refused arguments
-    (subst (λ w. AreWellFormedArguments (form_of w) behind arguments) (command_word_has_one_meaning other word (one_reading_of_head _ _ _ _ same))
-    (subst (λ b. AreWellFormedArguments (form_of other) b arguments) (one_reading_of_rest _ _ _ _ same) are_words.well_formed))
+    (subst (λ w. AreWellFormed (form_of w) behind arguments) (command_word_has_one_meaning other word (one_reading_of_head _ _ _ _ same))
+    (subst (λ b. AreWellFormed (form_of other) b arguments) (one_reading_of_rest _ _ _ _ same) are_words.well_formed))
 
 -- words have one meaning
 words_have_one_meaning : PrefixHasOneMeaning → (words : List ArgumentText) (outcome other : MeaningOfWords) → WordsHaveMeaning words outcome
@@ -279,9 +279,9 @@ words_have_one_meaning reading words outcome other (nothing none is) (nothing no
 words_have_one_meaning reading words outcome other (nothing none is) (unknown first behind are no_command is') =
     absurd (meaning_of_no_words_differs words first behind none are)
 words_have_one_meaning reading words outcome other (nothing none is) (refused word behind are no_form is') =
-    absurd (meaning_of_no_words_differs words (form_word_of word) behind none are)
+    absurd (meaning_of_no_words_differs words (word_of word) behind none are)
 words_have_one_meaning reading words outcome other (nothing none is) (told word arguments are_words tell) =
-    absurd (meaning_of_no_words_differs words (form_word_of word) are_words.behind none are_words.begun)
+    absurd (meaning_of_no_words_differs words (word_of word) are_words.behind none are_words.begun)
 words_have_one_meaning reading words outcome other (unknown first behind are no_command is) (nothing none is') =
     absurd (meaning_of_no_words_differs words first behind none are)
 words_have_one_meaning reading words outcome other (unknown first behind are no_command is)
@@ -293,7 +293,7 @@ words_have_one_meaning reading words outcome other (unknown first behind are no_
 words_have_one_meaning reading words outcome other (unknown first behind are no_command is) (told word arguments are_words tell) =
     absurd (unknown_word_has_no_meaning words first behind are_words.behind word are no_command are_words.begun)
 words_have_one_meaning reading words outcome other (refused word behind are no_form is) (nothing none is') =
-    absurd (meaning_of_no_words_differs words (form_word_of word) behind none are)
+    absurd (meaning_of_no_words_differs words (word_of word) behind none are)
 words_have_one_meaning reading words outcome other (refused word others begun no_form is)
     (unknown first behind are no_command is') =
     absurd (unknown_word_has_no_meaning words first behind others word are no_command begun)
@@ -303,7 +303,7 @@ words_have_one_meaning reading words outcome other (refused word behind are no_f
 words_have_one_meaning reading words outcome other (refused word behind are no_form is) (told word' arguments are_words tell) =
     absurd (refused_words_lack_meaning words behind word word' arguments are no_form are_words)
 words_have_one_meaning reading words outcome other (told word arguments are_words tell) (nothing none is') =
-    absurd (meaning_of_no_words_differs words (form_word_of word) are_words.behind none are_words.begun)
+    absurd (meaning_of_no_words_differs words (word_of word) are_words.behind none are_words.begun)
 words_have_one_meaning reading words outcome other (told word arguments are_words tell) (unknown first behind are no_command is') =
     absurd (unknown_word_has_no_meaning words first behind are_words.behind word are no_command are_words.begun)
 words_have_one_meaning reading words outcome other (told word' arguments are_words tell) (refused word behind are no_form is') =
@@ -353,7 +353,7 @@ asked_command_is_meaning words (command.Make seed frames) asks =
     told Make asks.arguments asks.are_words record {
       read = Ok (record { seed = seed; frames = frames; settings = default_given_settings });
       told =
-          traffic_given (setting_values_in Make asks.arguments) (store_setting_in asks.arguments) seed frames default_given_settings
+          traffic_given (settings_in Make asks.arguments) (store_setting asks.arguments) seed frames default_given_settings
           asks.made (make_is_given_no_settings asks.arguments asks.are_words.well_formed.of_form);
       comes_to = refl;
     }
@@ -361,14 +361,14 @@ asked_command_is_meaning words (command.Demo seed frames settings) asks =
     told Demo asks.arguments asks.are_words record {
       read = Ok (record { seed = seed; frames = frames; settings = settings });
       told =
-          traffic_given (setting_values_in Demo asks.arguments) (store_setting_in asks.arguments) seed frames settings asks.made
+          traffic_given (settings_in Demo asks.arguments) (store_setting asks.arguments) seed frames settings asks.made
           asks.set;
       comes_to = inl (asks.wide, refl);
     }
 
 -- the first fault of the values is what arguments mean
 bad_value_is_argument_meaning : (word : CommandWord) (arguments : List Argument) (kind : WordsKind)
-    → CommandHasGoodPositionals word arguments → HasValueFault (setting_values_in word arguments) kind
+    → HasPositionals word arguments → HasValueFault (settings_in word arguments) kind
     → ArgumentsHaveMeaning word arguments (Err kind)
 bad_value_is_argument_meaning Weigh arguments kind good has = well good.0 good.1 good.3.0 (Err kind) good.2 good.3.1 has refl
 bad_value_is_argument_meaning Report arguments kind good has = record { read = Err kind; told = has; comes_to = refl }
@@ -377,26 +377,26 @@ bad_value_is_argument_meaning Audit arguments kind good has = record { read = Er
 bad_value_is_argument_meaning Make arguments kind good has = record { read = Err kind; told = has; comes_to = refl }
 bad_value_is_argument_meaning Demo arguments kind good has = record { read = Err kind; told = has; comes_to = refl }
 
-bad_value_is_meaning : (words : List ArgumentText) (kind : WordsKind) → WordsHaveBadValue words kind → WordsHaveMeaning words (Err kind)
+bad_value_is_meaning : (words : List ArgumentText) (kind : WordsKind) → HasBadValue words kind → WordsHaveMeaning words (Err kind)
 bad_value_is_meaning words kind has =
     told has.command has.arguments has.are_words
     (bad_value_is_argument_meaning has.command has.arguments kind has.positionals has.has_fault)
 
 -- that its tables are too small for its share is what the arguments of a bounded command mean
 narrow_is_bounded_meaning : (word : CommandWord) (asked : Given → Command) (arguments : List Argument) (settings : Settings)
-    → AreGoodValues (setting_values_in word arguments) → SetsSettings (setting_values_in word arguments) (store_setting_in arguments) settings
-    → (AreWideSettings settings → ⊥) → BoundedHasMeaning word asked arguments (Err Bound)
+    → AreGood (settings_in word arguments) → SetsAll (settings_in word arguments) (store_setting arguments) settings
+    → (AreWide settings → ⊥) → BoundedHasMeaning word asked arguments (Err Bound)
 narrow_is_bounded_meaning word asked arguments settings good set narrow =
-    let gives = given_by_good_values (setting_values_in word arguments) (store_setting_in arguments) settings good set in
+    let gives = given_by_good_values (settings_in word arguments) (store_setting arguments) settings good set in
     record {
       read = Ok gives.given;
       told = gives.gives;
-      comes_to = inr (subst (λ s. AreWideSettings s → ⊥) (sym gives.same) narrow, refl);
+      comes_to = inr (subst (λ s. AreWide s → ⊥) (sym gives.same) narrow, refl);
     }
 
-narrow_is_argument_meaning : (word : CommandWord) (arguments : List Argument) (settings : Settings) → IsBoundedCommand word
-    → AreGoodValues (setting_values_in word arguments) → SetsSettings (setting_values_in word arguments) (store_setting_in arguments) settings
-    → (AreWideSettings settings → ⊥) → ArgumentsHaveMeaning word arguments (Err Bound)
+narrow_is_argument_meaning : (word : CommandWord) (arguments : List Argument) (settings : Settings) → IsBounded word
+    → AreGood (settings_in word arguments) → SetsAll (settings_in word arguments) (store_setting arguments) settings
+    → (AreWide settings → ⊥) → ArgumentsHaveMeaning word arguments (Err Bound)
 narrow_is_argument_meaning Weigh arguments settings bounded good set narrow = absurd bounded
 narrow_is_argument_meaning Report arguments settings bounded good set narrow =
     narrow_is_bounded_meaning Report report_command_meaning arguments settings good set narrow

@@ -6,14 +6,14 @@ use Rattle.std.proofs.lemmas.Fmt.{decimal_injective}
 use Rattle.frame_records.specs.declared.weigh.Weigh.{Weigh}
 use Rattle.deal_rules.specs.declared.deal_kind.DealKind.{DealKind}
 use Rattle.command_words.specs.Arguments.{ArgumentText}
-use Rattle.command_words.specs.Options.{OptionKind, number, choice, option_kind_of, option_place_of, IsOptionNumber}
-use Rattle.command_words.specs.Options.{IsDefaultOfOption, IsGoodOptionText, IsGoodOption}
-use Rattle.command_words.specs.Options.{IsNoOptionNumber, IsNoOptionChoice, IsOutsideOptionLimits}
-use Rattle.command_words.specs.Settings.{SettingValues, SetsNumberSetting, SetsWeighSetting, SetsDealSetting}
-use Rattle.command_words.specs.Settings.{SetsStoreSetting, SetsSettings}
-use Rattle.command_words.specs.Settings.{weigh_setting_word, deal_setting_word}
-use Rattle.command_words.specs.Values.{AreGoodValues, IsFirstBadValue, HasValueFault}
-use Rattle.command_words.specs.GivenValues.{SetsGiven}
+use Rattle.command_words.specs.Options.{OptionKind, number, choice, kind_of, place_of, IsNumber}
+use Rattle.command_words.specs.Options.{IsDefault, IsGoodText, IsGood}
+use Rattle.command_words.specs.Options.{IsNoNumber, IsNoChoice, IsOutside}
+use Rattle.command_words.specs.Settings.{SettingValues, SetsNumber, SetsWeigh, SetsDeal}
+use Rattle.command_words.specs.Settings.{SetsStore, SetsAll}
+use Rattle.command_words.specs.Settings.{weigh_word, deal_word}
+use Rattle.command_words.specs.Values.{AreGood, IsFirstBad, HasValueFault}
+use Rattle.command_words.specs.Given.{SetsGiven}
 use Rattle.command_words.specs.declared.opt.Opt.{Opt}
 use Rattle.command_words.specs.declared.settings.Settings.{Settings}
 use Rattle.command_words.specs.declared.values.Given.{Given}
@@ -26,21 +26,21 @@ use Rattle.deal_rules.specs.declared.deal_kind.DealKind.TheVariants as dealing
 use Rattle.command_words.specs.declared.opt.Opt.TheVariants as opt
 
 -- a text is at most one number
-one_value_per_number_text : (text : ArgumentText) (value other : ℕ) → IsOptionNumber text value → IsOptionNumber text other → value ≡ other
+one_value_per_number_text : (text : ArgumentText) (value other : ℕ) → IsNumber text value → IsNumber text other → value ≡ other
 one_value_per_number_text text value other one two =
     decimal_injective value other one.bounded two.bounded (sym one.spelled ∙ two.spelled)
 
 -- a value that is bad in this way is never good
 abbrev IsValueFault : (OptionKind → ArgumentText → Type 0) → Type 0
-IsValueFault IsBad = (kind : OptionKind) (text : ArgumentText) → IsGoodOptionText kind text → IsBad kind text → ⊥
+IsValueFault IsBad = (kind : OptionKind) (text : ArgumentText) → IsGoodText kind text → IsBad kind text → ⊥
 
 -- a text that is no number is not good
-no_number_is_value_fault : IsValueFault IsNoOptionNumber
+no_number_is_value_fault : IsValueFault IsNoNumber
 no_number_is_value_fault (number least greatest default) text good bad = bad good.0 good.1
 no_number_is_value_fault (choice default others) text good bad = bad
 
 -- a number outside the limits is not good
-outside_is_value_fault : IsValueFault IsOutsideOptionLimits
+outside_is_value_fault : IsValueFault IsOutside
 outside_is_value_fault (number least greatest default) text good bad = go (one_value_per_number_text text good.0 bad.0 good.1 bad.1) bad.2
   where
     go : good.0 ≡ bad.0 → (bad.0 < least) ⊎ (greatest < bad.0) → ⊥
@@ -49,7 +49,7 @@ outside_is_value_fault (number least greatest default) text good bad = go (one_v
 outside_is_value_fault (choice default others) text good bad = bad
 
 -- a text that is none of the choices is not good
-no_choice_is_value_fault : IsValueFault IsNoOptionChoice
+no_choice_is_value_fault : IsValueFault IsNoChoice
 no_choice_is_value_fault (number least greatest default) text good bad = bad
 no_choice_is_value_fault (choice default others) text good bad = bad good
 
@@ -58,34 +58,34 @@ abbrev AreApartValueFaults : (OptionKind → ArgumentText → Type 0) → (Optio
 AreApartValueFaults IsBad IsWorse = (kind : OptionKind) (text : ArgumentText) → IsBad kind text → IsWorse kind text → ⊥
 
 -- a text that is no number is not a number outside the limits
-value_fault_number_or_outside : AreApartValueFaults IsNoOptionNumber IsOutsideOptionLimits
+value_fault_number_or_outside : AreApartValueFaults IsNoNumber IsOutside
 value_fault_number_or_outside (number least greatest default) text bad worse = bad worse.0 worse.1
 value_fault_number_or_outside (choice default others) text bad worse = bad
 
 -- no option takes both numbers and choices
-value_fault_number_or_choice : AreApartValueFaults IsNoOptionNumber IsNoOptionChoice
+value_fault_number_or_choice : AreApartValueFaults IsNoNumber IsNoChoice
 value_fault_number_or_choice (number least greatest default) text bad worse = worse
 value_fault_number_or_choice (choice default others) text bad worse = bad
 
-value_fault_outside_or_choice : AreApartValueFaults IsOutsideOptionLimits IsNoOptionChoice
+value_fault_outside_or_choice : AreApartValueFaults IsOutside IsNoChoice
 value_fault_outside_or_choice (number least greatest default) text bad worse = worse
 value_fault_outside_or_choice (choice default others) text bad worse = bad
 
 -- an option with a bad value has no good one
 value_fault_is_not_good : (IsBad : OptionKind → ArgumentText → Type 0) (values : SettingValues) (opt : Opt) → IsValueFault IsBad
-    → IsFirstBadValue IsBad values opt → IsGoodOption opt (values opt) → ⊥
+    → IsFirstBad IsBad values opt → IsGood opt (values opt) → ⊥
 value_fault_is_not_good IsBad values opt is_no_good bad good =
-    is_no_good (option_kind_of opt) bad.text (subst (λ told. IsGoodOption opt told) bad.value good) bad.is_bad
+    is_no_good (kind_of opt) bad.text (subst (λ told. IsGood opt told) bad.value good) bad.is_bad
 
 -- two first bad values are those of the same option
 value_faults_at_one_place : (IsBad IsWorse : OptionKind → ArgumentText → Type 0) (values : SettingValues) (opt other : Opt) → IsValueFault IsBad
     → IsValueFault IsWorse
-    → IsFirstBadValue IsBad values opt → IsFirstBadValue IsWorse values other → opt ≡ other
+    → IsFirstBad IsBad values opt → IsFirstBad IsWorse values other → opt ≡ other
 value_faults_at_one_place IsBad IsWorse values opt other bad_no_good worse_no_good bad worse =
-    go (cases_lt (option_place_of opt) (option_place_of other)) (cases_lt (option_place_of other) (option_place_of opt))
+    go (cases_lt (place_of opt) (place_of other)) (cases_lt (place_of other) (place_of opt))
   where
-    go : (option_place_of opt < option_place_of other) ⊎ (option_place_of other ≤ option_place_of opt)
-        → (option_place_of other < option_place_of opt) ⊎ (option_place_of opt ≤ option_place_of other) → opt ≡ other
+    go : (place_of opt < place_of other) ⊎ (place_of other ≤ place_of opt)
+        → (place_of other < place_of opt) ⊎ (place_of opt ≤ place_of other) → opt ≡ other
     go (inl before) behind = absurd (value_fault_is_not_good IsBad values opt bad_no_good bad (worse.before opt before))
     go (inr after) (inl before) =
         absurd (value_fault_is_not_good IsWorse values other worse_no_good worse (bad.before other before))
@@ -93,10 +93,10 @@ value_faults_at_one_place IsBad IsWorse values opt other bad_no_good worse_no_go
 
 -- an option's value is not bad in two ways that exclude each other
 value_fault_of_one_option : (IsBad IsWorse : OptionKind → ArgumentText → Type 0) (values : SettingValues) (opt : Opt) → AreApartValueFaults IsBad IsWorse
-    → IsFirstBadValue IsBad values opt → IsFirstBadValue IsWorse values opt → ⊥
+    → IsFirstBad IsBad values opt → IsFirstBad IsWorse values opt → ⊥
 value_fault_of_one_option IsBad IsWorse values opt apart bad worse =
-    apart (option_kind_of opt) bad.text bad.is_bad
-    (subst (λ t. IsWorse (option_kind_of opt) t) (same_some worse.text bad.text (sym worse.value ∙ bad.value))
+    apart (kind_of opt) bad.text bad.is_bad
+    (subst (λ t. IsWorse (kind_of opt) t) (same_some worse.text bad.text (sym worse.value ∙ bad.value))
     worse.is_bad)
   where
     same_some : (text other : ArgumentText) → Path (Option ArgumentText) (Some text) (Some other) → text ≡ other
@@ -105,57 +105,57 @@ value_fault_of_one_option IsBad IsWorse values opt apart bad worse =
 -- values don't have two first faults that exclude each other
 value_faults_in_one_way : (IsBad IsWorse : OptionKind → ArgumentText → Type 0) (values : SettingValues) (opt other : Opt) → IsValueFault IsBad
     → IsValueFault IsWorse → AreApartValueFaults IsBad IsWorse
-    → IsFirstBadValue IsBad values opt → IsFirstBadValue IsWorse values other → ⊥
+    → IsFirstBad IsBad values opt → IsFirstBad IsWorse values other → ⊥
 value_faults_in_one_way IsBad IsWorse values opt other bad_no_good worse_no_good apart bad worse =
     value_fault_of_one_option IsBad IsWorse values opt apart bad
-    (subst (λ o. IsFirstBadValue IsWorse values o)
+    (subst (λ o. IsFirstBad IsWorse values o)
     (sym (value_faults_at_one_place IsBad IsWorse values opt other bad_no_good worse_no_good bad worse)) worse)
 
 -- values have at most one first fault
 pub one_value_fault : (values : SettingValues) (kind other : WordsKind) → HasValueFault values kind
     → HasValueFault values other → kind ≡ other
 one_value_fault values (BadNumber at) (BadNumber place) one two =
-    ap BadNumber (value_faults_at_one_place IsNoOptionNumber IsNoOptionNumber values at place no_number_is_value_fault no_number_is_value_fault one two)
+    ap BadNumber (value_faults_at_one_place IsNoNumber IsNoNumber values at place no_number_is_value_fault no_number_is_value_fault one two)
 one_value_fault values (BadNumber at) (OutOfLimits place) one two =
-    absurd (value_faults_in_one_way IsNoOptionNumber IsOutsideOptionLimits values at place no_number_is_value_fault outside_is_value_fault
+    absurd (value_faults_in_one_way IsNoNumber IsOutside values at place no_number_is_value_fault outside_is_value_fault
     value_fault_number_or_outside
     one two)
 one_value_fault values (BadNumber at) (BadChoice place) one two =
-    absurd (value_faults_in_one_way IsNoOptionNumber IsNoOptionChoice values at place no_number_is_value_fault no_choice_is_value_fault
+    absurd (value_faults_in_one_way IsNoNumber IsNoChoice values at place no_number_is_value_fault no_choice_is_value_fault
     value_fault_number_or_choice one two)
 one_value_fault values (BadNumber at) _ one two = absurd two
 one_value_fault values (OutOfLimits at) (BadNumber place) one two =
-    absurd (value_faults_in_one_way IsNoOptionNumber IsOutsideOptionLimits values place at no_number_is_value_fault outside_is_value_fault
+    absurd (value_faults_in_one_way IsNoNumber IsOutside values place at no_number_is_value_fault outside_is_value_fault
     value_fault_number_or_outside
     two one)
 one_value_fault values (OutOfLimits at) (OutOfLimits place) one two =
-    ap OutOfLimits (value_faults_at_one_place IsOutsideOptionLimits IsOutsideOptionLimits values at place outside_is_value_fault outside_is_value_fault one two)
+    ap OutOfLimits (value_faults_at_one_place IsOutside IsOutside values at place outside_is_value_fault outside_is_value_fault one two)
 one_value_fault values (OutOfLimits at) (BadChoice place) one two =
-    absurd (value_faults_in_one_way IsOutsideOptionLimits IsNoOptionChoice values at place outside_is_value_fault no_choice_is_value_fault
+    absurd (value_faults_in_one_way IsOutside IsNoChoice values at place outside_is_value_fault no_choice_is_value_fault
     value_fault_outside_or_choice
     one two)
 one_value_fault values (OutOfLimits at) _ one two = absurd two
 one_value_fault values (BadChoice at) (BadNumber place) one two =
-    absurd (value_faults_in_one_way IsNoOptionNumber IsNoOptionChoice values place at no_number_is_value_fault no_choice_is_value_fault
+    absurd (value_faults_in_one_way IsNoNumber IsNoChoice values place at no_number_is_value_fault no_choice_is_value_fault
     value_fault_number_or_choice two one)
 one_value_fault values (BadChoice at) (OutOfLimits place) one two =
-    absurd (value_faults_in_one_way IsOutsideOptionLimits IsNoOptionChoice values place at outside_is_value_fault no_choice_is_value_fault
+    absurd (value_faults_in_one_way IsOutside IsNoChoice values place at outside_is_value_fault no_choice_is_value_fault
     value_fault_outside_or_choice
     two one)
 one_value_fault values (BadChoice at) (BadChoice place) one two =
-    ap BadChoice (value_faults_at_one_place IsNoOptionChoice IsNoOptionChoice values at place no_choice_is_value_fault no_choice_is_value_fault one two)
+    ap BadChoice (value_faults_at_one_place IsNoChoice IsNoChoice values at place no_choice_is_value_fault no_choice_is_value_fault one two)
 one_value_fault values (BadChoice at) _ one two = absurd two
 one_value_fault values _ other one two = absurd one
 
 -- values that give something are all good
 pub given_values_have_no_fault : (values : SettingValues) (path : Option ArgumentText) (given : Given) → SetsGiven values path given
-    → AreGoodValues values
+    → AreGood values
 given_values_have_no_fault values path given gives = go gives.settings_set
   where
     settings : Settings
     settings = given.settings
 
-    go : SetsSettings values path settings → AreGoodValues values
+    go : SetsAll values path settings → AreGood values
     go set opt.Seed = numeric_value_is_good opt.Seed (values opt.Seed) given.seed gives.seed_set
     go set opt.Frames = numeric_value_is_good opt.Frames (values opt.Frames) given.frames gives.frames_set
     go set opt.Weigh = weigh_value_is_good (values opt.Weigh) settings.weigh set.weigh
@@ -169,50 +169,50 @@ given_values_have_no_fault values path given gives = go gives.settings_set
     go set opt.Rounds = numeric_value_is_good opt.Rounds (values opt.Rounds) settings.rounds set.rounds
 
 -- values that are all good have no fault
-pub no_value_fault : (values : SettingValues) (kind : WordsKind) → AreGoodValues values → HasValueFault values kind → ⊥
-no_value_fault values (BadNumber at) good has = value_fault_is_not_good IsNoOptionNumber values at no_number_is_value_fault has (good at)
-no_value_fault values (OutOfLimits at) good has = value_fault_is_not_good IsOutsideOptionLimits values at outside_is_value_fault has (good at)
-no_value_fault values (BadChoice at) good has = value_fault_is_not_good IsNoOptionChoice values at no_choice_is_value_fault has (good at)
+pub no_value_fault : (values : SettingValues) (kind : WordsKind) → AreGood values → HasValueFault values kind → ⊥
+no_value_fault values (BadNumber at) good has = value_fault_is_not_good IsNoNumber values at no_number_is_value_fault has (good at)
+no_value_fault values (OutOfLimits at) good has = value_fault_is_not_good IsOutside values at outside_is_value_fault has (good at)
+no_value_fault values (BadChoice at) good has = value_fault_is_not_good IsNoChoice values at no_choice_is_value_fault has (good at)
 no_value_fault values _ good has = has
 
 -- a missing value sets one number at most
-one_value_by_default : (kind : OptionKind) (value other : ℕ) → IsDefaultOfOption kind value → IsDefaultOfOption kind other → value ≡ other
+one_value_by_default : (kind : OptionKind) (value other : ℕ) → IsDefault kind value → IsDefault kind other → value ≡ other
 one_value_by_default (number least greatest default) value other one two = one ∙ sym two
 one_value_by_default (choice default others) value other one two = absurd one
 
 -- a value sets one number at most
-one_value_sets_one_number : (at : Opt) (told : Option ArgumentText) (value other : ℕ) → SetsNumberSetting at told value
-    → SetsNumberSetting at told other → value ≡ other
-one_value_sets_one_number at None value other one two = one_value_by_default (option_kind_of at) value other one two
+one_value_sets_one_number : (at : Opt) (told : Option ArgumentText) (value other : ℕ) → SetsNumber at told value
+    → SetsNumber at told other → value ≡ other
+one_value_sets_one_number at None value other one two = one_value_by_default (kind_of at) value other one two
 one_value_sets_one_number at (Some text) value other one two = one_value_per_number_text text value other one.0 two.0
 
-one_value_per_weigh_word : (weigh other : Weigh) → weigh_setting_word weigh ≡ weigh_setting_word other → weigh ≡ other
+one_value_per_weigh_word : (weigh other : Weigh) → weigh_word weigh ≡ weigh_word other → weigh ≡ other
 one_value_per_weigh_word weighing.Bytes weighing.Bytes same = refl
 one_value_per_weigh_word weighing.Bytes weighing.Packets same = cc
 one_value_per_weigh_word weighing.Packets weighing.Bytes same = cc
 one_value_per_weigh_word weighing.Packets weighing.Packets same = refl
 
-one_value_sets_one_weigh : (told : Option ArgumentText) (weigh other : Weigh) → SetsWeighSetting told weigh → SetsWeighSetting told other → weigh ≡ other
+one_value_sets_one_weigh : (told : Option ArgumentText) (weigh other : Weigh) → SetsWeigh told weigh → SetsWeigh told other → weigh ≡ other
 one_value_sets_one_weigh None weigh other one two = one_value_per_weigh_word weigh other (one ∙ sym two)
 one_value_sets_one_weigh (Some text) weigh other one two = one_value_per_weigh_word weigh other (sym one ∙ two)
 
-one_value_per_deal_word : (deal other : DealKind) → deal_setting_word deal ≡ deal_setting_word other → deal ≡ other
+one_value_per_deal_word : (deal other : DealKind) → deal_word deal ≡ deal_word other → deal ≡ other
 one_value_per_deal_word dealing.RoundRobin dealing.RoundRobin same = refl
 one_value_per_deal_word dealing.BySource dealing.BySource same = refl
 one_value_per_deal_word dealing.Free dealing.Free same = refl
 one_value_per_deal_word _ _ same = cc
 
-one_value_sets_one_deal : (told : Option ArgumentText) (deal other : DealKind) → SetsDealSetting told deal → SetsDealSetting told other → deal ≡ other
+one_value_sets_one_deal : (told : Option ArgumentText) (deal other : DealKind) → SetsDeal told deal → SetsDeal told other → deal ≡ other
 one_value_sets_one_deal None deal other one two = one_value_per_deal_word deal other (one ∙ sym two)
 one_value_sets_one_deal (Some text) deal other one two = one_value_per_deal_word deal other (sym one ∙ two)
 
-one_value_sets_one_store : (path : Option ArgumentText) (store other : Bool) → SetsStoreSetting path store → SetsStoreSetting path other → store ≡ other
+one_value_sets_one_store : (path : Option ArgumentText) (store other : Bool) → SetsStore path store → SetsStore path other → store ≡ other
 one_value_sets_one_store None store other one two = one ∙ sym two
 one_value_sets_one_store (Some path) store other one two = one ∙ sym two
 
 -- values set at most one thing
-pub values_set_one_settings : (values : SettingValues) (path : Option ArgumentText) (settings other : Settings) → SetsSettings values path settings
-    → SetsSettings values path other → settings ≡ other
+pub values_set_one_settings : (values : SettingValues) (path : Option ArgumentText) (settings other : Settings) → SetsAll values path settings
+    → SetsAll values path other → settings ≡ other
 values_set_one_settings values path settings other one two =
     λ i. record {
       shards = one_value_sets_one_number opt.Shards (values opt.Shards) settings.shards other.shards one.shards two.shards i;

@@ -16,10 +16,10 @@ use Rattle.clap.proofs.WalkLemmas.{first_value-rows}
 use Rattle.clap.specs.Words.{App, first_of, found_of, matches_of, rows_of}
 use Rattle.clap.specs.declared.builder.value_parser.Reading.{Reading}
 use Rattle.clap.specs.declared.parser.matches.ArgMatches.{ArgMatches}
-use Rattle.command_words.specs.Arguments.{ArgumentText, Argument, AreArgumentsOfForm, AreWellFormedArguments}
-use Rattle.command_words.specs.Forms.{form_of, form_word_of}
+use Rattle.command_words.specs.Arguments.{ArgumentText, Argument, AreOfForm, AreWellFormed}
+use Rattle.command_words.specs.FormNames.{form_of, word_of}
 use Rattle.command_words.specs.Matches.{AreMatchesOf}
-use Rattle.command_words.specs.Parser.{parser_for}
+use Rattle.command_words.specs.Parsing.{parser_for}
 use Rattle.command_words.specs.declared.command_word.CommandWord.{CommandWord}
 use Rattle.command_words.specs.declared.command_word.CommandWord.TheVariants.{Weigh, Report, Format, Audit, Make, Demo}
 use Rattle.command_words.proofs.ParserNameLemmas.{AreNoParserOptionNames, IsNoParserOptionName, ParserPlacesNames}
@@ -75,7 +75,7 @@ module _ (s : Shape) (demands_nothing : ParserDemandsNothing s) (words : List Ar
 
 -- the parser of a command
 abbrev pub parser : CommandWord → App
-parser command = parser_for (form_word_of command) (form_of command)
+parser command = parser_for (word_of command) (form_of command)
 
 -- its shape, once it is built
 abbrev pub parser_shape : CommandWord → Shape
@@ -217,7 +217,7 @@ parser_positionals_are_apart Demo = two_parser_texts_are_apart (codes "SEED") (c
 
 -- well-formed words bring the walk to the rows of their arguments
 module _ (command : CommandWord) (words : List ArgumentText) (arguments : List Argument)
-    (well_formed : AreWellFormedArguments (form_of command) words arguments) where
+    (well_formed : AreWellFormed (form_of command) words arguments) where
   parser_reaches_form_rows : WalkReaches (parser_shape command) (standing_walk nothing_held 1) words (parser_walk_final_position 1 arguments)
       (match_rows_of (form_of command).positionals arguments)
   parser_reaches_form_rows =
@@ -233,7 +233,7 @@ module _ (command : CommandWord) (words : List ArgumentText) (arguments : List A
 
 -- the parser accepts the words
 pub parser_takes_well_formed : (command : CommandWord) (words : List ArgumentText) (arguments : List Argument)
-    → AreWellFormedArguments (form_of command) words arguments → takes (parser command) words ≡ true
+    → AreWellFormed (form_of command) words arguments → takes (parser command) words ≡ true
 parser_takes_well_formed Weigh words arguments well_formed =
     let reached = parser_reaches_form_rows Weigh words arguments well_formed in
     rw (parser_never_stops (parser_shape Weigh) (parser_demands_nothing Weigh) words _ _ reached)
@@ -261,7 +261,7 @@ parser_takes_well_formed Demo words arguments well_formed =
 
 -- and finds the rows of their arguments
 pub parser_finds_well_formed : (command : CommandWord) (words : List ArgumentText) (arguments : List Argument)
-    → AreWellFormedArguments (form_of command) words arguments
+    → AreWellFormed (form_of command) words arguments
     → matches_of (parser command) words ≡ match_rows_of (form_of command).positionals arguments
 parser_finds_well_formed Weigh words arguments well_formed =
     parser_reaches_rows (parser_shape Weigh) (parser_demands_nothing Weigh) words _ _ (parser_reaches_form_rows Weigh words arguments well_formed)
@@ -293,7 +293,7 @@ parser_texts_all_differ texts name never = λ place default within same.
 
 -- matches with the rows of arguments hold the arguments
 pub parser_found_tells_arguments : (command : CommandWord) (arguments : List Argument) (matches : ArgMatches)
-    → AreArgumentsOfForm (form_of command) arguments
+    → AreOfForm (form_of command) arguments
     → rows_of (found_of matches) ≡ match_rows_of (form_of command).positionals arguments
     → AreMatchesOf (form_of command) arguments matches
 parser_found_tells_arguments command arguments matches of_form rows = record {

@@ -8,8 +8,8 @@ use Rattle.std.proofs.lemmas.List.Elements.{All-head, All-tail}
 use Rattle.clap.specs.Lexer.{usize_max}
 use Rattle.clap.specs.Simple.{Shape}
 use Rattle.clap.specs.Walk.{Row, has_row}
-use Rattle.command_words.specs.Arguments.{ArgumentText, Argument, positional, option, positionals_in_arguments}
-use Rattle.command_words.specs.Arguments.{names_in_arguments}
+use Rattle.command_words.specs.Arguments.{ArgumentText, Argument, positional, option, positionals_in}
+use Rattle.command_words.specs.Arguments.{names_in}
 use Rattle.prefix_lattice.proofs.ListLemmas.{AllPairs-list_head, AllPairs-list_tail}
 use Rattle.command_words.proofs.MatchRowLemmas.{match_row_name_is_other, match_row}
 use Rattle.command_words.proofs.ParserWalkLemmas.{FitParserWalk, WalkKnowsPositional, IsNewInWalk, WalkKnowsOption}
@@ -56,9 +56,9 @@ module _ (options : List ArgumentText) where
   pub arguments_fit_parser_names : (s : Shape) → ((name : ArgumentText) → Contains options name → WalkKnowsOption s name)
       → (position : ℕ) (ids : List ArgumentText) (rows : List Row) (arguments : List Argument)
       → ParserPlacesNames s position ids → AreNoParserOptionNames ids → AllPairs (λ a b. a ≢ b) ids
-      → length (positionals_in_arguments arguments) ≡ length ids
-      → All (λ name. Contains options name) (names_in_arguments arguments) → AllPairs (λ a b. a ≢ b) (names_in_arguments arguments)
-      → AreNewParserNames rows ids → AreNewParserNames rows (names_in_arguments arguments)
+      → length (positionals_in arguments) ≡ length ids
+      → All (λ name. Contains options name) (names_in arguments) → AllPairs (λ a b. a ≢ b) (names_in arguments)
+      → AreNewParserNames rows ids → AreNewParserNames rows (names_in arguments)
       → FitParserWalk s position ids rows arguments
   arguments_fit_parser_names s knows position ids rows [] places apart distinct as_many known once fresh unused = tt
   arguments_fit_parser_names s knows position [] rows (positional text ∷ arguments) places apart distinct as_many known once fresh unused =
@@ -71,18 +71,18 @@ module _ (options : List ArgumentText) where
             (All-tail IsNoParserOptionName id ids apart) (AllPairs-list_tail (λ a b. a ≢ b) id ids distinct) (omega arith) known once
             (parser_names_stay_new id text rows ids (All-tail (IsNewInWalk rows) id ids fresh)
             (AllPairs-list_head (λ a b. a ≢ b) id ids distinct))
-            (parser_names_stay_new id text rows (names_in_arguments arguments) unused
-            (parser_name_differs_from_known id (names_in_arguments arguments) (All-head IsNoParserOptionName id ids apart) known)),
+            (parser_names_stay_new id text rows (names_in arguments) unused
+            (parser_name_differs_from_known id (names_in arguments) (All-head IsNoParserOptionName id ids apart) known)),
       )
   arguments_fit_parser_names s knows position ids rows (option name value ∷ arguments) places apart distinct as_many known once fresh unused =
-      let here = All-head (λ n. Contains options n) name (names_in_arguments arguments) known in (
+      let here = All-head (λ n. Contains options n) name (names_in arguments) known in (
         knows name here,
-        All-head (IsNewInWalk rows) name (names_in_arguments arguments) unused,
+        All-head (IsNewInWalk rows) name (names_in arguments) unused,
         arguments_fit_parser_names s knows position ids (rows ++ match_row name value ∷ []) arguments places apart distinct as_many
-            (All-tail (λ n. Contains options n) name (names_in_arguments arguments) known)
-            (AllPairs-list_tail (λ a b. a ≢ b) name (names_in_arguments arguments) once)
+            (All-tail (λ n. Contains options n) name (names_in arguments) known)
+            (AllPairs-list_tail (λ a b. a ≢ b) name (names_in arguments) once)
             (parser_names_stay_new name value rows ids fresh (known_parser_name_differs name ids here apart))
-            (parser_names_stay_new name value rows (names_in_arguments arguments)
-            (All-tail (IsNewInWalk rows) name (names_in_arguments arguments) unused)
-            (AllPairs-list_head (λ a b. a ≢ b) name (names_in_arguments arguments) once)),
+            (parser_names_stay_new name value rows (names_in arguments)
+            (All-tail (IsNewInWalk rows) name (names_in arguments) unused)
+            (AllPairs-list_head (λ a b. a ≢ b) name (names_in arguments) once)),
       )

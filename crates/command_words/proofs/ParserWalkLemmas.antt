@@ -13,10 +13,10 @@ use Rattle.clap.specs.Walk.{Held, Row, Rule, Walk, arg_by_id, arg_by_index, arg_
 use Rattle.clap.specs.Walk.{is_pending, more_values, pushed, settled, used, walked, without, option as awaits}
 use Rattle.clap.specs.Words.{new_rule}
 use Rattle.clap.specs.declared.parser.matches.ValueSource.TheVariants.{CommandLine}
-use Rattle.command_words.specs.Arguments.{ArgumentText, Argument, positional, option, argument_hyphen}
-use Rattle.command_words.specs.Arguments.{argument_equals_sign, IsArgumentValue, IsArgumentName}
-use Rattle.command_words.specs.Arguments.{SpellAllArguments, long_argument}
-use Rattle.command_words.specs.Parser.{parser_rule_for}
+use Rattle.command_words.specs.Arguments.{ArgumentText, Argument, positional, option, hyphen}
+use Rattle.command_words.specs.Arguments.{equals_sign, IsValue, IsName}
+use Rattle.command_words.specs.Arguments.{SpellAll, long_argument}
+use Rattle.command_words.specs.Parsing.{rule_for}
 use Rattle.command_words.proofs.MatchRowLemmas.{match_row, match_rows_of, match_row_name_is_same}
 
 -- ---- rows
@@ -36,7 +36,7 @@ walk_without_missing_row id rows none = walk_changes_missing_row id (λ _. []) [
 
 -- an option
 abbrev pub parser_walk_option : ArgumentText → Rule
-parser_walk_option name = filled (parser_rule_for name)
+parser_walk_option name = filled (rule_for name)
 
 -- a positional at an index, counted from 1
 abbrev pub parser_walk_positional : ℕ → ArgumentText → Rule
@@ -66,42 +66,42 @@ parser_walk_passes_positional again place name value rows none = rw none refl
 -- ---- words
 
 -- a value is no flag and no `--`
-pub parser_walk_tells_value_apart : (text : ArgumentText) → IsArgumentValue text
-    → (long_of text ≡ None) × (short_of text ≡ None) × (bytes_eq text (argument_hyphen ∷ argument_hyphen ∷ []) ≡ false)
+pub parser_walk_tells_value_apart : (text : ArgumentText) → IsValue text
+    → (long_of text ≡ None) × (short_of text ≡ None) × (bytes_eq text (hyphen ∷ hyphen ∷ []) ≡ false)
 parser_walk_tells_value_apart [] is_value = absurd is_value
 parser_walk_tells_value_apart (byte ∷ text) is_value =
-    let apart : (byte == argument_hyphen) ≡ false = ne_eqb byte argument_hyphen is_value in
+    let apart : (byte == hyphen) ≡ false = ne_eqb byte hyphen is_value in
     (rw apart refl, rw apart refl, rw apart refl)
 
 -- a text that names an option in the words
 pub record IsNamedInWalk (name : ArgumentText) : Type 0 where
-  pub is_name : IsArgumentName name
+  pub is_name : IsName name
   pub named : name ≢ []
 
 parser_walk_cuts_lone_option : (name : ArgumentText) → IsNamedInWalk name → long_of (long_argument name) ≡ Some (name, None)
 parser_walk_cuts_lone_option [] named = absurd (named.named refl)
 parser_walk_cuts_lone_option (byte ∷ name) named =
     let lacks = λ (i : ℕ) (inside : i < length (byte ∷ name)). named.is_name i 0 inside in
-    let no_sign = list_any-Lacks argument_equals_sign (byte ∷ name) lacks in
-    let whole = before_first-Lacks argument_equals_sign (byte ∷ name) lacks in
+    let no_sign = list_any-Lacks equals_sign (byte ∷ name) lacks in
+    let whole = before_first-Lacks equals_sign (byte ∷ name) lacks in
     rw no_sign (ap (λ n. Some (n, None)) whole)
 
 parser_walk_cuts_joined_option : (name value : ArgumentText) → IsNamedInWalk name
-    → long_of (long_argument name ++ argument_equals_sign ∷ value) ≡ Some (name, Some value)
+    → long_of (long_argument name ++ equals_sign ∷ value) ≡ Some (name, Some value)
 parser_walk_cuts_joined_option [] value named = absurd (named.named refl)
 parser_walk_cuts_joined_option (byte ∷ name) value named =
     let lacks = λ (i : ℕ) (inside : i < length (byte ∷ name)). named.is_name i 0 inside in
-    let sign = list_any-at argument_equals_sign (byte ∷ name) value in
-    let front = before_first-at argument_equals_sign (byte ∷ name) value lacks in
-    let behind = after_first-at argument_equals_sign (byte ∷ name) value lacks in
+    let sign = list_any-at equals_sign (byte ∷ name) value in
+    let front = before_first-at equals_sign (byte ∷ name) value lacks in
+    let behind = after_first-at equals_sign (byte ∷ name) value lacks in
     rw sign (ap₂ (λ n v. Some (n, Some v)) front behind)
 
-walk_tells_dashes_from_lone : (name : ArgumentText) → IsNamedInWalk name → bytes_eq (long_argument name) (argument_hyphen ∷ argument_hyphen ∷ []) ≡ false
+walk_tells_dashes_from_lone : (name : ArgumentText) → IsNamedInWalk name → bytes_eq (long_argument name) (hyphen ∷ hyphen ∷ []) ≡ false
 walk_tells_dashes_from_lone [] named = absurd (named.named refl)
 walk_tells_dashes_from_lone (byte ∷ name) named = refl
 
 walk_tells_dashes_from_joined : (name value : ArgumentText) → IsNamedInWalk name
-    → bytes_eq (long_argument name ++ argument_equals_sign ∷ value) (argument_hyphen ∷ argument_hyphen ∷ []) ≡ false
+    → bytes_eq (long_argument name ++ equals_sign ∷ value) (hyphen ∷ hyphen ∷ []) ≡ false
 walk_tells_dashes_from_joined [] value named = absurd (named.named refl)
 walk_tells_dashes_from_joined (byte ∷ name) value named = refl
 
@@ -196,7 +196,7 @@ module _ (s : Shape) (held : Held) (rows : List Row) (holds : WalkHoldsRows s he
   walk_passes_settled_positional false settles is = is
 
   -- a positional
-  pub walk_reaches_positional : (name value : ArgumentText) → IsArgumentValue value
+  pub walk_reaches_positional : (name value : ArgumentText) → IsValue value
       → arg_by_index s.rules position ≡ Some (parser_walk_positional position name)
       → arg_by_id s.rules name ≡ Some (parser_walk_positional position name) → has_row name rows ≡ false
       → WalkReaches s (standing_walk held position) (value ∷ []) (min (position + 1) usize_max) (rows ++ match_row name value ∷ [])
@@ -220,7 +220,7 @@ module _ (s : Shape) (held : Held) (rows : List Row) (holds : WalkHoldsRows s he
     waiting = awaits name;
   }
 
-  module _ (name value : ArgumentText) (named : IsNamedInWalk name) (is_value : IsArgumentValue value)
+  module _ (name value : ArgumentText) (named : IsNamedInWalk name) (is_value : IsValue value)
       (met : arg_by_long s.rules name ≡ Some (parser_walk_option name))
       (known : arg_by_id s.rules name ≡ Some (parser_walk_option name)) (none : has_row name rows ≡ false) where
     walk_passes_name : turn_passes s [] (standing_walk held position) (long_argument name) ≡ true
@@ -252,12 +252,12 @@ module _ (s : Shape) (held : Held) (rows : List Row) (holds : WalkHoldsRows s he
     abbrev joined_in_walk : Held
     joined_in_walk = record { rows = rows ++ match_row name value ∷ []; pending = None; skip = held.skip }
 
-    walk_passes_joined_option : turn_passes s [] (standing_walk held position) (long_argument name ++ argument_equals_sign ∷ value) ≡ true
+    walk_passes_joined_option : turn_passes s [] (standing_walk held position) (long_argument name ++ equals_sign ∷ value) ≡ true
     walk_passes_joined_option =
         rw (walk_tells_dashes_from_joined name value named, parser_walk_cuts_joined_option name value named, met, holds.rows_are, holds.passes, none)
         refl
 
-    walk_takes_joined_option : walked s.rules [] (standing_walk held position) (long_argument name ++ argument_equals_sign ∷ value)
+    walk_takes_joined_option : walked s.rules [] (standing_walk held position) (long_argument name ++ equals_sign ∷ value)
         ≡ standing_walk joined_in_walk position
     unfolding walked
     walk_takes_joined_option =
@@ -266,10 +266,10 @@ module _ (s : Shape) (held : Held) (rows : List Row) (holds : WalkHoldsRows s he
         (parser_walk_uses_option name value rows none))
 
     -- an option and its value in one word
-    pub walk_reaches_joined_option : WalkReaches s (standing_walk held position) ((long_argument name ++ argument_equals_sign ∷ value) ∷ []) position
+    pub walk_reaches_joined_option : WalkReaches s (standing_walk held position) ((long_argument name ++ equals_sign ∷ value) ∷ []) position
         (rows ++ match_row name value ∷ [])
     walk_reaches_joined_option =
-        walk_reaches_by_word s (standing_walk held position) (long_argument name ++ argument_equals_sign ∷ value) position
+        walk_reaches_by_word s (standing_walk held position) (long_argument name ++ equals_sign ∷ value) position
         (rows ++ match_row name value ∷ []) joined_in_walk walk_passes_joined_option walk_takes_joined_option
         (record { passes = refl; rows_are = refl })
 
@@ -320,7 +320,7 @@ walk_reaches_more s start words front others middle position before more found p
 
 -- words that spell arguments bring the walk to the rows of the arguments
 pub walk_reaches_all_arguments : (s : Shape) (words : List ArgumentText) (arguments : List Argument) (ids : List ArgumentText) (position : ℕ)
-    (rows : List Row) (held : Held) → SpellAllArguments words arguments
+    (rows : List Row) (held : Held) → SpellAll words arguments
     → FitParserWalk s position ids rows arguments → WalkHoldsRows s held rows
     → WalkReaches s (standing_walk held position) words (parser_walk_final_position position arguments) (rows ++ match_rows_of ids arguments)
 unfolding walk_passes

@@ -7,7 +7,7 @@ use Rattle.std.specs.Str.{bytes_eq}
 use Rattle.std.proofs.lemmas.Bool.{false≢true}
 use Rattle.std.proofs.lemmas.List.Folds.{Any-from_list_any, list_any-from_Any, list_any_at}
 use Rattle.std.proofs.lemmas.Slice.Eq.{bytes_eq-Decides}
-use Rattle.command_words.specs.Arguments.{argument_equals_sign, IsArgumentName}
+use Rattle.command_words.specs.Arguments.{equals_sign, IsName}
 
 -- an element of a list that is not its first is among the others
 pub text_search_skips_first : {X : Type 0} (x y : X) (xs : List X) → (x ≡ y → ⊥) → Contains (x ∷ xs) y → Contains xs y
@@ -52,7 +52,7 @@ pub text_search_tells_apart : (text other : List ℕ) → bytes_eq text other �
 text_search_tells_apart text other fails same = false≢true (sym fails ∙ (bytes_eq-Decides text other).1 same)
 
 -- a text in which a search finds no `=` is a name
-pub text_search_shows_name : (name : List ℕ) → list_any (λ byte. byte == argument_equals_sign) name ≡ false → IsArgumentName name
+pub text_search_shows_name : (name : List ℕ) → list_any (λ byte. byte == equals_sign) name ≡ false → IsName name
 text_search_shows_name name none k d within same =
     false≢true (sym none
-    ∙ list_any_at (λ byte. byte == argument_equals_sign) name k d within (eq-eqb (get_or name k d) argument_equals_sign same))
+    ∙ list_any_at (λ byte. byte == equals_sign) name k d within (eq-eqb (get_or name k d) equals_sign same))

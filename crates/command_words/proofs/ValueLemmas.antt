@@ -6,12 +6,12 @@ use Rattle.std.proofs.lemmas.Bool.{cases_lt}
 use Rattle.frame_records.specs.declared.weigh.Weigh.{Weigh}
 use Rattle.deal_rules.specs.declared.deal_kind.DealKind.{DealKind}
 use Rattle.command_words.specs.Arguments.{ArgumentText}
-use Rattle.command_words.specs.Options.{OptionKind, number, choice, option_kind_of, option_place_of, IsOptionNumber}
-use Rattle.command_words.specs.Options.{IsAllowedByOption, IsGoodOptionText}
-use Rattle.command_words.specs.Options.{IsGoodOption, IsNoOptionNumber, IsNoOptionChoice, IsOutsideOptionLimits}
-use Rattle.command_words.specs.Settings.{SettingValues, SetsNumberSetting, SetsWeighSetting, SetsDealSetting}
-use Rattle.command_words.specs.Values.{IsFirstBadValue, HasValueFault}
-use Rattle.command_words.specs.GivenValues.{AreGoodGivenValuesBefore, IsBadGivenNumber, IsBadGivenChoice}
+use Rattle.command_words.specs.Options.{OptionKind, number, choice, kind_of, place_of, IsNumber}
+use Rattle.command_words.specs.Options.{IsAllowed, IsGoodText}
+use Rattle.command_words.specs.Options.{IsGood, IsNoNumber, IsNoChoice, IsOutside}
+use Rattle.command_words.specs.Settings.{SettingValues, SetsNumber, SetsWeigh, SetsDeal}
+use Rattle.command_words.specs.Values.{IsFirstBad, HasValueFault}
+use Rattle.command_words.specs.Given.{AreGoodBefore, IsBadNumber, IsBadChoice}
 use Rattle.command_words.specs.declared.opt.Opt.{Opt}
 use Rattle.command_words.specs.declared.words_kind.WordsKind.{WordsKind}
 use Rattle.command_words.specs.declared.words_kind.WordsKind.TheVariants.{BadNumber, OutOfLimits, BadChoice}
@@ -27,7 +27,7 @@ value_checked_at place =
     if place == 6 then opt.Deal else if place == 7 then opt.Block else if place == 8 then opt.Workers else
     if place == 9 then opt.Callers else opt.Rounds
 
-value_checked_at-own : (opt : Opt) → value_checked_at (option_place_of opt) ≡ opt
+value_checked_at-own : (opt : Opt) → value_checked_at (place_of opt) ≡ opt
 value_checked_at-own opt.Seed = refl
 value_checked_at-own opt.Frames = refl
 value_checked_at-own opt.Weigh = refl
@@ -41,45 +41,45 @@ value_checked_at-own opt.Callers = refl
 value_checked_at-own opt.Rounds = refl
 
 -- options with equal indexes are equal
-pub value_check_tells_option : (opt other : Opt) → option_place_of opt ≡ option_place_of other → opt ≡ other
+pub value_check_tells_option : (opt other : Opt) → place_of opt ≡ place_of other → opt ≡ other
 value_check_tells_option opt other same = sym (value_checked_at-own opt) ∙ ap value_checked_at same ∙ value_checked_at-own other
 
 -- there is no option before index 0
-pub values_before_first_are_good : (values : SettingValues) → AreGoodGivenValuesBefore values 0
+pub values_before_first_are_good : (values : SettingValues) → AreGoodBefore values 0
 values_before_first_are_good values other before = absurd (omega arith)
 
 -- if the values before an option and its own value are good, so are those before the next index
 pub values_before_next_are_good : (values : SettingValues) (opt : Opt) (told : Option ArgumentText) → values opt ≡ told
-    → AreGoodGivenValuesBefore values (option_place_of opt) → IsGoodOption opt told
-    → AreGoodGivenValuesBefore values (suc (option_place_of opt))
-values_before_next_are_good values opt told same before good other below = go (cases_lt (option_place_of other) (option_place_of opt))
+    → AreGoodBefore values (place_of opt) → IsGood opt told
+    → AreGoodBefore values (suc (place_of opt))
+values_before_next_are_good values opt told same before good other below = go (cases_lt (place_of other) (place_of opt))
   where
-    go : (option_place_of other < option_place_of opt) ⊎ (option_place_of opt ≤ option_place_of other) → IsGoodOption other (values other)
+    go : (place_of other < place_of opt) ⊎ (place_of opt ≤ place_of other) → IsGood other (values other)
     go (inl under) = before other under
     go (inr over) =
-        subst (λ o. IsGoodOption o (values o)) (value_check_tells_option opt other (omega arith))
-        (subst (λ t. IsGoodOption opt t) (sym same) good)
+        subst (λ o. IsGood o (values o)) (value_check_tells_option opt other (omega arith))
+        (subst (λ t. IsGood opt t) (sym same) good)
 
 -- a number that an option may have is good
-allowed_value_is_good : (kind : OptionKind) (text : ArgumentText) (value : ℕ) → IsOptionNumber text value → IsAllowedByOption kind value
-    → IsGoodOptionText kind text
+allowed_value_is_good : (kind : OptionKind) (text : ArgumentText) (value : ℕ) → IsNumber text value → IsAllowed kind value
+    → IsGoodText kind text
 allowed_value_is_good (number least greatest default) text value is_number allowed = (value, is_number, allowed)
 allowed_value_is_good (choice default others) text value is_number allowed = absurd allowed
 
 -- a number that is set is good
-pub numeric_value_is_good : (opt : Opt) (told : Option ArgumentText) (value : ℕ) → SetsNumberSetting opt told value
-    → IsGoodOption opt told
+pub numeric_value_is_good : (opt : Opt) (told : Option ArgumentText) (value : ℕ) → SetsNumber opt told value
+    → IsGood opt told
 numeric_value_is_good opt None value sets = tt
-numeric_value_is_good opt (Some text) value sets = allowed_value_is_good (option_kind_of opt) text value sets.0 sets.1
+numeric_value_is_good opt (Some text) value sets = allowed_value_is_good (kind_of opt) text value sets.0 sets.1
 
 -- a way to weigh that is set is good
-pub weigh_value_is_good : (told : Option ArgumentText) (weigh : Weigh) → SetsWeighSetting told weigh → IsGoodOption opt.Weigh told
+pub weigh_value_is_good : (told : Option ArgumentText) (weigh : Weigh) → SetsWeigh told weigh → IsGood opt.Weigh told
 weigh_value_is_good None weigh sets = tt
 weigh_value_is_good (Some text) weighing.Bytes sets = (0, omega arith, sym sets)
 weigh_value_is_good (Some text) weighing.Packets sets = (1, omega arith, sym sets)
 
 -- a way to deal that is set is good
-pub deal_value_is_good : (told : Option ArgumentText) (deal : DealKind) → SetsDealSetting told deal → IsGoodOption opt.Deal told
+pub deal_value_is_good : (told : Option ArgumentText) (deal : DealKind) → SetsDeal told deal → IsGood opt.Deal told
 deal_value_is_good None deal sets = tt
 deal_value_is_good (Some text) dealing.RoundRobin sets = (0, omega arith, sym sets)
 deal_value_is_good (Some text) dealing.BySource sets = (1, omega arith, sym sets)
@@ -87,23 +87,23 @@ deal_value_is_good (Some text) dealing.Free sets = (2, omega arith, sym sets)
 
 -- a bad number is the first fault, if all values before it are good
 pub bad_numeric_value_is_first : (values : SettingValues) (opt : Opt) (told : Option ArgumentText) (kind : WordsKind) → values opt ≡ told
-    → AreGoodGivenValuesBefore values (option_place_of opt)
-    → IsBadGivenNumber opt told kind → HasValueFault values kind
+    → AreGoodBefore values (place_of opt)
+    → IsBadNumber opt told kind → HasValueFault values kind
 bad_numeric_value_is_first values opt None kind same before bad = absurd bad
 bad_numeric_value_is_first values opt (Some text) (BadNumber at) same before bad =
-    subst (λ o. IsFirstBadValue IsNoOptionNumber values o) (sym bad.0) record
+    subst (λ o. IsFirstBad IsNoNumber values o) (sym bad.0) record
     { before = before; text = text; value = same; is_bad = bad.1 }
 bad_numeric_value_is_first values opt (Some text) (OutOfLimits at) same before bad =
-    subst (λ o. IsFirstBadValue IsOutsideOptionLimits values o) (sym bad.0) record
+    subst (λ o. IsFirstBad IsOutside values o) (sym bad.0) record
     { before = before; text = text; value = same; is_bad = bad.1 }
 bad_numeric_value_is_first values opt (Some text) _ same before bad = absurd bad
 
 -- a bad choice is the first fault, if all values before it are good
 pub bad_choice_value_is_first : (values : SettingValues) (opt : Opt) (told : Option ArgumentText) (kind : WordsKind) → values opt ≡ told
-    → AreGoodGivenValuesBefore values (option_place_of opt)
-    → IsBadGivenChoice opt told kind → HasValueFault values kind
+    → AreGoodBefore values (place_of opt)
+    → IsBadChoice opt told kind → HasValueFault values kind
 bad_choice_value_is_first values opt None kind same before bad = absurd bad
 bad_choice_value_is_first values opt (Some text) (BadChoice at) same before bad =
-    subst (λ o. IsFirstBadValue IsNoOptionChoice values o) (sym bad.0) record
+    subst (λ o. IsFirstBad IsNoChoice values o) (sym bad.0) record
     { before = before; text = text; value = same; is_bad = bad.1 }
 bad_choice_value_is_first values opt (Some text) _ same before bad = absurd bad

@@ -1,20 +1,20 @@
 pub mod Arguments
-pub mod Forms
+pub mod FormNames
 pub mod Options
 pub mod Settings
-pub mod AskedCommand
-pub mod WordsFault
+pub mod Command
+pub mod WordsRefusal
 pub mod Values
-pub mod NamedPaths
+pub mod PathTexts
 -- within the crate
 pub mod Scanning
-pub mod GivenValues
+pub mod Given
 pub mod Matches
-pub mod Parser
+pub mod Parsing
 -- the face: what contracts of other crates cite
-pub use Rattle.command_words.specs.Settings.{AreLimitedSettings, AreWideSettings}
-pub use Rattle.command_words.specs.AskedCommand.{AskForCommand, IsLimitedCommand}
-pub use Rattle.command_words.specs.WordsFault.{HasWordsFault}
-pub use Rattle.command_words.specs.NamedPaths.{NamesPaths}
+pub use Rattle.command_words.specs.Settings.{AreLimited, AreWide}
+pub use Rattle.command_words.specs.Command.{AskForCommand, IsLimitedCommand}
+pub use Rattle.command_words.specs.WordsRefusal.{HasWordsFault}
+pub use Rattle.command_words.specs.PathTexts.{NamesPaths}
 pub use Rattle.command_words.specs.Arguments.{argument_texts}
-pub use Rattle.command_words.specs.NamedPaths.{NamesPaths}
+pub use Rattle.command_words.specs.PathTexts.{NamesPaths}

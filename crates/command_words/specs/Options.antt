@@ -14,36 +14,36 @@ pub data OptionKind : Type 0 where
   choice : (default : ArgumentText) (others : List ArgumentText) → OptionKind
 
 -- the greatest seed, which may be any number of 64 bits
-abbrev pub seed_option_limit : ℕ
-seed_option_limit = 2 ^ 64 - 1
+abbrev pub seed_limit : ℕ
+seed_limit = 2 ^ 64 - 1
 
 -- the most frames that are made
-abbrev pub frames_option_limit : ℕ
-frames_option_limit = 1000000
+abbrev pub frames_limit : ℕ
+frames_limit = 1000000
 
 -- the greatest capacity of tables that the command line takes, which is that of the tables themselves
-abbrev pub capacity_option_limit : ℕ
-capacity_option_limit = 4096
+abbrev pub capacity_limit : ℕ
+capacity_limit = 4096
 
 -- the greatest share, the whole, in parts per million
-abbrev pub phi_option_limit : ℕ
-phi_option_limit = 1000000
+abbrev pub phi_limit : ℕ
+phi_limit = 1000000
 
 -- the most records that one fold counts
-abbrev pub block_option_limit : ℕ
-block_option_limit = 65536
+abbrev pub block_limit : ℕ
+block_limit = 65536
 
 -- the most threads that fold records
-abbrev pub workers_option_limit : ℕ
-workers_option_limit = 16
+abbrev pub workers_limit : ℕ
+workers_limit = 16
 
 -- the most threads that report besides the calling one
-abbrev pub callers_option_limit : ℕ
-callers_option_limit = 8
+abbrev pub callers_limit : ℕ
+callers_limit = 8
 
 -- the most reports that each of them makes while records are folded
-abbrev pub rounds_option_limit : ℕ
-rounds_option_limit = 32
+abbrev pub rounds_limit : ℕ
+rounds_limit = 32
 
 -- what the command line says of an option or a positional: its name, its index in the order in which values are checked,
 -- and what its value may be, with the default
@@ -53,72 +53,72 @@ pub record OptionRow : Type 0 where
   pub kind : OptionKind
 
 -- the options and positionals, a row each: SEED and FRAMES are never missing where a command has them
-abbrev pub option_row_of : Opt → OptionRow
-option_row_of Seed = record { name = codes "SEED"; place = 0; kind = number 0 seed_option_limit 0 }
-option_row_of Frames = record { name = codes "FRAMES"; place = 1; kind = number 1 frames_option_limit 1 }
-option_row_of Weigh = record { name = codes "weigh"; place = 2; kind = choice (codes "bytes") (codes "packets" ∷ []) }
-option_row_of Shards = record { name = codes "shards"; place = 3; kind = number 1 shard_limit 4 }
-option_row_of Capacity = record { name = codes "capacity"; place = 4; kind = number 2 capacity_option_limit 512 }
-option_row_of Phi = record { name = codes "phi"; place = 5; kind = number 1 phi_option_limit 10000 }
-option_row_of Deal = record { name = codes "deal"; place = 6; kind = choice (codes "round") (codes "source" ∷ codes "free" ∷ []) }
-option_row_of Block = record { name = codes "block"; place = 7; kind = number 1 block_option_limit 1024 }
-option_row_of Workers = record { name = codes "workers"; place = 8; kind = number 1 workers_option_limit 4 }
-option_row_of Callers = record { name = codes "callers"; place = 9; kind = number 0 callers_option_limit 0 }
-option_row_of Rounds = record { name = codes "rounds"; place = 10; kind = number 0 rounds_option_limit 0 }
+abbrev pub row_of : Opt → OptionRow
+row_of Seed = record { name = codes "SEED"; place = 0; kind = number 0 seed_limit 0 }
+row_of Frames = record { name = codes "FRAMES"; place = 1; kind = number 1 frames_limit 1 }
+row_of Weigh = record { name = codes "weigh"; place = 2; kind = choice (codes "bytes") (codes "packets" ∷ []) }
+row_of Shards = record { name = codes "shards"; place = 3; kind = number 1 shard_limit 4 }
+row_of Capacity = record { name = codes "capacity"; place = 4; kind = number 2 capacity_limit 512 }
+row_of Phi = record { name = codes "phi"; place = 5; kind = number 1 phi_limit 10000 }
+row_of Deal = record { name = codes "deal"; place = 6; kind = choice (codes "round") (codes "source" ∷ codes "free" ∷ []) }
+row_of Block = record { name = codes "block"; place = 7; kind = number 1 block_limit 1024 }
+row_of Workers = record { name = codes "workers"; place = 8; kind = number 1 workers_limit 4 }
+row_of Callers = record { name = codes "callers"; place = 9; kind = number 0 callers_limit 0 }
+row_of Rounds = record { name = codes "rounds"; place = 10; kind = number 0 rounds_limit 0 }
 
 -- the name of an option or a positional
-abbrev pub option_name_of : Opt → ArgumentText
-option_name_of opt = (option_row_of opt).name
+abbrev pub name_of : Opt → ArgumentText
+name_of opt = (row_of opt).name
 
 -- the index of an option or a positional in the order in which values are checked
-abbrev pub option_place_of : Opt → ℕ
-option_place_of opt = (option_row_of opt).place
+abbrev pub place_of : Opt → ℕ
+place_of opt = (row_of opt).place
 
 -- what the value of an option or a positional may be, with the default
-abbrev pub option_kind_of : Opt → OptionKind
-option_kind_of opt = (option_row_of opt).kind
+abbrev pub kind_of : Opt → OptionKind
+kind_of opt = (row_of opt).kind
 
 -- the text is a number below 2^64 in decimal, without leading zeros
-pub record IsOptionNumber (text : ArgumentText) (value : ℕ) : Type 0 where
+pub record IsNumber (text : ArgumentText) (value : ℕ) : Type 0 where
   pub spelled : text ≡ decimal value
   pub bounded : value < 2 ^ 64
 
 -- the option takes numbers, and this number is within its limits
-abbrev pub IsAllowedByOption : OptionKind → ℕ → Type 0
-IsAllowedByOption (number least greatest default) value = (least ≤ value) × (value ≤ greatest)
-IsAllowedByOption (choice default others) value = ⊥
+abbrev pub IsAllowed : OptionKind → ℕ → Type 0
+IsAllowed (number least greatest default) value = (least ≤ value) × (value ≤ greatest)
+IsAllowed (choice default others) value = ⊥
 
 -- the option takes numbers, and has this one where it is missing
-abbrev pub IsDefaultOfOption : OptionKind → ℕ → Type 0
-IsDefaultOfOption (number least greatest default) value = value ≡ default
-IsDefaultOfOption (choice default others) value = ⊥
+abbrev pub IsDefault : OptionKind → ℕ → Type 0
+IsDefault (number least greatest default) value = value ≡ default
+IsDefault (choice default others) value = ⊥
 
 -- the option takes one of some choices, and has this one where it is missing
-abbrev pub IsDefaultChoiceOfOption : OptionKind → ArgumentText → Type 0
-IsDefaultChoiceOfOption (number least greatest default) word = ⊥
-IsDefaultChoiceOfOption (choice default others) word = word ≡ default
+abbrev pub IsDefaultChoice : OptionKind → ArgumentText → Type 0
+IsDefaultChoice (number least greatest default) word = ⊥
+IsDefaultChoice (choice default others) word = word ≡ default
 
 -- the text is a value that the option may have
-abbrev pub IsGoodOptionText : OptionKind → ArgumentText → Type 0
-IsGoodOptionText (number least greatest default) text = (value : ℕ) × IsOptionNumber text value × IsAllowedByOption (number least greatest default) value
-IsGoodOptionText (choice default others) text = Contains (default ∷ others) text
+abbrev pub IsGoodText : OptionKind → ArgumentText → Type 0
+IsGoodText (number least greatest default) text = (value : ℕ) × IsNumber text value × IsAllowed (number least greatest default) value
+IsGoodText (choice default others) text = Contains (default ∷ others) text
 
 -- the option has a value that it may have, or is missing
-abbrev pub IsGoodOption : Opt → Option ArgumentText → Type 0
-IsGoodOption opt None = ⊤
-IsGoodOption opt (Some text) = IsGoodOptionText (option_kind_of opt) text
+abbrev pub IsGood : Opt → Option ArgumentText → Type 0
+IsGood opt None = ⊤
+IsGood opt (Some text) = IsGoodText (kind_of opt) text
 
 -- the option takes numbers, and the text is not a number
-abbrev pub IsNoOptionNumber : OptionKind → ArgumentText → Type 0
-IsNoOptionNumber (number least greatest default) text = (value : ℕ) → IsOptionNumber text value → ⊥
-IsNoOptionNumber (choice default others) text = ⊥
+abbrev pub IsNoNumber : OptionKind → ArgumentText → Type 0
+IsNoNumber (number least greatest default) text = (value : ℕ) → IsNumber text value → ⊥
+IsNoNumber (choice default others) text = ⊥
 
 -- the option takes numbers, and the text is a number outside its limits
-abbrev pub IsOutsideOptionLimits : OptionKind → ArgumentText → Type 0
-IsOutsideOptionLimits (number least greatest default) text = (value : ℕ) × IsOptionNumber text value × ((value < least) ⊎ (greatest < value))
-IsOutsideOptionLimits (choice default others) text = ⊥
+abbrev pub IsOutside : OptionKind → ArgumentText → Type 0
+IsOutside (number least greatest default) text = (value : ℕ) × IsNumber text value × ((value < least) ⊎ (greatest < value))
+IsOutside (choice default others) text = ⊥
 
 -- the option takes one of some choices, and the text is none of them
-abbrev pub IsNoOptionChoice : OptionKind → ArgumentText → Type 0
-IsNoOptionChoice (number least greatest default) text = ⊥
-IsNoOptionChoice (choice default others) text = Contains (default ∷ others) text → ⊥
+abbrev pub IsNoChoice : OptionKind → ArgumentText → Type 0
+IsNoChoice (number least greatest default) text = ⊥
+IsNoChoice (choice default others) text = Contains (default ∷ others) text → ⊥

@@ -1,7 +1,7 @@
 //! The names of commands, and what each command takes.
 
 ghost use Rattle.std.specs.Prelude.{◌≡◌, ◌≢◌, IfSome, IfNone};
-ghost use Rattle.command_words.specs.Forms.{form_word_of, form_of};
+ghost use Rattle.command_words.specs.FormNames.{word_of, form_of};
 ghost use Rattle.command_words.specs.Scanning.{scanned_form};
 ghost use Rattle.command_words.specs.declared.command_word.CommandWord.{CommandWord};
 
@@ -46,8 +46,8 @@ static DEMO_OPTIONS: [&str; 6] = ["shards", "capacity", "phi", "deal", "block", 
 impl CommandWord {
     /// The command of this name, if there is one.
     pub fn of(word: &str) -> Option<CommandWord>
-        ensures some { IfSome result (λ command. word.now ≡ form_word_of command) }
-        ensures none { IfNone result ((command : CommandWord) → word.now ≢ form_word_of command) }
+        ensures some { IfSome result (λ command. word.now ≡ word_of command) }
+        ensures none { IfNone result ((command : CommandWord) → word.now ≢ word_of command) }
     {
         match word {
             "weigh" => Some(CommandWord::Weigh),
@@ -62,7 +62,7 @@ impl CommandWord {
 
     /// The name as it is written on the command line.
     pub fn word<'a>(self) -> &'a str
-        ensures { result.now ≡ form_word_of self }
+        ensures { result.now ≡ word_of self }
     {
         match self {
             CommandWord::Weigh => "weigh",

@@ -1,7 +1,7 @@
 //! The options and the positionals whose values are checked.
 
 ghost use Rattle.std.specs.Prelude.{◌≡◌};
-ghost use Rattle.command_words.specs.Options.{option_name_of};
+ghost use Rattle.command_words.specs.Options.{name_of};
 
 use std::fmt::{Display, Error, Formatter, Write};
 
@@ -35,7 +35,7 @@ pub enum Opt {
 impl Opt {
     /// The name of the option without its hyphens, or that of the positional.
     pub fn name(self) -> &'static str
-        ensures { result.now ≡ option_name_of self }
+        ensures { result.now ≡ name_of self }
     {
         match self {
             Opt::Seed => "SEED",

@@ -2,10 +2,10 @@
 
 ghost use Rattle.std.specs.Prelude.{◌≡◌, List, IfOk};
 ghost use Rattle.clap.specs.Words.{app_of};
-ghost use Rattle.command_words.specs.Arguments.{Argument, AreWellFormedArguments};
-ghost use Rattle.command_words.specs.Forms.{form_of, form_word_of};
+ghost use Rattle.command_words.specs.Arguments.{Argument, AreWellFormed};
+ghost use Rattle.command_words.specs.FormNames.{form_of, word_of};
 ghost use Rattle.command_words.specs.Matches.{AreMatchesOf};
-ghost use Rattle.command_words.specs.Parser.{parser_for, parser_with_options, parser_with_positionals};
+ghost use Rattle.command_words.specs.Parsing.{parser_for, with_options, with_positionals};
 ghost use Rattle.command_words.specs.Arguments.{argument_texts};
 
 use crate::command_word::CommandWord;
@@ -19,8 +19,8 @@ pub(crate) fn parse<'a>(
     command: CommandWord,
     behind: &'a [&'a str],
 ) -> Result<ArgMatches<'a>, AllocError>
-    requires { (arguments : List Argument) × AreWellFormedArguments (form_of command) (argument_texts behind.now) arguments }
-    ensures { IfOk result (λ matches. (arguments : List Argument) → AreWellFormedArguments (form_of command) (argument_texts behind.entry.now) arguments
+    requires { (arguments : List Argument) × AreWellFormed (form_of command) (argument_texts behind.now) arguments }
+    ensures { IfOk result (λ matches. (arguments : List Argument) → AreWellFormed (form_of command) (argument_texts behind.entry.now) arguments
         → AreMatchesOf (form_of command) arguments matches) }
 {
     match parser_of(alloc, command)?.try_get_matches_from(behind) {
@@ -32,7 +32,7 @@ pub(crate) fn parse<'a>(
 
 // The parser of a command: it knows the command's positionals and options, and nothing else, not even `--help`.
 fn parser_of<'a>(alloc: Global, command: CommandWord) -> Result<Command<'a>, AllocError>
-    ensures { IfOk result (λ parser. app_of parser ≡ parser_for (form_word_of command) (form_of command)) }
+    ensures { IfOk result (λ parser. app_of parser ≡ parser_for (word_of command) (form_of command)) }
 {
     let parser = Command::new(alloc, command.word())
         .no_binary_name(true)
@@ -48,7 +48,7 @@ fn take_positionals<'a>(
     mut parser: Command<'a>,
     names: &'a [&'a str],
 ) -> Result<Command<'a>, AllocError>
-    ensures { IfOk result (λ after. app_of after ≡ parser_with_positionals (app_of parser.entry) (argument_texts names.entry.now)) }
+    ensures { IfOk result (λ after. app_of after ≡ with_positionals (app_of parser.entry) (argument_texts names.entry.now)) }
 {
     for name in names {
         parser = parser.arg(Arg::new(alloc, name))?;
@@ -62,7 +62,7 @@ fn take_options<'a>(
     mut parser: Command<'a>,
     names: &'a [&'a str],
 ) -> Result<Command<'a>, AllocError>
-    ensures { IfOk result (λ after. app_of after ≡ parser_with_options (app_of parser.entry) (argument_texts names.entry.now)) }
+    ensures { IfOk result (λ after. app_of after ≡ with_options (app_of parser.entry) (argument_texts names.entry.now)) }
 {
     for name in names {
         parser = parser.arg(Arg::new(alloc, name).long(name))?;

@@ -2,11 +2,11 @@
 
 ghost use Rattle.std.specs.Prelude.{◌≡◌, ◌⊎◌, IfOk, IsOk, Err, Contains, unwrap_or, []};
 ghost use Rattle.clap.specs.Words.{found_of, first_value};
-ghost use Rattle.command_words.specs.Forms.{form_of};
-ghost use Rattle.command_words.specs.NamedPaths.{NamesPaths};
+ghost use Rattle.command_words.specs.FormNames.{form_of};
+ghost use Rattle.command_words.specs.PathTexts.{NamesPaths};
 ghost use Rattle.command_words.specs.Arguments.{argument_texts};
-ghost use Rattle.command_words.specs.AskedCommand.{AskForCommand};
-ghost use Rattle.command_words.specs.WordsFault.{HasWordsFault};
+ghost use Rattle.command_words.specs.Command.{AskForCommand};
+ghost use Rattle.command_words.specs.WordsRefusal.{HasWordsFault};
 ghost use Rattle.command_words.specs.declared.command.Command.{Command};
 ghost use Rattle.command_words.specs.declared.words_kind.WordsKind.{WordsKind};
 ghost use Rattle.command_words.specs.declared.words_kind.WordsRefusal.TheVariants.{Bad, OutOfMemory};

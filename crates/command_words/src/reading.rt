@@ -2,11 +2,11 @@
 
 ghost use Rattle.std.specs.Prelude.{◌≡◌, ◌⊎◌, List, Ok, Err, IfOk, IfErr};
 ghost use Rattle.command_words.specs.Arguments.{ArgumentText};
-ghost use Rattle.command_words.specs.Matches.{AreMatchesOfWords};
-ghost use Rattle.command_words.specs.Settings.{AreWideSettings};
+ghost use Rattle.command_words.specs.Matches.{MatchWords};
+ghost use Rattle.command_words.specs.Settings.{AreWide};
 ghost use Rattle.command_words.specs.Arguments.{argument_texts};
-ghost use Rattle.command_words.specs.AskedCommand.{AskForCommand, IsLimitedCommand};
-ghost use Rattle.command_words.specs.WordsFault.{HasWordsFault};
+ghost use Rattle.command_words.specs.Command.{AskForCommand, IsLimitedCommand};
+ghost use Rattle.command_words.specs.WordsRefusal.{HasWordsFault};
 ghost use Rattle.command_words.specs.declared.command.Command.{Command};
 ghost use Rattle.command_words.specs.declared.command.Command.TheVariants.{Demo as DemoOf};
 ghost use Rattle.command_words.specs.declared.command_word.CommandWord.{CommandWord};
@@ -65,7 +65,7 @@ pub(crate) fn read_line<'a>(
     words: &'a [&'a str],
 ) -> Result<CommandLine<'a>, WordsRefusal>
     ensures ok { IfOk result (λ line. AskForCommand (argument_texts words.entry.now) line.command) }
-    ensures told { IfOk result (λ line. AreMatchesOfWords (argument_texts words.entry.now) line.word line.matches) }
+    ensures told { IfOk result (λ line. MatchWords (argument_texts words.entry.now) line.word line.matches) }
     ensures bad { (kind : WordsKind) → result ≡ Err (Bad kind) → HasWordsFault (argument_texts words.entry.now) kind }
 {
     let Some((first, behind)) = words.split_first() else {
@@ -87,9 +87,9 @@ pub(crate) fn read_line<'a>(
 
 // The command asked for by arguments that begin with the name of this command.
 fn command_of(word: CommandWord, matches: &ArgMatches<'_>) -> Result<Command, WordsKind>
-    requires { (words : List ArgumentText) × AreMatchesOfWords words word matches.now }
-    ensures ok { (words : List ArgumentText) → AreMatchesOfWords words word matches.now → IfOk result (AskForCommand words) }
-    ensures err { (words : List ArgumentText) → AreMatchesOfWords words word matches.now → IfErr result (HasWordsFault words) }
+    requires { (words : List ArgumentText) × MatchWords words word matches.now }
+    ensures ok { (words : List ArgumentText) → MatchWords words word matches.now → IfOk result (AskForCommand words) }
+    ensures err { (words : List ArgumentText) → MatchWords words word matches.now → IfErr result (HasWordsFault words) }
 {
     match word {
         CommandWord::Weigh => weigh_command(matches),
@@ -103,9 +103,9 @@ fn command_of(word: CommandWord, matches: &ArgMatches<'_>) -> Result<Command, Wo
 
 // The command asked for by arguments that begin with `weigh`.
 fn weigh_command(matches: &ArgMatches<'_>) -> Result<Command, WordsKind>
-    requires { (words : List ArgumentText) × AreMatchesOfWords words Weigh matches.now }
-    ensures ok { (words : List ArgumentText) → AreMatchesOfWords words Weigh matches.now → IfOk result (AskForCommand words) }
-    ensures err { (words : List ArgumentText) → AreMatchesOfWords words Weigh matches.now → IfErr result (HasWordsFault words) }
+    requires { (words : List ArgumentText) × MatchWords words Weigh matches.now }
+    ensures ok { (words : List ArgumentText) → MatchWords words Weigh matches.now → IfOk result (AskForCommand words) }
+    ensures err { (words : List ArgumentText) → MatchWords words Weigh matches.now → IfErr result (HasWordsFault words) }
 {
     let source = matches.get_str("SRC").unwrap();
     let dest = matches.get_str("DST").unwrap();
@@ -119,32 +119,32 @@ fn weigh_command(matches: &ArgMatches<'_>) -> Result<Command, WordsKind>
 
 // The command asked for by arguments that begin with `report`.
 fn report_command(matches: &ArgMatches<'_>) -> Result<Command, WordsKind>
-    ensures ok { (words : List ArgumentText) → AreMatchesOfWords words Report matches.now → IfOk result (AskForCommand words) }
-    ensures err { (words : List ArgumentText) → AreMatchesOfWords words Report matches.now → IfErr result (HasWordsFault words) }
+    ensures ok { (words : List ArgumentText) → MatchWords words Report matches.now → IfOk result (AskForCommand words) }
+    ensures err { (words : List ArgumentText) → MatchWords words Report matches.now → IfErr result (HasWordsFault words) }
 {
     Ok(Command::Report(bounded(settings_of(matches)?)?))
 }
 
 // The command asked for by arguments that begin with `format`. Its tables may be too small for the default share.
 fn format_command(matches: &ArgMatches<'_>) -> Result<Command, WordsKind>
-    ensures ok { (words : List ArgumentText) → AreMatchesOfWords words Format matches.now → IfOk result (AskForCommand words) }
-    ensures err { (words : List ArgumentText) → AreMatchesOfWords words Format matches.now → IfErr result (HasWordsFault words) }
+    ensures ok { (words : List ArgumentText) → MatchWords words Format matches.now → IfOk result (AskForCommand words) }
+    ensures err { (words : List ArgumentText) → MatchWords words Format matches.now → IfErr result (HasWordsFault words) }
 {
     Ok(Command::Format(settings_of(matches)?))
 }
 
 // The command asked for by arguments that begin with `audit`.
 fn audit_command(matches: &ArgMatches<'_>) -> Result<Command, WordsKind>
-    ensures ok { (words : List ArgumentText) → AreMatchesOfWords words Audit matches.now → IfOk result (AskForCommand words) }
-    ensures err { (words : List ArgumentText) → AreMatchesOfWords words Audit matches.now → IfErr result (HasWordsFault words) }
+    ensures ok { (words : List ArgumentText) → MatchWords words Audit matches.now → IfOk result (AskForCommand words) }
+    ensures err { (words : List ArgumentText) → MatchWords words Audit matches.now → IfErr result (HasWordsFault words) }
 {
     Ok(Command::Audit(bounded(settings_of(matches)?)?))
 }
 
 // The command asked for by arguments that begin with `make`.
 fn make_command(matches: &ArgMatches<'_>) -> Result<Command, WordsKind>
-    ensures ok { (words : List ArgumentText) → AreMatchesOfWords words Make matches.now → IfOk result (AskForCommand words) }
-    ensures err { (words : List ArgumentText) → AreMatchesOfWords words Make matches.now → IfErr result (HasWordsFault words) }
+    ensures ok { (words : List ArgumentText) → MatchWords words Make matches.now → IfOk result (AskForCommand words) }
+    ensures err { (words : List ArgumentText) → MatchWords words Make matches.now → IfErr result (HasWordsFault words) }
 {
     let given = given_of(matches)?;
     Ok(Command::Make {
@@ -155,8 +155,8 @@ fn make_command(matches: &ArgMatches<'_>) -> Result<Command, WordsKind>
 
 // The command asked for by arguments that begin with `demo`.
 fn demo_command(matches: &ArgMatches<'_>) -> Result<Command, WordsKind>
-    ensures ok { (words : List ArgumentText) → AreMatchesOfWords words Demo matches.now → IfOk result (AskForCommand words) }
-    ensures err { (words : List ArgumentText) → AreMatchesOfWords words Demo matches.now → IfErr result (HasWordsFault words) }
+    ensures ok { (words : List ArgumentText) → MatchWords words Demo matches.now → IfOk result (AskForCommand words) }
+    ensures err { (words : List ArgumentText) → MatchWords words Demo matches.now → IfErr result (HasWordsFault words) }
 {
     let given = given_of(matches)?;
     demo_of(given)
@@ -164,8 +164,8 @@ fn demo_command(matches: &ArgMatches<'_>) -> Result<Command, WordsKind>
 
 // The demo of what values give, if its tables are large enough for its share.
 fn demo_of(given: Given) -> Result<Command, WordsKind>
-    ensures ok { IfOk result (λ command. (command ≡ DemoOf given.seed given.frames given.settings) × AreWideSettings given.settings) }
-    ensures err { IfErr result (λ kind. (kind ≡ Bound) × (AreWideSettings given.settings → ⊥)) }
+    ensures ok { IfOk result (λ command. (command ≡ DemoOf given.seed given.frames given.settings) × AreWide given.settings) }
+    ensures err { IfErr result (λ kind. (kind ≡ Bound) × (AreWide given.settings → ⊥)) }
 {
     Ok(Command::Demo {
         seed: given.seed,

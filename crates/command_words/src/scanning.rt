@@ -2,9 +2,9 @@
 
 ghost use Rattle.std.specs.Prelude.{◌≡◌, ◌↔◌, ◌<◌, ◌≤◌, List, drop, length, All, Contains, Some, IfSome, IfNone};
 ghost use Rattle.std.specs.Prelude.{IsTrue};
-ghost use Rattle.command_words.specs.Arguments.{Argument, AreWellFormedArguments, BeginWithArgument, IsArgumentValue};
-ghost use Rattle.command_words.specs.Arguments.{SpellAllArguments, ArgumentText, names_in_arguments};
-ghost use Rattle.command_words.specs.Scanning.{scanned_form, scanned_text_at, scanned_option_name, FitsScannedRest};
+ghost use Rattle.command_words.specs.Arguments.{Argument, AreWellFormed, BeginWith, IsValue};
+ghost use Rattle.command_words.specs.Arguments.{SpellAll, ArgumentText, names_in};
+ghost use Rattle.command_words.specs.Scanning.{scanned_form, text_at, scanned_name, FitsRest};
 ghost use Rattle.command_words.specs.Arguments.{argument_texts};
 
 use crate::form_names::FormNames;
@@ -12,15 +12,15 @@ use crate::form_names::FormNames;
 /// Whether words are well formed: they are the positionals of the form, each once, and options of it, each at most
 /// once and the required ones among them, in any order.
 pub(crate) fn are_well_formed(form: &FormNames<'_>, behind: &[&str]) -> bool
-    ensures { IsTrue result ↔ ((arguments : List Argument) × AreWellFormedArguments (scanned_form form.now) (argument_texts behind.now) arguments) }
+    ensures { IsTrue result ↔ ((arguments : List Argument) × AreWellFormed (scanned_form form.now) (argument_texts behind.now) arguments) }
 {
     fit(form, behind, form.positionals.len()) && are_present(form.required, behind)
 }
 
 // Whether options of all these names are present among the arguments that the words spell.
 fn are_present(names: &[&str], words: &[&str]) -> bool
-    ensures { (arguments : List Argument) → SpellAllArguments (argument_texts words.now) arguments
-        → IsTrue result ↔ All (λ name. Contains (names_in_arguments arguments) name) (argument_texts names.now) }
+    ensures { (arguments : List Argument) → SpellAll (argument_texts words.now) arguments
+        → IsTrue result ↔ All (λ name. Contains (names_in arguments) name) (argument_texts names.now) }
 {
     for name in names {
         if !stands(words, name) {
@@ -33,7 +33,7 @@ fn are_present(names: &[&str], words: &[&str]) -> bool
 // Whether the words spell exactly this many positionals, and options of the form, none of them twice. An
 // argument that doesn't fit ends the scan, so it calls itself at most once for each positional and each option.
 fn fit(form: &FormNames<'_>, words: &[&str], positionals: usize) -> bool
-    ensures { IsTrue result ↔ ((arguments : List Argument) × FitsScannedRest (scanned_form form.now) positionals (argument_texts words.now) arguments) }
+    ensures { IsTrue result ↔ ((arguments : List Argument) × FitsRest (scanned_form form.now) positionals (argument_texts words.now) arguments) }
 {
     let Some(front) = front_of(words) else {
         return words.is_empty() && positionals == 0;
@@ -53,8 +53,8 @@ fn fit(form: &FormNames<'_>, words: &[&str], positionals: usize) -> bool
 
 // Whether an option of this name is present among the arguments that the words spell.
 fn stands(words: &[&str], name: &str) -> bool
-    ensures { (arguments : List Argument) → SpellAllArguments (argument_texts words.now) arguments
-        → IsTrue result ↔ Contains (names_in_arguments arguments) name.now }
+    ensures { (arguments : List Argument) → SpellAll (argument_texts words.now) arguments
+        → IsTrue result ↔ Contains (names_in arguments) name.now }
 {
     let mut from = 0;
     'fronts: while let Some(front) = front_of(&words[from..]) {
@@ -78,7 +78,7 @@ struct Front<'a> {
 impl Front<'_> {
     // Whether the argument is an option of this name.
     fn names(&self, name: &str) -> bool
-        ensures { IsTrue result ↔ (scanned_text_at self.now.option ≡ Some name.now) }
+        ensures { IsTrue result ↔ (text_at self.now.option ≡ Some name.now) }
     {
         match self.option {
             Some(option) => option == name,
@@ -91,9 +91,9 @@ impl Front<'_> {
 fn front_of<'a>(words: &[&'a str]) -> Option<Front<'a>>
     ensures fits { IfSome result (λ front. (0 < front.words) × (front.words ≤ length words.now)) }
     ensures some { IfSome result (λ front. (argument : Argument)
-        × BeginWithArgument (argument_texts words.now) argument (argument_texts (drop front.words words.now))
-        × (scanned_text_at front.option ≡ scanned_option_name argument)) }
-    ensures none { IfNone result ((argument : Argument) (others : List ArgumentText) → BeginWithArgument (argument_texts words.now) argument others → ⊥) }
+        × BeginWith (argument_texts words.now) argument (argument_texts (drop front.words words.now))
+        × (text_at front.option ≡ scanned_name argument)) }
+    ensures none { IfNone result ((argument : Argument) (others : List ArgumentText) → BeginWith (argument_texts words.now) argument others → ⊥) }
 {
     let (word, others) = words.split_first()?;
     let Some(text) = word.strip_prefix("--") else {
@@ -117,7 +117,7 @@ fn front_of<'a>(words: &[&'a str]) -> Option<Front<'a>>
 
 // Whether a text can be a positional or a value.
 fn is_value(text: &str) -> bool
-    ensures { IsTrue result ↔ IsArgumentValue text.now }
+    ensures { IsTrue result ↔ IsValue text.now }
 {
     !text.is_empty() && !text.starts_with('-')
 }

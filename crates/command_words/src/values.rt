@@ -1,14 +1,14 @@
 //! The settings that the values of options give.
 
 ghost use Rattle.std.specs.Prelude.{◌≡◌, ◌↔◌, IfOk, IfErr, IsTrue};
-ghost use Rattle.command_words.specs.Scanning.{scanned_text_at};
-ghost use Rattle.command_words.specs.Options.{option_kind_of, number, option_place_of};
-ghost use Rattle.command_words.specs.Settings.{SetsDealSetting, SetsNumberSetting, SetsSettings, SetsStoreSetting};
-ghost use Rattle.command_words.specs.Settings.{SetsWeighSetting, AreWideSettings};
-ghost use Rattle.command_words.specs.Matches.{store_in_matches, values_in_matches};
-ghost use Rattle.command_words.specs.Values.{AreGoodValues, HasValueFault};
-ghost use Rattle.command_words.specs.GivenValues.{AreGoodGivenValuesBefore, IsBadGivenChoice, IsBadGivenNumber};
-ghost use Rattle.command_words.specs.GivenValues.{SetsGiven, SetsGivenRunning};
+ghost use Rattle.command_words.specs.Scanning.{text_at};
+ghost use Rattle.command_words.specs.Options.{kind_of, number, place_of};
+ghost use Rattle.command_words.specs.Settings.{SetsDeal, SetsNumber, SetsAll, SetsStore};
+ghost use Rattle.command_words.specs.Settings.{SetsWeigh, AreWide};
+ghost use Rattle.command_words.specs.Matches.{store_in, values_in};
+ghost use Rattle.command_words.specs.Values.{AreGood, HasValueFault};
+ghost use Rattle.command_words.specs.Given.{AreGoodBefore, IsBadChoice, IsBadNumber};
+ghost use Rattle.command_words.specs.Given.{SetsGiven, SetsRunning};
 ghost use Rattle.command_words.specs.declared.words_kind.WordsKind.TheVariants.{BadChoice, Bound};
 ghost use Rattle.command_words.specs.declared.opt.Opt.TheVariants.{Seed, Weigh as ByWeigh, Deal, Block};
 
@@ -108,17 +108,17 @@ const LEAST_WIDTH: u64 = 2_000_000;
 
 /// The settings that the options give, or the fault of the first wrong value, be it an option's or a positional's.
 pub(crate) fn settings_of(matches: &ArgMatches<'_>) -> Result<Settings, WordsKind>
-    ensures ok { IfOk result (SetsSettings (values_in_matches matches.now) (store_in_matches matches.now)) }
-    ensures good { IfOk result (λ _. AreGoodValues (values_in_matches matches.now)) }
-    ensures err { IfErr result (HasValueFault (values_in_matches matches.now)) }
+    ensures ok { IfOk result (SetsAll (values_in matches.now) (store_in matches.now)) }
+    ensures good { IfOk result (λ _. AreGood (values_in matches.now)) }
+    ensures err { IfErr result (HasValueFault (values_in matches.now)) }
 {
     Ok(given_of(matches)?.settings)
 }
 
 /// What options and positionals give, or the fault of the first wrong value.
 pub(crate) fn given_of(matches: &ArgMatches<'_>) -> Result<Given, WordsKind>
-    ensures ok { IfOk result (SetsGiven (values_in_matches matches.now) (store_in_matches matches.now)) }
-    ensures err { IfErr result (HasValueFault (values_in_matches matches.now)) }
+    ensures ok { IfOk result (SetsGiven (values_in matches.now) (store_in matches.now)) }
+    ensures err { IfErr result (HasValueFault (values_in matches.now)) }
 {
     let seed = seed_of(text_of(matches, Opt::Seed))?;
     let frames = FRAMES.read(text_of(matches, Opt::Frames))?;
@@ -132,9 +132,9 @@ pub(crate) fn given_of(matches: &ArgMatches<'_>) -> Result<Given, WordsKind>
 
 // The settings that the options give, or the fault of the first wrong value. The values before them are good.
 fn options_of(matches: &ArgMatches<'_>) -> Result<Settings, WordsKind>
-    requires { AreGoodGivenValuesBefore (values_in_matches matches.now) (option_place_of ByWeigh) }
-    ensures ok { IfOk result (SetsSettings (values_in_matches matches.now) (store_in_matches matches.now)) }
-    ensures err { IfErr result (HasValueFault (values_in_matches matches.now)) }
+    requires { AreGoodBefore (values_in matches.now) (place_of ByWeigh) }
+    ensures ok { IfOk result (SetsAll (values_in matches.now) (store_in matches.now)) }
+    ensures err { IfErr result (HasValueFault (values_in matches.now)) }
 {
     let weigh = weigh_of(text_of(matches, Opt::Weigh))?;
     let shards = SHARDS.read(text_of(matches, Opt::Shards))?;
@@ -158,9 +158,9 @@ fn options_of(matches: &ArgMatches<'_>) -> Result<Settings, WordsKind>
 
 // What the options of threads give, or the fault of the first wrong value. The values of all options before them are good.
 fn running_of(matches: &ArgMatches<'_>) -> Result<Running, WordsKind>
-    requires { AreGoodGivenValuesBefore (values_in_matches matches.now) (option_place_of Block) }
-    ensures ok { IfOk result (SetsGivenRunning (values_in_matches matches.now)) }
-    ensures err { IfErr result (HasValueFault (values_in_matches matches.now)) }
+    requires { AreGoodBefore (values_in matches.now) (place_of Block) }
+    ensures ok { IfOk result (SetsRunning (values_in matches.now)) }
+    ensures err { IfErr result (HasValueFault (values_in matches.now)) }
 {
     let block = BLOCK.read(text_of(matches, Opt::Block))?;
     let workers = WORKERS.read(text_of(matches, Opt::Workers))?;
@@ -176,8 +176,8 @@ fn running_of(matches: &ArgMatches<'_>) -> Result<Running, WordsKind>
 
 /// The settings themselves, if their tables are large enough for their share.
 pub(crate) fn bounded(settings: Settings) -> Result<Settings, WordsKind>
-    ensures ok { IfOk result (λ same. (same ≡ settings) × AreWideSettings settings) }
-    ensures err { IfErr result (λ kind. (kind ≡ Bound) × (AreWideSettings settings → ⊥)) }
+    ensures ok { IfOk result (λ same. (same ≡ settings) × AreWide settings) }
+    ensures err { IfErr result (λ kind. (kind ≡ Bound) × (AreWide settings → ⊥)) }
 {
     if !is_wide(&settings) {
         return Err(WordsKind::Bound);
@@ -187,21 +187,21 @@ pub(crate) fn bounded(settings: Settings) -> Result<Settings, WordsKind>
 
 // Whether tables of this capacity are large enough for the share `phi`.
 fn is_wide(settings: &Settings) -> bool
-    ensures { IsTrue result ↔ AreWideSettings settings.now }
+    ensures { IsTrue result ↔ AreWide settings.now }
 {
     u64::from(settings.phi) * u64::from(settings.capacity) >= LEAST_WIDTH
 }
 
 // Whether the arguments name a store.
 fn names_store(matches: &ArgMatches<'_>) -> bool
-    ensures { SetsStoreSetting (store_in_matches matches.now) result }
+    ensures { SetsStore (store_in matches.now) result }
 {
     matches.get_str("store").is_some()
 }
 
 // The value of an option, if it is present.
 fn text_of<'a>(matches: &ArgMatches<'a>, opt: Opt) -> Option<&'a str>
-    ensures { scanned_text_at result ≡ values_in_matches matches.now opt }
+    ensures { text_at result ≡ values_in matches.now opt }
 {
     matches.get_str(opt.name())
 }
@@ -209,9 +209,9 @@ fn text_of<'a>(matches: &ArgMatches<'a>, opt: Opt) -> Option<&'a str>
 impl Numeric {
     // The number that the option sets: its value if it is present, else the default.
     fn read(&self, text: Option<&str>) -> Result<u32, WordsKind>
-        requires { option_kind_of self.now.opt ≡ number self.now.least self.now.greatest self.now.default }
-        ensures ok { IfOk result (SetsNumberSetting self.now.opt (scanned_text_at text.entry)) }
-        ensures err { IfErr result (IsBadGivenNumber self.now.opt (scanned_text_at text.entry)) }
+        requires { kind_of self.now.opt ≡ number self.now.least self.now.greatest self.now.default }
+        ensures ok { IfOk result (SetsNumber self.now.opt (text_at text.entry)) }
+        ensures err { IfErr result (IsBadNumber self.now.opt (text_at text.entry)) }
     {
         let Some(text) = text else {
             return Ok(self.default);
@@ -228,8 +228,8 @@ impl Numeric {
 
 // The seed, which may be any number. It is never missing where a command has it.
 fn seed_of(text: Option<&str>) -> Result<u64, WordsKind>
-    ensures ok { IfOk result (SetsNumberSetting Seed (scanned_text_at text.entry)) }
-    ensures err { IfErr result (IsBadGivenNumber Seed (scanned_text_at text.entry)) }
+    ensures ok { IfOk result (SetsNumber Seed (text_at text.entry)) }
+    ensures err { IfErr result (IsBadNumber Seed (text_at text.entry)) }
 {
     let Some(text) = text else {
         return Ok(0);
@@ -241,8 +241,8 @@ fn seed_of(text: Option<&str>) -> Result<u64, WordsKind>
 }
 
 fn weigh_of(text: Option<&str>) -> Result<Weigh, WordsKind>
-    ensures ok { IfOk result (SetsWeighSetting (scanned_text_at text.entry)) }
-    ensures err { IfErr result (λ kind. IsBadGivenChoice ByWeigh (scanned_text_at text.entry) kind) }
+    ensures ok { IfOk result (SetsWeigh (text_at text.entry)) }
+    ensures err { IfErr result (λ kind. IsBadChoice ByWeigh (text_at text.entry) kind) }
 {
     match text {
         None | Some("bytes") => Ok(Weigh::Bytes),
@@ -252,8 +252,8 @@ fn weigh_of(text: Option<&str>) -> Result<Weigh, WordsKind>
 }
 
 fn deal_of(text: Option<&str>) -> Result<DealKind, WordsKind>
-    ensures ok { IfOk result (SetsDealSetting (scanned_text_at text.entry)) }
-    ensures err { IfErr result (λ kind. IsBadGivenChoice Deal (scanned_text_at text.entry) kind) }
+    ensures ok { IfOk result (SetsDeal (text_at text.entry)) }
+    ensures err { IfErr result (λ kind. IsBadChoice Deal (text_at text.entry) kind) }
 {
     match text {
         None | Some("round") => Ok(DealKind::RoundRobin),

@@ -6,9 +6,9 @@ use Rattle.std.proofs.lemmas.Int.{ints}
 use Rattle.std.proofs.lemmas.List.Elements.{All-nil, All-cons, All-head, All-tail, All-weaker}
 use Rattle.std.proofs.Math.Nat.{add-mul, mul_comm}
 use Rattle.prefix_lattice.specs.{RecordValue, PrefixValue, prefix_weight, closest, kept_pairs, conditioned_weight}
-use Rattle.prefix_lattice.specs.{IntervalHoldsWeight, IsNarrowInterval}
-use Rattle.conditioned_bounds.specs.Bounds.{bound_of, prefixes_asked_for_bound, BoundsHoldWeights, BoundsAreNarrow}
-use Rattle.conditioned_bounds.specs.Bounds.{BoundsAreWeights}
+use Rattle.prefix_lattice.specs.{HoldsWeight, IsNarrow}
+use Rattle.conditioned_bounds.specs.Bounds.{bound_of, prefixes_asked, HoldWeights, AreNarrow}
+use Rattle.conditioned_bounds.specs.Bounds.{AreWeights}
 use Rattle.conditioned_bounds.proofs.JointWeightLemmas.{joint_weights}
 use Rattle.conditioned_bounds.proofs.IntervalSumLemmas.{interval_sum-mono, interval_sum-same, interval_sum-slack}
 use Rattle.conditioned_bounds.proofs.IntervalSumLemmas.{interval_sum_high-slack}
@@ -48,11 +48,11 @@ each_bound_part P p near meets all =
 
 -- what one interval says of the weight
 abbrev HoldsInBound : (PrefixValue → ℕ) → (PrefixValue → ℕ) → List RecordValue → PrefixValue → Type 0
-HoldsInBound low high rs q = IntervalHoldsWeight (low q) (high q) (prefix_weight q rs)
+HoldsInBound low high rs q = HoldsWeight (low q) (high q) (prefix_weight q rs)
 
 -- the bound is at least the conditioned weight
 pub bound_of-least : (low high : PrefixValue → ℕ) (p : PrefixValue) (lines : List PrefixValue) (rs : List RecordValue)
-    → BoundIsBalanced p lines rs → BoundsHoldWeights low high rs (prefixes_asked_for_bound p lines)
+    → BoundIsBalanced p lines rs → HoldWeights low high rs (prefixes_asked p lines)
     → pos (conditioned_weight p lines rs) ≤ℤ bound_of low high p lines
 bound_of-least low high p lines rs balance holds =
     let near = closest p lines in
@@ -69,7 +69,7 @@ bound_of-least low high p lines rs balance holds =
 
 -- the bound over exact intervals is the conditioned weight
 pub bound_of-exact : (low high : PrefixValue → ℕ) (p : PrefixValue) (lines : List PrefixValue) (rs : List RecordValue)
-    → BoundIsBalanced p lines rs → BoundsAreWeights low high rs (prefixes_asked_for_bound p lines)
+    → BoundIsBalanced p lines rs → AreWeights low high rs (prefixes_asked p lines)
     → bound_of low high p lines ≡ pos (conditioned_weight p lines rs)
 bound_of-exact low high p lines rs balance exact =
     let near = closest p lines in
@@ -87,7 +87,7 @@ bound_of-exact low high p lines rs balance exact =
 
 -- what one narrow interval says of the weight
 abbrev HoldsNarrowlyInBound : (PrefixValue → ℕ) → (PrefixValue → ℕ) → ℕ → ℕ → List RecordValue → PrefixValue → Type 0
-HoldsNarrowlyInBound low high times whole rs q = HoldsInBound low high rs q × IsNarrowInterval (low q) (high q) times whole
+HoldsNarrowlyInBound low high times whole rs q = HoldsInBound low high rs q × IsNarrow (low q) (high q) times whole
 
 bound_all-both : (P Q : PrefixValue → Type 0) (qs : List PrefixValue) → All P qs → All Q qs → All (λ q. P q × Q q) qs
 bound_all-both P Q [] ps qs = All-nil (λ q. P q × Q q)
@@ -98,8 +98,8 @@ bound_all-both P Q (x ∷ xs) ps qs =
 -- the bound over narrow intervals is not far above the conditioned weight
 pub bound_of-most : (low high : PrefixValue → ℕ) (p : PrefixValue) (lines : List PrefixValue)
     (rs : List RecordValue) (times whole : ℕ)
-    → BoundIsBalanced p lines rs → BoundsHoldWeights low high rs (prefixes_asked_for_bound p lines)
-    → BoundsAreNarrow low high times whole (prefixes_asked_for_bound p lines)
+    → BoundIsBalanced p lines rs → HoldWeights low high rs (prefixes_asked p lines)
+    → AreNarrow low high times whole (prefixes_asked p lines)
     → (pos times *ℤ bound_of low high p lines)
     ≤ℤ pos (times * conditioned_weight p lines rs
     + (1 + length (closest p lines) + length (kept_pairs (closest p lines))) * whole)
@@ -110,7 +110,7 @@ bound_of-most low high p lines rs times whole balance holds narrow =
     let narrowly = HoldsNarrowlyInBound low high times whole rs in
     let parts =
     each_bound_part narrowly p near meets
-    (bound_all-both (HoldsInBound low high rs) (λ q. IsNarrowInterval (low q) (high q) times whole) (prefixes_asked_for_bound p lines) holds narrow) in
+    (bound_all-both (HoldsInBound low high rs) (λ q. IsNarrow (low q) (high q) times whole) (prefixes_asked p lines) holds narrow) in
     let top : high p * times ≤ prefix_weight p rs * times + whole =
     interval_sum_high-slack (low p) (high p) (prefix_weight p rs) times whole parts.top.0.low parts.top.0.high parts.top.1 in
     let ups : sum_by high meets * times ≤ joint_weights meets rs * times + length meets * whole =

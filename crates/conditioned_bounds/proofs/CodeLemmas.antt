@@ -9,7 +9,7 @@ use Rattle.std.proofs.lemmas.Bool.{cases_lt}
 use Rattle.std.proofs.lemmas.List.Folds.{list_any-append, list_any_none}
 use Rattle.std.proofs.lemmas.List.Elements.{All-push, All-weaker, All-nil}
 use Rattle.prefix_lattice.specs.{node_index, node_at, node_level, PrefixValue, IsPrefix, node_of_prefix, prefix_code}
-use Rattle.prefix_lattice.specs.{under, same_in_lattice, strictly_under}
+use Rattle.prefix_lattice.specs.{under, same_as, strictly_under}
 use Rattle.prefix_lattice.proofs.NodePlaceLemmas.{node_at_own_place, node_place_is_small}
 use Rattle.conditioned_bounds.specs.Uppers.{upper_at, AreUpperCodes}
 use Rattle.conditioned_bounds.proofs.UpperLemmas.{UpperKeysAreApart, upper_key_is_small, upper_node_is_valid}
@@ -26,14 +26,14 @@ pub record CodeOrderHolds : Type 0 where
 
 -- a prefix that is strictly under another is under it
 pub code_above-under : (lower upper : PrefixValue) → strictly_under lower upper ≡ true → under lower upper ≡ true
-code_above-under lower upper is = (and_parts (under lower upper) (not (same_in_lattice lower upper)) is).0
+code_above-under lower upper is = (and_parts (under lower upper) (not (same_as lower upper)) is).0
 
 -- and a prefix that is under one of another node is strictly under it
 pub code_above-by_node : CodeOrderHolds → (lower upper : PrefixValue) → under lower upper ≡ true
     → node_of_prefix lower ≢ node_of_prefix upper → strictly_under lower upper ≡ true
 code_above-by_node order lower upper is differ =
-    and_from (under lower upper) (not (same_in_lattice lower upper)) is
-    (ap not (false_from_ne_true (same_in_lattice lower upper) (λ same.
+    and_from (under lower upper) (not (same_as lower upper)) is
+    (ap not (false_from_ne_true (same_as lower upper) (λ same.
     let both = and_parts (under lower upper) (under upper lower) same in
     differ (ap node_of_prefix (order.antisymmetric lower upper both.0 both.1)))))
 

@@ -10,11 +10,11 @@ use Rattle.std.proofs.lemmas.Bool.{false≢true}
 use Rattle.prefix_lattice.proofs.ListLemmas.{Contains-list_head}
 use Rattle.prefix_lattice.specs.{NodeValue, PrefixValue, AreLeadingBytes, IsPrefix, node_of_prefix, strictly_under}
 use Rattle.prefix_lattice.specs.{prefix_code}
-use Rattle.conditioned_bounds.specs.Uppers.{is_upper_node, shortened_to_upper, upper_at, AreUpperCodes}
+use Rattle.conditioned_bounds.specs.Uppers.{is_upper, shortened, upper_at, AreUpperCodes}
 use Rattle.conditioned_bounds.specs.Members.{member_limit, AreMembers}
-use Rattle.conditioned_bounds.specs.LineNumbers.{line_numbers, line_numbers_at, LineNumbersHaveRoom}
-use Rattle.conditioned_bounds.specs.LineNumbers.{HasRoomForLineNumber}
-use Rattle.conditioned_bounds.specs.LineIndex.{indexed_root_line, indexed_line, LinesAreIndexed}
+use Rattle.conditioned_bounds.specs.Numbers.{line_numbers, line_numbers_at, HaveRoom}
+use Rattle.conditioned_bounds.specs.Numbers.{HasRoomFor}
+use Rattle.conditioned_bounds.specs.LineIndex.{root_line, indexed_line, AreIndexed}
 
 -- 10.1.0.0/16 20.0.0.0/8
 abbrev net : PrefixValue
@@ -24,14 +24,14 @@ net = record { source = 10 ∷ 1 ∷ []; dest = 20 ∷ [] }
 abbrev node : ℕ → ℕ → NodeValue
 node sources dests = record { source_bytes = sources; dest_bytes = dests }
 
-pub a_node_of_fewer_source_bytes : is_upper_node (node 1 1) net ≡ true
+pub a_node_of_fewer_source_bytes : is_upper (node 1 1) net ≡ true
 a_node_of_fewer_source_bytes = refl
 
-pub a_node_of_more_destination_bytes : is_upper_node (node 1 2) net ≡ false
+pub a_node_of_more_destination_bytes : is_upper (node 1 2) net ≡ false
 a_node_of_more_destination_bytes = refl
 
 -- 10.0.0.0/8 0.0.0.0/0
-pub net_cut_down : shortened_to_upper net (node 1 0) ≡ record { source = 10 ∷ []; dest = [] }
+pub net_cut_down : shortened net (node 1 0) ≡ record { source = 10 ∷ []; dest = [] }
 net_cut_down = refl
 
 pub net_is_under_one_prefix_of_a_node : upper_at net (node 1 1) ≡ Some (record { source = 10 ∷ []; dest = 20 ∷ [] })
@@ -49,25 +49,25 @@ pub nets_of_one_address_have_two_codes : prefix_code (record { source = 10 ∷ [
     ≢ prefix_code (record { source = 10 ∷ 0 ∷ []; dest = [] })
 nets_of_one_address_have_two_codes same = omega (arith, same)
 
-no_upper : (source dest : List ℕ) → false ≡ strictly_under indexed_root_line (record { source = source; dest = dest })
+no_upper : (source dest : List ℕ) → false ≡ strictly_under root_line (record { source = source; dest = dest })
 no_upper [] [] = refl
 no_upper [] (byte ∷ dest) = refl
 no_upper (byte ∷ source) dest = refl
 
-root_is_prefix : IsPrefix indexed_root_line
+root_is_prefix : IsPrefix root_line
 root_is_prefix =
     let none : AreLeadingBytes [] = record { few = omega arith; bytes = λ place. omega arith } in
     record { source = none; dest = none }
 
 -- nothing is above the root
-pub the_root_has_no_codes_above : AreUpperCodes indexed_root_line []
+pub the_root_has_no_codes_above : AreUpperCodes root_line []
 the_root_has_no_codes_above = record {
   distinct = λ i j d before within. absurd (omega arith);
   members = λ upper is. no_upper upper.source upper.dest;
 }
 
-pub the_root_is_not_above_itself : ¬ AreUpperCodes indexed_root_line (prefix_code indexed_root_line ∷ [])
-the_root_is_not_above_itself above = false≢true (sym (above.members indexed_root_line root_is_prefix))
+pub the_root_is_not_above_itself : ¬ AreUpperCodes root_line (prefix_code root_line ∷ [])
+the_root_is_not_above_itself above = false≢true (sym (above.members root_line root_is_prefix))
 
 pub limit_of_an_index : member_limit ≡ 2 ^ 24
 limit_of_an_index = refl
@@ -83,8 +83,8 @@ no_members = record {
 }
 
 -- a member whose code is missing wouldn't be found
-pub a_member_has_its_code : ¬ AreMembers (indexed_root_line ∷ []) (record { keys = [] }) (node_of_prefix indexed_root_line ∷ [])
-a_member_has_its_code are = false≢true (are.coded indexed_root_line (Contains-list_head indexed_root_line []))
+pub a_member_has_its_code : ¬ AreMembers (root_line ∷ []) (record { keys = [] }) (node_of_prefix root_line ∷ [])
+a_member_has_its_code are = false≢true (are.coded root_line (Contains-list_head root_line []))
 
 -- a map of one code, with the numbers that are kept under it
 pub numbers_of_a_code : (kept : BTreeMap ℕ (Vec ℕ Global)) (numbers : Vec ℕ Global)
@@ -101,25 +101,25 @@ pub nothing_kept_is_no_number : line_numbers None ≡ []
 nothing_kept_is_no_number = refl
 
 pub another_code_has_no_room : (kept : BTreeMap ℕ (Vec ℕ Global)) (numbers : Vec ℕ Global)
-    → kept.entries ≡ (5, numbers) ∷ [] → ¬ HasRoomForLineNumber kept 6
+    → kept.entries ≡ (5, numbers) ∷ [] → ¬ HasRoomFor kept 6
 another_code_has_no_room kept numbers is room =
-    subst (λ (entries : List (ℕ × Vec ℕ Global)). LineNumbersHaveRoom (lookup (is_at (nat_cmp 6)) entries)) is room
+    subst (λ (entries : List (ℕ × Vec ℕ Global)). HaveRoom (lookup (is_at (nat_cmp 6)) entries)) is room
 
 pub no_room_where_the_capacity_is_used_up : (numbers : Vec ℕ Global) → vec_len numbers ≡ vec_capacity numbers
-    → ¬ LineNumbersHaveRoom (Some numbers)
+    → ¬ HaveRoom (Some numbers)
 no_room_where_the_capacity_is_used_up numbers full room = omega (arith, full, room)
 
-pub first_line : indexed_line (net ∷ indexed_root_line ∷ []) 0 ≡ net
+pub first_line : indexed_line (net ∷ root_line ∷ []) 0 ≡ net
 first_line = refl
 
-pub no_line_of_a_number_past_the_last : indexed_line (net ∷ []) 1 ≡ indexed_root_line
+pub no_line_of_a_number_past_the_last : indexed_line (net ∷ []) 1 ≡ root_line
 no_line_of_a_number_past_the_last = refl
 
 nothing_at : (kept : BTreeMap ℕ (Vec ℕ Global)) (code : ℕ) → kept.entries ≡ [] → line_numbers_at kept code ≡ []
 nothing_at kept code is =
     ap (λ (entries : List (ℕ × Vec ℕ Global)). line_numbers (lookup (is_at (nat_cmp code)) entries)) is
 
-pub no_lines_are_indexed_by_nothing : (kept : BTreeMap ℕ (Vec ℕ Global)) → kept.entries ≡ [] → LinesAreIndexed [] kept
+pub no_lines_are_indexed_by_nothing : (kept : BTreeMap ℕ (Vec ℕ Global)) → kept.entries ≡ [] → AreIndexed [] kept
 no_lines_are_indexed_by_nothing kept is = record {
   few = omega arith;
   distinct = λ i j d before within. absurd (omega arith);
@@ -130,8 +130,8 @@ no_lines_are_indexed_by_nothing kept is = record {
 
 -- the root would miss the net under it
 pub a_line_is_not_indexed_by_nothing : (kept : BTreeMap ℕ (Vec ℕ Global)) → kept.entries ≡ []
-    → ¬ LinesAreIndexed (net ∷ []) kept
+    → ¬ AreIndexed (net ∷ []) kept
 a_line_is_not_indexed_by_nothing kept is are =
     let missed : 0 ≡ 1 =
-    ap length (sym (ap (map (indexed_line (net ∷ []))) (nothing_at kept (prefix_code indexed_root_line) is)) ∙ are.under indexed_root_line root_is_prefix) in
+    ap length (sym (ap (map (indexed_line (net ∷ []))) (nothing_at kept (prefix_code root_line) is)) ∙ are.under root_line root_is_prefix) in
     omega (arith, missed)

@@ -13,14 +13,14 @@ use Rattle.std.proofs.lemmas.List.Elements.{filter_passes}
 use Rattle.std.proofs.lemmas.List.Sums.{length-filter, count_by-le-length}
 use Rattle.prefix_lattice.specs.{PrefixValue, IsPrefix, strictly_under, lines_under, closest, prefix_code}
 use Rattle.conditioned_bounds.specs.Uppers.{AreUpperCodes}
-use Rattle.conditioned_bounds.specs.LineNumbers.{line_numbers_at}
-use Rattle.conditioned_bounds.specs.LineIndex.{LinesAreIndexed, indexed_line, indexed_root_line}
+use Rattle.conditioned_bounds.specs.Numbers.{line_numbers_at}
+use Rattle.conditioned_bounds.specs.LineIndex.{AreIndexed, indexed_line, root_line}
 use Rattle.conditioned_bounds.specs.Members.{member_limit}
 use Rattle.conditioned_bounds.proofs.CodeLemmas.{AllPairs-push_code}
 
 -- lines are indexed by whatever keeps the same numbers
 pub index-same : (lines : List PrefixValue) (kept others : BTreeMap ℕ (Vec ℕ Global))
-    → ((code : ℕ) → line_numbers_at others code ≡ line_numbers_at kept code) → LinesAreIndexed lines kept → LinesAreIndexed lines others
+    → ((code : ℕ) → line_numbers_at others code ≡ line_numbers_at kept code) → AreIndexed lines kept → AreIndexed lines others
 index-same lines kept others same are = record {
   few = are.few;
   distinct = are.distinct;
@@ -35,18 +35,18 @@ index_lines-stay : (lines : List PrefixValue) (line : PrefixValue) (numbers : Li
 index_lines-stay lines line [] few = refl
 index_lines-stay lines line (number ∷ numbers) few =
     ap (λ l. l ∷ map (indexed_line (lines ++ line ∷ [])) numbers)
-    (get_or_append_left lines (line ∷ []) indexed_root_line number (All-head (λ n. n < length lines) number numbers few))
+    (get_or_append_left lines (line ∷ []) root_line number (All-head (λ n. n < length lines) number numbers few))
     ∙ ap (λ ls. indexed_line lines number ∷ ls)
     (index_lines-stay lines line numbers (All-tail (λ n. n < length lines) number numbers few))
 
 -- one more line, whose number is noted under the codes of all prefixes above it
 pub index-push : (lines : List PrefixValue) (line : PrefixValue) (kept noted : BTreeMap ℕ (Vec ℕ Global))
-    (codes : List ℕ) (number : ℕ) → LinesAreIndexed lines kept → ¬ Contains lines line → AreUpperCodes line codes
+    (codes : List ℕ) (number : ℕ) → AreIndexed lines kept → ¬ Contains lines line → AreUpperCodes line codes
     → number ≡ length lines → length lines + 1 < member_limit
     → ((code : ℕ) → line_numbers_at noted code
     ≡ (if list_any (λ other. eqb other code) codes
     then line_numbers_at kept code ++ number ∷ [] else line_numbers_at kept code))
-    → LinesAreIndexed (lines ++ line ∷ []) noted
+    → AreIndexed (lines ++ line ∷ []) noted
 index-push lines line kept noted codes number are new above is_number less notes = record {
   few = omega (arith, less, length_push lines line);
   distinct =
@@ -91,7 +91,7 @@ index-push lines line kept noted codes number are new above is_number less notes
         map-append (indexed_line (lines ++ line ∷ [])) (line_numbers_at kept (prefix_code prefix)) (number ∷ [])
         ∙ ap (λ ls. ls ++ indexed_line (lines ++ line ∷ []) number ∷ []) (stays prefix is)
         ∙ ap (λ l. lines_under prefix lines ++ l ∷ [])
-        (get_or_push lines line indexed_root_line number (sym is_number))
+        (get_or_push lines line root_line number (sym is_number))
         ∙ ap (λ b. lines_under prefix lines ++ cond b (line ∷ []) []) (sym strictly)
     by prefix is false strictly =
         stays prefix is ∙ sym (append-nil (lines_under prefix lines))
@@ -104,13 +104,13 @@ pub index_line-strictly_under : (lines : List PrefixValue) (numbers : List ℕ) 
 index_line-strictly_under lines numbers prefix at same within =
     let inside : at < length (lines_under prefix lines) =
     subst (λ (ls : List PrefixValue). at < length ls) same (omega (arith, within, length-map numbers (indexed_line lines))) in
-    let passes : strictly_under (get_or (lines_under prefix lines) at indexed_root_line) prefix ≡ true =
-    All-get_or (λ line. strictly_under line prefix ≡ true) (lines_under prefix lines) at indexed_root_line inside
+    let passes : strictly_under (get_or (lines_under prefix lines) at root_line) prefix ≡ true =
+    All-get_or (λ line. strictly_under line prefix ≡ true) (lines_under prefix lines) at root_line inside
     (filter_passes (λ line. strictly_under line prefix) lines) in
-    let here : get_or (map (indexed_line lines) numbers) at indexed_root_line ≡ indexed_line lines (get_or numbers at 0) =
-    get_or-map (indexed_line lines) numbers at 0 indexed_root_line within in
+    let here : get_or (map (indexed_line lines) numbers) at root_line ≡ indexed_line lines (get_or numbers at 0) =
+    get_or-map (indexed_line lines) numbers at 0 root_line within in
     subst (λ line. strictly_under line prefix ≡ true)
-    (ap (λ (ls : List PrefixValue). get_or ls at indexed_root_line) (sym same) ∙ here) passes
+    (ap (λ (ls : List PrefixValue). get_or ls at root_line) (sym same) ∙ here) passes
 
 -- one more number, whose line passes a test or fails it
 pub index_line-filter : (test : PrefixValue → Bool) (lines : List PrefixValue) (numbers : List ℕ) (at : ℕ)

@@ -9,7 +9,7 @@ use Rattle.std.proofs.lemmas.Option.{none-some}
 use Rattle.std.proofs.lemmas.List.{take_more}
 use Rattle.std.proofs.lemmas.List.Elements.{Contains-get_or, Contains-push_cases}
 use Rattle.std.proofs.lemmas.List.Folds.{list_any_none, list_any-from_Any}
-use Rattle.prefix_lattice.specs.{NodeValue, PrefixValue, node_of_prefix, under, same_in_lattice, strictly_under}
+use Rattle.prefix_lattice.specs.{NodeValue, PrefixValue, node_of_prefix, under, same_as, strictly_under}
 use Rattle.prefix_lattice.specs.{lines_under}
 use Rattle.conditioned_bounds.specs.Uppers.{upper_at}
 use Rattle.conditioned_bounds.proofs.UpperLemmas.{upper-only}
@@ -110,9 +110,9 @@ search_other-explains_none line prefix other upper found apart =
 
 -- whether a meet is under a member that is neither of two
 abbrev pub is_search_third : PrefixValue → PrefixValue → PrefixValue → PrefixValue → Bool
-is_search_third first second meet third = under meet third && not (same_in_lattice third first || same_in_lattice third second)
+is_search_third first second meet third = under meet third && not (same_as third first || same_as third second)
 
-search_same-reflexive : CodeOrderHolds → (prefix : PrefixValue) → same_in_lattice prefix prefix ≡ true
+search_same-reflexive : CodeOrderHolds → (prefix : PrefixValue) → same_as prefix prefix ≡ true
 search_same-reflexive order prefix = and_from _ _ (order.reflexive prefix) (order.reflexive prefix)
 
 -- the member of the first one's node that a meet is under is the first one
@@ -120,24 +120,24 @@ pub search_first-is_no_third : CodeOrderHolds → (first second meet third : Pre
     → node_of_prefix third ≡ node_of_prefix first → is_search_third first second meet third ≡ false
 search_first-is_no_third order first second meet third is node =
     false_from_ne_true (is_search_third first second meet third) (λ found.
-    let both = and_parts (under meet third) (not (same_in_lattice third first || same_in_lattice third second)) found in
+    let both = and_parts (under meet third) (not (same_as third first || same_as third second)) found in
     let one : third ≡ first =
     search_some-injective third first
     (sym (upper-only meet third both.0) ∙ ap (upper_at meet) node ∙ upper-only meet first is) in
-    let same : same_in_lattice third first ≡ true = ap (λ p. same_in_lattice p first) one ∙ search_same-reflexive order first in
-    false≢true (sym (ap (λ b. not (b || same_in_lattice third second)) same) ∙ both.1))
+    let same : same_as third first ≡ true = ap (λ p. same_as p first) one ∙ search_same-reflexive order first in
+    false≢true (sym (ap (λ b. not (b || same_as third second)) same) ∙ both.1))
 
 -- and so of the second
 pub search_second-is_no_third : CodeOrderHolds → (first second meet third : PrefixValue) → under meet second ≡ true
     → node_of_prefix third ≡ node_of_prefix second → is_search_third first second meet third ≡ false
 search_second-is_no_third order first second meet third is node =
     false_from_ne_true (is_search_third first second meet third) (λ found.
-    let both = and_parts (under meet third) (not (same_in_lattice third first || same_in_lattice third second)) found in
+    let both = and_parts (under meet third) (not (same_as third first || same_as third second)) found in
     let one : third ≡ second =
     search_some-injective third second
     (sym (upper-only meet third both.0) ∙ ap (upper_at meet) node ∙ upper-only meet second is) in
-    let same : same_in_lattice third second ≡ true = ap (λ p. same_in_lattice p second) one ∙ search_same-reflexive order second in
-    false≢true (sym (ap (λ b. not (same_in_lattice third first || b)) same ∙ ap not (or_true (same_in_lattice third first)))
+    let same : same_as third second ≡ true = ap (λ p. same_as p second) one ∙ search_same-reflexive order second in
+    false≢true (sym (ap (λ b. not (same_as third first || b)) same ∙ ap not (or_true (same_as third first)))
     ∙ both.1))
   where
     or_true : (b : Bool) → (b || true) ≡ true
@@ -151,7 +151,7 @@ search_no_upper-no_third first second meet third none =
     false_from_ne_true (is_search_third first second meet third) (λ found.
     none-some third (sym none
     ∙ upper-only meet third
-    (and_parts (under meet third) (not (same_in_lattice third first || same_in_lattice third second)) found).0))
+    (and_parts (under meet third) (not (same_as third first || same_as third second)) found).0))
 
 -- where it has one, no other member is
 pub search_other-is_no_third : (first second meet third upper : PrefixValue) → upper_at meet (node_of_prefix third) ≡ Some upper
@@ -160,18 +160,18 @@ search_other-is_no_third first second meet third upper is apart =
     false_from_ne_true (is_search_third first second meet third) (λ found.
     apart (search_some-injective upper third (sym is
     ∙ upper-only meet third
-    (and_parts (under meet third) (not (same_in_lattice third first || same_in_lattice third second)) found).0)))
+    (and_parts (under meet third) (not (same_as third first || same_as third second)) found).0)))
 
 -- a member of another node than both that the meet is under is a third
 pub is_search_third-by_node : CodeOrderHolds → (first second meet third : PrefixValue) → under meet third ≡ true
     → node_of_prefix third ≢ node_of_prefix first → node_of_prefix third ≢ node_of_prefix second → is_search_third first second meet third ≡ true
 is_search_third-by_node order first second meet third is not_first not_second =
-    and_from (under meet third) (not (same_in_lattice third first || same_in_lattice third second)) is
-    (ap not (or_from (same_in_lattice third first) (same_in_lattice third second) (differs first not_first)
+    and_from (under meet third) (not (same_as third first || same_as third second)) is
+    (ap not (or_from (same_as third first) (same_as third second) (differs first not_first)
     (differs second not_second)))
   where
-    differs : (other : PrefixValue) → node_of_prefix third ≢ node_of_prefix other → same_in_lattice third other ≡ false
+    differs : (other : PrefixValue) → node_of_prefix third ≢ node_of_prefix other → same_as third other ≡ false
     differs other apart =
-        false_from_ne_true (same_in_lattice third other) (λ same.
+        false_from_ne_true (same_as third other) (λ same.
         let both = and_parts (under third other) (under other third) same in
         apart (ap node_of_prefix (order.antisymmetric third other both.0 both.1)))

@@ -7,45 +7,45 @@ use Rattle.std.proofs.lemmas.Bool.{false≢true, eqb-true, eq-eqb, and_parts, an
 use Rattle.std.proofs.lemmas.Bool.Decides.{nat_tests}
 use Rattle.std.proofs.lemmas.Option.{none-some}
 use Rattle.prefix_lattice.specs.{NodeValue, IsNode, node_index, node_at, PrefixValue, IsPrefix, prefix_code}
-use Rattle.prefix_lattice.specs.{node_of_prefix, prefix_key, prefix_at, address_of, kept_bytes_begin_with}
+use Rattle.prefix_lattice.specs.{node_of_prefix, prefix_key, prefix_at, address_of, begins_with}
 use Rattle.prefix_lattice.specs.{AreLeadingBytes, under}
 use Rattle.prefix_lattice.proofs.NodePlaceLemmas.{node_at_own_place}
-use Rattle.conditioned_bounds.specs.Uppers.{is_upper_node, shortened_to_upper, upper_at}
+use Rattle.conditioned_bounds.specs.Uppers.{is_upper, shortened, upper_at}
 
 -- what a list begins with is its front
-upper_front-begun : (bytes front : List ℕ) → kept_bytes_begin_with bytes front ≡ true → take (length front) bytes ≡ front
+upper_front-begun : (bytes front : List ℕ) → begins_with bytes front ≡ true → take (length front) bytes ≡ front
 upper_front-begun bytes [] begins = refl
 upper_front-begun [] (b ∷ front) begins = absurd (false≢true begins)
 upper_front-begun (x ∷ bytes) (b ∷ front) begins =
-    let both : (eqb x b ≡ true) × (kept_bytes_begin_with bytes front ≡ true) =
-    and_parts (eqb x b) (kept_bytes_begin_with bytes front) begins in
+    let both : (eqb x b ≡ true) × (begins_with bytes front ≡ true) =
+    and_parts (eqb x b) (begins_with bytes front) begins in
     ap (λ d. d ∷ take (length front) bytes) (eqb-true x b both.0)
     ∙ ap (λ l. b ∷ l) (upper_front-begun bytes front both.1)
 
 -- and is no longer than it
-upper_front-no_longer : (bytes front : List ℕ) → kept_bytes_begin_with bytes front ≡ true → length front ≤ length bytes
+upper_front-no_longer : (bytes front : List ℕ) → begins_with bytes front ≡ true → length front ≤ length bytes
 upper_front-no_longer bytes [] begins = omega arith
 upper_front-no_longer [] (b ∷ front) begins = absurd (false≢true begins)
 upper_front-no_longer (x ∷ bytes) (b ∷ front) begins =
-    let shorter = upper_front-no_longer bytes front (and_parts (eqb x b) (kept_bytes_begin_with bytes front) begins).1 in
+    let shorter = upper_front-no_longer bytes front (and_parts (eqb x b) (begins_with bytes front) begins).1 in
     omega arith
 
 -- a list begins with each of its fronts
-kept_bytes_begin_with-upper_front : (bytes : List ℕ) (n : ℕ) → kept_bytes_begin_with bytes (take n bytes) ≡ true
-kept_bytes_begin_with-upper_front bytes zero = refl
-kept_bytes_begin_with-upper_front [] (suc n) = refl
-kept_bytes_begin_with-upper_front (x ∷ bytes) (suc n) =
-    and_from (eqb x x) (kept_bytes_begin_with bytes (take n bytes)) (eq-eqb x x refl) (kept_bytes_begin_with-upper_front bytes n)
+begins_with-upper_front : (bytes : List ℕ) (n : ℕ) → begins_with bytes (take n bytes) ≡ true
+begins_with-upper_front bytes zero = refl
+begins_with-upper_front [] (suc n) = refl
+begins_with-upper_front (x ∷ bytes) (suc n) =
+    and_from (eqb x x) (begins_with bytes (take n bytes)) (eq-eqb x x refl) (begins_with-upper_front bytes n)
 
 -- a list that begins with another has its fronts
-upper_front-taken : (bytes front : List ℕ) (n : ℕ) → kept_bytes_begin_with bytes front ≡ true → n ≤ length front
+upper_front-taken : (bytes front : List ℕ) (n : ℕ) → begins_with bytes front ≡ true → n ≤ length front
     → take n bytes ≡ take n front
 upper_front-taken bytes front zero begins few = refl
 upper_front-taken bytes [] (suc n) begins few = absurd (omega arith)
 upper_front-taken [] (b ∷ front) (suc n) begins few = absurd (false≢true begins)
 upper_front-taken (x ∷ bytes) (b ∷ front) (suc n) begins few =
-    let both : (eqb x b ≡ true) × (kept_bytes_begin_with bytes front ≡ true) =
-    and_parts (eqb x b) (kept_bytes_begin_with bytes front) begins in
+    let both : (eqb x b ≡ true) × (begins_with bytes front ≡ true) =
+    and_parts (eqb x b) (begins_with bytes front) begins in
     ap (λ d. d ∷ take n bytes) (eqb-true x b both.0)
     ∙ ap (λ l. b ∷ l) (upper_front-taken bytes front n both.1 (omega arith))
 
@@ -60,7 +60,7 @@ upper_address_bytes a = a / 256 / 256 / 256 % 256 ∷ a / 256 / 256 % 256 ∷ a 
 
 -- an address begins with the bytes that it is made of, and has 32 bits
 pub upper_address-own_bytes : (front : List ℕ) → AreLeadingBytes front
-    → (kept_bytes_begin_with (upper_address_bytes (address_of front)) front ≡ true) × (address_of front < 2 ^ 32)
+    → (begins_with (upper_address_bytes (address_of front)) front ≡ true) × (address_of front < 2 ^ 32)
 upper_address-own_bytes [] leading = (refl, omega arith)
 upper_address-own_bytes (a ∷ []) leading =
     let a_small : a < 256 = leading.bytes 0 in
@@ -110,7 +110,7 @@ upper_address-own_bytes (a ∷ b ∷ c ∷ d ∷ e ∷ rest) leading = absurd (o
 pub upper_of_addresses-shortened : (prefix : PrefixValue) (node : NodeValue) → IsPrefix prefix
     → node.source_bytes ≤ length prefix.source → node.dest_bytes ≤ length prefix.dest
     → prefix_at node (record { src = address_of prefix.source; dst = address_of prefix.dest; weight = 1 })
-    ≡ shortened_to_upper prefix node
+    ≡ shortened prefix node
 upper_of_addresses-shortened prefix node is sources dests =
     let make : List ℕ → List ℕ → PrefixValue = λ source dest. record { source = source; dest = dest } in
     ap (λ source. make source (take node.dest_bytes (upper_address_bytes (address_of prefix.dest))))
@@ -121,18 +121,18 @@ upper_of_addresses-shortened prefix node is sources dests =
     (upper_address-own_bytes prefix.dest is.dest).0 dests)
 
 -- a node that keeps no more than a prefix
-pub is_upper_node-upper : (node : NodeValue) (prefix : PrefixValue) → node.source_bytes ≤ length prefix.source
-    → node.dest_bytes ≤ length prefix.dest → is_upper_node node prefix ≡ true
-is_upper_node-upper node prefix sources dests =
+pub is_upper-upper : (node : NodeValue) (prefix : PrefixValue) → node.source_bytes ≤ length prefix.source
+    → node.dest_bytes ≤ length prefix.dest → is_upper node prefix ≡ true
+is_upper-upper node prefix sources dests =
     and_from (nat_le node.source_bytes (length prefix.source)) (nat_le node.dest_bytes (length prefix.dest))
     (le-true _ _ sources) (le-true _ _ dests)
   where
     le-true : (a b : ℕ) → a ≤ b → nat_le a b ≡ true
     le-true a b le = grind (arith, nat_tests)
 
-pub is_upper_node-upper_parts : (node : NodeValue) (prefix : PrefixValue) → is_upper_node node prefix ≡ true
+pub is_upper-upper_parts : (node : NodeValue) (prefix : PrefixValue) → is_upper node prefix ≡ true
     → (node.source_bytes ≤ length prefix.source) × (node.dest_bytes ≤ length prefix.dest)
-is_upper_node-upper_parts node prefix keeps =
+is_upper-upper_parts node prefix keeps =
     let both = and_parts (nat_le node.source_bytes (length prefix.source))
     (nat_le node.dest_bytes (length prefix.dest)) keeps in
     (true-le _ _ both.0, true-le _ _ both.1)
@@ -142,17 +142,17 @@ is_upper_node-upper_parts node prefix keeps =
 
 -- a prefix has an upper one at a node exactly where the node keeps no more
 pub upper-some : (prefix : PrefixValue) (node : NodeValue) → node.source_bytes ≤ length prefix.source
-    → node.dest_bytes ≤ length prefix.dest → upper_at prefix node ≡ Some (shortened_to_upper prefix node)
+    → node.dest_bytes ≤ length prefix.dest → upper_at prefix node ≡ Some (shortened prefix node)
 upper-some prefix node sources dests =
-    ap (λ b. cond b (Some (shortened_to_upper prefix node)) None) (is_upper_node-upper node prefix sources dests)
+    ap (λ b. cond b (Some (shortened prefix node)) None) (is_upper-upper node prefix sources dests)
 
 pub upper-none : (prefix : PrefixValue) (node : NodeValue)
     → (node.source_bytes ≤ length prefix.source → node.dest_bytes ≤ length prefix.dest → ⊥)
     → upper_at prefix node ≡ None
 upper-none prefix node more =
-    ap (λ b. cond b (Some (shortened_to_upper prefix node)) None)
-    (false_from_ne_true (is_upper_node node prefix) (λ keeps.
-    let parts = is_upper_node-upper_parts node prefix keeps in more parts.0 parts.1))
+    ap (λ b. cond b (Some (shortened prefix node)) None)
+    (false_from_ne_true (is_upper node prefix) (λ keeps.
+    let parts = is_upper-upper_parts node prefix keeps in more parts.0 parts.1))
 
 -- what it is
 pub record IsUpper (prefix upper : PrefixValue) (node : NodeValue) : Type 0 where
@@ -181,11 +181,11 @@ upper_front-leading front n leading = record {
 pub upper-is : (prefix upper : PrefixValue) (node : NodeValue) → IsPrefix prefix
     → upper_at prefix node ≡ Some upper → IsUpper prefix upper node
 upper-is prefix upper node is found =
-    by (is_upper_node node prefix) refl found
+    by (is_upper node prefix) refl found
   where
-    of : is_upper_node node prefix ≡ true → IsUpper prefix (shortened_to_upper prefix node) node
+    of : is_upper node prefix ≡ true → IsUpper prefix (shortened prefix node) node
     of keeps =
-        let parts = is_upper_node-upper_parts node prefix keeps in
+        let parts = is_upper-upper_parts node prefix keeps in
         let make : ℕ → ℕ → NodeValue = λ s d. record { source_bytes = s; dest_bytes = d } in
         record {
           is_prefix = record {
@@ -197,15 +197,15 @@ upper-is prefix upper node is found =
               (upper_front-length prefix.source node.source_bytes parts.0)
               ∙ ap (make node.source_bytes) (upper_front-length prefix.dest node.dest_bytes parts.1);
           is_under =
-              and_from (kept_bytes_begin_with prefix.source (take node.source_bytes prefix.source))
-              (kept_bytes_begin_with prefix.dest (take node.dest_bytes prefix.dest))
-              (kept_bytes_begin_with-upper_front prefix.source node.source_bytes) (kept_bytes_begin_with-upper_front prefix.dest node.dest_bytes);
+              and_from (begins_with prefix.source (take node.source_bytes prefix.source))
+              (begins_with prefix.dest (take node.dest_bytes prefix.dest))
+              (begins_with-upper_front prefix.source node.source_bytes) (begins_with-upper_front prefix.dest node.dest_bytes);
         }
 
     some-injective : (x y : PrefixValue) → ◌≡◌ {A = Option PrefixValue} (Some x) (Some y) → x ≡ y
     some-injective x y same = cc
 
-    by : (b : Bool) → is_upper_node node prefix ≡ b → cond b (Some (shortened_to_upper prefix node)) None ≡ Some upper
+    by : (b : Bool) → is_upper node prefix ≡ b → cond b (Some (shortened prefix node)) None ≡ Some upper
         → IsUpper prefix upper node
     by true keeps same = subst (λ u. IsUpper prefix u node) (some-injective _ _ same) (of keeps)
     by false _ same = absurd (none-some upper same)
@@ -214,7 +214,7 @@ upper-is prefix upper node is found =
 pub upper-only : (prefix upper : PrefixValue) → under prefix upper ≡ true
     → upper_at prefix (node_of_prefix upper) ≡ Some upper
 upper-only prefix upper is =
-    let both = and_parts (kept_bytes_begin_with prefix.source upper.source) (kept_bytes_begin_with prefix.dest upper.dest) is in
+    let both = and_parts (begins_with prefix.source upper.source) (begins_with prefix.dest upper.dest) is in
     let make : List ℕ → List ℕ → PrefixValue = λ source dest. record { source = source; dest = dest } in
     upper-some prefix (node_of_prefix upper) (upper_front-no_longer prefix.source upper.source both.0)
     (upper_front-no_longer prefix.dest upper.dest both.1)

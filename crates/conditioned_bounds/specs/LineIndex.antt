@@ -4,19 +4,19 @@ use Rattle.std.specs.BTreeMap.{BTreeMap}
 use Rattle.std.specs.declared.alloc.Global.{Global}
 use Rattle.prefix_lattice.specs.{PrefixValue, IsPrefix, lines_under, prefix_code}
 use Rattle.conditioned_bounds.specs.Members.{member_limit}
-use Rattle.conditioned_bounds.specs.LineNumbers.{line_numbers_at}
+use Rattle.conditioned_bounds.specs.Numbers.{line_numbers_at}
 
 -- the prefix that keeps no byte
-abbrev pub indexed_root_line : PrefixValue
-indexed_root_line = record { source = []; dest = [] }
+abbrev pub root_line : PrefixValue
+root_line = record { source = []; dest = [] }
 
 -- the line of a number
 abbrev pub indexed_line : List PrefixValue → ℕ → PrefixValue
-indexed_line lines number = slice_index_or lines number indexed_root_line
+indexed_line lines number = slice_index_or lines number root_line
 
 -- there are fewer than 2^24 lines, all distinct, each number that is kept is that of a line, and those kept under a
 -- prefix's code are the numbers of the lines that are strictly under it, in the order of the lines
-pub record LinesAreIndexed (lines : List PrefixValue) (kept : BTreeMap ℕ (Vec ℕ Global)) : Type 0 where
+pub record AreIndexed (lines : List PrefixValue) (kept : BTreeMap ℕ (Vec ℕ Global)) : Type 0 where
   pub few : length lines < member_limit
   pub distinct : AllPairs (λ line other. line ≢ other) lines
   pub numbers : (code : ℕ) → All (λ number. number < length lines) (line_numbers_at kept code)

@@ -7,20 +7,20 @@ use Rattle.prefix_lattice.specs.{NodeValue, node_index, PrefixValue, IsPrefix, n
 use Rattle.prefix_lattice.specs.{strictly_under}
 
 -- whether a node keeps no more bytes of either address than a prefix
-abbrev pub is_upper_node : NodeValue → PrefixValue → Bool
-is_upper_node node prefix =
+abbrev pub is_upper : NodeValue → PrefixValue → Bool
+is_upper node prefix =
     nat_le node.source_bytes (length prefix.source) && nat_le node.dest_bytes (length prefix.dest)
 
 -- a prefix cut down to a node: as many of its leading bytes as the node keeps
-abbrev pub shortened_to_upper : PrefixValue → NodeValue → PrefixValue
-shortened_to_upper prefix node = record {
+abbrev pub shortened : PrefixValue → NodeValue → PrefixValue
+shortened prefix node = record {
   source = take node.source_bytes prefix.source;
   dest = take node.dest_bytes prefix.dest;
 }
 
 -- the prefix of a node that a prefix is under, if the node keeps no more bytes than it
 abbrev pub upper_at : PrefixValue → NodeValue → Option PrefixValue
-upper_at prefix node = if is_upper_node node prefix then Some (shortened_to_upper prefix node) else None
+upper_at prefix node = if is_upper node prefix then Some (shortened prefix node) else None
 
 -- these are the codes of all prefixes that a prefix is strictly under, each once
 pub record AreUpperCodes (prefix : PrefixValue) (codes : List ℕ) : Type 0 where

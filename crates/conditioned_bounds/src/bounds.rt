@@ -2,8 +2,8 @@
 
 ghost use Rattle.std.specs.Prelude.{◌≡◌, ◌≢◌, ℕ, ◌+◌, ◌*◌, List, length, AllPairs, IfOk, sum_by, pos, ◌-ℤ◌, ◌*ℤ◌, ◌≤ℤ◌};
 ghost use Rattle.prefix_lattice.specs.{RecordValue, closest, kept_pairs, conditioned_weight};
-ghost use Rattle.conditioned_bounds.specs.Bounds.{bound_of, prefixes_asked_for_bound, BoundsHoldWeights};
-ghost use Rattle.conditioned_bounds.specs.Bounds.{BoundsAreNarrow, BoundsAreWeights};
+ghost use Rattle.conditioned_bounds.specs.Bounds.{bound_of, prefixes_asked, HoldWeights};
+ghost use Rattle.conditioned_bounds.specs.Bounds.{AreNarrow, AreWeights};
 
 use crate::sums::{sum_of_highs, sum_of_lows};
 use crate::{Intervals, bounds_hold, closest, kept_pairs};
@@ -39,17 +39,17 @@ pub fn bound<I: Intervals>(
     // Over any records, where the reported lines are distinct:
     ensures at_least { IfOk result (λ parts. (records : List RecordValue)
         → AllPairs (λ line other. line ≢ other) reported.now
-        → BoundsHoldWeights (I.low intervals.now) (I.high intervals.now) records (prefixes_asked_for_bound prefix.now reported.now)
+        → HoldWeights (I.low intervals.now) (I.high intervals.now) records (prefixes_asked prefix.now reported.now)
         → pos (conditioned_weight prefix.now reported.now records) ≤ℤ parts.value) }
     ensures at_most { IfOk result (λ parts. (records : List RecordValue) (times whole : ℕ)
         → AllPairs (λ line other. line ≢ other) reported.now
-        → BoundsHoldWeights (I.low intervals.now) (I.high intervals.now) records (prefixes_asked_for_bound prefix.now reported.now)
-        → BoundsAreNarrow (I.low intervals.now) (I.high intervals.now) times whole (prefixes_asked_for_bound prefix.now reported.now)
+        → HoldWeights (I.low intervals.now) (I.high intervals.now) records (prefixes_asked prefix.now reported.now)
+        → AreNarrow (I.low intervals.now) (I.high intervals.now) times whole (prefixes_asked prefix.now reported.now)
         → (pos times *ℤ parts.value) ≤ℤ pos (times * conditioned_weight prefix.now reported.now records
         + (1 + parts.closest + parts.pairs) * whole)) }
     ensures exact { IfOk result (λ parts. (records : List RecordValue)
         → AllPairs (λ line other. line ≢ other) reported.now
-        → BoundsAreWeights (I.low intervals.now) (I.high intervals.now) records (prefixes_asked_for_bound prefix.now reported.now)
+        → AreWeights (I.low intervals.now) (I.high intervals.now) records (prefixes_asked prefix.now reported.now)
         → parts.value ≡ pos (conditioned_weight prefix.now reported.now records)) }
 {
     bounds_hold();

@@ -3,8 +3,8 @@
 ghost use Rattle.std.specs.Prelude.{◌≡◌, ◌≢◌, ℕ, ◌+◌, ◌*◌, ◌≤◌, List, length, All, AllPairs, sum_by, pos, ◌*ℤ◌, ◌≤ℤ◌};
 ghost use Rattle.prefix_lattice.specs.{RecordValue, PrefixValue, IsPrefix, prefix_weight, closest, kept_pairs};
 ghost use Rattle.prefix_lattice.specs.{conditioned_weight};
-ghost use Rattle.conditioned_bounds.specs.Bounds.{bound_of, prefixes_asked_for_bound, BoundsHoldWeights};
-ghost use Rattle.conditioned_bounds.specs.Bounds.{BoundsAreNarrow, BoundsAreWeights};
+ghost use Rattle.conditioned_bounds.specs.Bounds.{bound_of, prefixes_asked, HoldWeights};
+ghost use Rattle.conditioned_bounds.specs.Bounds.{AreNarrow, AreWeights};
 
 use prefix_lattice::{
     closest_lines_explain, covering_goes_up, kept_meets_stay_under, meets_are_greatest,
@@ -31,20 +31,20 @@ pub fn weights_balance()
 /// exactly the weights, the bound is the conditioned weight.
 pub fn bounds_hold()
     ensures at_least { (low high : PrefixValue → ℕ) (prefix : PrefixValue) (lines : List PrefixValue) (records : List RecordValue)
-        → AllPairs (λ line other. line ≢ other) lines → BoundsHoldWeights low high records (prefixes_asked_for_bound prefix lines)
+        → AllPairs (λ line other. line ≢ other) lines → HoldWeights low high records (prefixes_asked prefix lines)
         → pos (conditioned_weight prefix lines records) ≤ℤ bound_of low high prefix lines }
     ensures at_most { (low high : PrefixValue → ℕ) (prefix : PrefixValue) (lines : List PrefixValue) (records : List RecordValue) (times whole : ℕ)
-        → AllPairs (λ line other. line ≢ other) lines → BoundsHoldWeights low high records (prefixes_asked_for_bound prefix lines)
-        → BoundsAreNarrow low high times whole (prefixes_asked_for_bound prefix lines)
+        → AllPairs (λ line other. line ≢ other) lines → HoldWeights low high records (prefixes_asked prefix lines)
+        → AreNarrow low high times whole (prefixes_asked prefix lines)
         → (pos times *ℤ bound_of low high prefix lines) ≤ℤ pos (times * conditioned_weight prefix lines records
         + (1 + length (closest prefix lines) + length (kept_pairs (closest prefix lines))) * whole) }
     ensures reached { (low high : PrefixValue → ℕ) (prefix : PrefixValue) (lines : List PrefixValue) (records : List RecordValue) (times whole least : ℕ)
-        → AllPairs (λ line other. line ≢ other) lines → BoundsHoldWeights low high records (prefixes_asked_for_bound prefix lines)
-        → BoundsAreNarrow low high times whole (prefixes_asked_for_bound prefix lines) → pos least ≤ℤ bound_of low high prefix lines
+        → AllPairs (λ line other. line ≢ other) lines → HoldWeights low high records (prefixes_asked prefix lines)
+        → AreNarrow low high times whole (prefixes_asked prefix lines) → pos least ≤ℤ bound_of low high prefix lines
         → times * least ≤ times * conditioned_weight prefix lines records
         + (1 + length (closest prefix lines) + length (kept_pairs (closest prefix lines))) * whole }
     ensures exact { (low high : PrefixValue → ℕ) (prefix : PrefixValue) (lines : List PrefixValue) (records : List RecordValue)
-        → AllPairs (λ line other. line ≢ other) lines → BoundsAreWeights low high records (prefixes_asked_for_bound prefix lines)
+        → AllPairs (λ line other. line ≢ other) lines → AreWeights low high records (prefixes_asked prefix lines)
         → bound_of low high prefix lines ≡ pos (conditioned_weight prefix lines records) }
 {
     weights_balance();
@@ -52,7 +52,7 @@ pub fn bounds_hold()
 
 /// A law of the intervals that a bound is made of: for a prefix and lines that are prefixes, all are of prefixes.
 pub fn only_prefixes_are_asked()
-    ensures { (prefix : PrefixValue) (lines : List PrefixValue) → IsPrefix prefix → All IsPrefix lines → All IsPrefix (prefixes_asked_for_bound prefix lines) }
+    ensures { (prefix : PrefixValue) (lines : List PrefixValue) → IsPrefix prefix → All IsPrefix lines → All IsPrefix (prefixes_asked prefix lines) }
 {
     kept_meets_stay_under();
 }

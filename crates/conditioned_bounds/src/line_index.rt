@@ -5,8 +5,8 @@ ghost use Rattle.std.specs.Prelude.{OnErr, IfOk, true, sum_by, pos, ◌-ℤ◌, 
 ghost use Rattle.std.specs.List.{list_any};
 ghost use Rattle.prefix_lattice.specs.{RecordValue, strictly_under, lines_under, closest, kept_pairs};
 ghost use Rattle.prefix_lattice.specs.{conditioned_weight};
-ghost use Rattle.conditioned_bounds.specs.Bounds.{bound_of, prefixes_asked_for_bound, BoundsHoldWeights};
-ghost use Rattle.conditioned_bounds.specs.Bounds.{BoundsAreNarrow, BoundsAreWeights};
+ghost use Rattle.conditioned_bounds.specs.Bounds.{bound_of, prefixes_asked, HoldWeights};
+ghost use Rattle.conditioned_bounds.specs.Bounds.{AreNarrow, AreWeights};
 ghost use Rattle.conditioned_bounds.specs.Members.{member_limit};
 
 use crate::meet_sums::sum_of_meets;
@@ -33,13 +33,13 @@ pub struct LineIndex {
 impl Model for LineIndex {
     ghost use Rattle.std.specs.Prelude.{List};
     ghost use Rattle.prefix_lattice.specs.{PrefixValue};
-    ghost use Rattle.conditioned_bounds.specs.LineIndex.{LinesAreIndexed};
+    ghost use Rattle.conditioned_bounds.specs.LineIndex.{AreIndexed};
 
     ghost Value = { List PrefixValue };
 
     ghost view = { λ i. i.lines };
 
-    ghost invariant = { λ i. LinesAreIndexed i.lines i.under };
+    ghost invariant = { λ i. AreIndexed i.lines i.under };
 }
 
 impl LineIndex {
@@ -102,15 +102,15 @@ impl LineIndex {
 
         // Over any records:
         ensures at_least { IfOk result (λ parts. (records : List RecordValue)
-            → BoundsHoldWeights (I.low intervals.now) (I.high intervals.now) records (prefixes_asked_for_bound prefix.now self.now)
+            → HoldWeights (I.low intervals.now) (I.high intervals.now) records (prefixes_asked prefix.now self.now)
             → pos (conditioned_weight prefix.now self.now records) ≤ℤ parts.value) }
         ensures at_most { IfOk result (λ parts. (records : List RecordValue) (times whole : ℕ)
-            → BoundsHoldWeights (I.low intervals.now) (I.high intervals.now) records (prefixes_asked_for_bound prefix.now self.now)
-            → BoundsAreNarrow (I.low intervals.now) (I.high intervals.now) times whole (prefixes_asked_for_bound prefix.now self.now)
+            → HoldWeights (I.low intervals.now) (I.high intervals.now) records (prefixes_asked prefix.now self.now)
+            → AreNarrow (I.low intervals.now) (I.high intervals.now) times whole (prefixes_asked prefix.now self.now)
             → (pos times *ℤ parts.value) ≤ℤ pos (times * conditioned_weight prefix.now self.now records
             + (1 + parts.closest + parts.pairs) * whole)) }
         ensures exact { IfOk result (λ parts. (records : List RecordValue)
-            → BoundsAreWeights (I.low intervals.now) (I.high intervals.now) records (prefixes_asked_for_bound prefix.now self.now)
+            → AreWeights (I.low intervals.now) (I.high intervals.now) records (prefixes_asked prefix.now self.now)
             → parts.value ≡ pos (conditioned_weight prefix.now self.now records)) }
     {
         bounds_hold();

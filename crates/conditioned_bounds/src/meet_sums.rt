@@ -2,7 +2,7 @@
 
 ghost use Rattle.std.specs.Prelude.{◌≡◌, ◌*◌, ◌<◌, ◌≤◌, true, length, sum_by};
 ghost use Rattle.std.specs.List.{filter_map};
-ghost use Rattle.prefix_lattice.specs.{under, is_under_third_beside_pair, kept_pair_meet, kept_pairs, total_limit};
+ghost use Rattle.prefix_lattice.specs.{under, under_third, pair_meet, kept_pairs, total_limit};
 ghost use Rattle.conditioned_bounds.specs.Members.{member_limit};
 
 use crate::Intervals;
@@ -43,8 +43,8 @@ fn sum_of_meets_with<I: Intervals>(
     intervals: &I,
 ) -> MeetSum
     requires { length seconds.now < member_limit }
-    ensures highs { result.highs ≡ sum_by (I.high intervals.now) (filter_map (kept_pair_meet members.now first.now) seconds.now) }
-    ensures pairs { result.pairs ≡ length (filter_map (kept_pair_meet members.now first.now) seconds.now) }
+    ensures highs { result.highs ≡ sum_by (I.high intervals.now) (filter_map (pair_meet members.now first.now) seconds.now) }
+    ensures pairs { result.pairs ≡ length (filter_map (pair_meet members.now first.now) seconds.now) }
     ensures bounded { result.highs ≤ result.pairs * total_limit }
     ensures few { result.pairs ≤ length seconds.now }
 {
@@ -61,7 +61,7 @@ fn sum_of_meets_with<I: Intervals>(
 
 /// The meet of a pair, if the pair is kept.
 fn kept_meet(members: &Members, first: &Prefix, second: &Prefix) -> Option<Prefix>
-    ensures { result ≡ kept_pair_meet members.now first.now second.now }
+    ensures { result ≡ pair_meet members.now first.now second.now }
 {
     let meet = first.meet(second)?;
     if is_under_third(members, first, second, &meet) {
@@ -75,7 +75,7 @@ fn kept_meet(members: &Members, first: &Prefix, second: &Prefix) -> Option<Prefi
 fn is_under_third(members: &Members, first: &Prefix, second: &Prefix, meet: &Prefix) -> bool
     requires first { under meet.now first.now ≡ true }
     requires second { under meet.now second.now ≡ true }
-    ensures { result ≡ is_under_third_beside_pair members.now first.now second.now meet.now }
+    ensures { result ≡ under_third members.now first.now second.now meet.now }
 {
     prefixes_are_ordered();
     let first = first.node();

@@ -2,7 +2,7 @@
 
 ghost use Rattle.std.specs.Prelude.{◌≡◌, ◌++◌, IfOk, OnOk};
 ghost use Rattle.std.specs.List.{filter_map};
-ghost use Rattle.prefix_lattice.specs.{same_in_lattice, is_under_third_beside_pair, kept_pair_meet, kept_pairs};
+ghost use Rattle.prefix_lattice.specs.{same_as, under_third, pair_meet, kept_pairs};
 
 use prefix_lattice::{Prefix, Prefixes};
 use std::alloc::{AllocError, Global};
@@ -27,7 +27,7 @@ fn push_meets(
     seconds: &[Prefix],
     meets: &mut Prefixes,
 ) -> Result<(), AllocError>
-    ensures { OnOk result (meets.new ≡ meets.old ++ filter_map (kept_pair_meet members.now first.now) seconds.now) }
+    ensures { OnOk result (meets.new ≡ meets.old ++ filter_map (pair_meet members.now first.now) seconds.now) }
 {
     for second in seconds {
         if let Some(meet) = kept_meet(members, first, second) {
@@ -39,7 +39,7 @@ fn push_meets(
 
 /// The meet of a pair, if the pair is kept.
 fn kept_meet(members: &[Prefix], first: &Prefix, second: &Prefix) -> Option<Prefix>
-    ensures { result ≡ kept_pair_meet members.now first.now second.now }
+    ensures { result ≡ pair_meet members.now first.now second.now }
 {
     let meet = first.meet(second)?;
     if is_under_third(members, first, second, &meet) {
@@ -50,7 +50,7 @@ fn kept_meet(members: &[Prefix], first: &Prefix, second: &Prefix) -> Option<Pref
 }
 
 fn is_under_third(members: &[Prefix], first: &Prefix, second: &Prefix, meet: &Prefix) -> bool
-    ensures { result ≡ is_under_third_beside_pair members.now first.now second.now meet.now }
+    ensures { result ≡ under_third members.now first.now second.now meet.now }
 {
     members.iter().any(|third| meet.under(third)
         && !(is_same(third, first) || is_same(third, second)))
@@ -58,7 +58,7 @@ fn is_under_third(members: &[Prefix], first: &Prefix, second: &Prefix, meet: &Pr
 
 /// Whether two prefixes are the same: each is under the other.
 fn is_same(prefix: &Prefix, other: &Prefix) -> bool
-    ensures { result ≡ same_in_lattice prefix.now other.now }
+    ensures { result ≡ same_as prefix.now other.now }
 {
     prefix.under(other) && other.under(prefix)
 }

@@ -2,7 +2,7 @@
 
 ghost use Rattle.std.specs.Prelude.{◌≡◌, ◌≢◌, ◌==◌, ℕ, ◌++◌, ◌∷◌, [], All, AllPairs, false, OnOk, if◌then◌else◌};
 ghost use Rattle.std.specs.List.{list_any};
-ghost use Rattle.conditioned_bounds.specs.LineNumbers.{line_numbers_at, HasRoomForLineNumber};
+ghost use Rattle.conditioned_bounds.specs.Numbers.{line_numbers_at, HasRoomFor};
 
 use std::alloc::{AllocError, Global};
 use std::collections::BTreeMap;
@@ -24,7 +24,7 @@ pub(crate) fn make_room(
     codes: &[u128],
 ) -> Result<(), AllocError>
     ensures same { (code : ℕ) → line_numbers_at kept.new code ≡ line_numbers_at kept.old code }
-    ensures room { OnOk result (All (HasRoomForLineNumber kept.new) codes.now) }
+    ensures room { OnOk result (All (HasRoomFor kept.new) codes.now) }
 {
     for code in codes {
         make_room_at(alloc, kept, *code)?;
@@ -39,8 +39,8 @@ fn make_room_at(
     code: u128,
 ) -> Result<(), AllocError>
     ensures same { (other : ℕ) → line_numbers_at kept.new other ≡ line_numbers_at kept.old other }
-    ensures room { OnOk result (HasRoomForLineNumber kept.new code) }
-    ensures kept { (other : ℕ) → HasRoomForLineNumber kept.old other → HasRoomForLineNumber kept.new other }
+    ensures room { OnOk result (HasRoomFor kept.new code) }
+    ensures kept { (other : ℕ) → HasRoomFor kept.old other → HasRoomFor kept.new other }
 {
     if let Some(numbers) = kept.get_mut(&code) {
         numbers.reserve(1)?;
@@ -54,7 +54,7 @@ fn make_room_at(
 /// Appends a number under each of these codes, which have room for it. It allocates no memory.
 pub(crate) fn note(kept: &mut BTreeMap<u128, Vec<u32>>, codes: &[u128], number: u32)
     requires distinct { AllPairs (λ code other. code ≢ other) codes.now }
-    requires room { All (HasRoomForLineNumber kept.old) codes.now }
+    requires room { All (HasRoomFor kept.old) codes.now }
     ensures { (code : ℕ) → line_numbers_at kept.new code
         ≡ (if list_any (λ other. other == code) codes.now then line_numbers_at kept.old code ++ number ∷ [] else line_numbers_at kept.old code) }
 {
@@ -65,10 +65,10 @@ pub(crate) fn note(kept: &mut BTreeMap<u128, Vec<u32>>, codes: &[u128], number: 
 
 // Appends a number under a code that has room for it.
 fn note_at(kept: &mut BTreeMap<u128, Vec<u32>>, code: u128, number: u32)
-    requires { HasRoomForLineNumber kept.old code }
+    requires { HasRoomFor kept.old code }
     ensures noted { (other : ℕ) → line_numbers_at kept.new other
         ≡ (if code == other then line_numbers_at kept.old other ++ number ∷ [] else line_numbers_at kept.old other) }
-    ensures kept { (other : ℕ) → (code == other) ≡ false → HasRoomForLineNumber kept.old other → HasRoomForLineNumber kept.new other }
+    ensures kept { (other : ℕ) → (code == other) ≡ false → HasRoomFor kept.old other → HasRoomFor kept.new other }
 {
     if let Some(numbers) = kept.get_mut(&code) {
         let _ = numbers.push(number);

@@ -1,7 +1,7 @@
 //! Sums over the intervals of some prefixes.
 
 ghost use Rattle.std.specs.Prelude.{◌≡◌, ◌<◌, sum_by};
-ghost use Rattle.conditioned_bounds.specs.Bounds.{bound_sum_limit};
+ghost use Rattle.conditioned_bounds.specs.Bounds.{sum_limit};
 
 use crate::Intervals;
 use prefix_lattice::Prefix;
@@ -9,7 +9,7 @@ use prefix_lattice::Prefix;
 /// The sum of the lows.
 pub(crate) fn sum_of_lows<I: Intervals>(prefixes: &[Prefix], intervals: &I) -> u128
     ensures value { result ≡ sum_by (I.low intervals.now) prefixes.now }
-    ensures bounded { result < bound_sum_limit }
+    ensures bounded { result < sum_limit }
 {
     let mut sum: u128 = 0;
     for prefix in prefixes {
@@ -22,7 +22,7 @@ pub(crate) fn sum_of_lows<I: Intervals>(prefixes: &[Prefix], intervals: &I) -> u
 /// The sum of the highs.
 pub(crate) fn sum_of_highs<I: Intervals>(prefixes: &[Prefix], intervals: &I) -> u128
     ensures value { result ≡ sum_by (I.high intervals.now) prefixes.now }
-    ensures bounded { result < bound_sum_limit }
+    ensures bounded { result < sum_limit }
 {
     let mut sum: u128 = 0;
     for prefix in prefixes {

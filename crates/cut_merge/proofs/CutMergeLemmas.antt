@@ -10,12 +10,12 @@ use Rattle.std.specs.Option.{option_map}
 use Rattle.prefix_lattice.specs.{NodeValue, IsNode, node_index, node_at, node_of_prefix, prefix_key}
 use Rattle.prefix_lattice.proofs.NodePlaceLemmas.{node_at_own_place}
 use Rattle.space_saving.specs.{TableValue, table_total}
-use Rattle.shard_state.specs.{SnapshotValue, snapshot_table_at, CutValue, IsCut, total_of_cut}
+use Rattle.shard_state.specs.{SnapshotValue, table_at, CutValue, IsCut, total_of_cut}
 use Rattle.cut_merge.specs.NodeMerge.{NodeMergeValue}
-use Rattle.cut_merge.specs.Merged.{MergedValue, IsBoundedToBeMerged, MergedWithTable, MergedNodeRepresentsTables}
+use Rattle.cut_merge.specs.Merged.{MergedValue, CanBeMerged, WithTable, NodeRepresents}
 use Rattle.cut_merge.specs.Merged.{nothing_merged, IsMerged}
-use Rattle.cut_merge.specs.Merged.{MergedRepresentsCut, merged_interval_for_key, merge_at}
-use Rattle.cut_merge.specs.CutTables.{cut_tables_at, IsTableIntervalWithinTotal}
+use Rattle.cut_merge.specs.Merged.{RepresentsCut, interval_for_key, merge_at}
+use Rattle.cut_merge.specs.KeyInterval.{tables_at, FitsTotal}
 use Rattle.cut_merge.proofs.TableMergeLemmas.{TableMergeIsBounded, table_merge_count, table_merge_is_bounded}
 use Rattle.cut_merge.proofs.TableMergeLemmas.{table_merge_represents_more, interval_of_table_merge}
 use Rattle.cut_merge.proofs.CutTableLemmas.{CutTablesAreBounded, cut_tables_count_total}
@@ -23,67 +23,67 @@ use Rattle.cut_merge.proofs.CutTableLemmas.{CutTablesAreBounded, cut_tables_coun
 -- the table of a shard is at the shard's index among the tables of the node
 cut_merge_stands_at_place : (node : NodeValue) (cut : CutValue) (shard : ℕ) (snapshot : SnapshotValue)
     → slice_get cut.shards shard ≡ Some snapshot
-    → slice_get (cut_tables_at node cut) shard ≡ Some (snapshot_table_at node snapshot)
+    → slice_get (tables_at node cut) shard ≡ Some (table_at node snapshot)
 cut_merge_stands_at_place node cut shard snapshot at =
-    slice_get-map (snapshot_table_at node) cut.shards shard ∙ ap (option_map (snapshot_table_at node)) at
+    slice_get-map (table_at node) cut.shards shard ∙ ap (option_map (table_at node)) at
 
 -- the intervals of the merged tables of some shards are within the total of the cut
 pub cut_merge_within_total : (node : NodeValue) (cut : CutValue) (shards key : ℕ) (merge : NodeMergeValue) → CutTablesAreBounded
     → IsNode node → IsCut cut
-    → MergedNodeRepresentsTables merge (take shards (cut_tables_at node cut))
-    → IsTableIntervalWithinTotal (total_of_cut cut) (merged_interval_for_key merge key)
+    → NodeRepresents merge (take shards (tables_at node cut))
+    → FitsTotal (total_of_cut cut) (interval_for_key merge key)
 cut_merge_within_total node cut shards key merge law is_node kept stands =
-    let tables = cut_tables_at node cut in
+    let tables = tables_at node cut in
     let bounded : TableMergeIsBounded (take shards tables) key =
-    table_merge_is_bounded (take shards tables) key (All-take (IsBoundedToBeMerged key) shards tables (law cut node key kept is_node)) in
+    table_merge_is_bounded (take shards tables) key (All-take (CanBeMerged key) shards tables (law cut node key kept is_node)) in
     let few : table_merge_count (take shards tables) ≤ total_of_cut cut =
     subst (λ n. table_merge_count (take shards tables) ≤ n) (cut_tables_count_total node cut is_node kept)
     (sum_by-take-le (λ (t : TableValue). table_total t.entries) tables shards) in
-    subst (IsTableIntervalWithinTotal (total_of_cut cut)) (sym (interval_of_table_merge merge (take shards tables) key stands))
+    subst (FitsTotal (total_of_cut cut)) (sym (interval_of_table_merge merge (take shards tables) key stands))
     (record { ordered = bounded.ordered; within_total = omega (arith, few, bounded.within_total) })
 
 -- the intervals of the table of a shard are bounded
 pub cut_merge_bounded_at_shard : (node : NodeValue) (cut : CutValue) (shard : ℕ) (snapshot : SnapshotValue) (key : ℕ)
     → CutTablesAreBounded → IsNode node → IsCut cut → slice_get cut.shards shard ≡ Some snapshot
-    → IsBoundedToBeMerged key (snapshot_table_at node snapshot)
+    → CanBeMerged key (table_at node snapshot)
 cut_merge_bounded_at_shard node cut shard snapshot key law is_node kept at =
-    let tables = cut_tables_at node cut in
-    let table = snapshot_table_at node snapshot in
+    let tables = tables_at node cut in
+    let table = table_at node snapshot in
     let place = cut_merge_stands_at_place node cut shard snapshot at in
-    subst (IsBoundedToBeMerged key) (get_or_from_slice_get tables shard table table place)
-    (All-get_or (IsBoundedToBeMerged key) tables shard table (slice_get_within tables shard table place)
+    subst (CanBeMerged key) (get_or_from_slice_get tables shard table table place)
+    (All-get_or (CanBeMerged key) tables shard table (slice_get_within tables shard table place)
     (law cut node key kept is_node))
 
 -- one more shard
 pub cut_merge_of_more_shards : (node : NodeValue) (cut : CutValue) (shard : ℕ) (snapshot : SnapshotValue)
     (old new : NodeMergeValue) → slice_get cut.shards shard ≡ Some snapshot
-    → MergedNodeRepresentsTables old (take shard (cut_tables_at node cut)) → MergedWithTable old (snapshot_table_at node snapshot) new
-    → MergedNodeRepresentsTables new (take (shard + 1) (cut_tables_at node cut))
+    → NodeRepresents old (take shard (tables_at node cut)) → WithTable old (table_at node snapshot) new
+    → NodeRepresents new (take (shard + 1) (tables_at node cut))
 cut_merge_of_more_shards node cut shard snapshot old new at stands adds =
-    let tables = cut_tables_at node cut in
-    let table = snapshot_table_at node snapshot in
+    let tables = tables_at node cut in
+    let table = table_at node snapshot in
     let place = cut_merge_stands_at_place node cut shard snapshot at in
     let within = slice_get_within tables shard table place in
     let read : get_or tables shard table ≡ table = get_or_from_slice_get tables shard table table place in
     let more : take (shard + 1) tables ≡ take shard tables ++ table ∷ [] =
     take_more tables shard table within ∙ ap (λ t. take shard tables ++ t ∷ []) read in
-    subst (MergedNodeRepresentsTables new) (sym more) (table_merge_represents_more old new (take shard tables) table stands adds)
+    subst (NodeRepresents new) (sym more) (table_merge_represents_more old new (take shard tables) table stands adds)
 
 -- an interval of the merged tables at an index is within the total
 pub cut_merge_place_within_total : (merged : MergedValue) (place key : ℕ) (merge : NodeMergeValue) → IsMerged merged
     → place < length merged.nodes
-    → merge ≡ slice_index_or merged.nodes place merge → IsTableIntervalWithinTotal merged.total (merged_interval_for_key merge key)
+    → merge ≡ slice_index_or merged.nodes place merge → FitsTotal merged.total (interval_for_key merge key)
 cut_merge_place_within_total merged place key merge kept within read =
-    subst (λ m. IsTableIntervalWithinTotal merged.total (merged_interval_for_key m key))
+    subst (λ m. FitsTotal merged.total (interval_for_key m key))
     (sym (read ∙ get_or_default merged.nodes place merge nothing_merged within)) (kept.intervals place key)
 
 -- the nodes before an index are merged
 pub record CutMergesNodes (cut : CutValue) (nodes : List NodeMergeValue) (place : ℕ) : Type 0 where
   pub count : length nodes ≡ place
   pub stands : (k : ℕ) → k < place
-      → MergedNodeRepresentsTables (slice_index_or nodes k nothing_merged) (cut_tables_at (node_at k) cut)
+      → NodeRepresents (slice_index_or nodes k nothing_merged) (tables_at (node_at k) cut)
   pub within : (k key : ℕ) → k < place
-      → IsTableIntervalWithinTotal (total_of_cut cut) (merged_interval_for_key (slice_index_or nodes k nothing_merged) key)
+      → FitsTotal (total_of_cut cut) (interval_for_key (slice_index_or nodes k nothing_merged) key)
 
 -- none is merged before the first index
 pub cut_merges_none : (cut : CutValue) → CutMergesNodes cut [] 0
@@ -96,8 +96,8 @@ cut_merges_none cut = record {
 -- and one more before the next
 pub cut_merges_more_nodes : (cut : CutValue) (nodes : List NodeMergeValue) (place : ℕ) (merge : NodeMergeValue)
     → CutMergesNodes cut nodes place
-    → MergedNodeRepresentsTables merge (cut_tables_at (node_at place) cut)
-    → ((key : ℕ) → IsTableIntervalWithinTotal (total_of_cut cut) (merged_interval_for_key merge key))
+    → NodeRepresents merge (tables_at (node_at place) cut)
+    → ((key : ℕ) → FitsTotal (total_of_cut cut) (interval_for_key merge key))
     → CutMergesNodes cut (nodes ++ merge ∷ []) (place + 1)
 cut_merges_more_nodes cut nodes place merge merges stands within =
     let At : (ℕ → NodeMergeValue → Type 0) → ℕ → Type 0 =
@@ -107,9 +107,9 @@ cut_merges_more_nodes cut nodes place merge merges stands within =
     λ P below here k less. by_cases P below here k less in
     record {
       count = length_push nodes merge ∙ ap (λ n. n + 1) merges.count;
-      stands = at (λ k m. MergedNodeRepresentsTables m (cut_tables_at (node_at k) cut)) merges.stands stands;
+      stands = at (λ k m. NodeRepresents m (tables_at (node_at k) cut)) merges.stands stands;
       within = λ k key less.
-          at (λ _ m. IsTableIntervalWithinTotal (total_of_cut cut) (merged_interval_for_key m key)) (λ j. merges.within j key)
+          at (λ _ m. FitsTotal (total_of_cut cut) (interval_for_key m key)) (λ j. merges.within j key)
           (within key) k less;
     }
   where
@@ -135,7 +135,7 @@ cut_merge_is_merged cut nodes capacity bounded merges = record {
   intervals = λ place key. elim (cases_lt place 25) [
     | inl under ↦ merges.within place key under
     | inr above ↦
-        subst (λ m. IsTableIntervalWithinTotal (total_of_cut cut) (merged_interval_for_key m key))
+        subst (λ m. FitsTotal (total_of_cut cut) (interval_for_key m key))
         (sym (get_or_past nodes place nothing_merged (omega (arith, merges.count))))
         (record { ordered = omega arith; within_total = omega arith })
   ];
@@ -143,12 +143,12 @@ cut_merge_is_merged cut nodes capacity bounded merges = record {
 
 -- and the merged tables represent the cut
 pub cut_merge_stands_for_cut : (cut : CutValue) (nodes : List NodeMergeValue) → CutMergesNodes cut nodes 25
-    → MergedRepresentsCut (record { capacity = cut.capacity; total = total_of_cut cut; nodes = nodes }) cut
+    → RepresentsCut (record { capacity = cut.capacity; total = total_of_cut cut; nodes = nodes }) cut
 cut_merge_stands_for_cut cut nodes merges =
     let at : (node : NodeValue) → IsNode node
-    → MergedNodeRepresentsTables (slice_index_or nodes (node_index node) nothing_merged) (cut_tables_at node cut) =
+    → NodeRepresents (slice_index_or nodes (node_index node) nothing_merged) (tables_at node cut) =
     λ node is_node.
-    subst (λ n. MergedNodeRepresentsTables (slice_index_or nodes (node_index node) nothing_merged) (cut_tables_at n cut))
+    subst (λ n. NodeRepresents (slice_index_or nodes (node_index node) nothing_merged) (tables_at n cut))
     (node_at_own_place node is_node)
     (merges.stands (node_index node) (omega (arith, is_node.source, is_node.dest))) in
     record {
@@ -156,7 +156,7 @@ cut_merge_stands_for_cut cut nodes merges =
       total = refl;
       intervals = λ prefix is_prefix.
           interval_of_table_merge (merge_at (node_of_prefix prefix) (record { capacity = cut.capacity; total = total_of_cut cut; nodes = nodes }))
-          (cut_tables_at (node_of_prefix prefix) cut) (prefix_key prefix)
+          (tables_at (node_of_prefix prefix) cut) (prefix_key prefix)
           (at (node_of_prefix prefix) (record { source = is_prefix.source.few; dest = is_prefix.dest.few }));
       candidates = λ node is_node. (at node is_node).keys;
     }

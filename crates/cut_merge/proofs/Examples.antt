@@ -7,21 +7,21 @@ use Rattle.prefix_lattice.specs.{RecordValue, node_index, AreLeadingBytes, Prefi
 use Rattle.prefix_lattice.specs.{prefix_key}
 use Rattle.space_saving.specs.declared.entry.Entry.{Entry}
 use Rattle.space_saving.specs.{TableValue, TableInterval}
-use Rattle.shard_state.specs.{fold_snapshot_from, SnapshotValue, CutValue, total_of_cut}
-use Rattle.cut_merge.specs.CutTables.{table_keys_first_seen, interval_over_tables, keys_of_table}
-use Rattle.cut_merge.specs.CutTables.{keys_monitored_in_tables}
-use Rattle.cut_merge.specs.CutTables.{cut_tables_at, interval_in_cut, keys_monitored_in_cut, IsTableIntervalWithinTotal}
+use Rattle.shard_state.specs.{fold_from, SnapshotValue, CutValue, total_of_cut}
+use Rattle.cut_merge.specs.KeyInterval.{first_seen, interval_over, keys_of}
+use Rattle.cut_merge.specs.KeyInterval.{monitored_in}
+use Rattle.cut_merge.specs.KeyInterval.{tables_at, interval_in_cut, monitored_in_cut, FitsTotal}
 use Rattle.cut_merge.specs.declared.key_interval.KeyInterval.{KeyInterval}
 use Rattle.cut_merge.specs.NodeMerge.{NodeMergeValue}
-use Rattle.cut_merge.specs.Merged.{MergedValue, nothing_merged, merged_interval_for_key, merge_at, merged_interval_for}
-use Rattle.cut_merge.specs.Merged.{merged_candidates_at, MergedRepresentsCut, IsMerged}
+use Rattle.cut_merge.specs.Merged.{MergedValue, nothing_merged, interval_for_key, merge_at, interval_for}
+use Rattle.cut_merge.specs.Merged.{candidates_at, RepresentsCut, IsMerged}
 
 -- each key is where it is seen first
-pub keys_are_seen_once : table_keys_first_seen (3 ∷ 1 ∷ 3 ∷ 2 ∷ 1 ∷ []) ≡ 3 ∷ 1 ∷ 2 ∷ []
+pub keys_are_seen_once : first_seen (3 ∷ 1 ∷ 3 ∷ 2 ∷ 1 ∷ []) ≡ 3 ∷ 1 ∷ 2 ∷ []
 keys_are_seen_once = refl
 
 -- in an empty list no key is seen
-pub no_key_is_seen : table_keys_first_seen [] ≡ []
+pub no_key_is_seen : first_seen [] ≡ []
 no_key_is_seen = refl
 
 -- an entry of a key, with a count and an error
@@ -37,22 +37,22 @@ tables =
     ∷ []
 
 -- lows add up, and so do highs
-pub key_in_two_tables : interval_over_tables tables 5 ≡ record { low = 9; high = 11 }
+pub key_in_two_tables : interval_over tables 5 ≡ record { low = 9; high = 11 }
 key_in_two_tables = refl
 
 -- a key that is missing in a table with free room adds nothing
-pub key_in_the_full_table : interval_over_tables tables 8 ≡ record { low = 2; high = 3 }
+pub key_in_the_full_table : interval_over tables 8 ≡ record { low = 2; high = 3 }
 key_in_the_full_table = refl
 
 -- one that is missing in a full table adds the least count to the high
-pub key_in_no_table : interval_over_tables tables 1 ≡ record { low = 0; high = 3 }
+pub key_in_no_table : interval_over tables 1 ≡ record { low = 0; high = 3 }
 key_in_no_table = refl
 
-pub keys_of_the_full_table : keys_of_table (record { capacity = 2; entries = entry 8 3 1 ∷ entry 5 7 0 ∷ [] }) ≡ 8 ∷ 5 ∷ []
+pub keys_of_the_full_table : keys_of (record { capacity = 2; entries = entry 8 3 1 ∷ entry 5 7 0 ∷ [] }) ≡ 8 ∷ 5 ∷ []
 keys_of_the_full_table = refl
 
 -- the keys of the first table, and then none that is new
-pub keys_of_all_tables : keys_monitored_in_tables tables ≡ 8 ∷ 5 ∷ []
+pub keys_of_all_tables : monitored_in tables ≡ 8 ∷ 5 ∷ []
 keys_of_all_tables = refl
 
 -- a packet of weight 1 from 10.0.0.HOST to 20.0.0.1
@@ -61,7 +61,7 @@ packet host = record { src = 0x0a000000 + host; dst = 0x14000001; weight = 1 }
 
 -- a shard that counted some packets, in tables of capacity 2
 abbrev shard : ℕ → List RecordValue → SnapshotValue
-shard position packets = record { capacity = 2; position = position; tables = fold_snapshot_from 0 2 (replicate 25 []) packets }
+shard position packets = record { capacity = 2; position = position; tables = fold_from 0 2 (replicate 25 []) packets }
 
 -- hosts 1, 1 and 2 in one shard, and 1, 3 and 4 in another, whose table keeps 3, and replaces 1 by 4
 abbrev cut : CutValue
@@ -76,7 +76,7 @@ host_key host dest = (0x0a000000 + host) * 2 ^ 32 + dest
 
 -- at the node that keeps only whole sources, each shard counts the hosts; the error of the last of them is the count
 -- that it took over
-pub tables_of_the_sources : cut_tables_at (record { source_bytes = 4; dest_bytes = 0 }) cut
+pub tables_of_the_sources : tables_at (record { source_bytes = 4; dest_bytes = 0 }) cut
     ≡ record { capacity = 2; entries = entry (host_key 2 0) 1 0 ∷ entry (host_key 1 0) 2 0 ∷ [] }
     ∷ record { capacity = 2; entries = entry (host_key 3 0) 1 0 ∷ entry (host_key 4 0) 2 1 ∷ [] }
     ∷ []
@@ -91,13 +91,13 @@ host_prefix host = record { source = 10 ∷ 0 ∷ 0 ∷ host ∷ []; dest = 20 �
 pub interval_of_a_host : interval_in_cut cut (host_prefix 1) ≡ record { low = 2; high = 3 }
 interval_of_a_host = refl
 
-pub interval_within_the_total : IsTableIntervalWithinTotal 6 (interval_in_cut cut (host_prefix 1))
+pub interval_within_the_total : FitsTotal 6 (interval_in_cut cut (host_prefix 1))
 interval_within_the_total =
     let low : (interval_in_cut cut (host_prefix 1)).low ≡ 2 = refl in
     let high : (interval_in_cut cut (host_prefix 1)).high ≡ 3 = refl in
     record { ordered = omega (arith, low, high); within_total = omega (arith, high) }
 
-pub no_interval_is_above_the_total : ¬ IsTableIntervalWithinTotal 2 (interval_in_cut cut (host_prefix 1))
+pub no_interval_is_above_the_total : ¬ FitsTotal 2 (interval_in_cut cut (host_prefix 1))
 no_interval_is_above_the_total within = let high : 3 ≤ 2 = within.within_total in omega (arith, high)
 
 -- one entry in each shard counts all hosts of 10.0.0.0/24
@@ -106,7 +106,7 @@ pub interval_of_all_hosts : interval_in_cut cut (record { source = 10 ∷ 0 ∷ 
 interval_of_all_hosts = refl
 
 -- hosts in first-seen order: 2 and 1 in the first shard's table, and 3 and 4 in the second's
-pub hosts_of_both_shards : keys_monitored_in_cut cut (record { source_bytes = 4; dest_bytes = 0 })
+pub hosts_of_both_shards : monitored_in_cut cut (record { source_bytes = 4; dest_bytes = 0 })
     ≡ 0x0a00000200000000 ∷ 0x0a00000100000000 ∷ 0x0a00000300000000 ∷ 0x0a00000400000000 ∷ []
 hosts_of_both_shards = refl
 
@@ -136,15 +136,15 @@ merged = record { capacity = 2; total = 6; nodes = replicate 24 nothing_merged +
 pub whole_addresses_stand_last : merge_at (record { source_bytes = 4; dest_bytes = 4 }) merged ≡ hosts
 whole_addresses_stand_last = refl
 
-pub merged_intervals_are_those_of_the_cut : merged_interval_for merged (host_prefix 1) ≡ interval_in_cut cut (host_prefix 1)
+pub merged_intervals_are_those_of_the_cut : interval_for merged (host_prefix 1) ≡ interval_in_cut cut (host_prefix 1)
 merged_intervals_are_those_of_the_cut = refl
 
 -- host 9 may have been missed in both shards
-pub interval_of_a_host_that_no_shard_monitors : merged_interval_for merged (host_prefix 9) ≡ record { low = 0; high = 2 }
+pub interval_of_a_host_that_no_shard_monitors : interval_for merged (host_prefix 9) ≡ record { low = 0; high = 2 }
 interval_of_a_host_that_no_shard_monitors = refl
 
-pub candidates_are_the_monitored_keys : merged_candidates_at merged (record { source_bytes = 4; dest_bytes = 4 })
-    ≡ keys_monitored_in_cut cut (record { source_bytes = 4; dest_bytes = 4 })
+pub candidates_are_the_monitored_keys : candidates_at merged (record { source_bytes = 4; dest_bytes = 4 })
+    ≡ monitored_in_cut cut (record { source_bytes = 4; dest_bytes = 4 })
 candidates_are_the_monitored_keys = refl
 
 -- 0.0.0.0/0 0.0.0.0/0
@@ -156,7 +156,7 @@ root_is_prefix =
     let none : AreLeadingBytes [] = record { few = omega arith; bytes = λ place. omega arith } in
     record { source = none; dest = none }
 
-pub merged_of_one_node_does_not_stand_for_the_cut : ¬ MergedRepresentsCut merged cut
+pub merged_of_one_node_does_not_stand_for_the_cut : ¬ RepresentsCut merged cut
 merged_of_one_node_does_not_stand_for_the_cut stands =
     let high : 0 ≡ 6 = ap (λ (i : TableInterval). i.high) (stands.intervals root root_is_prefix) in omega (arith, high)
 
@@ -174,19 +174,19 @@ alike x zero place = refl
 alike x (suc length) zero = refl
 alike x (suc length) (suc place) = alike x length place
 
-pub nothing_represents_nothing_counted : MergedRepresentsCut nothing nothing_counted
+pub nothing_represents_nothing_counted : RepresentsCut nothing nothing_counted
 nothing_represents_nothing_counted =
     let table : List Entry → TableValue = λ entries. record { capacity = 2; entries = entries } in
     record {
       capacity = refl;
       total = refl;
       intervals = λ prefix is_prefix.
-          ap (λ merge. merged_interval_for_key merge (prefix_key prefix)) (alike nothing_merged 25 (node_index (node_of_prefix prefix)))
-          ∙ sym (ap (λ entries. interval_over_tables (table entries ∷ []) (prefix_key prefix))
+          ap (λ merge. interval_for_key merge (prefix_key prefix)) (alike nothing_merged 25 (node_index (node_of_prefix prefix)))
+          ∙ sym (ap (λ entries. interval_over (table entries ∷ []) (prefix_key prefix))
           (alike [] 25 (node_index (node_of_prefix prefix))));
       candidates = λ node is_node.
           ap (λ (merge : NodeMergeValue). merge.keys) (alike nothing_merged 25 (node_index node))
-          ∙ sym (ap (λ entries. keys_monitored_in_tables (table entries ∷ [])) (alike [] 25 (node_index node)));
+          ∙ sym (ap (λ entries. monitored_in (table entries ∷ [])) (alike [] 25 (node_index node)));
     }
 
 pub nothing_is_merged : IsMerged nothing
@@ -194,7 +194,7 @@ nothing_is_merged = record {
   bounded = omega arith;
   shape = refl;
   intervals = λ place key.
-      subst (λ merge. IsTableIntervalWithinTotal 0 (merged_interval_for_key merge key)) (sym (alike nothing_merged 25 place))
+      subst (λ merge. FitsTotal 0 (interval_for_key merge key)) (sym (alike nothing_merged 25 place))
       (record { ordered = omega arith; within_total = omega arith });
 }
 

@@ -10,14 +10,14 @@ use Rattle.std.proofs.lemmas.List.{take_more, get_or-set_same, get_or-set_other}
 use Rattle.std.proofs.lemmas.List.Sums.{sum_by_push}
 use Rattle.std.proofs.lemmas.List.Folds.{list_any-append}
 use Rattle.std.proofs.lemmas.Option.{none-some, get_or_from_slice_get, slice_get_within}
-use Rattle.space_saving.specs.{TableValue, TableInterval, table_entry, interval_in_table, table_interval_from}
+use Rattle.space_saving.specs.{TableValue, TableInterval, table_entry, interval_in, interval_from}
 use Rattle.space_saving.specs.declared.entry.Entry.{Entry}
-use Rattle.cut_merge.specs.Run.{RunValue, IsRunOf, run_interval_of_entry, run_interval, is_monitored_in_run}
-use Rattle.cut_merge.specs.Run.{missing_run_high}
-use Rattle.cut_merge.specs.NodeMerge.{node_merge_has_key}
-use Rattle.cut_merge.specs.HighBounds.{HighBoundsValue, high_bound_home, high_bound_cell, greatest_high_bound}
-use Rattle.cut_merge.specs.HighBounds.{HighBoundsNoteKey}
-use Rattle.cut_merge.specs.HighBounds.{counted_in_high_bound, HighBoundsNoteEntries, AreHighBoundsOfRuns}
+use Rattle.cut_merge.specs.Run.{RunValue, IsRunOf, interval_of_entry, run_interval, is_monitored}
+use Rattle.cut_merge.specs.Run.{missing_high}
+use Rattle.cut_merge.specs.NodeMerge.{has_key}
+use Rattle.cut_merge.specs.HighBounds.{BoundsValue, bound_home, bound_cell, greatest_bound}
+use Rattle.cut_merge.specs.HighBounds.{NoteKey}
+use Rattle.cut_merge.specs.HighBounds.{counted_in, NoteEntries, AreBoundsOf}
 use Rattle.cut_merge.proofs.TableMergeLemmas.{table_merge_interval_of_run}
 
 -- an entry that is appended is that of its key, if no earlier one is
@@ -41,14 +41,14 @@ high_bound_other_entry_pushed key (f ∷ fs) entry differs =
     ap (λ rest. cond (eqb f.key key) (Some f) rest) (high_bound_other_entry_pushed key fs entry differs)
 
 -- no entry is counted at first
-pub high_bound_notes_none : (table : TableValue) (bounds : HighBoundsValue) → HighBoundsNoteEntries table bounds bounds 0
+pub high_bound_notes_none : (table : TableValue) (bounds : BoundsValue) → NoteEntries table bounds bounds 0
 high_bound_notes_none table bounds = record { missing = refl; raises = λ key. omega arith; noted = λ key. omega arith }
 
 -- and one more entry at the next index
-pub high_bound_notes_more : (table : TableValue) (old now new : HighBoundsValue) (place : ℕ) (entry : Entry)
-    → HighBoundsNoteEntries table old now place → slice_get table.entries place ≡ Some entry
+pub high_bound_notes_more : (table : TableValue) (old now new : BoundsValue) (place : ℕ) (entry : Entry)
+    → NoteEntries table old now place → slice_get table.entries place ≡ Some entry
     → table_entry entry.key (take place table.entries) ≡ None
-    → HighBoundsNoteKey now new entry.key (entry.count - missing_run_high table) → HighBoundsNoteEntries table old new (place + 1)
+    → NoteKey now new entry.key (entry.count - missing_high table) → NoteEntries table old new (place + 1)
 high_bound_notes_more table old now new place entry notes at apart one =
     let within = slice_get_within table.entries place entry at in
     let read : get_or table.entries place entry ≡ entry =
@@ -59,68 +59,68 @@ high_bound_notes_more table old now new place entry notes at apart one =
       missing = one.missing ∙ notes.missing;
       raises = λ key. omega (arith, notes.raises key, one.raises key);
       noted = λ key.
-          subst (λ entries. min greatest_high_bound (high_bound_cell old key + counted_in_high_bound table (table_entry key entries)) ≤ high_bound_cell new key)
+          subst (λ entries. min greatest_bound (bound_cell old key + counted_in table (table_entry key entries)) ≤ bound_cell new key)
           (sym more) (by key (eqb entry.key key) refl);
     }
   where
     by : (key : ℕ) (b : Bool) → eqb entry.key key ≡ b
-        → min greatest_high_bound
-        (high_bound_cell old key + counted_in_high_bound table (table_entry key (take place table.entries ++ entry ∷ [])))
-        ≤ high_bound_cell new key
+        → min greatest_bound
+        (bound_cell old key + counted_in table (table_entry key (take place table.entries ++ entry ∷ [])))
+        ≤ bound_cell new key
     by key true same =
-        subst (λ k. min greatest_high_bound
-        (high_bound_cell old k + counted_in_high_bound table (table_entry k (take place table.entries ++ entry ∷ []))) ≤ high_bound_cell new k)
+        subst (λ k. min greatest_bound
+        (bound_cell old k + counted_in table (table_entry k (take place table.entries ++ entry ∷ []))) ≤ bound_cell new k)
         (eqb-true entry.key key same)
-        (subst (λ found. min greatest_high_bound (high_bound_cell old entry.key + counted_in_high_bound table found) ≤ high_bound_cell new entry.key)
+        (subst (λ found. min greatest_bound (bound_cell old entry.key + counted_in table found) ≤ bound_cell new entry.key)
         (sym (high_bound_entry_pushed entry.key (take place table.entries) entry apart
         (ap (eqb entry.key) (eqb-true entry.key key same) ∙ same)))
         (omega (arith, notes.raises entry.key, one.noted)))
     by key false differs =
-        subst (λ found. min greatest_high_bound (high_bound_cell old key + counted_in_high_bound table found) ≤ high_bound_cell new key)
+        subst (λ found. min greatest_bound (bound_cell old key + counted_in table found) ≤ bound_cell new key)
         (sym (high_bound_other_entry_pushed key (take place table.entries) entry differs))
         (omega (arith, notes.noted key, one.raises key))
 
 -- bounds that are raised still fit
-pub high_bounds_raised : (runs : List RunValue) (old new : HighBoundsValue) → AreHighBoundsOfRuns runs old
-    → old.missing ≤ new.missing → ((key : ℕ) → high_bound_cell old key ≤ high_bound_cell new key) → AreHighBoundsOfRuns runs new
+pub high_bounds_raised : (runs : List RunValue) (old new : BoundsValue) → AreBoundsOf runs old
+    → old.missing ≤ new.missing → ((key : ℕ) → bound_cell old key ≤ bound_cell new key) → AreBoundsOf runs new
 high_bounds_raised runs old new fit missing raises = record {
   highs = λ key. omega (arith, fit.highs key, missing, raises key);
   known = λ key is. omega (arith, fit.known key is, raises key);
 }
 
 -- one more run fits where its table's entries were counted
-pub high_bounds_with_more_runs : (runs : List RunValue) (run : RunValue) (table : TableValue) (old new : HighBoundsValue)
-    → AreHighBoundsOfRuns runs old → IsRunOf run table
-    → ((key : ℕ) → missing_run_high table ≤ (interval_in_table table key).high)
-    → new.missing ≡ min greatest_high_bound (old.missing + missing_run_high table)
-    → ((key : ℕ) → min greatest_high_bound (high_bound_cell old key + counted_in_high_bound table (table_entry key table.entries))
-    ≤ high_bound_cell new key)
-    → AreHighBoundsOfRuns (runs ++ run ∷ []) new
+pub high_bounds_with_more_runs : (runs : List RunValue) (run : RunValue) (table : TableValue) (old new : BoundsValue)
+    → AreBoundsOf runs old → IsRunOf run table
+    → ((key : ℕ) → missing_high table ≤ (interval_in table key).high)
+    → new.missing ≡ min greatest_bound (old.missing + missing_high table)
+    → ((key : ℕ) → min greatest_bound (bound_cell old key + counted_in table (table_entry key table.entries))
+    ≤ bound_cell new key)
+    → AreBoundsOf (runs ++ run ∷ []) new
 high_bounds_with_more_runs runs run table old new fit is above missing noted = record {
   highs = λ key.
       let sum = sum_by_push (λ (r : RunValue). (run_interval r key).high) runs run in
-      let high : (run_interval run key).high ≡ (table_interval_from (table_entry key table.entries) table).high =
+      let high : (run_interval run key).high ≡ (interval_from (table_entry key table.entries) table).high =
       ap (λ (i : TableInterval). i.high) (table_merge_interval_of_run run table key is) in
       high_more key (table_entry key table.entries) (sum_by (λ (r : RunValue). (run_interval r key).high) runs)
       (sum_by (λ (r : RunValue). (run_interval r key).high) (runs ++ run ∷ []))
       (above key) (noted key) (fit.highs key) (sum ∙ ap (λ n. sum_by (λ (r : RunValue). (run_interval r key).high) runs + n) high);
   known = λ key there.
       ⊎_elim
-      (λ (old_is : node_merge_has_key key runs ≡ true).
+      (λ (old_is : has_key key runs ≡ true).
       omega (arith, fit.known key old_is, noted key))
       (λ last.
       some_counted key (table_entry key table.entries)
-      (sym (ap is_some (is.entries key)) ∙ or_last (is_monitored_in_run key run) last) (noted key))
-      (or_cases (node_merge_has_key key runs) (list_any (λ r. is_monitored_in_run key r) (run ∷ []))
-      (sym (list_any-append (λ r. is_monitored_in_run key r) runs (run ∷ [])) ∙ there));
+      (sym (ap is_some (is.entries key)) ∙ or_last (is_monitored key run) last) (noted key))
+      (or_cases (has_key key runs) (list_any (λ r. is_monitored key r) (run ∷ []))
+      (sym (list_any-append (λ r. is_monitored key r) runs (run ∷ [])) ∙ there));
 }
   where
     high_more : (key : ℕ) (found : Option Entry) (before after : ℕ)
-        → missing_run_high table ≤ (table_interval_from found table).high
-        → min greatest_high_bound (high_bound_cell old key + counted_in_high_bound table found) ≤ high_bound_cell new key
-        → min greatest_high_bound before ≤ old.missing + high_bound_cell old key
-        → after ≡ before + (table_interval_from found table).high
-        → min greatest_high_bound after ≤ new.missing + high_bound_cell new key
+        → missing_high table ≤ (interval_from found table).high
+        → min greatest_bound (bound_cell old key + counted_in table found) ≤ bound_cell new key
+        → min greatest_bound before ≤ old.missing + bound_cell old key
+        → after ≡ before + (interval_from found table).high
+        → min greatest_bound after ≤ new.missing + bound_cell new key
     high_more key None before after above_missing counted bound is_after =
         omega (arith, counted, bound, is_after, missing)
     high_more key (Some entry) before after above_missing counted bound is_after =
@@ -130,34 +130,34 @@ high_bounds_with_more_runs runs run table old new fit is above missing noted = r
     or_last true is_true = refl
     or_last false is_true = is_true
 
-    some_counted : (key : ℕ) (found : Option Entry) → is_some (option_map run_interval_of_entry found) ≡ true
-        → min greatest_high_bound (high_bound_cell old key + counted_in_high_bound table found) ≤ high_bound_cell new key → 0 < high_bound_cell new key
+    some_counted : (key : ℕ) (found : Option Entry) → is_some (option_map interval_of_entry found) ≡ true
+        → min greatest_bound (bound_cell old key + counted_in table found) ≤ bound_cell new key → 0 < bound_cell new key
     some_counted key None none counted = absurd (false≢true none)
     some_counted key (Some entry) some counted = omega (arith, counted)
 
 -- one cell is raised, and so is the bound of each key whose home it is
-pub high_bound_cell_raised : (cells : List ℕ) (key excess raised : ℕ) (missing : ℕ) → high_bound_home key < length cells
-    → ((other : ℕ) → get_or cells (high_bound_home other) 0 ≤ greatest_high_bound)
-    → raised ≡ min greatest_high_bound (get_or cells (high_bound_home key) 0 + excess + 1)
-    → HighBoundsNoteKey (record { cells = cells; missing = missing })
-    (record { cells = set cells (high_bound_home key) raised; missing = missing }) key excess
+pub high_bound_cell_raised : (cells : List ℕ) (key excess raised : ℕ) (missing : ℕ) → bound_home key < length cells
+    → ((other : ℕ) → get_or cells (bound_home other) 0 ≤ greatest_bound)
+    → raised ≡ min greatest_bound (get_or cells (bound_home key) 0 + excess + 1)
+    → NoteKey (record { cells = cells; missing = missing })
+    (record { cells = set cells (bound_home key) raised; missing = missing }) key excess
 high_bound_cell_raised cells key excess raised missing within bounded is = record {
   missing = refl;
   raises = λ other.
       ⊎_elim
-      (λ (same : high_bound_home other ≡ high_bound_home key).
-      let now : get_or (set cells (high_bound_home key) raised) (high_bound_home other) 0 ≡ raised =
-      ap (λ h. get_or (set cells (high_bound_home key) raised) h 0) same
-      ∙ get_or-set_same cells (high_bound_home key) raised 0 within in
-      let here : get_or cells (high_bound_home other) 0 ≡ get_or cells (high_bound_home key) 0 = ap (λ h. get_or cells h 0) same in
+      (λ (same : bound_home other ≡ bound_home key).
+      let now : get_or (set cells (bound_home key) raised) (bound_home other) 0 ≡ raised =
+      ap (λ h. get_or (set cells (bound_home key) raised) h 0) same
+      ∙ get_or-set_same cells (bound_home key) raised 0 within in
+      let here : get_or cells (bound_home other) 0 ≡ get_or cells (bound_home key) 0 = ap (λ h. get_or cells h 0) same in
       omega (arith, now, is, here, bounded other))
       (λ differs.
-      let stays : get_or (set cells (high_bound_home key) raised) (high_bound_home other) 0 ≡ get_or cells (high_bound_home other) 0 =
-      get_or-set_other cells (high_bound_home key) (high_bound_home other) raised 0 differs in
+      let stays : get_or (set cells (bound_home key) raised) (bound_home other) 0 ≡ get_or cells (bound_home other) 0 =
+      get_or-set_other cells (bound_home key) (bound_home other) raised 0 differs in
       omega (arith, stays))
-      (cases_eq (high_bound_home other) (high_bound_home key));
+      (cases_eq (bound_home other) (bound_home key));
   noted =
-      let now : get_or (set cells (high_bound_home key) raised) (high_bound_home key) 0 ≡ raised =
-      get_or-set_same cells (high_bound_home key) raised 0 within in
+      let now : get_or (set cells (bound_home key) raised) (bound_home key) 0 ≡ raised =
+      get_or-set_same cells (bound_home key) raised 0 within in
       omega (arith, now, is);
 }

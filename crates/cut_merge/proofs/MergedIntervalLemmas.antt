@@ -11,16 +11,16 @@ use Rattle.prefix_lattice.specs.{RecordValue, NodeValue, IsNode, PrefixValue, Is
 use Rattle.prefix_lattice.specs.{prefix_key}
 use Rattle.prefix_lattice.specs.{prefix_weight}
 use Rattle.space_saving.specs.declared.entry.Entry.{Entry}
-use Rattle.space_saving.specs.{TableValue, table_entry, interval_in_table, table_interval_from, table_total, IsTable}
-use Rattle.shard_state.specs.{SnapshotValue, IsSnapshot, snapshot_table_at, snapshot_total, SnapshotRepresents}
+use Rattle.space_saving.specs.{TableValue, table_entry, interval_in, interval_from, table_total, IsTable}
+use Rattle.shard_state.specs.{SnapshotValue, IsSnapshot, table_at, snapshot_total, SnapshotRepresents}
 use Rattle.shard_state.specs.{CutValue, IsCut}
-use Rattle.hhh_report.specs.{records_before_cut}
-use Rattle.shard_state.specs.{cut_positions, total_of_cut, CutRepresents, NarrowIntervalHoldsWeight}
-use Rattle.shard_state.specs.{weight_interval_of}
-use Rattle.cut_merge.specs.CutTables.{interval_over_tables, keys_of_table}
-use Rattle.cut_merge.specs.CutTables.{cut_tables_at, interval_in_cut, keys_monitored_in_cut, IsTableIntervalWithinTotal}
+use Rattle.hhh_report.specs.{records_before}
+use Rattle.shard_state.specs.{cut_positions, total_of_cut, CutRepresents, HoldsNarrowly}
+use Rattle.shard_state.specs.{interval_of}
+use Rattle.cut_merge.specs.KeyInterval.{interval_over, keys_of}
+use Rattle.cut_merge.specs.KeyInterval.{tables_at, interval_in_cut, monitored_in_cut, FitsTotal}
 use Rattle.prefix_lattice.proofs.ListLemmas.{Contains-list_head, Contains-list_tail}
-use Rattle.cut_merge.proofs.FirstSeenLemmas.{table_keys_first_seen-contains}
+use Rattle.cut_merge.proofs.FirstSeenLemmas.{first_seen-contains}
 use Rattle.cut_merge.proofs.TableMergeLemmas.{TableMergeIsBounded, table_merge_is_bounded}
 use Rattle.cut_merge.proofs.CutTableLemmas.{CutTablesAreBounded, cut_tables_count_total}
 
@@ -36,7 +36,7 @@ pub record MergedIntervalSnapshotsHold : Type 0 where
   pub weight : (snapshot : SnapshotValue) (list : List RecordValue) (prefix : PrefixValue)
       → SnapshotRepresents snapshot list → 1 ≤ snapshot.capacity
       → IsPrefix prefix → All (λ (rec : RecordValue). 1 ≤ rec.weight) list
-      → NarrowIntervalHoldsWeight (weight_interval_of prefix snapshot) snapshot.capacity (prefix_weight prefix (take snapshot.position list))
+      → HoldsNarrowly (interval_of prefix snapshot) snapshot.capacity (prefix_weight prefix (take snapshot.position list))
       (snapshot_total snapshot)
 
 -- each record has a weight
@@ -48,8 +48,8 @@ merged_interval_over_shards : MergedIntervalSnapshotsHold → (capacity : ℕ) (
     → (shards : List SnapshotValue) (lists : List (List RecordValue))
     → All (λ (s : SnapshotValue). s.capacity ≡ capacity) shards → AllZip SnapshotRepresents shards lists
     → All MergedIntervalIsWeighed lists
-    → NarrowIntervalHoldsWeight (interval_over_tables (map (snapshot_table_at (node_of_prefix prefix)) shards) (prefix_key prefix)) capacity
-    (prefix_weight prefix (records_before_cut lists (map (λ (s : SnapshotValue). s.position) shards))) (sum_by snapshot_total shards)
+    → HoldsNarrowly (interval_over (map (table_at (node_of_prefix prefix)) shards) (prefix_key prefix)) capacity
+    (prefix_weight prefix (records_before lists (map (λ (s : SnapshotValue). s.position) shards))) (sum_by snapshot_total shards)
 merged_interval_over_shards law capacity prefix some is_prefix [] [] alike stand weighed = record {
   holds = record { low = omega arith; high = omega arith };
   narrow = omega arith;
@@ -58,43 +58,43 @@ merged_interval_over_shards law capacity prefix some is_prefix [] (list ∷ list
 merged_interval_over_shards law capacity prefix some is_prefix (shard ∷ shards) [] alike stand weighed = absurd stand
 merged_interval_over_shards law capacity prefix some is_prefix (shard ∷ shards) (list ∷ lists) alike stand weighed =
     let same : shard.capacity ≡ capacity = All-head (λ (s : SnapshotValue). s.capacity ≡ capacity) shard shards alike in
-    let first : NarrowIntervalHoldsWeight (weight_interval_of prefix shard) capacity (prefix_weight prefix (take shard.position list))
+    let first : HoldsNarrowly (interval_of prefix shard) capacity (prefix_weight prefix (take shard.position list))
     (snapshot_total shard) =
     subst (λ m.
-    NarrowIntervalHoldsWeight (weight_interval_of prefix shard) m (prefix_weight prefix (take shard.position list)) (snapshot_total shard))
+    HoldsNarrowly (interval_of prefix shard) m (prefix_weight prefix (take shard.position list)) (snapshot_total shard))
     same
     (law.weight shard list prefix stand.0 (omega (arith, same)) is_prefix (All-head MergedIntervalIsWeighed list lists weighed)) in
     let rest =
     merged_interval_over_shards law capacity prefix some is_prefix shards lists
     (All-tail (λ (s : SnapshotValue). s.capacity ≡ capacity) shard shards alike) stand.1
     (All-tail MergedIntervalIsWeighed list lists weighed) in
-    let tables = map (snapshot_table_at (node_of_prefix prefix)) shards in
-    let table = snapshot_table_at (node_of_prefix prefix) shard in
+    let tables = map (table_at (node_of_prefix prefix)) shards in
+    let table = table_at (node_of_prefix prefix) shard in
     let key = prefix_key prefix in
-    let low = sum_by-cons (λ (t : TableValue). (interval_in_table t key).low) table tables in
-    let high = sum_by-cons (λ (t : TableValue). (interval_in_table t key).high) table tables in
+    let low = sum_by-cons (λ (t : TableValue). (interval_in t key).low) table tables in
+    let high = sum_by-cons (λ (t : TableValue). (interval_in t key).high) table tables in
     let total = sum_by-cons snapshot_total shard shards in
     let weight =
     merged_interval_weights_append prefix (take shard.position list)
-    (records_before_cut lists (map (λ (s : SnapshotValue). s.position) shards)) in
-    let least : (interval_over_tables (table ∷ tables) key).low
+    (records_before lists (map (λ (s : SnapshotValue). s.position) shards)) in
+    let least : (interval_over (table ∷ tables) key).low
     ≤ prefix_weight prefix
-    (take shard.position list ++ records_before_cut lists (map (λ (s : SnapshotValue). s.position) shards)) =
+    (take shard.position list ++ records_before lists (map (λ (s : SnapshotValue). s.position) shards)) =
     omega (arith, low, weight, first.holds.low, rest.holds.low) in
     let most : prefix_weight prefix
-    (take shard.position list ++ records_before_cut lists (map (λ (s : SnapshotValue). s.position) shards))
-    ≤ (interval_over_tables (table ∷ tables) key).high =
+    (take shard.position list ++ records_before lists (map (λ (s : SnapshotValue). s.position) shards))
+    ≤ (interval_over (table ∷ tables) key).high =
     omega (arith, high, weight, first.holds.high, rest.holds.high) in
-    let first_ordered : (weight_interval_of prefix shard).low ≤ (weight_interval_of prefix shard).high =
+    let first_ordered : (interval_of prefix shard).low ≤ (interval_of prefix shard).high =
     omega (arith, first.holds.low, first.holds.high) in
-    let rest_ordered : (interval_over_tables tables key).low ≤ (interval_over_tables tables key).high =
+    let rest_ordered : (interval_over tables key).low ≤ (interval_over tables key).high =
     omega (arith, rest.holds.low, rest.holds.high) in
     record {
       holds = record { low = least; high = most };
       narrow =
-          let apart : (interval_over_tables (table ∷ tables) key).high - (interval_over_tables (table ∷ tables) key).low
-          ≡ ((weight_interval_of prefix shard).high - (weight_interval_of prefix shard).low)
-          + ((interval_over_tables tables key).high - (interval_over_tables tables key).low) =
+          let apart : (interval_over (table ∷ tables) key).high - (interval_over (table ∷ tables) key).low
+          ≡ ((interval_of prefix shard).high - (interval_of prefix shard).low)
+          + ((interval_over tables key).high - (interval_over tables key).low) =
           omega (arith, low, high, first_ordered, rest_ordered) in
           subst (λ n. n * capacity ≤ sum_by snapshot_total (shard ∷ shards)) (sym apart)
           (omega (
@@ -102,16 +102,16 @@ merged_interval_over_shards law capacity prefix some is_prefix (shard ∷ shards
             total,
             first.narrow,
             rest.narrow,
-            add-mul ((weight_interval_of prefix shard).high - (weight_interval_of prefix shard).low)
-                ((interval_over_tables tables key).high - (interval_over_tables tables key).low) capacity,
+            add-mul ((interval_of prefix shard).high - (interval_of prefix shard).low)
+                ((interval_over tables key).high - (interval_over tables key).low) capacity,
           ));
     }
 
 -- if a cut represents lists, the merged interval of each prefix holds its weight
 pub merged_interval_holds : MergedIntervalSnapshotsHold → (cut : CutValue) (lists : List (List RecordValue)) (prefix : PrefixValue)
     → IsCut cut → CutRepresents cut lists → All MergedIntervalIsWeighed lists → IsPrefix prefix
-    → NarrowIntervalHoldsWeight (interval_in_cut cut prefix) cut.capacity
-    (prefix_weight prefix (records_before_cut lists (cut_positions cut)))
+    → HoldsNarrowly (interval_in_cut cut prefix) cut.capacity
+    (prefix_weight prefix (records_before lists (cut_positions cut)))
     (total_of_cut cut)
 merged_interval_holds law cut lists prefix kept stands weighed is_prefix =
     merged_interval_over_shards law cut.capacity prefix (omega (arith, kept.least)) is_prefix cut.shards lists kept.alike
@@ -136,63 +136,63 @@ merged_interval_missing_entry (entry ∷ entries) key missing =
 -- in every table an interval is at most as wide as what the table counted divided by its capacity
 abbrev pub IntervalsMergedAreNarrow : Type 0
 IntervalsMergedAreNarrow = (capacity : ℕ) (entries : List Entry) (key : ℕ) → IsTable capacity entries
-    → ((interval_in_table (record { capacity = capacity; entries = entries }) key).high
-    - (interval_in_table (record { capacity = capacity; entries = entries }) key).low) * capacity ≤ table_total entries
+    → ((interval_in (record { capacity = capacity; entries = entries }) key).high
+    - (interval_in (record { capacity = capacity; entries = entries }) key).low) * capacity ≤ table_total entries
 
 -- so the highs of a key that no shard monitors are light together
 merged_interval_light_by_shard : IntervalsMergedAreNarrow → (capacity : ℕ) (node : NodeValue) (key : ℕ) → IsNode node
     → (shards : List SnapshotValue)
     → All (λ (s : SnapshotValue). s.capacity ≡ capacity) shards → All IsSnapshot shards
-    → ¬ Contains (flat_map keys_of_table (map (snapshot_table_at node) shards)) key
-    → (interval_over_tables (map (snapshot_table_at node) shards) key).high * capacity ≤ sum_by snapshot_total shards
+    → ¬ Contains (flat_map keys_of (map (table_at node) shards)) key
+    → (interval_over (map (table_at node) shards) key).high * capacity ≤ sum_by snapshot_total shards
 merged_interval_light_by_shard law capacity node key is_node [] alike kept missing = omega arith
 merged_interval_light_by_shard law capacity node key is_node (shard ∷ shards) alike kept missing =
-    let table = snapshot_table_at node shard in
-    let tables = map (snapshot_table_at node) shards in
+    let table = table_at node shard in
+    let tables = map (table_at node) shards in
     let same : shard.capacity ≡ capacity = All-head (λ (s : SnapshotValue). s.capacity ≡ capacity) shard shards alike in
     let of_shard = (All-head IsSnapshot shard shards kept).tables node is_node in
     let none : table_entry key table.entries ≡ None =
     merged_interval_missing_entry table.entries key
-    (λ there. missing (Contains-append_left (keys_of_table table) (flat_map keys_of_table tables) key there)) in
-    let low : (interval_in_table table key).low ≡ 0 = ap (λ found. (table_interval_from found table).low) none in
+    (λ there. missing (Contains-append_left (keys_of table) (flat_map keys_of tables) key there)) in
+    let low : (interval_in table key).low ≡ 0 = ap (λ found. (interval_from found table).low) none in
     let narrow = law shard.capacity table.entries key of_shard.are_entries.is_table in
-    let width : (interval_in_table table key).high - (interval_in_table table key).low ≡ (interval_in_table table key).high =
+    let width : (interval_in table key).high - (interval_in table key).low ≡ (interval_in table key).high =
     omega (arith, low) in
-    let first : (interval_in_table table key).high * capacity ≤ snapshot_total shard =
-    subst (λ m. (interval_in_table table key).high * m ≤ snapshot_total shard) same
+    let first : (interval_in table key).high * capacity ≤ snapshot_total shard =
+    subst (λ m. (interval_in table key).high * m ≤ snapshot_total shard) same
     (subst (λ n. n * shard.capacity ≤ snapshot_total shard) width
-    (subst (λ n. ((interval_in_table table key).high - (interval_in_table table key).low) * shard.capacity ≤ n)
+    (subst (λ n. ((interval_in table key).high - (interval_in table key).low) * shard.capacity ≤ n)
     of_shard.counted narrow)) in
     let rest = merged_interval_light_by_shard law capacity node key is_node shards
     (All-tail (λ (s : SnapshotValue). s.capacity ≡ capacity) shard shards alike)
     (All-tail IsSnapshot shard shards kept)
-    (λ there. missing (Contains-append_right (keys_of_table table) (flat_map keys_of_table tables) key there)) in
-    let high = sum_by-cons (λ (t : TableValue). (interval_in_table t key).high) table tables in
+    (λ there. missing (Contains-append_right (keys_of table) (flat_map keys_of tables) key there)) in
+    let high = sum_by-cons (λ (t : TableValue). (interval_in t key).high) table tables in
     subst (λ n. n * capacity ≤ sum_by snapshot_total (shard ∷ shards)) (sym high)
     (omega (
       arith,
       first,
       rest,
       sum_by-cons snapshot_total shard shards,
-      add-mul (interval_in_table table key).high (interval_over_tables tables key).high capacity,
+      add-mul (interval_in table key).high (interval_over tables key).high capacity,
     ))
 
 -- a prefix that no shard monitors has a light merged interval
 pub merged_interval_is_light : IntervalsMergedAreNarrow → (cut : CutValue) (prefix : PrefixValue) → IsCut cut → IsPrefix prefix
-    → ¬ Contains (keys_monitored_in_cut cut (node_of_prefix prefix)) (prefix_key prefix)
+    → ¬ Contains (monitored_in_cut cut (node_of_prefix prefix)) (prefix_key prefix)
     → (interval_in_cut cut prefix).high * cut.capacity ≤ total_of_cut cut
 merged_interval_is_light law cut prefix kept is_prefix missing =
     merged_interval_light_by_shard law cut.capacity (node_of_prefix prefix) (prefix_key prefix)
     (record { source = is_prefix.source.few; dest = is_prefix.dest.few }) cut.shards kept.alike kept.kept
     (λ there.
-    missing (table_keys_first_seen-contains (flat_map keys_of_table (cut_tables_at (node_of_prefix prefix) cut)) (prefix_key prefix) there))
+    missing (first_seen-contains (flat_map keys_of (tables_at (node_of_prefix prefix) cut)) (prefix_key prefix) there))
 
 -- and every merged interval is within the total
 pub merged_interval_within_total : CutTablesAreBounded → (cut : CutValue) (prefix : PrefixValue) → IsCut cut → IsPrefix prefix
-    → IsTableIntervalWithinTotal (total_of_cut cut) (interval_in_cut cut prefix)
+    → FitsTotal (total_of_cut cut) (interval_in_cut cut prefix)
 merged_interval_within_total law cut prefix kept is_prefix =
     let is_node : IsNode (node_of_prefix prefix) = record { source = is_prefix.source.few; dest = is_prefix.dest.few } in
-    let tables = cut_tables_at (node_of_prefix prefix) cut in
+    let tables = tables_at (node_of_prefix prefix) cut in
     let bounded : TableMergeIsBounded tables (prefix_key prefix) =
     table_merge_is_bounded tables (prefix_key prefix) (law cut (node_of_prefix prefix) (prefix_key prefix) kept is_node) in
     record {

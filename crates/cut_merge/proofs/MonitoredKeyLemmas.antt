@@ -5,38 +5,38 @@ use Rattle.std.proofs.lemmas.List.Elements.{All-nil, All-head, All-tail, All-app
 use Rattle.std.specs.List.{flat_map}
 use Rattle.prefix_lattice.specs.{NodeValue, IsNode, IsPrefixKey}
 use Rattle.space_saving.specs.declared.entry.Entry.{Entry}
-use Rattle.shard_state.specs.{SnapshotValue, IsSnapshot, snapshot_table_at, CutValue, IsCut}
-use Rattle.cut_merge.specs.CutTables.{keys_of_table}
-use Rattle.cut_merge.specs.CutTables.{cut_tables_at, keys_monitored_in_cut}
-use Rattle.cut_merge.proofs.FirstSeenLemmas.{table_keys_first_seen-all, table_keys_first_seen-length}
+use Rattle.shard_state.specs.{SnapshotValue, IsSnapshot, table_at, CutValue, IsCut}
+use Rattle.cut_merge.specs.KeyInterval.{keys_of}
+use Rattle.cut_merge.specs.KeyInterval.{tables_at, monitored_in_cut}
+use Rattle.cut_merge.proofs.FirstSeenLemmas.{first_seen-all, first_seen-length}
 
 -- the keys of all entries at a node, over shards and indices
 abbrev pub all_monitored_keys : CutValue → NodeValue → List ℕ
-all_monitored_keys cut node = flat_map keys_of_table (cut_tables_at node cut)
+all_monitored_keys cut node = flat_map keys_of (tables_at node cut)
 
 -- each table has keys of its node
 monitored_keys_fit_node : (node : NodeValue) → IsNode node → (shards : List SnapshotValue) → All IsSnapshot shards
-    → All (IsPrefixKey node) (flat_map keys_of_table (map (snapshot_table_at node) shards))
+    → All (IsPrefixKey node) (flat_map keys_of (map (table_at node) shards))
 monitored_keys_fit_node node is_node [] kept = All-nil (IsPrefixKey node)
 monitored_keys_fit_node node is_node (shard ∷ shards) kept =
-    All-append (IsPrefixKey node) (keys_of_table (snapshot_table_at node shard)) (flat_map keys_of_table (map (snapshot_table_at node) shards))
-    (All-map (IsPrefixKey node) (λ (e : Entry). e.key) (snapshot_table_at node shard).entries
+    All-append (IsPrefixKey node) (keys_of (table_at node shard)) (flat_map keys_of (map (table_at node) shards))
+    (All-map (IsPrefixKey node) (λ (e : Entry). e.key) (table_at node shard).entries
     ((All-head IsSnapshot shard shards kept).tables node is_node).keyed)
     (monitored_keys_fit_node node is_node shards (All-tail IsSnapshot shard shards kept))
 
 -- they are keys of the node
 pub monitored_keyed : (cut : CutValue) (node : NodeValue) → IsCut cut → IsNode node
-    → All (IsPrefixKey node) (keys_monitored_in_cut cut node)
+    → All (IsPrefixKey node) (monitored_in_cut cut node)
 monitored_keyed cut node kept is_node =
-    table_keys_first_seen-all (IsPrefixKey node) (all_monitored_keys cut node) (monitored_keys_fit_node node is_node cut.shards kept.kept)
+    first_seen-all (IsPrefixKey node) (all_monitored_keys cut node) (monitored_keys_fit_node node is_node cut.shards kept.kept)
 
 -- each table has at most as many entries as its capacity says
 monitored_keys_few_in_shards : (node : NodeValue) (capacity : ℕ) → IsNode node → (shards : List SnapshotValue)
     → All (λ (s : SnapshotValue). s.capacity ≡ capacity) shards → All IsSnapshot shards
-    → length (flat_map keys_of_table (map (snapshot_table_at node) shards)) ≤ length shards * capacity
+    → length (flat_map keys_of (map (table_at node) shards)) ≤ length shards * capacity
 monitored_keys_few_in_shards node capacity is_node [] alike kept = omega arith
 monitored_keys_few_in_shards node capacity is_node (shard ∷ shards) alike kept =
-    let table = snapshot_table_at node shard in
+    let table = table_at node shard in
     let same : shard.capacity ≡ capacity = All-head (λ (s : SnapshotValue). s.capacity ≡ capacity) shard shards alike in
     let fits = (((All-head IsSnapshot shard shards kept).tables node is_node).are_entries).is_table.fits in
     let first : length table.entries ≤ capacity = subst (λ m. length table.entries ≤ m) same fits in
@@ -48,17 +48,17 @@ monitored_keys_few_in_shards node capacity is_node (shard ∷ shards) alike kept
       arith,
       first,
       rest,
-      length-append (keys_of_table table) (flat_map keys_of_table (map (snapshot_table_at node) shards)),
+      length-append (keys_of table) (flat_map keys_of (map (table_at node) shards)),
       length-map table.entries (λ (e : Entry). e.key),
       add-mul 1 (length shards) capacity,
     )
 
 -- and no more of them than the tables have entries
 pub monitored_few : (cut : CutValue) (node : NodeValue) → IsCut cut → IsNode node
-    → length (keys_monitored_in_cut cut node) ≤ length cut.shards * cut.capacity
+    → length (monitored_in_cut cut node) ≤ length cut.shards * cut.capacity
 monitored_few cut node kept is_node =
     omega (
       arith,
-      table_keys_first_seen-length (all_monitored_keys cut node),
+      first_seen-length (all_monitored_keys cut node),
       monitored_keys_few_in_shards node cut.capacity is_node cut.shards kept.alike kept.kept,
     )

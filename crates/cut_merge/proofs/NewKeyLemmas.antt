@@ -7,8 +7,8 @@ use Rattle.std.proofs.lemmas.List.Sums.{fold_push}
 use Rattle.std.proofs.lemmas.Option.{get_or_from_slice_get, slice_get_within}
 use Rattle.space_saving.specs.{table_entry}
 use Rattle.space_saving.specs.declared.entry.Entry.{Entry}
-use Rattle.cut_merge.specs.Merged.{merged_keys_seen}
-use Rattle.cut_merge.proofs.FirstSeenLemmas.{table_keys_first_seen-any_after_others}
+use Rattle.cut_merge.specs.Merged.{keys_seen}
+use Rattle.cut_merge.proofs.FirstSeenLemmas.{first_seen-any_after_others}
 use Rattle.cut_merge.proofs.TableMergeLemmas.{table_merge_entry_among_keys}
 
 -- the keys of these entries
@@ -17,10 +17,10 @@ possible_new_keys entries = map (λ (e : Entry). e.key) entries
 
 -- one more entry, whose key no earlier entry has: it is new where it was before the table
 pub new_keys_after_entry : (entries : List Entry) (before now : List ℕ) (place : ℕ) (entry : Entry) (monitored : Bool)
-    → now ≡ fold merged_keys_seen before (possible_new_keys (take place entries))
+    → now ≡ fold keys_seen before (possible_new_keys (take place entries))
     → slice_get entries place ≡ Some entry → table_entry entry.key (take place entries) ≡ None
     → list_any (λ other. eqb entry.key other) before ≡ monitored
-    → (if monitored then now else now ++ entry.key ∷ []) ≡ fold merged_keys_seen before (possible_new_keys (take (place + 1) entries))
+    → (if monitored then now else now ++ entry.key ∷ []) ≡ fold keys_seen before (possible_new_keys (take (place + 1) entries))
 new_keys_after_entry entries before now place entry monitored so_far at apart known =
     let within = slice_get_within entries place entry at in
     let read : get_or entries place entry ≡ entry = get_or_from_slice_get entries place entry entry at in
@@ -32,8 +32,8 @@ new_keys_after_entry entries before now place entry monitored so_far at apart kn
     sym (table_merge_entry_among_keys entry.key (take place entries)) ∙ ap is_some apart in
     let same : list_any (λ other. eqb entry.key other) now ≡ monitored =
     ap (list_any (λ other. eqb entry.key other)) so_far
-    ∙ table_keys_first_seen-any_after_others entry.key before (possible_new_keys (take place entries)) new ∙ known in
+    ∙ first_seen-any_after_others entry.key before (possible_new_keys (take place entries)) new ∙ known in
     ap (λ b. if b then now else now ++ entry.key ∷ []) (sym same)
-    ∙ ap (λ keys. merged_keys_seen keys entry.key) so_far
-    ∙ sym (fold_push merged_keys_seen before (possible_new_keys (take place entries)) entry.key)
-    ∙ ap (fold merged_keys_seen before) (sym more)
+    ∙ ap (λ keys. keys_seen keys entry.key) so_far
+    ∙ sym (fold_push keys_seen before (possible_new_keys (take place entries)) entry.key)
+    ∙ ap (fold keys_seen before) (sym more)

@@ -16,10 +16,10 @@ use Rattle.std.proofs.lemmas.List.Elements.{Contains-get_or}
 use Rattle.std.proofs.lemmas.List.Sorted.{Contains-permutation, IsPermutation-sym}
 use Rattle.prefix_lattice.proofs.ListLemmas.{Contains-list_head, Contains-list_tail, Contains-list_cons}
 use Rattle.prefix_lattice.proofs.ListLemmas.{Contains-empty_list}
-use Rattle.space_saving.specs.{table_entry, AreApartInTable}
+use Rattle.space_saving.specs.{table_entry, KeysApart}
 use Rattle.space_saving.specs.declared.entry.Entry.{Entry}
 use Rattle.cut_merge.specs.declared.key_interval.KeyInterval.{KeyInterval}
-use Rattle.cut_merge.specs.Run.{IsRun, run_interval_of_entry}
+use Rattle.cut_merge.specs.Run.{IsRun, interval_of_entry}
 
 -- whether an interval has this key
 abbrev pub run_has_key : ℕ → KeyInterval → Bool
@@ -123,7 +123,7 @@ run_search_misses intervals key place is_run parts =
         (cases at)
 
 -- an entry that is in a table is the entry of its key
-run_entry_is_its_own : (entries : List Entry) (entry : Entry) → AreApartInTable entries → Contains entries entry
+run_entry_is_its_own : (entries : List Entry) (entry : Entry) → KeysApart entries → Contains entries entry
     → table_entry entry.key entries ≡ Some entry
 run_entry_is_its_own [] entry apart there = absurd (Contains-empty_list entry there)
 run_entry_is_its_own (f ∷ fs) entry apart there =
@@ -157,96 +157,96 @@ run_entry_is_found (f ∷ fs) key entry is =
 
 -- the interval of an entry is among those of all entries
 run_interval_is_listed : (entries : List Entry) (entry : Entry) → Contains entries entry
-    → Contains (map run_interval_of_entry entries) (run_interval_of_entry entry)
+    → Contains (map interval_of_entry entries) (interval_of_entry entry)
 run_interval_is_listed [] entry there = absurd (Contains-empty_list entry there)
 run_interval_is_listed (f ∷ fs) entry there =
     by (Contains-list_cons f fs entry there) (λ later. run_interval_is_listed fs entry later)
   where
     by : (f ≡ entry) ⊎ Contains fs entry
-        → (Contains fs entry → Contains (map run_interval_of_entry fs) (run_interval_of_entry entry))
-        → Contains (run_interval_of_entry f ∷ map run_interval_of_entry fs) (run_interval_of_entry entry)
+        → (Contains fs entry → Contains (map interval_of_entry fs) (interval_of_entry entry))
+        → Contains (interval_of_entry f ∷ map interval_of_entry fs) (interval_of_entry entry)
     by (inl one) rest =
-        subst (Contains (run_interval_of_entry f ∷ map run_interval_of_entry fs)) (ap run_interval_of_entry one)
-        (Contains-list_head (run_interval_of_entry f) (map run_interval_of_entry fs))
+        subst (Contains (interval_of_entry f ∷ map interval_of_entry fs)) (ap interval_of_entry one)
+        (Contains-list_head (interval_of_entry f) (map interval_of_entry fs))
     by (inr later) rest =
-        Contains-list_tail (run_interval_of_entry f) (map run_interval_of_entry fs) (run_interval_of_entry entry) (rest later)
+        Contains-list_tail (interval_of_entry f) (map interval_of_entry fs) (interval_of_entry entry) (rest later)
 
 -- and each of these is the interval of an entry
-run_interval_has_source : (entries : List Entry) (interval : KeyInterval) → Contains (map run_interval_of_entry entries) interval
-    → (entry : Entry) × (Contains entries entry) × (run_interval_of_entry entry ≡ interval)
+run_interval_has_source : (entries : List Entry) (interval : KeyInterval) → Contains (map interval_of_entry entries) interval
+    → (entry : Entry) × (Contains entries entry) × (interval_of_entry entry ≡ interval)
 run_interval_has_source [] interval there = absurd (Contains-empty_list interval there)
 run_interval_has_source (f ∷ fs) interval there =
-    by (Contains-list_cons (run_interval_of_entry f) (map run_interval_of_entry fs) interval there)
+    by (Contains-list_cons (interval_of_entry f) (map interval_of_entry fs) interval there)
     (λ later. run_interval_has_source fs interval later)
   where
-    by : (run_interval_of_entry f ≡ interval) ⊎ Contains (map run_interval_of_entry fs) interval
-        → (Contains (map run_interval_of_entry fs) interval
-        → (entry : Entry) × (Contains fs entry) × (run_interval_of_entry entry ≡ interval))
-        → (entry : Entry) × (Contains (f ∷ fs) entry) × (run_interval_of_entry entry ≡ interval)
+    by : (interval_of_entry f ≡ interval) ⊎ Contains (map interval_of_entry fs) interval
+        → (Contains (map interval_of_entry fs) interval
+        → (entry : Entry) × (Contains fs entry) × (interval_of_entry entry ≡ interval))
+        → (entry : Entry) × (Contains (f ∷ fs) entry) × (interval_of_entry entry ≡ interval)
     by (inl one) rest = (f, Contains-list_head f fs, one)
     by (inr later) rest =
         let found = rest later in (found.0, Contains-list_tail f fs found.0 found.1, found.2)
 
 -- sorted, the intervals of a table's entries are a run
-pub sorted_entries_are_run : (entries : List Entry) (sorted : List KeyInterval) → AreApartInTable entries
-    → IsPermutation (map run_interval_of_entry entries) sorted
+pub sorted_entries_are_run : (entries : List Entry) (sorted : List KeyInterval) → KeysApart entries
+    → IsPermutation (map interval_of_entry entries) sorted
     → IsNonDecreasingBy (λ (i : KeyInterval). i.key) sorted → IsRun sorted
 sorted_entries_are_run entries sorted apart moved rising = record {
   rising = rising;
   single = λ interval other there among same.
-      let back = IsPermutation-sym (map run_interval_of_entry entries) sorted moved in
+      let back = IsPermutation-sym (map interval_of_entry entries) sorted moved in
       let one =
       run_interval_has_source entries interval
-      (Contains-permutation sorted (map run_interval_of_entry entries) interval back there) in
+      (Contains-permutation sorted (map interval_of_entry entries) interval back there) in
       let two =
-      run_interval_has_source entries other (Contains-permutation sorted (map run_interval_of_entry entries) other back among) in
+      run_interval_has_source entries other (Contains-permutation sorted (map interval_of_entry entries) other back among) in
       let keys : one.0.key ≡ two.0.key =
       ap (λ (i : KeyInterval). i.key) one.2 ∙ same ∙ sym (ap (λ (i : KeyInterval). i.key) two.2) in
       let entry : one.0 ≡ two.0 =
       some_in_run_is_injective one.0 two.0
       (sym (run_entry_is_its_own entries one.0 apart one.1) ∙ ap (λ key. table_entry key entries) keys
       ∙ run_entry_is_its_own entries two.0 apart two.1) in
-      sym one.2 ∙ ap run_interval_of_entry entry ∙ two.2;
+      sym one.2 ∙ ap interval_of_entry entry ∙ two.2;
 }
 
 -- and give each key the interval of its entry
-pub sorted_run_entry : (entries : List Entry) (sorted : List KeyInterval) (key : ℕ) → AreApartInTable entries
-    → IsPermutation (map run_interval_of_entry entries) sorted
-    → find (run_has_key key) sorted ≡ option_map run_interval_of_entry (table_entry key entries)
+pub sorted_run_entry : (entries : List Entry) (sorted : List KeyInterval) (key : ℕ) → KeysApart entries
+    → IsPermutation (map interval_of_entry entries) sorted
+    → find (run_has_key key) sorted ≡ option_map interval_of_entry (table_entry key entries)
 sorted_run_entry entries sorted key apart moved =
     by (find (run_has_key key) sorted) refl
   where
     missed : find (run_has_key key) sorted ≡ None → (found : Option Entry) → table_entry key entries ≡ found
-        → None ≡ option_map run_interval_of_entry found
+        → None ≡ option_map interval_of_entry found
     missed is None _ = refl
     missed is (Some entry) at =
         let of = run_entry_is_found entries key entry at in
-        let there = Contains-permutation (map run_interval_of_entry entries) sorted (run_interval_of_entry entry) moved
+        let there = Contains-permutation (map interval_of_entry entries) sorted (interval_of_entry entry) moved
         (run_interval_is_listed entries entry of.0) in
-        absurd (false≢true (sym (find-nothing_in_run (run_has_key key) sorted (run_interval_of_entry entry) is there)
+        absurd (false≢true (sym (find-nothing_in_run (run_has_key key) sorted (interval_of_entry entry) is there)
         ∙ eq-eqb entry.key key of.1))
 
     by : (found : Option KeyInterval) → find (run_has_key key) sorted ≡ found
-        → found ≡ option_map run_interval_of_entry (table_entry key entries)
+        → found ≡ option_map interval_of_entry (table_entry key entries)
     by None is = missed is (table_entry key entries) refl
     by (Some interval) is =
         let of = find-passes_in_run (run_has_key key) sorted interval is in
         let one =
         run_interval_has_source entries interval
-        (Contains-permutation sorted (map run_interval_of_entry entries) interval
-        (IsPermutation-sym (map run_interval_of_entry entries) sorted moved) of.0) in
+        (Contains-permutation sorted (map interval_of_entry entries) interval
+        (IsPermutation-sym (map interval_of_entry entries) sorted moved) of.0) in
         let same : one.0.key ≡ key =
         ap (λ (i : KeyInterval). i.key) one.2 ∙ eqb-true interval.key key of.1 in
-        sym (ap (option_map run_interval_of_entry)
+        sym (ap (option_map interval_of_entry)
         (sym (ap (λ k. table_entry k entries) same) ∙ run_entry_is_its_own entries one.0 apart one.1) ∙ ap Some one.2)
 
 -- one more entry
 pub run_intervals_grow : (entries : List Entry) (place : ℕ) (entry : Entry) → slice_get entries place ≡ Some entry
-    → map run_interval_of_entry (take (place + 1) entries)
-    ≡ map run_interval_of_entry (take place entries) ++ run_interval_of_entry entry ∷ []
+    → map interval_of_entry (take (place + 1) entries)
+    ≡ map interval_of_entry (take place entries) ++ interval_of_entry entry ∷ []
 run_intervals_grow entries place entry at =
     let within = slice_get_within entries place entry at in
     let read : get_or entries place entry ≡ entry = get_or_from_slice_get entries place entry entry at in
-    ap (map run_interval_of_entry) (take_more entries place entry within)
-    ∙ map-append run_interval_of_entry (take place entries) (get_or entries place entry ∷ [])
-    ∙ ap (λ e. map run_interval_of_entry (take place entries) ++ run_interval_of_entry e ∷ []) read
+    ap (map interval_of_entry) (take_more entries place entry within)
+    ∙ map-append interval_of_entry (take place entries) (get_or entries place entry ∷ [])
+    ∙ ap (λ e. map interval_of_entry (take place entries) ++ interval_of_entry e ∷ []) read

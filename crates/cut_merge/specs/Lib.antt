@@ -1,11 +1,11 @@
-pub mod CutTables
+pub mod KeyInterval
 pub mod Run
 pub mod NodeMerge
 pub mod HighBounds
 pub mod Merged
 -- the face: what contracts of other crates cite
-pub use Rattle.cut_merge.specs.Merged.{MergedValue, MergedRepresentsCut, merged_candidates_at, merged_interval_for}
+pub use Rattle.cut_merge.specs.Merged.{MergedValue, RepresentsCut, candidates_at, interval_for}
 pub use Rattle.cut_merge.specs.Merged.{nothing_merged}
 pub use Rattle.cut_merge.specs.NodeMerge.{NodeMergeValue}
-pub use Rattle.cut_merge.specs.CutTables.{TableInterval, IsTableIntervalWithinTotal, keys_monitored_in_cut}
-pub use Rattle.cut_merge.specs.CutTables.{interval_in_cut, keys_monitored_in_tables}
+pub use Rattle.cut_merge.specs.KeyInterval.{TableInterval, FitsTotal, monitored_in_cut}
+pub use Rattle.cut_merge.specs.KeyInterval.{interval_in_cut, monitored_in}

@@ -5,12 +5,12 @@ use Rattle.std.specs.List.{list_any, AllZip}
 use Rattle.prefix_lattice.specs.{NodeValue, IsNode, node_index, PrefixValue, IsPrefix, node_of_prefix, prefix_key}
 use Rattle.prefix_lattice.specs.{node_count}
 use Rattle.prefix_lattice.specs.{total_limit}
-use Rattle.space_saving.specs.{TableInterval, TableValue, interval_in_table, table_total}
+use Rattle.space_saving.specs.{TableInterval, TableValue, interval_in, table_total}
 use Rattle.shard_state.specs.{CutValue, total_of_cut}
-use Rattle.cut_merge.specs.Run.{RunValue, run_interval, IsRunOf, missing_run_high}
+use Rattle.cut_merge.specs.Run.{RunValue, run_interval, IsRunOf, missing_high}
 use Rattle.cut_merge.specs.NodeMerge.{NodeMergeValue}
-use Rattle.cut_merge.specs.CutTables.{interval_in_cut, keys_monitored_in_cut, IsTableIntervalWithinTotal}
-use Rattle.cut_merge.specs.CutTables.{keys_of_table, keys_monitored_in_tables}
+use Rattle.cut_merge.specs.KeyInterval.{interval_in_cut, monitored_in_cut, FitsTotal}
+use Rattle.cut_merge.specs.KeyInterval.{keys_of, monitored_in}
 
 -- the capacity of the tables, the weight that they counted together, and the merged tables of each of the 25 nodes,
 -- in the order of the nodes' indexes
@@ -28,54 +28,54 @@ abbrev pub merge_at : NodeValue → MergedValue → NodeMergeValue
 merge_at node merged = slice_index_or merged.nodes (node_index node) nothing_merged
 
 -- the interval of a key in the merged tables of a node: its lows and its highs in the runs, each added up
-abbrev pub merged_interval_for_key : NodeMergeValue → ℕ → TableInterval
-merged_interval_for_key merge key = record {
+abbrev pub interval_for_key : NodeMergeValue → ℕ → TableInterval
+interval_for_key merge key = record {
   low = sum_by (λ run. (run_interval run key).low) merge.runs;
   high = sum_by (λ run. (run_interval run key).high) merge.runs;
 }
 
 -- the interval of a prefix in merged tables
-abbrev pub merged_interval_for : MergedValue → PrefixValue → TableInterval
-merged_interval_for merged prefix = merged_interval_for_key (merge_at (node_of_prefix prefix) merged) (prefix_key prefix)
+abbrev pub interval_for : MergedValue → PrefixValue → TableInterval
+interval_for merged prefix = interval_for_key (merge_at (node_of_prefix prefix) merged) (prefix_key prefix)
 
 -- the keys of a node that merged tables hold
-abbrev pub merged_candidates_at : MergedValue → NodeValue → List ℕ
-merged_candidates_at merged node = (merge_at node merged).keys
+abbrev pub candidates_at : MergedValue → NodeValue → List ℕ
+candidates_at merged node = (merge_at node merged).keys
 
 -- merged tables represent a cut: their capacity and total, the interval of each prefix and the candidates
 -- of each node are those of the cut
-pub record MergedRepresentsCut (merged : MergedValue) (cut : CutValue) : Type 0 where
+pub record RepresentsCut (merged : MergedValue) (cut : CutValue) : Type 0 where
   pub capacity : merged.capacity ≡ cut.capacity
   pub total : merged.total ≡ total_of_cut cut
-  pub intervals : (prefix : PrefixValue) → IsPrefix prefix → merged_interval_for merged prefix ≡ interval_in_cut cut prefix
-  pub candidates : (node : NodeValue) → IsNode node → merged_candidates_at merged node ≡ keys_monitored_in_cut cut node
+  pub intervals : (prefix : PrefixValue) → IsPrefix prefix → interval_for merged prefix ≡ interval_in_cut cut prefix
+  pub candidates : (node : NodeValue) → IsNode node → candidates_at merged node ≡ monitored_in_cut cut node
 
 -- what always holds of merged tables: there are 25 nodes, and no interval is above the total, which is below 2^60
 pub record IsMerged (merged : MergedValue) : Type 0 where
   pub bounded : merged.total < total_limit
   pub shape : length merged.nodes ≡ node_count
   pub intervals : (place key : ℕ)
-      → IsTableIntervalWithinTotal merged.total (merged_interval_for_key (slice_index_or merged.nodes place nothing_merged) key)
+      → FitsTotal merged.total (interval_for_key (slice_index_or merged.nodes place nothing_merged) key)
 
 -- the keys seen so far after one more key: a new key is appended
-abbrev pub merged_keys_seen : List ℕ → ℕ → List ℕ
-merged_keys_seen keys key = if list_any (λ other. key == other) keys then keys else keys ++ key ∷ []
+abbrev pub keys_seen : List ℕ → ℕ → List ℕ
+keys_seen keys key = if list_any (λ other. key == other) keys then keys else keys ++ key ∷ []
 
 -- an interval of a table has its ends in order and within the table's total, and its high is not below
 -- that of a missing key
-pub record IsBoundedToBeMerged (key : ℕ) (table : TableValue) : Type 0 where
-  pub ordered : (interval_in_table table key).low ≤ (interval_in_table table key).high
-  pub within_total : (interval_in_table table key).high ≤ table_total table.entries
-  pub above_missing : missing_run_high table ≤ (interval_in_table table key).high
+pub record CanBeMerged (key : ℕ) (table : TableValue) : Type 0 where
+  pub ordered : (interval_in table key).low ≤ (interval_in table key).high
+  pub within_total : (interval_in table key).high ≤ table_total table.entries
+  pub above_missing : missing_high table ≤ (interval_in table key).high
 
 -- one more table was merged in: its run, and the keys that are new
-pub record MergedWithTable (old : NodeMergeValue) (table : TableValue) (new : NodeMergeValue) : Type 0 where
+pub record WithTable (old : NodeMergeValue) (table : TableValue) (new : NodeMergeValue) : Type 0 where
   pub run : RunValue
   pub is_run : IsRunOf run table
   pub runs : new.runs ≡ old.runs ++ run ∷ []
-  pub keys : new.keys ≡ fold merged_keys_seen old.keys (keys_of_table table)
+  pub keys : new.keys ≡ fold keys_seen old.keys (keys_of table)
 
 -- the merge represents these tables: it has the run of each, and the keys that they monitor
-pub record MergedNodeRepresentsTables (merge : NodeMergeValue) (tables : List TableValue) : Type 0 where
+pub record NodeRepresents (merge : NodeMergeValue) (tables : List TableValue) : Type 0 where
   pub runs : AllZip IsRunOf merge.runs tables
-  pub keys : merge.keys ≡ keys_monitored_in_tables tables
+  pub keys : merge.keys ≡ monitored_in tables

@@ -1,8 +1,8 @@
 //! Upper bounds on the highs of keys, so that few keys need a search.
 
 ghost use Rattle.std.specs.Prelude.{◌≡◌, ◌==◌, ◌+◌, ◌<◌, ℕ, min, IfOk};
-ghost use Rattle.cut_merge.specs.HighBounds.{high_bound_home, high_bound_cell, high_bound_cell_count};
-ghost use Rattle.cut_merge.specs.HighBounds.{greatest_high_bound, HighBoundsNoteKey, HighBoundsAddMissing, high_bound};
+ghost use Rattle.cut_merge.specs.HighBounds.{bound_home, bound_cell, cell_count};
+ghost use Rattle.cut_merge.specs.HighBounds.{greatest_bound, NoteKey, AddMissing, high_bound};
 
 use std::alloc::{AllocError, Global};
 use std::marker::Model;
@@ -25,13 +25,13 @@ pub(crate) struct HighBounds {
 
 impl Model for HighBounds {
     ghost use Rattle.std.specs.Prelude.{◌≡◌, length};
-    ghost use Rattle.cut_merge.specs.HighBounds.{HighBoundsValue, high_bound_cell_count};
+    ghost use Rattle.cut_merge.specs.HighBounds.{BoundsValue, cell_count};
 
-    ghost Value = { HighBoundsValue };
+    ghost Value = { BoundsValue };
 
     ghost view = { λ b. record { cells = b.cells.items; missing = b.missing } };
 
-    ghost invariant = { λ b. length b.cells.items ≡ high_bound_cell_count };
+    ghost invariant = { λ b. length b.cells.items ≡ cell_count };
 }
 
 impl HighBounds {
@@ -53,21 +53,21 @@ impl HighBounds {
 
     /// Whether no entry was counted in the key's home.
     pub(crate) fn is_empty_at(&self, key: u64) -> bool
-        ensures { result ≡ (high_bound_cell self.now key == 0) }
+        ensures { result ≡ (bound_cell self.now key == 0) }
     {
         self.cells[home_of(key)] == 0
     }
 
     /// Raises all bounds by the high of a missing key in one more table.
     pub(crate) fn add_missing(&mut self, missing: u64)
-        ensures { HighBoundsAddMissing self.old self.new missing }
+        ensures { AddMissing self.old self.new missing }
     {
         self.missing = self.missing.saturating_add(missing);
     }
 
     /// Counts an entry of a key, whose high exceeds that of a missing key by this much.
     pub(crate) fn note(&mut self, key: u64, excess: u64)
-        ensures { HighBoundsNoteKey self.old self.new key excess }
+        ensures { NoteKey self.old self.new key excess }
     {
         let home = home_of(key);
         self.cells[home] = self.cells[home].saturating_add(excess).saturating_add(1);
@@ -76,8 +76,8 @@ impl HighBounds {
 
 // The home of a key: the twelve highest bits of its product with the multiplier.
 fn home_of(key: u64) -> usize
-    ensures value { result ≡ high_bound_home key }
-    ensures within { result < high_bound_cell_count }
+    ensures value { result ≡ bound_home key }
+    ensures within { result < cell_count }
 {
     (key.wrapping_mul(MULTIPLIER) >> 52) as usize
 }

@@ -3,12 +3,12 @@
 ghost use Rattle.std.specs.Prelude.{◌≡◌, ◌≢◌, ℕ, ◌*◌, ◌^◌, ◌<◌, ◌≤◌, List, length, All, AllPairs, Contains};
 ghost use Rattle.prefix_lattice.specs.{RecordValue, NodeValue, IsNode, PrefixValue, IsPrefix, node_of_prefix};
 ghost use Rattle.prefix_lattice.specs.{prefix_key, prefix_weight, total_weight, IsPrefixKey};
-ghost use Rattle.hhh_report.specs.{records_before_cut};
+ghost use Rattle.hhh_report.specs.{records_before};
 ghost use Rattle.shard_state.specs.{CutValue, IsCut, cut_positions, total_of_cut, CutRepresents};
-ghost use Rattle.shard_state.specs.{NarrowIntervalHoldsWeight};
-ghost use Rattle.cut_merge.specs.CutTables.{cut_tables_at, interval_in_cut, keys_monitored_in_cut};
-ghost use Rattle.cut_merge.specs.CutTables.{IsTableIntervalWithinTotal};
-ghost use Rattle.cut_merge.specs.Merged.{IsBoundedToBeMerged};
+ghost use Rattle.shard_state.specs.{HoldsNarrowly};
+ghost use Rattle.cut_merge.specs.KeyInterval.{tables_at, interval_in_cut, monitored_in_cut};
+ghost use Rattle.cut_merge.specs.KeyInterval.{FitsTotal};
+ghost use Rattle.cut_merge.specs.Merged.{CanBeMerged};
 
 use shard_state::snapshots_hold_weights;
 use space_saving::intervals_are_narrow;
@@ -18,8 +18,8 @@ use space_saving::intervals_are_narrow;
 pub fn merged_intervals_hold_weights()
     ensures { (cut : CutValue) (lists : List (List RecordValue)) (prefix : PrefixValue) → IsCut cut → CutRepresents cut lists
         → All (λ list. All (λ rec. 1 ≤ rec.weight) list) lists → IsPrefix prefix
-        → NarrowIntervalHoldsWeight (interval_in_cut cut prefix) cut.capacity
-        (prefix_weight prefix (records_before_cut lists (cut_positions cut))) (total_of_cut cut) }
+        → HoldsNarrowly (interval_in_cut cut prefix) cut.capacity
+        (prefix_weight prefix (records_before lists (cut_positions cut))) (total_of_cut cut) }
 {
     snapshots_hold_weights();
 }
@@ -28,9 +28,9 @@ pub fn merged_intervals_hold_weights()
 /// shard monitors is at most the total divided by the capacity.
 pub fn merged_intervals_are_narrow()
     ensures within { (cut : CutValue) (prefix : PrefixValue) → IsCut cut → IsPrefix prefix
-        → IsTableIntervalWithinTotal (total_of_cut cut) (interval_in_cut cut prefix) }
+        → FitsTotal (total_of_cut cut) (interval_in_cut cut prefix) }
     ensures light { (cut : CutValue) (prefix : PrefixValue) → IsCut cut → IsPrefix prefix
-        → ¬ Contains (keys_monitored_in_cut cut (node_of_prefix prefix)) (prefix_key prefix)
+        → ¬ Contains (monitored_in_cut cut (node_of_prefix prefix)) (prefix_key prefix)
         → (interval_in_cut cut prefix).high * cut.capacity ≤ total_of_cut cut }
 {
     tables_are_bounded();
@@ -40,16 +40,16 @@ pub fn merged_intervals_are_narrow()
 /// The keys that a cut monitors at a node are distinct keys of the node, and at most as many as the shards' tables
 /// can have entries.
 pub fn monitored_keys_are_few()
-    ensures keyed { (cut : CutValue) (node : NodeValue) → IsCut cut → IsNode node → All (IsPrefixKey node) (keys_monitored_in_cut cut node) }
-    ensures distinct { (cut : CutValue) (node : NodeValue) → AllPairs (λ key other. key ≢ other) (keys_monitored_in_cut cut node) }
+    ensures keyed { (cut : CutValue) (node : NodeValue) → IsCut cut → IsNode node → All (IsPrefixKey node) (monitored_in_cut cut node) }
+    ensures distinct { (cut : CutValue) (node : NodeValue) → AllPairs (λ key other. key ≢ other) (monitored_in_cut cut node) }
     ensures few { (cut : CutValue) (node : NodeValue) → IsCut cut → IsNode node
-        → length (keys_monitored_in_cut cut node) ≤ length cut.shards * cut.capacity }
+        → length (monitored_in_cut cut node) ≤ length cut.shards * cut.capacity }
 {}
 
 /// In the tables of a cut each interval has its ends in order and within the total of its table, and no high is
 /// below that of a key that is missing in the table. So sums of intervals don't wrap.
 pub(crate) fn tables_are_bounded()
-    ensures { (cut : CutValue) (node : NodeValue) (key : ℕ) → IsCut cut → IsNode node → All (IsBoundedToBeMerged key) (cut_tables_at node cut) }
+    ensures { (cut : CutValue) (node : NodeValue) (key : ℕ) → IsCut cut → IsNode node → All (CanBeMerged key) (tables_at node cut) }
 {
     intervals_are_narrow();
 }

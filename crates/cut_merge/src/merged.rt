@@ -3,10 +3,10 @@
 ghost use Rattle.std.specs.Prelude.{◌≡◌, ◌<◌, ◌≤◌, ℕ, IfOk};
 ghost use Rattle.prefix_lattice.specs.{IsNode, total_limit};
 ghost use Rattle.shard_state.specs.{CutValue, total_of_cut};
-ghost use Rattle.cut_merge.specs.Merged.{MergedNodeRepresentsTables, merge_at, merged_interval_for};
-ghost use Rattle.cut_merge.specs.Merged.{merged_candidates_at, MergedRepresentsCut, merged_interval_for_key};
-ghost use Rattle.cut_merge.specs.CutTables.{cut_tables_at, interval_in_cut, keys_monitored_in_cut};
-ghost use Rattle.cut_merge.specs.CutTables.{IsTableIntervalWithinTotal};
+ghost use Rattle.cut_merge.specs.Merged.{NodeRepresents, merge_at, interval_for};
+ghost use Rattle.cut_merge.specs.Merged.{candidates_at, RepresentsCut, interval_for_key};
+ghost use Rattle.cut_merge.specs.KeyInterval.{tables_at, interval_in_cut, monitored_in_cut};
+ghost use Rattle.cut_merge.specs.KeyInterval.{FitsTotal};
 
 use crate::laws::tables_are_bounded;
 use crate::node_merge::NodeMerge;
@@ -39,7 +39,7 @@ impl Merged {
     /// The only error is that memory runs out.
     pub fn of(alloc: Global, cut: &Cut) -> Result<Merged, AllocError>
         requires { total_of_cut cut.now < total_limit }
-        ensures { IfOk result (λ merged. MergedRepresentsCut merged cut.now) }
+        ensures { IfOk result (λ merged. RepresentsCut merged cut.now) }
     {
         let mut nodes = Vec::with_capacity(alloc, 25)?;
         for place in 0..25 {
@@ -71,9 +71,9 @@ impl Merged {
     /// The least and the greatest weight that the prefix can have had over all shards, in bytes or packets, whether
     /// or not a shard monitors it. The least is at most the greatest, which is at most the total.
     pub fn interval(&self, prefix: &Prefix) -> (u64, u64)
-        ensures low { result.0 ≡ (merged_interval_for self.now prefix.now).low }
-        ensures high { result.1 ≡ (merged_interval_for self.now prefix.now).high }
-        ensures of_cut { (cut : CutValue) → MergedRepresentsCut self.now cut → interval_in_cut cut prefix.now ≡ record { low = result.0; high = result.1 } }
+        ensures low { result.0 ≡ (interval_for self.now prefix.now).low }
+        ensures high { result.1 ≡ (interval_for self.now prefix.now).high }
+        ensures of_cut { (cut : CutValue) → RepresentsCut self.now cut → interval_in_cut cut prefix.now ≡ record { low = result.0; high = result.1 } }
         ensures ordered { result.0 ≤ result.1 }
         ensures within_total { result.1 ≤ self.now.total }
         ensures bounded { result.1 < total_limit }
@@ -85,7 +85,7 @@ impl Merged {
     /// high of its interval. It needs no search, so a caller that looks for heavy prefixes can skip most of the others
     /// by it.
     pub fn at_most(&self, prefix: &Prefix) -> u64
-        ensures { (merged_interval_for self.now prefix.now).high ≤ result }
+        ensures { (interval_for self.now prefix.now).high ≤ result }
     {
         self.merge_of(prefix.node()).at_most(prefix.key())
     }
@@ -93,8 +93,8 @@ impl Merged {
     /// The keys that some shard monitors at the node, each once, in the order in which they are first seen: shard
     /// by shard, in the order of each table's entries.
     pub fn candidates(&self, node: Node) -> &[u64]
-        ensures known { result.now ≡ merged_candidates_at self.now node }
-        ensures of_cut { (cut : CutValue) → MergedRepresentsCut self.now cut → result.now ≡ keys_monitored_in_cut cut node }
+        ensures known { result.now ≡ candidates_at self.now node }
+        ensures of_cut { (cut : CutValue) → RepresentsCut self.now cut → result.now ≡ monitored_in_cut cut node }
     {
         self.merge_of(node).keys()
     }
@@ -102,7 +102,7 @@ impl Merged {
     // The merged tables of a node.
     fn merge_of(&self, node: Node) -> &NodeMerge
         ensures merge { result.now ≡ merge_at node self.now }
-        ensures within { (key : ℕ) → IsTableIntervalWithinTotal self.now.total (merged_interval_for_key result.now key) }
+        ensures within { (key : ℕ) → FitsTotal self.now.total (interval_for_key result.now key) }
         ensures bounded { self.now.total < total_limit }
     {
         &self.nodes[usize::from(node.index())]
@@ -115,8 +115,8 @@ impl Merged {
 fn merge_node(alloc: Global, cut: &Cut, node: Node) -> Result<NodeMerge, AllocError>
     requires is_node { IsNode node }
     requires bounded { total_of_cut cut.now < total_limit }
-    ensures stands { IfOk result (λ merge. MergedNodeRepresentsTables merge (cut_tables_at node cut.now)) }
-    ensures within { IfOk result (λ merge. (key : ℕ) → IsTableIntervalWithinTotal (total_of_cut cut.now) (merged_interval_for_key merge key)) }
+    ensures stands { IfOk result (λ merge. NodeRepresents merge (tables_at node cut.now)) }
+    ensures within { IfOk result (λ merge. (key : ℕ) → FitsTotal (total_of_cut cut.now) (interval_for_key merge key)) }
 {
     tables_are_bounded();
     let mut merge = NodeMerge::new(alloc)?;

@@ -2,13 +2,13 @@
 
 ghost use Rattle.std.specs.Prelude.{◌≡◌, ◌==◌, ◌^◌, ◌<◌, ◌≤◌, ℕ, true, [], IfOk, OnOk, fold, length};
 ghost use Rattle.std.specs.List.{list_any};
-ghost use Rattle.space_saving.specs.{AreApartInTable};
-ghost use Rattle.cut_merge.specs.Merged.{merged_keys_seen, MergedWithTable, IsBoundedToBeMerged};
-ghost use Rattle.cut_merge.specs.Merged.{merged_interval_for_key};
-ghost use Rattle.cut_merge.specs.NodeMerge.{node_merge_has_key};
-ghost use Rattle.cut_merge.specs.Run.{IsRunOf, missing_run_high};
-ghost use Rattle.cut_merge.specs.HighBounds.{high_bound_cell, HighBoundsNoteEntries};
-ghost use Rattle.cut_merge.specs.CutTables.{keys_of_table};
+ghost use Rattle.space_saving.specs.{KeysApart};
+ghost use Rattle.cut_merge.specs.Merged.{keys_seen, WithTable, CanBeMerged};
+ghost use Rattle.cut_merge.specs.Merged.{interval_for_key};
+ghost use Rattle.cut_merge.specs.NodeMerge.{has_key};
+ghost use Rattle.cut_merge.specs.Run.{IsRunOf, missing_high};
+ghost use Rattle.cut_merge.specs.HighBounds.{bound_cell, NoteEntries};
+ghost use Rattle.cut_merge.specs.KeyInterval.{keys_of};
 
 use crate::high_bounds::HighBounds;
 use crate::run::Run;
@@ -27,13 +27,13 @@ pub(crate) struct NodeMerge {
 
 impl Model for NodeMerge {
     ghost use Rattle.cut_merge.specs.NodeMerge.{NodeMergeValue};
-    ghost use Rattle.cut_merge.specs.HighBounds.{AreHighBoundsOfRuns};
+    ghost use Rattle.cut_merge.specs.HighBounds.{AreBoundsOf};
 
     ghost Value = { NodeMergeValue };
 
     ghost view = { λ m. record { runs = m.runs.items; keys = m.keys.items } };
 
-    ghost invariant = { λ m. AreHighBoundsOfRuns m.runs.items m.bounds };
+    ghost invariant = { λ m. AreBoundsOf m.runs.items m.bounds };
 }
 
 impl NodeMerge {
@@ -50,10 +50,10 @@ impl NodeMerge {
 
     /// Merges one more table in. After an `Err` the table may be merged in part.
     pub(crate) fn add(&mut self, alloc: Global, table: &Flat) -> Result<(), AllocError>
-        requires known { (key : ℕ) → list_any (λ other. key == other) self.old.keys ≡ node_merge_has_key key self.old.runs }
-        requires apart { AreApartInTable table.now.entries }
-        requires bounded { (key : ℕ) → IsBoundedToBeMerged key table.now }
-        ensures { OnOk result (MergedWithTable self.old table.now self.new) }
+        requires known { (key : ℕ) → list_any (λ other. key == other) self.old.keys ≡ has_key key self.old.runs }
+        requires apart { KeysApart table.now.entries }
+        requires bounded { (key : ℕ) → CanBeMerged key table.now }
+        ensures { OnOk result (WithTable self.old table.now self.new) }
     {
         let run = Run::of(alloc, table)?;
         self.bounds.add_missing(run.missing());
@@ -69,18 +69,18 @@ impl NodeMerge {
 
     /// A bound on the greatest weight that the key can have had, found without a search.
     pub(crate) fn at_most(&self, key: u64) -> u64
-        requires { (merged_interval_for_key self.now key).high < 2 ^ 64 }
-        ensures { (merged_interval_for_key self.now key).high ≤ result }
+        requires { (interval_for_key self.now key).high < 2 ^ 64 }
+        ensures { (interval_for_key self.now key).high ≤ result }
     {
         self.bounds.at_most(key)
     }
 
     /// The least and the greatest weight that the key can have had.
     pub(crate) fn interval(&self, key: u64) -> (u64, u64)
-        requires low { (merged_interval_for_key self.now key).low < 2 ^ 64 }
-        requires high { (merged_interval_for_key self.now key).high < 2 ^ 64 }
-        ensures low { result.0 ≡ (merged_interval_for_key self.now key).low }
-        ensures high { result.1 ≡ (merged_interval_for_key self.now key).high }
+        requires low { (interval_for_key self.now key).low < 2 ^ 64 }
+        requires high { (interval_for_key self.now key).high < 2 ^ 64 }
+        ensures low { result.0 ≡ (interval_for_key self.now key).low }
+        ensures high { result.1 ≡ (interval_for_key self.now key).high }
     {
         let mut low = 0;
         let mut high = 0;
@@ -108,12 +108,12 @@ fn note_keys(
     table: &Flat,
     missing: u64,
 ) -> Result<(), AllocError>
-    requires known { (key : ℕ) → list_any (λ other. key == other) keys.old.items ≡ node_merge_has_key key runs.now }
-    requires bounded { (key : ℕ) → node_merge_has_key key runs.now ≡ true → 0 < high_bound_cell bounds.old key }
-    requires missing { missing ≡ missing_run_high table.now }
-    ensures keys { OnOk result (keys.new.items ≡ fold merged_keys_seen keys.old.items (keys_of_table table.now)) }
-    ensures bounds { OnOk result (HighBoundsNoteEntries table.now bounds.old bounds.new (length table.now.entries)) }
-    ensures raises { (key : ℕ) → high_bound_cell bounds.old key ≤ high_bound_cell bounds.new key }
+    requires known { (key : ℕ) → list_any (λ other. key == other) keys.old.items ≡ has_key key runs.now }
+    requires bounded { (key : ℕ) → has_key key runs.now ≡ true → 0 < bound_cell bounds.old key }
+    requires missing { missing ≡ missing_high table.now }
+    ensures keys { OnOk result (keys.new.items ≡ fold keys_seen keys.old.items (keys_of table.now)) }
+    ensures bounds { OnOk result (NoteEntries table.now bounds.old bounds.new (length table.now.entries)) }
+    ensures raises { (key : ℕ) → bound_cell bounds.old key ≤ bound_cell bounds.new key }
     ensures same { bounds.new.missing ≡ bounds.old.missing }
 {
     for place in 0..table.len() {
@@ -128,8 +128,8 @@ fn note_keys(
 
 // Whether one of these runs has the key. Where its home is empty, none has.
 fn is_known(bounds: &HighBounds, runs: &[Run], key: u64) -> bool
-    requires { node_merge_has_key key runs.now ≡ true → 0 < high_bound_cell bounds.now key }
-    ensures { result ≡ node_merge_has_key key runs.now }
+    requires { has_key key runs.now ≡ true → 0 < bound_cell bounds.now key }
+    ensures { result ≡ has_key key runs.now }
 {
     if bounds.is_empty_at(key) {
         return false;

@@ -3,9 +3,9 @@
 ghost use Rattle.std.specs.Prelude.{◌≡◌, ◌==◌, IfOk, OnOk, length, map};
 ghost use Rattle.std.specs.List.{find};
 ghost use Rattle.std.specs.List.Sorted.{IsNonDecreasingBy, IsPermutation};
-ghost use Rattle.space_saving.specs.{AreApartInTable};
-ghost use Rattle.cut_merge.specs.Run.{IsRun, IsRunOf, run_interval, is_monitored_in_run, run_interval_of_entry};
-ghost use Rattle.cut_merge.specs.Run.{missing_run_high};
+ghost use Rattle.space_saving.specs.{KeysApart};
+ghost use Rattle.cut_merge.specs.Run.{IsRun, IsRunOf, run_interval, is_monitored, interval_of_entry};
+ghost use Rattle.cut_merge.specs.Run.{missing_high};
 
 use crate::key_interval::KeyInterval;
 use space_saving::Flat;
@@ -33,7 +33,7 @@ impl Model for Run {
 impl Run {
     /// The run of a table. The only error is that memory runs out.
     pub(crate) fn of(alloc: Global, table: &Flat) -> Result<Run, AllocError>
-        requires { AreApartInTable table.now.entries }
+        requires { KeysApart table.now.entries }
         ensures { IfOk result (λ run. IsRunOf run table.now) }
     {
         let mut intervals = Vec::with_capacity(alloc, table.len())?;
@@ -65,7 +65,7 @@ impl Run {
 
     /// Whether the table monitors the key.
     pub(crate) fn monitors(&self, key: u64) -> bool
-        ensures { result ≡ is_monitored_in_run key self.now }
+        ensures { result ≡ is_monitored key self.now }
     {
         interval_of(&self.intervals, key).is_some()
     }
@@ -85,7 +85,7 @@ fn interval_of(intervals: &[KeyInterval], key: u64) -> Option<KeyInterval>
 // Appends the interval of each entry of a table.
 fn push_intervals(intervals: &mut Vec<KeyInterval>, table: &Flat) -> Result<(), AllocError>
     requires { length intervals.old.items ≡ 0 }
-    ensures { OnOk result (intervals.new.items ≡ map run_interval_of_entry table.now.entries) }
+    ensures { OnOk result (intervals.new.items ≡ map interval_of_entry table.now.entries) }
 {
     for place in 0..table.len() {
         let entry = table.entry(place);
@@ -108,7 +108,7 @@ fn sort_by_key(intervals: &mut Vec<KeyInterval>)
 
 // The high of a key that is missing in a table.
 fn missing_in(table: &Flat) -> u64
-    ensures { result ≡ missing_run_high table.now }
+    ensures { result ≡ missing_high table.now }
 {
     if table.len() < table.capacity() as usize {
         0

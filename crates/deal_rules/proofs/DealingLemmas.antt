@@ -15,7 +15,7 @@ use Rattle.std.proofs.lemmas.Option.{slice_get-get_or}
 use Rattle.prefix_lattice.specs.{RecordValue, PrefixValue, covers, prefix_weight, total_weight}
 use Rattle.deal_rules.specs.declared.deal_kind.DealKind.{DealKind}
 use Rattle.deal_rules.proofs.ShardListLemmas.{each_shard_has_list}
-use Rattle.deal_rules.specs.Dealing.{dealt_list, dealt_lists, AreDealt, DealingFollowsRule, IsDealing, AreDealingLists}
+use Rattle.deal_rules.specs.Dealing.{dealt_list, dealt_lists, AreDealt, FollowsRule, IsDealing, AreDealings}
 
 -- the lists of `count` shards, from shard `from` on, joined in their order
 abbrev joined_dealing : (ℕ → List RecordValue) → ℕ → ℕ → List RecordValue
@@ -164,7 +164,7 @@ dealing_keeps_total shards records numbers lists dealt = dealing_keeps_sums shar
 pub dealing_is_small_enough : (kind : DealKind) (may_answer : ℕ → RecordValue → ℕ → ℕ → Type 0) (shards : ℕ)
     (records : List RecordValue) (lists : List (List RecordValue))
     → IsDealing kind may_answer shards records lists → 1 ≤ shards → shards ≤ 16 → length records ≤ 2 ^ 24
-    → AreDealingLists lists
+    → AreDealings lists
 dealing_is_small_enough kind may_answer shards records lists dealing some few small =
     let long : length lists ≡ shards = each_shard_has_list kind may_answer shards records lists dealing in
     let all : sum_by (λ list. length list) lists ≡ length records =
@@ -174,7 +174,7 @@ dealing_is_small_enough kind may_answer shards records lists dealing some few sm
 -- the number of each record, where the rule is a formula
 dealing_follows_formula : (kind : DealKind) (formula : ℕ → RecordValue → ℕ → ℕ) (shards : ℕ) (records : List RecordValue)
     (numbers : List ℕ) (place : ℕ) (d : RecordValue) → length numbers ≡ length records
-    → DealingFollowsRule kind (λ place rec shards number. number ≡ formula place rec shards) shards records numbers
+    → FollowsRule kind (λ place rec shards number. number ≡ formula place rec shards) shards records numbers
     → place < length numbers → get_or numbers place 0 ≡ formula place (get_or records place d) shards
 dealing_follows_formula kind formula shards records numbers place d same follow within =
     (follow place (get_or numbers place 0) (get_or records place d)

@@ -5,8 +5,8 @@ use Rattle.std.proofs.lemmas.List.Elements.{All-from_recursion}
 use Rattle.prefix_lattice.specs.{RecordValue, total_weight}
 use Rattle.deal_rules.specs.declared.deal_kind.DealKind.TheVariants.{RoundRobin, BySource, Free}
 use Rattle.deal_rules.specs.declared.dealers.Dealers.{Dealers}
-use Rattle.deal_rules.specs.DealRule.{IsAskedOfDealRule, IsNumberByDealRule, RuleMayDeal}
-use Rattle.deal_rules.specs.Dealing.{dealt_list, dealt_lists, AreDealt, DealingFollowsRule, IsDealing, AreDealingLists}
+use Rattle.deal_rules.specs.DealKind.{IsAsked, IsNumberBy, MayDeal}
+use Rattle.deal_rules.specs.Dealing.{dealt_list, dealt_lists, AreDealt, FollowsRule, IsDealing, AreDealings}
 use Rattle.deal_rules.specs.Dealers.{dealer_of}
 
 -- three records, of 5, 6 and 7 bytes
@@ -39,21 +39,21 @@ pub weight_is_kept : sum_by total_weight two_lists ≡ 18
 weight_is_kept = refl
 
 -- the third record in turn over two shards
-pub third_in_turn : IsNumberByDealRule RoundRobin 2 third 2 0
+pub third_in_turn : IsNumberBy RoundRobin 2 third 2 0
 third_in_turn = record { round = λ e. refl; source = λ e. cc }
 
 -- the record of source 7 over three shards
-pub third_by_source : IsNumberByDealRule BySource 2 third 3 1
+pub third_by_source : IsNumberBy BySource 2 third 3 1
 third_by_source = record { round = λ e. cc; source = λ e. refl }
 
 -- indices are counted from 0, so the first record in turn doesn't go to shard 1
-pub not_from_one : IsNumberByDealRule RoundRobin 0 first 2 1 → ⊥
+pub not_from_one : IsNumberBy RoundRobin 0 first 2 1 → ⊥
 not_from_one of_kind = let h : 1 ≡ 0 = of_kind.round refl in omega (arith, h)
 
-pub free_takes_any : IsNumberByDealRule Free 2 third 3 0
+pub free_takes_any : IsNumberBy Free 2 third 3 0
 free_takes_any = record { round = λ e. cc; source = λ e. cc }
 
-pub asked_of_the_third : IsAskedOfDealRule 2 third 2
+pub asked_of_the_third : IsAsked 2 third 2
 asked_of_the_third = record {
   early = omega arith;
   source = omega arith;
@@ -64,24 +64,24 @@ asked_of_the_third = record {
   few = omega arith;
 }
 
-pub asked_past_the_last_place : IsAskedOfDealRule 16777216 third 2 → ⊥
+pub asked_past_the_last_place : IsAsked 16777216 third 2 → ⊥
 asked_past_the_last_place asked = omega (arith, asked.early)
 
-pub asked_for_17_shards : IsAskedOfDealRule 2 third 17 → ⊥
+pub asked_for_17_shards : IsAsked 2 third 17 → ⊥
 asked_for_17_shards asked = omega (arith, asked.few)
 
 -- a function that returns the index modulo the number of shards, and nothing else
 abbrev place_in_turn : ℕ → RecordValue → ℕ → ℕ → Type 0
 place_in_turn place rec shards number = number ≡ place % shards
 
-pub third_may_be_dealt : RuleMayDeal RoundRobin place_in_turn 2 third 2 0
+pub third_may_be_dealt : MayDeal RoundRobin place_in_turn 2 third 2 0
 third_may_be_dealt = record { below = omega arith; of_kind = third_in_turn; answered = refl }
 
 -- Free allows only what its function returns
-pub other_answers_are_not_dealt : RuleMayDeal Free place_in_turn 2 third 2 1 → ⊥
+pub other_answers_are_not_dealt : MayDeal Free place_in_turn 2 third 2 1 → ⊥
 other_answers_are_not_dealt may = let h : 1 ≡ 0 = may.answered in omega (arith, h)
 
-pub no_third_shard_of_two : RuleMayDeal Free (λ place rec shards number. number ≡ 2) 2 third 2 2 → ⊥
+pub no_third_shard_of_two : MayDeal Free (λ place rec shards number. number ≡ 2) 2 third 2 2 → ⊥
 no_third_shard_of_two may = omega (arith, may.below)
 
 pub dealt_in_turn : AreDealt 2 records (0 ∷ 1 ∷ 0 ∷ []) two_lists
@@ -107,7 +107,7 @@ number_at (suc zero) number read = cc
 number_at (suc (suc zero)) number read = cc
 number_at (suc (suc (suc place))) number read = cc
 
-pub numbers_in_turn : DealingFollowsRule RoundRobin place_in_turn 2 records (0 ∷ 1 ∷ 0 ∷ [])
+pub numbers_in_turn : FollowsRule RoundRobin place_in_turn 2 records (0 ∷ 1 ∷ 0 ∷ [])
 numbers_in_turn = λ place number rec read_rec read_number.
     let in_turn : number ≡ place % 2 = number_at place number read_number in
     record {
@@ -116,16 +116,16 @@ numbers_in_turn = λ place number rec read_rec read_number.
       answered = in_turn;
     }
 
-pub numbers_from_one : DealingFollowsRule RoundRobin place_in_turn 2 records (1 ∷ 0 ∷ 1 ∷ []) → ⊥
+pub numbers_from_one : FollowsRule RoundRobin place_in_turn 2 records (1 ∷ 0 ∷ 1 ∷ []) → ⊥
 numbers_from_one follow = let h : 1 ≡ 0 = (follow 0 1 first refl refl).answered in omega (arith, h)
 
 pub dealing_in_turn : IsDealing RoundRobin place_in_turn 2 records two_lists
 dealing_in_turn = record { numbers = 0 ∷ 1 ∷ 0 ∷ []; dealt = dealt_in_turn; ruled = numbers_in_turn }
 
-pub lists_of_two_shards : AreDealingLists two_lists
+pub lists_of_two_shards : AreDealings two_lists
 lists_of_two_shards = record { some = omega arith; few = omega arith; small = omega arith }
 
-pub lists_of_no_shard : AreDealingLists [] → ⊥
+pub lists_of_no_shard : AreDealings [] → ⊥
 lists_of_no_shard lists = omega (arith, lists.some)
 
 pub dealer_by_place : {X : Type 0} {F : X → Type 0} {g : _} (dealers : Dealers X F g)

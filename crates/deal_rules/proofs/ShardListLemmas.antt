@@ -12,8 +12,8 @@ use Rattle.std.proofs.lemmas.List.FromFn.{length-map-range_with_len, get_or-map-
 use Rattle.std.proofs.lemmas.Option.{slice_get_within, get_or_from_slice_get}
 use Rattle.prefix_lattice.specs.{RecordValue}
 use Rattle.deal_rules.specs.declared.deal_kind.DealKind.{DealKind}
-use Rattle.deal_rules.specs.DealRule.{RuleMayDeal}
-use Rattle.deal_rules.specs.Dealing.{dealt_list, dealt_lists, DealingFollowsRule, IsDealing}
+use Rattle.deal_rules.specs.DealKind.{MayDeal}
+use Rattle.deal_rules.specs.Dealing.{dealt_list, dealt_lists, FollowsRule, IsDealing}
 
 shard_list_zip-push : (ns : List ℕ) (rs : List RecordValue) (n : ℕ) (r : RecordValue) → length ns ≡ length rs
     → zip (ns ++ n ∷ []) (rs ++ r ∷ []) ≡ zip ns rs ++ (n, r) ∷ []
@@ -79,9 +79,9 @@ shard_list_item-push (y ∷ xs) x (suc place) read got =
 
 shard_list_rule-push : (kind : DealKind) (may_answer : ℕ → RecordValue → ℕ → ℕ → Type 0) (shards : ℕ)
     (rs : List RecordValue) (ns : List ℕ) (r : RecordValue) (n : ℕ)
-    → length ns ≡ length rs → DealingFollowsRule kind may_answer shards rs ns
-    → RuleMayDeal kind may_answer (length rs) r shards n
-    → DealingFollowsRule kind may_answer shards (rs ++ r ∷ []) (ns ++ n ∷ [])
+    → length ns ≡ length rs → FollowsRule kind may_answer shards rs ns
+    → MayDeal kind may_answer (length rs) r shards n
+    → FollowsRule kind may_answer shards (rs ++ r ∷ []) (ns ++ n ∷ [])
 shard_list_rule-push kind may_answer shards rs ns r n same follow last = λ place number rec read_rec read_number.
     elim (shard_list_item-push rs r place rec read_rec) [
       | inl of_rec ↦ elim (shard_list_item-push ns n place number read_number) [
@@ -94,9 +94,9 @@ shard_list_rule-push kind may_answer shards rs ns r n same follow last = λ plac
         | inl of_number ↦
             let h : place < length ns = slice_get_within ns place number of_number in
             absurd (omega (arith, h, is_rec.0, same))
-        | inr is_last ↦ subst (λ p. RuleMayDeal kind may_answer p rec shards number) (sym is_rec.0)
-            (subst (λ q. RuleMayDeal kind may_answer (length rs) q shards number) (sym is_rec.1)
-            (subst (λ m. RuleMayDeal kind may_answer (length rs) r shards m) (sym is_last.1) last))
+        | inr is_last ↦ subst (λ p. MayDeal kind may_answer p rec shards number) (sym is_rec.0)
+            (subst (λ q. MayDeal kind may_answer (length rs) q shards number) (sym is_rec.1)
+            (subst (λ m. MayDeal kind may_answer (length rs) r shards m) (sym is_last.1) last))
       ]
     ]
 
@@ -121,7 +121,7 @@ shard_lists_start_empty kind may_answer shards lists empty = record {
 -- one more record is dealt
 pub shard_lists_take_record : (kind : DealKind) (may_answer : ℕ → RecordValue → ℕ → ℕ → Type 0) (shards : ℕ)
     (rs : List RecordValue) (lists : List (List RecordValue)) (r : RecordValue) (n : ℕ)
-    → IsDealing kind may_answer shards rs lists → RuleMayDeal kind may_answer (length rs) r shards n
+    → IsDealing kind may_answer shards rs lists → MayDeal kind may_answer (length rs) r shards n
     → IsDealing kind may_answer shards (rs ++ r ∷ []) (set lists n (get_or lists n [] ++ r ∷ []))
 shard_lists_take_record kind may_answer shards rs lists r n dealing last =
     let ns = dealing.numbers in
@@ -144,7 +144,7 @@ pub shard_lists_take_next_record : (kind : DealKind) (may_answer : ℕ → Recor
     (records : List RecordValue) (place : ℕ) (lists : List (List RecordValue)) (r : RecordValue) (n : ℕ)
     (old new : List RecordValue)
     → slice_get records place ≡ Some r → IsDealing kind may_answer shards (take place records) lists
-    → RuleMayDeal kind may_answer place r shards n
+    → MayDeal kind may_answer place r shards n
     → old ≡ get_or lists n old → new ≡ old ++ r ∷ []
     → IsDealing kind may_answer shards (take (place + 1) records) (set lists n new)
 shard_lists_take_next_record kind may_answer shards records place lists r n old new read dealing last was pushed =
@@ -161,7 +161,7 @@ shard_lists_take_next_record kind may_answer shards records place lists r n old 
     subst (λ (rs : List RecordValue). IsDealing kind may_answer shards rs (set lists n new)) (sym longer)
     (subst (λ l. IsDealing kind may_answer shards (take place records ++ r ∷ []) (set lists n l)) (sym grown)
     (shard_lists_take_record kind may_answer shards (take place records) lists r n dealing
-    (subst (λ p. RuleMayDeal kind may_answer p r shards n) (sym long) last)))
+    (subst (λ p. MayDeal kind may_answer p r shards n) (sym long) last)))
 
 -- all records are dealt
 pub shard_lists_hold_all_records : (kind : DealKind) (may_answer : ℕ → RecordValue → ℕ → ℕ → Type 0) (shards : ℕ)

@@ -3,7 +3,7 @@
 ghost use Rattle.std.specs.Prelude.{◌≡◌, ◌↔◌, ℕ, ◌<◌, ◌≤◌};
 ghost use Rattle.prefix_lattice.specs.{RecordValue, record_limit, shard_limit};
 ghost use Rattle.deal_rules.specs.declared.deal_kind.DealKind.{DealKind};
-ghost use Rattle.deal_rules.specs.DealRule.{IsAskedOfDealRule, IsNumberByDealRule, RuleMayDeal};
+ghost use Rattle.deal_rules.specs.DealKind.{IsAsked, IsNumberBy, MayDeal};
 
 use crate::DealKind;
 use prefix_lattice::Record;
@@ -28,12 +28,12 @@ pub struct Dealer {
     kind: DealKind,
     rule: DealRule,
     ghost callable: { (place : ℕ) (rec : RecordValue) (shards : ℕ)
-        → IsAskedOfDealRule place rec shards → pre rule place rec shards },
+        → IsAsked place rec shards → pre rule place rec shards },
     ghost below: { (place : ℕ) (rec : RecordValue) (shards number : ℕ)
-        → IsAskedOfDealRule place rec shards → post rule place rec shards number → number < shards },
+        → IsAsked place rec shards → post rule place rec shards number → number < shards },
     ghost of_kind: { (place : ℕ) (rec : RecordValue) (shards number : ℕ)
-        → IsAskedOfDealRule place rec shards → post rule place rec shards number
-        → IsNumberByDealRule kind place rec shards number },
+        → IsAsked place rec shards → post rule place rec shards number
+        → IsNumberBy kind place rec shards number },
 }
 
 impl Deals for Dealer {
@@ -47,12 +47,12 @@ impl Dealer {
     /// and 1 to 16 shards it may be called, and it returns a number below the number of shards, by the kind's formula.
     pub fn new(kind: DealKind, rule: DealRule) -> Dealer
         requires callable { (place : ℕ) (rec : RecordValue) (shards : ℕ)
-            → IsAskedOfDealRule place rec shards → pre rule place rec shards }
+            → IsAsked place rec shards → pre rule place rec shards }
         requires below { (place : ℕ) (rec : RecordValue) (shards number : ℕ)
-            → IsAskedOfDealRule place rec shards → post rule place rec shards number → number < shards }
+            → IsAsked place rec shards → post rule place rec shards number → number < shards }
         requires of_kind { (place : ℕ) (rec : RecordValue) (shards number : ℕ)
-            → IsAskedOfDealRule place rec shards → post rule place rec shards number
-            → IsNumberByDealRule kind place rec shards number }
+            → IsAsked place rec shards → post rule place rec shards number
+            → IsNumberBy kind place rec shards number }
         ensures kind { ⟦<Dealer as Deals>⟧.kind_of result ≡ kind }
         ensures rule { (place : ℕ) (rec : RecordValue) (shards number : ℕ)
             → ⟦<Dealer as Deals>⟧.may_answer result place rec shards number ↔ post rule place rec shards number }
@@ -73,7 +73,7 @@ impl Dealer {
         requires early { place < record_limit }
         requires some { 1 ≤ shards }
         requires few { shards ≤ shard_limit }
-        ensures { RuleMayDeal (⟦<Dealer as Deals>⟧.kind_of self.now) (⟦<Dealer as Deals>⟧.may_answer self.now)
+        ensures { MayDeal (⟦<Dealer as Deals>⟧.kind_of self.now) (⟦<Dealer as Deals>⟧.may_answer self.now)
             place rec.now shards result }
     {
         // Reading the weight makes it known that the weight is at least 1.

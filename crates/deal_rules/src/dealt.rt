@@ -1,7 +1,7 @@
 //! The records of all shards.
 
 ghost use Rattle.std.specs.Prelude.{◌≡◌, ◌<◌, ◌≤◌, length, slice_get, Some, IfOk};
-ghost use Rattle.deal_rules.specs.Dealing.{AreDealingLists};
+ghost use Rattle.deal_rules.specs.Dealing.{AreDealings};
 ghost use Rattle.prefix_lattice.specs.{record_limit};
 
 use prefix_lattice::RecordList;
@@ -17,19 +17,19 @@ pub struct Dealt {
 impl Model for Dealt {
     ghost use Rattle.std.specs.Prelude.{List};
     ghost use Rattle.prefix_lattice.specs.{RecordValue};
-    ghost use Rattle.deal_rules.specs.Dealing.{AreDealingLists};
+    ghost use Rattle.deal_rules.specs.Dealing.{AreDealings};
 
     ghost Value = { List (List RecordValue) };
 
     ghost view = { λ d. d.lists.items };
 
-    ghost invariant = { λ d. AreDealingLists d.lists.items };
+    ghost invariant = { λ d. AreDealings d.lists.items };
 }
 
 impl Dealt {
     /// Takes the lists of all shards, from shard 0 on.
     pub(crate) fn of(lists: Vec<RecordList>) -> Dealt
-        requires { AreDealingLists lists.items }
+        requires { AreDealings lists.items }
         ensures { result ≡ lists.items }
     {
         Dealt { lists }
@@ -38,7 +38,7 @@ impl Dealt {
     /// How many shards there are.
     pub fn shards(&self) -> u32
         ensures value { result ≡ length self.now }
-        ensures bounded { AreDealingLists self.now }
+        ensures bounded { AreDealings self.now }
     {
         self.lists.len() as u32
     }
@@ -55,7 +55,7 @@ impl Dealt {
     /// The lists of all shards, from shard 0 on.
     pub fn into_lists(self) -> Vec<RecordList>
         ensures value { result.items ≡ self }
-        ensures bounded { AreDealingLists result.items }
+        ensures bounded { AreDealings result.items }
     {
         self.lists
     }

@@ -4,14 +4,14 @@ use Rattle.prefix_lattice.specs.{RecordValue}
 use Rattle.deal_rules.specs.{IsDealing}
 use Rattle.deal_rules.specs.declared.deal_kind.DealKind.{DealKind}
 use Rattle.pcap_frames.specs.{FrameValue}
-use Rattle.frame_records.specs.{AreRecordsOf, CaptureFileHasFrames, frame_records_of}
+use Rattle.frame_records.specs.{AreRecordsOf, FileHasFrames, records_of}
 use Rattle.frame_records.specs.declared.records.Records.{Records}
 use Rattle.frame_records.specs.declared.weigh.Weigh.{Weigh}
-use Rattle.dealt_capture.specs.DealtCapture.{rules_by_formula}
+use Rattle.dealt_capture.specs.Dealing.{rules_by}
 
 -- a file has one list of frames
 abbrev pub DealtCaptureHasOneListOfFrames : Type 0
-DealtCaptureHasOneListOfFrames = (file : List ℕ) (frames others : List FrameValue) → CaptureFileHasFrames file frames → CaptureFileHasFrames file others
+DealtCaptureHasOneListOfFrames = (file : List ℕ) (frames others : List FrameValue) → FileHasFrames file frames → FileHasFrames file others
     → others ≡ frames
 
 -- a rule that is a formula deals records in one way
@@ -24,21 +24,21 @@ DealtCaptureHasOneDealing =
 
 -- the records of a file, in their order
 pub dealt_capture_records_agree : DealtCaptureHasOneListOfFrames → (file : List ℕ) (weigh other : Weigh) (frames other_frames : List FrameValue)
-    (records others : Records) → weigh ≡ other → CaptureFileHasFrames file frames → CaptureFileHasFrames file other_frames
+    (records others : Records) → weigh ≡ other → FileHasFrames file frames → FileHasFrames file other_frames
     → AreRecordsOf weigh frames records → AreRecordsOf other other_frames others → records.list ≡ others.list
 dealt_capture_records_agree one file weigh other frames other_frames records others same has has_other are are_other =
-    are.list ∙ ap₂ frame_records_of same (one file other_frames frames has_other has) ∙ sym are_other.list
+    are.list ∙ ap₂ records_of same (one file other_frames frames has_other has) ∙ sym are_other.list
 
 -- the lists to which they are dealt
 pub dealt_capture_lists_agree : DealtCaptureHasOneDealing → (formula : DealKind → ℕ → RecordValue → ℕ → ℕ) (kind other : DealKind) (shards other_shards : ℕ)
     (records others : List RecordValue) (lists other_lists : List (List RecordValue))
     → kind ≡ other → shards ≡ other_shards → records ≡ others
-    → IsDealing kind (rules_by_formula formula kind) shards records lists
-    → IsDealing other (rules_by_formula formula other) other_shards others other_lists → lists ≡ other_lists
+    → IsDealing kind (rules_by formula kind) shards records lists
+    → IsDealing other (rules_by formula other) other_shards others other_lists → lists ≡ other_lists
 dealt_capture_lists_agree one formula kind other shards other_shards records others lists other_lists same_kind same_shards same_records
     dealing dealing_other =
     one kind (formula kind) shards records lists other_lists dealing
-    (subst (λ k. IsDealing k (rules_by_formula formula k) shards records other_lists) (sym same_kind)
-    (subst (λ n. IsDealing other (rules_by_formula formula other) n records other_lists) (sym same_shards)
-    (subst (λ rs. IsDealing other (rules_by_formula formula other) other_shards rs other_lists) (sym same_records)
+    (subst (λ k. IsDealing k (rules_by formula k) shards records other_lists) (sym same_kind)
+    (subst (λ n. IsDealing other (rules_by formula other) n records other_lists) (sym same_shards)
+    (subst (λ rs. IsDealing other (rules_by formula other) other_shards rs other_lists) (sym same_records)
     dealing_other)))

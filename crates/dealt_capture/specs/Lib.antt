@@ -1,4 +1,4 @@
-pub mod DealtCapture
+pub mod Dealing
 -- the face: what contracts of other crates cite
-pub use Rattle.dealt_capture.specs.DealtCapture.{AreDealtRecords, IsCaptureFile, DealingRules}
-pub use Rattle.dealt_capture.specs.DealtCapture.{rules_by_formula}
+pub use Rattle.dealt_capture.specs.Dealing.{AreDealtRecords, IsCaptureFile, DealingRules}
+pub use Rattle.dealt_capture.specs.Dealing.{rules_by}

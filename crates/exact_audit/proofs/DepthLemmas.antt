@@ -13,13 +13,13 @@ use Rattle.std.proofs.lemmas.List.Elements.{All-head, All-tail}
 use Rattle.std.proofs.lemmas.List.Folds.{list_any_at}
 use Rattle.prefix_lattice.specs.{RecordValue, NodeValue, IsNode, node_index, node_at, PrefixValue, IsPrefix, covers}
 use Rattle.prefix_lattice.specs.{node_of_prefix, prefix_code}
-use Rattle.prefix_lattice.specs.{prefix_key, prefix_at, kept_bytes_begin_with, strictly_under, lines_under}
+use Rattle.prefix_lattice.specs.{prefix_key, prefix_at, begins_with, strictly_under, lines_under}
 use Rattle.prefix_lattice.specs.{one_line_covers}
 use Rattle.prefix_lattice.proofs.NodePlaceLemmas.{node_at_own_place}
 use Rattle.prefix_lattice.proofs.ListLemmas.{Contains-list_head, Contains-list_tail}
 use Rattle.exact_audit.specs.declared.depths.Depths.{Depths}
 use Rattle.exact_audit.specs.LineCodes.{AreLineCodes}
-use Rattle.exact_audit.specs.Depths.{reaches_depth, IsDepth, AreDepths, depth_at, explained_by_depth}
+use Rattle.exact_audit.specs.Depths.{reaches, IsDepth, AreDepths, depth_at, explained_by}
 use Rattle.exact_audit.proofs.ListAnyLemmas.{list_any-same, list_any-filter, list_any-either, list_any-weaker}
 use Rattle.exact_audit.proofs.ListAnyLemmas.{list_any_truths_are_equal}
 
@@ -28,21 +28,21 @@ abbrev depth_bytes_of : ℕ → List ℕ
 depth_bytes_of a = a / 256 / 256 / 256 % 256 ∷ a / 256 / 256 % 256 ∷ a / 256 % 256 ∷ a % 256 ∷ []
 
 -- what a list begins with is its front
-pub depth_front_is_taken : (bytes front : List ℕ) → kept_bytes_begin_with bytes front ≡ true → take (length front) bytes ≡ front
+pub depth_front_is_taken : (bytes front : List ℕ) → begins_with bytes front ≡ true → take (length front) bytes ≡ front
 depth_front_is_taken bytes [] begins = refl
 depth_front_is_taken [] (b ∷ front) begins = absurd (false≢true begins)
 depth_front_is_taken (x ∷ bytes) (b ∷ front) begins =
-    let both : (eqb x b ≡ true) × (kept_bytes_begin_with bytes front ≡ true) =
-    and_parts (eqb x b) (kept_bytes_begin_with bytes front) begins in
+    let both : (eqb x b ≡ true) × (begins_with bytes front ≡ true) =
+    and_parts (eqb x b) (begins_with bytes front) begins in
     ap (λ d. d ∷ take (length front) bytes) (eqb-true x b both.0)
     ∙ ap (λ l. b ∷ l) (depth_front_is_taken bytes front both.1)
 
 -- a list begins with each of its fronts
-pub depth_bytes_begin_with_front : (bytes : List ℕ) (n : ℕ) → kept_bytes_begin_with bytes (take n bytes) ≡ true
+pub depth_bytes_begin_with_front : (bytes : List ℕ) (n : ℕ) → begins_with bytes (take n bytes) ≡ true
 depth_bytes_begin_with_front bytes zero = refl
 depth_bytes_begin_with_front [] (suc n) = refl
 depth_bytes_begin_with_front (x ∷ bytes) (suc n) =
-    and_from (eqb x x) (kept_bytes_begin_with bytes (take n bytes)) (eq-eqb x x refl) (depth_bytes_begin_with_front bytes n)
+    and_from (eqb x x) (begins_with bytes (take n bytes)) (eq-eqb x x refl) (depth_bytes_begin_with_front bytes n)
 
 pub depth_front_length : (bytes : List ℕ) (n : ℕ) → n ≤ length bytes → length (take n bytes) ≡ n
 depth_front_length bytes zero few = refl
@@ -51,30 +51,30 @@ depth_front_length (x ∷ bytes) (suc n) few = let rest = depth_front_length byt
 
 -- of two fronts of one list, the one that is no shorter begins with the other
 pub shorter_depth_front_begins : (bytes : List ℕ) (m n : ℕ) → m ≤ length bytes → n ≤ length bytes
-    → kept_bytes_begin_with (take m bytes) (take n bytes) ≡ nat_le n m
+    → begins_with (take m bytes) (take n bytes) ≡ nat_le n m
 shorter_depth_front_begins bytes m zero few_m few_n = sym (le-leb 0 m (omega arith))
 shorter_depth_front_begins [] m (suc n) few_m few_n = absurd (omega arith)
 shorter_depth_front_begins (x ∷ bytes) zero (suc n) few_m few_n = sym (lt-leb (suc n) 0 (omega arith))
 shorter_depth_front_begins (x ∷ bytes) (suc m) (suc n) few_m few_n =
-    ap (λ b. b && kept_bytes_begin_with (take m bytes) (take n bytes)) (eq-eqb x x refl)
+    ap (λ b. b && begins_with (take m bytes) (take n bytes)) (eq-eqb x x refl)
     ∙ shorter_depth_front_begins bytes m n (omega arith) (omega arith)
     ∙ list_any_truths_are_equal (nat_le n m) (nat_le (suc n) (suc m))
     (λ is. le-leb (suc n) (suc m) (let le = leb-true n m is in omega arith))
     (λ is. le-leb n m (let le = leb-true (suc n) (suc m) is in omega arith))
 
 -- a list that begins with another is no shorter
-pub depth_front_is_no_longer : (bytes front : List ℕ) → kept_bytes_begin_with bytes front ≡ true → length front ≤ length bytes
+pub depth_front_is_no_longer : (bytes front : List ℕ) → begins_with bytes front ≡ true → length front ≤ length bytes
 depth_front_is_no_longer bytes [] begins = omega arith
 depth_front_is_no_longer [] (b ∷ front) begins = absurd (false≢true begins)
 depth_front_is_no_longer (x ∷ bytes) (b ∷ front) begins =
-    let shorter = depth_front_is_no_longer bytes front (and_parts (eqb x b) (kept_bytes_begin_with bytes front) begins).1 in
+    let shorter = depth_front_is_no_longer bytes front (and_parts (eqb x b) (begins_with bytes front) begins).1 in
     omega arith
 
 -- a line that covers a record is the record's prefix of its node
 pub covering_line_at_depth : (line : PrefixValue) (rec : RecordValue) → covers line rec ≡ true
     → prefix_at (node_of_prefix line) rec ≡ line
 covering_line_at_depth line rec covered =
-    let both = and_parts (kept_bytes_begin_with (depth_bytes_of rec.src) line.source) (kept_bytes_begin_with (depth_bytes_of rec.dst) line.dest)
+    let both = and_parts (begins_with (depth_bytes_of rec.src) line.source) (begins_with (depth_bytes_of rec.dst) line.dest)
     covered in
     let make : List ℕ → List ℕ → PrefixValue = λ source dest. record { source = source; dest = dest } in
     ap (λ source. make source (take (length line.dest) (depth_bytes_of rec.dst)))
@@ -85,7 +85,7 @@ covering_line_at_depth line rec covered =
 pub covering_depth_is_bounded : (line : PrefixValue) (rec : RecordValue) → covers line rec ≡ true
     → (length line.source ≤ 4) × (length line.dest ≤ 4)
 covering_depth_is_bounded line rec covered =
-    let both = and_parts (kept_bytes_begin_with (depth_bytes_of rec.src) line.source) (kept_bytes_begin_with (depth_bytes_of rec.dst) line.dest)
+    let both = and_parts (begins_with (depth_bytes_of rec.src) line.source) (begins_with (depth_bytes_of rec.dst) line.dest)
     covered in
     (depth_front_is_no_longer (depth_bytes_of rec.src) line.source both.0, depth_front_is_no_longer (depth_bytes_of rec.dst) line.dest both.1)
 
@@ -96,14 +96,14 @@ more_depth_on_either_side : (s d l m : ℕ)
 more_depth_on_either_side s d l m = grind (arith, nat_tests)
 
 -- a front compared with a line's bytes, where a list begins with both
-depth_front_against_line : (bytes front : List ℕ) (n : ℕ) → kept_bytes_begin_with bytes front ≡ true → n ≤ length bytes
-    → (kept_bytes_begin_with front (take n bytes) ≡ nat_le n (length front))
-    × (kept_bytes_begin_with (take n bytes) front ≡ nat_le (length front) n)
+depth_front_against_line : (bytes front : List ℕ) (n : ℕ) → begins_with bytes front ≡ true → n ≤ length bytes
+    → (begins_with front (take n bytes) ≡ nat_le n (length front))
+    × (begins_with (take n bytes) front ≡ nat_le (length front) n)
 depth_front_against_line bytes front n begins few =
     let is = depth_front_is_taken bytes front begins in
     let short = depth_front_is_no_longer bytes front begins in (
-      ap (λ l. kept_bytes_begin_with l (take n bytes)) (sym is) ∙ shorter_depth_front_begins bytes (length front) n short few,
-      ap (λ l. kept_bytes_begin_with (take n bytes) l) (sym is) ∙ shorter_depth_front_begins bytes n (length front) few short,
+      ap (λ l. begins_with l (take n bytes)) (sym is) ∙ shorter_depth_front_begins bytes (length front) n short few,
+      ap (λ l. begins_with (take n bytes) l) (sym is) ∙ shorter_depth_front_begins bytes n (length front) few short,
     )
 
 -- whether a line that covers a record is strictly under the record's prefix of a node
@@ -112,17 +112,17 @@ pub strictly_under_by_depth : (node : NodeValue) (rec : RecordValue) → IsNode 
     ≡ ((nat_le (node.source_bytes + 1) (length line.source) && nat_le node.dest_bytes (length line.dest))
     || (nat_le node.source_bytes (length line.source) && nat_le (node.dest_bytes + 1) (length line.dest)))
 strictly_under_by_depth node rec is line covered =
-    let both = and_parts (kept_bytes_begin_with (depth_bytes_of rec.src) line.source) (kept_bytes_begin_with (depth_bytes_of rec.dst) line.dest)
+    let both = and_parts (begins_with (depth_bytes_of rec.src) line.source) (begins_with (depth_bytes_of rec.dst) line.dest)
     covered in
     let source = depth_front_against_line (depth_bytes_of rec.src) line.source node.source_bytes both.0 is.source in
     let dest = depth_front_against_line (depth_bytes_of rec.dst) line.dest node.dest_bytes both.1 is.dest in
     let shape = λ (a b c d : Bool). (a && b) && not ((a && b) && (c && d)) in
-    let sides = λ (a c : Bool). shape a (kept_bytes_begin_with line.dest (take node.dest_bytes (depth_bytes_of rec.dst))) c
-    (kept_bytes_begin_with (take node.dest_bytes (depth_bytes_of rec.dst)) line.dest) in
-    ap (λ a. sides a (kept_bytes_begin_with (take node.source_bytes (depth_bytes_of rec.src)) line.source)) source.0
+    let sides = λ (a c : Bool). shape a (begins_with line.dest (take node.dest_bytes (depth_bytes_of rec.dst))) c
+    (begins_with (take node.dest_bytes (depth_bytes_of rec.dst)) line.dest) in
+    ap (λ a. sides a (begins_with (take node.source_bytes (depth_bytes_of rec.src)) line.source)) source.0
     ∙ ap (λ c. sides (nat_le node.source_bytes (length line.source)) c) source.1
     ∙ ap (λ b. shape (nat_le node.source_bytes (length line.source)) b (nat_le (length line.source) node.source_bytes)
-    (kept_bytes_begin_with (take node.dest_bytes (depth_bytes_of rec.dst)) line.dest)) dest.0
+    (begins_with (take node.dest_bytes (depth_bytes_of rec.dst)) line.dest)) dest.0
     ∙ ap (λ d. shape (nat_le node.source_bytes (length line.source)) (nat_le node.dest_bytes (length line.dest))
     (nat_le (length line.source) node.source_bytes) d) dest.1
     ∙ more_depth_on_either_side node.source_bytes node.dest_bytes (length line.source) (length line.dest)
@@ -130,7 +130,7 @@ strictly_under_by_depth node rec is line covered =
 -- a line strictly under the record's prefix of a node covers it exactly if a line that covers it reaches further down
 pub explained_by_reached_depth : (lines : List PrefixValue) (node : NodeValue) (rec : RecordValue) → IsNode node
     → one_line_covers (lines_under (prefix_at node rec) lines) rec
-    ≡ (reaches_depth lines rec (node.source_bytes + 1) node.dest_bytes || reaches_depth lines rec node.source_bytes
+    ≡ (reaches lines rec (node.source_bytes + 1) node.dest_bytes || reaches lines rec node.source_bytes
     (node.dest_bytes + 1))
 explained_by_reached_depth lines node rec is =
     list_any-filter (λ line. covers line rec) (λ line. strictly_under line (prefix_at node rec)) lines
@@ -163,7 +163,7 @@ explained_by_reached_depth lines node rec is =
 
 -- lines reach at least as far if less is asked
 pub lesser_depth_is_reached : (lines : List PrefixValue) (rec : RecordValue) (s d t e : ℕ) → t ≤ s → e ≤ d
-    → reaches_depth lines rec s d ≡ true → reaches_depth lines rec t e ≡ true
+    → reaches lines rec s d ≡ true → reaches lines rec t e ≡ true
 lesser_depth_is_reached lines rec s d t e less fewer =
     list_any-weaker (λ line. covers line rec && (nat_le s (length line.source) && nat_le d (length line.dest)))
     (λ line. covers line rec && (nat_le t (length line.source) && nat_le e (length line.dest))) lines
@@ -184,11 +184,11 @@ lesser_depth_is_reached lines rec s d t e less fewer =
 
 -- no line keeps more than four bytes of an address
 pub depth_past_four_is_unreached : (lines : List PrefixValue) (rec : RecordValue) (s d : ℕ) → (4 < s) ⊎ (4 < d)
-    → reaches_depth lines rec s d ≡ false
+    → reaches lines rec s d ≡ false
 depth_past_four_is_unreached [] rec s d past = refl
 depth_past_four_is_unreached (line ∷ lines) rec s d past =
     or_from (covers line rec && (nat_le s (length line.source) && nat_le d (length line.dest)))
-    (reaches_depth lines rec s d)
+    (reaches lines rec s d)
     (false_from_ne_true (covers line rec && (nat_le s (length line.source) && nat_le d (length line.dest))) (λ is.
     let both = and_parts (covers line rec) (nat_le s (length line.source) && nat_le d (length line.dest)) is in
     let sides = and_parts (nat_le s (length line.source)) (nat_le d (length line.dest)) both.1 in
@@ -203,17 +203,17 @@ depth_past_four_is_unreached (line ∷ lines) rec s d past =
 pub depth_without_line_is_unreached : (lines : List PrefixValue) (rec : RecordValue) (s d : ℕ)
     → list_any (λ line. nat_eq (prefix_code (prefix_at (record { source_bytes = s; dest_bytes = d }) rec)) (prefix_code line))
     lines ≡ false
-    → reaches_depth lines rec (s + 1) d ≡ false → reaches_depth lines rec s (d + 1) ≡ false → reaches_depth lines rec s d ≡ false
+    → reaches lines rec (s + 1) d ≡ false → reaches lines rec s (d + 1) ≡ false → reaches lines rec s d ≡ false
 depth_without_line_is_unreached [] rec s d none source dest = refl
 depth_without_line_is_unreached (line ∷ lines) rec s d none source dest =
     let own = prefix_at (record { source_bytes = s; dest_bytes = d }) rec in
     let nones = or_parts (nat_eq (prefix_code own) (prefix_code line))
     (list_any (λ line. nat_eq (prefix_code own) (prefix_code line)) lines) none in
     let sources = or_parts (covers line rec && (nat_le (s + 1) (length line.source) && nat_le d (length line.dest)))
-    (reaches_depth lines rec (s + 1) d) source in
+    (reaches lines rec (s + 1) d) source in
     let dests = or_parts (covers line rec && (nat_le s (length line.source) && nat_le (d + 1) (length line.dest)))
-    (reaches_depth lines rec s (d + 1)) dest in
-    or_from (covers line rec && (nat_le s (length line.source) && nat_le d (length line.dest))) (reaches_depth lines rec s d)
+    (reaches lines rec s (d + 1)) dest in
+    or_from (covers line rec && (nat_le s (length line.source) && nat_le d (length line.dest))) (reaches lines rec s d)
     (false_from_ne_true (covers line rec && (nat_le s (length line.source) && nat_le d (length line.dest))) (λ is.
     let both = and_parts (covers line rec) (nat_le s (length line.source) && nat_le d (length line.dest)) is in
     let sides = and_parts (nat_le s (length line.source)) (nat_le d (length line.dest)) both.1 in
@@ -263,11 +263,11 @@ no_depth_line_is_coded lines codes prefix coded none = sym (coded.coded (prefix_
 pub depth_next : (lines : List PrefixValue) (codes : List ℕ) (rec : RecordValue) (s dest below : ℕ)
     → AreLineCodes lines codes → IsDepth lines rec (s + 1) below → below ≤ dest
     → list_any (nat_eq (prefix_code (prefix_at (record { source_bytes = s; dest_bytes = dest }) rec))) codes ≡ false
-    → ((d : ℕ) → dest + 1 ≤ d → reaches_depth lines rec s d ≡ false) → (d : ℕ) → dest ≤ d → reaches_depth lines rec s d ≡ false
+    → ((d : ℕ) → dest + 1 ≤ d → reaches lines rec s d ≡ false) → (d : ℕ) → dest ≤ d → reaches lines rec s d ≡ false
 depth_next lines codes rec s dest below coded depth past none before d at_least =
     ⊎_elim (λ (same : d < dest + 1).
     let is : dest ≡ d = omega arith in
-    subst (λ e. reaches_depth lines rec s e ≡ false) is
+    subst (λ e. reaches lines rec s e ≡ false) is
     (depth_without_line_is_unreached lines rec s dest
     (no_depth_line_is_coded lines codes (prefix_at (record { source_bytes = s; dest_bytes = dest }) rec) coded none)
     (sym (depth dest) ∙ le-ltb dest below past) (before (dest + 1) (omega arith))))
@@ -308,7 +308,7 @@ uncoded_depth_has_no_line lines codes prefix coded none (place, within, same) =
 -- the depth where a line has the record's prefix, and none reaches further down
 pub depth_found : (lines : List PrefixValue) (rec : RecordValue) (s dest : ℕ) (prefix : PrefixValue)
     → Contains lines prefix → covers prefix rec ≡ true → node_of_prefix prefix ≡ record { source_bytes = s; dest_bytes = dest }
-    → ((d : ℕ) → dest + 1 ≤ d → reaches_depth lines rec s d ≡ false) → IsDepth lines rec s (dest + 1)
+    → ((d : ℕ) → dest + 1 ≤ d → reaches lines rec s d ≡ false) → IsDepth lines rec s (dest + 1)
 depth_found lines rec s dest prefix (place, within, same) covered node none = λ d.
     ⊎_elim (λ (less : d < dest + 1).
     lt-ltb d (dest + 1) less ∙ sym (lesser_depth_is_reached lines rec s dest s d (omega arith) (omega arith) here))
@@ -330,12 +330,12 @@ depth_found lines rec s dest prefix (place, within, same) covered node none = λ
         (le-leb s (length prefix.source) (omega (arith, source_is)))
         (le-leb dest (length prefix.dest) (omega (arith, dest_is))))
 
-    here : reaches_depth lines rec s dest ≡ true
+    here : reaches lines rec s dest ≡ true
     here = list_any_at Test lines place prefix within (subst (λ p. Test p ≡ true) (sym same) passes)
 
 -- the depth where no line reaches further down than with one more source byte
 pub depth_end : (lines : List PrefixValue) (rec : RecordValue) (s dest below : ℕ) → IsDepth lines rec (s + 1) below
-    → dest ≤ below → ((d : ℕ) → dest ≤ d → reaches_depth lines rec s d ≡ false) → IsDepth lines rec s below
+    → dest ≤ below → ((d : ℕ) → dest ≤ d → reaches lines rec s d ≡ false) → IsDepth lines rec s below
 depth_end lines rec s dest below depth least none = λ d.
     ⊎_elim (λ (less : d < below).
     lt-ltb d below less
@@ -360,10 +360,10 @@ depths_at lines rec depths are (suc (suc (suc (suc (suc (suc n)))))) few = absur
 -- depths decide at each node whether a line strictly under the record's prefix covers the record
 pub explained_by_depths : (lines : List PrefixValue) (rec : RecordValue) (depths : Depths) (node : NodeValue)
     → AreDepths lines rec depths → IsNode node
-    → explained_by_depth depths node ≡ one_line_covers (lines_under (prefix_at node rec) lines) rec
+    → explained_by depths node ≡ one_line_covers (lines_under (prefix_at node rec) lines) rec
 explained_by_depths lines rec depths node are is =
     ap (λ b. b || nat_lt (node.dest_bytes + 1) (depth_at depths node.source_bytes))
     (depths_at lines rec depths are (node.source_bytes + 1) (omega (arith, is.source)) node.dest_bytes)
-    ∙ ap (λ b. reaches_depth lines rec (node.source_bytes + 1) node.dest_bytes || b)
+    ∙ ap (λ b. reaches lines rec (node.source_bytes + 1) node.dest_bytes || b)
     (depths_at lines rec depths are node.source_bytes (omega (arith, is.source)) (node.dest_bytes + 1))
     ∙ sym (explained_by_reached_depth lines node rec is)

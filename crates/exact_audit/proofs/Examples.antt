@@ -7,16 +7,16 @@ use Rattle.prefix_lattice.specs.{RecordValue, NodeValue, PrefixValue, IsPrefix, 
 use Rattle.prefix_lattice.specs.{prefix_key}
 use Rattle.hhh_report.specs.declared.line.Line.{Line}
 use Rattle.hhh_report.specs.declared.report.Report.{Report}
-use Rattle.hhh_report.specs.{AreReportLines, HoldsWeightInSoundReport, IsThreshold}
+use Rattle.hhh_report.specs.{AreReportLines, LineHoldsWeight, IsThreshold}
 use Rattle.exact_audit.specs.declared.depths.Depths.{Depths}
 use Rattle.exact_audit.specs.declared.counted.Counted.{Counted}
 use Rattle.exact_audit.specs.declared.left_out.LeftOut.{LeftOut}
 use Rattle.exact_audit.specs.declared.verdict.Verdict.TheVariants.{BadPositions, BadTotal, BadThreshold, BadInterval}
 use Rattle.exact_audit.specs.LeftOut.{IsLeftOut}
 use Rattle.exact_audit.specs.Verdict.{IsVerdict}
-use Rattle.exact_audit.specs.Depths.{reaches_depth, explained_by_depth}
-use Rattle.exact_audit.specs.NodeSums.{node_sum_weight, node_sum_left}
-use Rattle.exact_audit.specs.Findings.{first_finding_with}
+use Rattle.exact_audit.specs.Depths.{reaches, explained_by}
+use Rattle.exact_audit.specs.NodeSums.{sum_weight, sum_left}
+use Rattle.exact_audit.specs.Findings.{first_with}
 
 abbrev packet : RecordValue
 packet = record { src = 0x0a010203; dst = 0x14010203; weight = 100 }
@@ -91,7 +91,7 @@ an_interval_below_the_weight = record {
     line = light;
     is = refl;
     fails = λ holds. omega (arith, holds.high);
-    passed = All-nil (HoldsWeightInSoundReport (packet ∷ []));
+    passed = All-nil (LineHoldsWeight (packet ∷ []));
   };
 }
 
@@ -123,36 +123,36 @@ pub no_line_is_left_out : ¬ IsLeftOut (whole ∷ []) (packet ∷ []) 1 whole 10
 no_line_is_left_out out = out.no_line (0, omega arith, refl)
 
 -- the line reaches down to four bytes on both sides, and no further
-pub the_line_reaches_the_hosts : reaches_depth (whole ∷ []) packet 4 4 ≡ true
+pub the_line_reaches_the_hosts : reaches (whole ∷ []) packet 4 4 ≡ true
 the_line_reaches_the_hosts = refl
 
-pub but_no_further : reaches_depth (whole ∷ []) packet 4 5 ≡ false
+pub but_no_further : reaches (whole ∷ []) packet 4 5 ≡ false
 but_no_further = refl
 
 -- so each depth is 5
 abbrev deep : Depths
 deep = record { zero = 5; one = 5; two = 5; three = 5; four = 5 }
 
-pub the_root_is_explained : explained_by_depth deep root_node ≡ true
+pub the_root_is_explained : explained_by deep root_node ≡ true
 the_root_is_explained = refl
 
 pub as_the_definition_says : one_line_covers (lines_under root (whole ∷ [])) packet ≡ true
 as_the_definition_says = refl
 
 -- a line doesn't explain its own prefix
-pub the_line_itself_is_not : explained_by_depth deep host_node ≡ false
+pub the_line_itself_is_not : explained_by deep host_node ≡ false
 the_line_itself_is_not = refl
 
 abbrev counted : List Counted
 counted = record { rec = packet; depths = deep } ∷ []
 
-pub all_weight_is_at_the_root : node_sum_weight root_node 0 counted ≡ 100
+pub all_weight_is_at_the_root : sum_weight root_node 0 counted ≡ 100
 all_weight_is_at_the_root = refl
 
-pub none_of_it_is_left : node_sum_left root_node 0 counted ≡ 0
+pub none_of_it_is_left : sum_left root_node 0 counted ≡ 0
 none_of_it_is_left = refl
 
-pub all_of_it_is_left_to_the_line : node_sum_left host_node (prefix_key whole) counted ≡ 100
+pub all_of_it_is_left_to_the_line : sum_left host_node (prefix_key whole) counted ≡ 100
 all_of_it_is_left_to_the_line = refl
 
 -- a more specific prefix comes first, whichever was found first
@@ -162,8 +162,8 @@ at_root = record { prefix = root; weight = 100 }
 abbrev at_host : LeftOut
 at_host = record { prefix = whole; weight = 100 }
 
-pub the_host_comes_first : first_finding_with (Some at_root) at_host ≡ at_host
+pub the_host_comes_first : first_with (Some at_root) at_host ≡ at_host
 the_host_comes_first = refl
 
-pub and_stays_first : first_finding_with (Some at_host) at_root ≡ at_host
+pub and_stays_first : first_with (Some at_host) at_root ≡ at_host
 and_stays_first = refl

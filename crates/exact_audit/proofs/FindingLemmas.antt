@@ -9,8 +9,8 @@ use Rattle.hhh_report.specs.{prefixes_of_lines}
 use Rattle.exact_audit.specs.declared.node_sums.Sums.{Sums}
 use Rattle.exact_audit.specs.declared.left_out.LeftOut.{LeftOut}
 use Rattle.exact_audit.specs.LeftOut.{IsLeftOut}
-use Rattle.exact_audit.specs.Findings.{AreFindingSumsBefore, AreFindingSums, IsFirstFindingBefore, IsFirstFinding}
-use Rattle.exact_audit.proofs.LeftOutLemmas.{IsFirstFinding-same_left_out}
+use Rattle.exact_audit.specs.Findings.{AreSumsBefore, AreSumsOf, IsFirstBefore, IsFirst}
+use Rattle.exact_audit.proofs.LeftOutLemmas.{IsFirst-same_left_out}
 
 -- the node of a prefix has one of the 25 indexes
 finding_node_index_is_small : (prefix : PrefixValue) → IsPrefix prefix → node_index (node_of_prefix prefix) < 25
@@ -18,7 +18,7 @@ finding_node_index_is_small prefix is = node_place_is_small (node_of_prefix pref
 
 -- the sums of the lines of all nodes are those of all lines
 pub findings_hold_all_line_sums : (lines : List Line) (records : List RecordValue) (index : ℕ) (sums : List Sums) → 25 ≤ index
-    → All IsPrefix (prefixes_of_lines lines) → AreFindingSumsBefore index lines records sums → AreFindingSums lines records sums
+    → All IsPrefix (prefixes_of_lines lines) → AreSumsBefore index lines records sums → AreSumsOf lines records sums
 findings_hold_all_line_sums lines records index sums last prefixes before = record {
   as_many = before.as_many;
   each = λ place line at.
@@ -35,10 +35,10 @@ findings_hold_all_line_sums lines records index sums last prefixes before = reco
 -- the first prefix left out of all nodes is the first of all prefixes left out
 pub findings_leave_out_first : (lines : List PrefixValue) (records : List RecordValue) (threshold index : ℕ)
     (found : Option LeftOut)
-    → 25 ≤ index → IsFirstFindingBefore index lines records threshold found
-    → IsFirstFinding (IsLeftOut lines records threshold) found
+    → 25 ≤ index → IsFirstBefore index lines records threshold found
+    → IsFirst (IsLeftOut lines records threshold) found
 findings_leave_out_first lines records threshold index found last =
-    IsFirstFinding-same_left_out
+    IsFirst-same_left_out
     (λ prefix weight. IsLeftOut lines records threshold prefix weight × (node_index (node_of_prefix prefix) < index))
     (IsLeftOut lines records threshold) found (λ prefix weight met. met.0)
     (λ prefix weight out. (out, omega (arith, finding_node_index_is_small prefix out.is_prefix, last)))

@@ -23,26 +23,26 @@ use Rattle.exact_audit.specs.declared.left_out.LeftOut.{LeftOut}
 use Rattle.exact_audit.specs.LeftOut.{IsLeftOut}
 use Rattle.exact_audit.specs.LineCodes.{AreLineCodes}
 use Rattle.exact_audit.specs.NodeSums.{no_sums, sums_for, sums_of, AreNodeSums}
-use Rattle.exact_audit.specs.Findings.{first_finding_by, first_finding_with, IsFirstFinding, IsFirstFindingBefore}
-use Rattle.exact_audit.specs.Findings.{IsFirstFindingWith}
+use Rattle.exact_audit.specs.Findings.{first_by, first_with, IsFirst, IsFirstBefore}
+use Rattle.exact_audit.specs.Findings.{IsFirstWith}
 use Rattle.exact_audit.proofs.DepthLemmas.{coded_depth_has_line, uncoded_depth_has_no_line}
 
 -- the first of those that meet a condition is the first of those that meet an equivalent one
-pub IsFirstFinding-same_left_out : (Meets Others : PrefixValue → ℕ → Type 0) (found : Option LeftOut)
+pub IsFirst-same_left_out : (Meets Others : PrefixValue → ℕ → Type 0) (found : Option LeftOut)
     → ((prefix : PrefixValue) (weight : ℕ) → Meets prefix weight → Others prefix weight)
     → ((prefix : PrefixValue) (weight : ℕ) → Others prefix weight → Meets prefix weight)
-    → IsFirstFinding Meets found → IsFirstFinding Others found
-IsFirstFinding-same_left_out Meets Others None to from first = λ prefix weight other. first prefix weight (from prefix weight other)
-IsFirstFinding-same_left_out Meets Others (Some found) to from first =
+    → IsFirst Meets found → IsFirst Others found
+IsFirst-same_left_out Meets Others None to from first = λ prefix weight other. first prefix weight (from prefix weight other)
+IsFirst-same_left_out Meets Others (Some found) to from first =
     (to found.prefix found.weight first.0, λ prefix weight other. first.1 prefix weight (from prefix weight other))
 
 -- one more, which meets the condition too
-pub IsFirstFinding-more_left_out : IsTotalOrder report_order → (Meets Others : PrefixValue → ℕ → Type 0) (found : Option LeftOut)
+pub IsFirst-more_left_out : IsTotalOrder report_order → (Meets Others : PrefixValue → ℕ → Type 0) (found : Option LeftOut)
     (one : LeftOut) → Others one.prefix one.weight
     → ((prefix : PrefixValue) (weight : ℕ) → Meets prefix weight → Others prefix weight)
     → ((prefix : PrefixValue) (weight : ℕ) → Others prefix weight → Meets prefix weight ⊎ (prefix ≡ one.prefix))
-    → IsFirstFinding Meets found → IsFirstFinding Others (Some (first_finding_with found one))
-IsFirstFinding-more_left_out order Meets Others None one meets to from first = (
+    → IsFirst Meets found → IsFirst Others (Some (first_with found one))
+IsFirst-more_left_out order Meets Others None one meets to from first = (
   meets,
   λ prefix weight other less.
       ⊎_elim (λ (met : Meets prefix weight). first prefix weight met)
@@ -57,7 +57,7 @@ IsFirstFinding-more_left_out order Meets Others None one meets to from first = (
         order.antisymm prefix prefix in
         let more : Less ≡ Greater = sym less ∙ turned ∙ ap ordering_reverse less in
         cc
-IsFirstFinding-more_left_out order Meets Others (Some found) one meets to from first =
+IsFirst-more_left_out order Meets Others (Some found) one meets to from first =
     by (report_order one.prefix found.prefix) refl
   where
     not_less : (prefix : PrefixValue) → report_order prefix prefix ≡ Less → ⊥
@@ -67,7 +67,7 @@ IsFirstFinding-more_left_out order Meets Others (Some found) one meets to from f
         let more : Less ≡ Greater = sym less ∙ turned ∙ ap ordering_reverse less in
         cc
 
-    keeps : report_order one.prefix found.prefix ≢ Less → IsFirstFinding Others (Some found)
+    keeps : report_order one.prefix found.prefix ≢ Less → IsFirst Others (Some found)
     keeps not = (
       to found.prefix found.weight first.0,
       λ prefix weight other less.
@@ -77,7 +77,7 @@ IsFirstFinding-more_left_out order Meets Others (Some found) one meets to from f
     )
 
     by : (answer : Ordering) → report_order one.prefix found.prefix ≡ answer
-        → IsFirstFinding Others (Some (first_finding_by answer one found))
+        → IsFirst Others (Some (first_by answer one found))
     by Less is = (
       meets,
       λ prefix weight other less.
@@ -92,10 +92,10 @@ IsFirstFinding-more_left_out order Meets Others (Some found) one meets to from f
 
 -- before the first key
 pub first_left_out_before_keys : (index : ℕ) (lines : List PrefixValue) (records : List RecordValue) (threshold : ℕ)
-    (found : Option LeftOut) → IsFirstFindingBefore index lines records threshold found
-    → IsFirstFindingWith index [] lines records threshold found
+    (found : Option LeftOut) → IsFirstBefore index lines records threshold found
+    → IsFirstWith index [] lines records threshold found
 first_left_out_before_keys index lines records threshold found =
-    IsFirstFinding-same_left_out
+    IsFirst-same_left_out
     (λ prefix weight. IsLeftOut lines records threshold prefix weight × (node_index (node_of_prefix prefix) < index))
     (λ prefix weight. IsLeftOut lines records threshold prefix weight
     × ((node_index (node_of_prefix prefix) < index) ⊎ ((node_index (node_of_prefix prefix) ≡ index) × (false ≡ true)))) found
@@ -129,10 +129,10 @@ left_out_node_by_index node prefix is prefix_is same =
 pub first_left_out_after_keys : {S : Type 0} (node : NodeValue) (lines : List PrefixValue) (records : List RecordValue) (threshold : ℕ)
     (sums : HashMap ℕ Sums S) (found : Option LeftOut) → IsNode node → 1 ≤ threshold → AreNodeSums node lines records
     sums
-    → IsFirstFindingWith (node_index node) (keys sums) lines records threshold found
-    → IsFirstFindingBefore (node_index node + 1) lines records threshold found
+    → IsFirstWith (node_index node) (keys sums) lines records threshold found
+    → IsFirstBefore (node_index node + 1) lines records threshold found
 first_left_out_after_keys {S} node lines records threshold sums found node_is some are =
-    IsFirstFinding-same_left_out
+    IsFirst-same_left_out
     (λ prefix weight. IsLeftOut lines records threshold prefix weight × ((node_index (node_of_prefix prefix) < node_index node)
     ⊎ ((node_index (node_of_prefix prefix) ≡ node_index node) × (list_any (nat_eq (prefix_key prefix)) (keys sums) ≡ true))))
     (λ prefix weight. IsLeftOut lines records threshold prefix weight × (node_index (node_of_prefix prefix) < node_index node + 1))
@@ -170,10 +170,10 @@ pub first_left_out_skips_light : {S : Type 0} (node : NodeValue) (lines : List P
     (sums : HashMap ℕ Sums S) (place key left : ℕ) (found : Option LeftOut) → IsNode node
     → AreNodeSums node lines records sums → place < length (keys sums) → get_or (keys sums) place 0 ≡ key
     → (sums_for sums key).left ≡ left → left < threshold
-    → IsFirstFindingWith (node_index node) (take place (keys sums)) lines records threshold found
-    → IsFirstFindingWith (node_index node) (take (place + 1) (keys sums)) lines records threshold found
+    → IsFirstWith (node_index node) (take place (keys sums)) lines records threshold found
+    → IsFirstWith (node_index node) (take (place + 1) (keys sums)) lines records threshold found
 first_left_out_skips_light node lines records threshold sums place key left found node_is are within at of_key light =
-    IsFirstFinding-same_left_out (With (take place (keys sums))) (With (take (place + 1) (keys sums))) found
+    IsFirst-same_left_out (With (take place (keys sums))) (With (take (place + 1) (keys sums))) found
     (λ prefix weight met. (
       met.0,
       ⊎_elim (λ (before : node_index (node_of_prefix prefix) < node_index node). inl before)
@@ -223,22 +223,22 @@ pub first_left_out_takes_heavy : {S : Type 0} → IsTotalOrder report_order
     → AreNodeSums node lines records sums → AreLineCodes lines codes → place < length (keys sums)
     → get_or (keys sums) place 0 ≡ key → (sums_for sums key).left ≡ left → threshold ≤ left
     → HasPrefixKey node key one → key < 2 ^ 64
-    → IsFirstFindingWith (node_index node) (take place (keys sums)) lines records threshold found
-    → IsFirstFindingWith (node_index node) (take (place + 1) (keys sums)) lines records threshold
+    → IsFirstWith (node_index node) (take place (keys sums)) lines records threshold found
+    → IsFirstWith (node_index node) (take (place + 1) (keys sums)) lines records threshold
     (cond (list_any (nat_eq (prefix_code one)) codes) found
-    (Some (first_finding_with found (record { prefix = one; weight = left }))))
+    (Some (first_with found (record { prefix = one; weight = left }))))
 first_left_out_takes_heavy order apart node lines records codes threshold sums place key left one found node_is are coded within at
     of_key
     heavy one_is small before =
     cond_both (list_any (nat_eq (prefix_code one)) codes) found
-    (Some (first_finding_with found (record { prefix = one; weight = left })))
-    (IsFirstFindingWith (node_index node) (take (place + 1) (keys sums)) lines records threshold)
-    (λ has. IsFirstFinding-same_left_out (With (take place (keys sums))) (With (take (place + 1) (keys sums))) found to
+    (Some (first_with found (record { prefix = one; weight = left })))
+    (IsFirstWith (node_index node) (take (place + 1) (keys sums)) lines records threshold)
+    (λ has. IsFirst-same_left_out (With (take place (keys sums))) (With (take (place + 1) (keys sums))) found to
     (λ prefix weight met. ⊎_elim (λ (old : With (take place (keys sums)) prefix weight). old)
     (λ (same : prefix ≡ one). absurd (met.0.no_line (subst (Contains lines) (sym same)
     (coded_depth_has_line apart lines codes one coded one_is.is_prefix (omega (arith, one_is.of_key, small)) has))))
     (from prefix weight met)) before)
-    (λ has_not. IsFirstFinding-more_left_out order (With (take place (keys sums))) (With (take (place + 1) (keys sums))) found
+    (λ has_not. IsFirst-more_left_out order (With (take place (keys sums))) (With (take (place + 1) (keys sums))) found
     (record { prefix = one; weight = left }) (meets has_not) to from before)
   where
     With : List ℕ → PrefixValue → ℕ → Type 0

@@ -11,13 +11,13 @@ use Rattle.hhh_report.specs.{prefixes_of_lines}
 use Rattle.prefix_lattice.specs.{RecordValue, node_index, node_of_prefix}
 use Rattle.exact_audit.specs.declared.node_sums.Sums.{Sums}
 use Rattle.exact_audit.specs.NodeSums.{sums_of}
-use Rattle.exact_audit.specs.LineTests.{IsFirstFailingLine}
-use Rattle.exact_audit.specs.Findings.{AreFindingSums}
+use Rattle.exact_audit.specs.LineTests.{FailsFirst}
+use Rattle.exact_audit.specs.Findings.{AreSumsOf}
 
 -- a line that fails after those that pass
 pub line_test_fails_after_passes : (Passes : Line → Type 0) (lines : List Line) (place : ℕ) (line : Line) → place < length lines
     → line ≡ get_or lines place line → ¬ Passes line → All Passes (take place lines)
-    → IsFirstFailingLine Passes lines (place + 1)
+    → FailsFirst Passes lines (place + 1)
 line_test_fails_after_passes Passes lines place line within at fails passed = record {
   before = place;
   counted = refl;
@@ -36,7 +36,7 @@ line_test_passes_one_more Passes lines place line within at passes passed =
 -- the sums of a line
 pub line_test_sums_at_place : (lines : List Line) (records : List RecordValue) (sums : List Sums) (place : ℕ) (line : Line)
     (d : Sums)
-    → AreFindingSums lines records sums → place < length lines → line ≡ get_or lines place line
+    → AreSumsOf lines records sums → place < length lines → line ≡ get_or lines place line
     → get_or sums place d ≡ sums_of (prefixes_of_lines lines) records line.prefix
 line_test_sums_at_place lines records sums place line d are within at =
     get_or_from_slice_get sums place (sums_of (prefixes_of_lines lines) records line.prefix) d

@@ -12,9 +12,9 @@ use Rattle.prefix_lattice.specs.{prefix_key, prefix_at}
 use Rattle.prefix_lattice.specs.{prefix_weight, total_weight, conditioned_weight, one_line_covers, lines_under}
 use Rattle.exact_audit.specs.declared.counted.Counted.{Counted}
 use Rattle.exact_audit.specs.declared.node_sums.Sums.{Sums}
-use Rattle.exact_audit.specs.Depths.{AreDepths, explained_by_depth}
-use Rattle.exact_audit.specs.NodeSums.{records_in_node_sums, AreCountedInNodeSums, has_node_sum_key, node_sum_weight}
-use Rattle.exact_audit.specs.NodeSums.{node_sum_left, sums_for, AreNodeKeySums}
+use Rattle.exact_audit.specs.Depths.{AreDepths, explained_by}
+use Rattle.exact_audit.specs.NodeSums.{records_in, AreCountedIn, has_sum, sum_weight}
+use Rattle.exact_audit.specs.NodeSums.{sum_left, sums_for, AreKeySums}
 use Rattle.exact_audit.specs.NodeSums.{AreNodeSums}
 use Rattle.exact_audit.proofs.DepthLemmas.{explained_by_depths}
 
@@ -52,17 +52,17 @@ node_sum_of_some_terms {X} test weigh (x ∷ xs) =
 
 -- the weight of the records is that of the counted ones
 node_sum_is_record_weight : (counted : List Counted)
-    → sum_by (λ (c : Counted). c.rec.weight) counted ≡ total_weight (records_in_node_sums counted)
+    → sum_by (λ (c : Counted). c.rec.weight) counted ≡ total_weight (records_in counted)
 node_sum_is_record_weight [] = refl
 node_sum_is_record_weight (c ∷ counted) =
     sum_by-cons (λ (c : Counted). c.rec.weight) c counted ∙ ap (λ n. c.rec.weight + n) (node_sum_is_record_weight counted)
-    ∙ sym (sum_by-cons (λ (r : RecordValue). r.weight) c.rec (records_in_node_sums counted))
+    ∙ sym (sum_by-cons (λ (r : RecordValue). r.weight) c.rec (records_in counted))
 
 -- what some of the records so far weigh, and the next one, is at most the total
 pub partial_node_sum_fits : (counted : List Counted) (test : Counted → Bool) (index : ℕ) (one : Counted) → index < length counted
     → one ≡ get_or counted index one
     → sum_by (λ (c : Counted). cond (test c) c.rec.weight 0) (take index counted) + one.rec.weight
-    ≤ total_weight (records_in_node_sums counted)
+    ≤ total_weight (records_in counted)
 partial_node_sum_fits counted test index one within at =
     let some = node_sum_of_some_terms test (λ (c : Counted). c.rec.weight) (take index counted) in
     let more = sum_by_more (λ (c : Counted). c.rec.weight) counted index one within in
@@ -72,27 +72,27 @@ partial_node_sum_fits counted test index one within at =
     omega (arith, some, more, here, less, all)
 
 -- one more record
-pub AreNodeKeySums-next_in_node : {S : Type 0} (node : NodeValue) (counted : List Counted) (index : ℕ) (one : Counted)
+pub AreKeySums-next_in_node : {S : Type 0} (node : NodeValue) (counted : List Counted) (index : ℕ) (one : Counted)
     (key : ℕ) (old new : HashMap ℕ Sums S) → index < length counted → one ≡ get_or counted index one
     → key ≡ prefix_key (prefix_at node one.rec)
     → ((other : ℕ) → (sums_for new other).weight ≡ (sums_for old other).weight + cond (nat_eq key other)
     one.rec.weight 0)
     → ((other : ℕ) → (sums_for new other).left
-    ≡ (sums_for old other).left + cond (nat_eq key other && not (explained_by_depth one.depths node)) one.rec.weight 0)
-    → AreNodeKeySums node (take index counted) old → AreNodeKeySums node (take (index + 1) counted) new
-AreNodeKeySums-next_in_node node counted index one key old new within at is weight left before = record {
+    ≡ (sums_for old other).left + cond (nat_eq key other && not (explained_by one.depths node)) one.rec.weight 0)
+    → AreKeySums node (take index counted) old → AreKeySums node (take (index + 1) counted) new
+AreKeySums-next_in_node node counted index one key old new within at is weight left before = record {
   weight = λ other. weight other
       ∙ ap (λ n. n + cond (nat_eq key other) one.rec.weight 0) (before.weight other)
-      ∙ ap (λ k. node_sum_weight node other (take index counted) + cond (nat_eq k other) one.rec.weight 0) is
-      ∙ ap (λ (c : Counted). node_sum_weight node other (take index counted) + cond (has_node_sum_key node other c) c.rec.weight 0) at
-      ∙ sym (sum_by_more (λ (c : Counted). cond (has_node_sum_key node other c) c.rec.weight 0) counted index one within);
+      ∙ ap (λ k. sum_weight node other (take index counted) + cond (nat_eq k other) one.rec.weight 0) is
+      ∙ ap (λ (c : Counted). sum_weight node other (take index counted) + cond (has_sum node other c) c.rec.weight 0) at
+      ∙ sym (sum_by_more (λ (c : Counted). cond (has_sum node other c) c.rec.weight 0) counted index one within);
   left = λ other. left other
-      ∙ ap (λ n. n + cond (nat_eq key other && not (explained_by_depth one.depths node)) one.rec.weight 0) (before.left other)
-      ∙ ap (λ k. node_sum_left node other (take index counted)
-      + cond (nat_eq k other && not (explained_by_depth one.depths node)) one.rec.weight 0) is
-      ∙ ap (λ (c : Counted). node_sum_left node other (take index counted)
-      + cond (has_node_sum_key node other c && not (explained_by_depth c.depths node)) c.rec.weight 0) at
-      ∙ sym (sum_by_more (λ (c : Counted). cond (has_node_sum_key node other c && not (explained_by_depth c.depths node)) c.rec.weight 0)
+      ∙ ap (λ n. n + cond (nat_eq key other && not (explained_by one.depths node)) one.rec.weight 0) (before.left other)
+      ∙ ap (λ k. sum_left node other (take index counted)
+      + cond (nat_eq k other && not (explained_by one.depths node)) one.rec.weight 0) is
+      ∙ ap (λ (c : Counted). sum_left node other (take index counted)
+      + cond (has_sum node other c && not (explained_by c.depths node)) c.rec.weight 0) at
+      ∙ sym (sum_by_more (λ (c : Counted). cond (has_sum node other c && not (explained_by c.depths node)) c.rec.weight 0)
       counted index one within);
 }
 
@@ -106,25 +106,25 @@ pub record AreNodeSumLaws : Type 0 where
       → node_of_prefix prefix ≡ node_of_prefix other → prefix_key prefix ≡ prefix_key other → prefix ≡ other
 
 -- the weight of the records with the key of a prefix is the weight of the prefix
-node_sum_weight-node_sum : AreNodeSumLaws → (prefix : PrefixValue) (counted : List Counted) → IsPrefix prefix
-    → node_sum_weight (node_of_prefix prefix) (prefix_key prefix) counted ≡ prefix_weight prefix (records_in_node_sums counted)
-node_sum_weight-node_sum laws prefix counted is =
-    node_sum_by_test (has_node_sum_key (node_of_prefix prefix) (prefix_key prefix)) (covers prefix) (λ (c : Counted). c.rec)
+sum_weight-node_sum : AreNodeSumLaws → (prefix : PrefixValue) (counted : List Counted) → IsPrefix prefix
+    → sum_weight (node_of_prefix prefix) (prefix_key prefix) counted ≡ prefix_weight prefix (records_in counted)
+sum_weight-node_sum laws prefix counted is =
+    node_sum_by_test (has_sum (node_of_prefix prefix) (prefix_key prefix)) (covers prefix) (λ (c : Counted). c.rec)
     (λ (r : RecordValue). r.weight) counted
     (λ place d within. sym (laws.covering prefix (get_or counted place d).rec is))
 
 -- and the weight of those that no line explains is its conditioned weight
-node_sum_left-node_sum : AreNodeSumLaws → (lines : List PrefixValue) (prefix : PrefixValue) (counted : List Counted) → IsPrefix prefix
+sum_left-node_sum : AreNodeSumLaws → (lines : List PrefixValue) (prefix : PrefixValue) (counted : List Counted) → IsPrefix prefix
     → IsNode (node_of_prefix prefix) → All (λ (c : Counted). AreDepths lines c.rec c.depths) counted
-    → node_sum_left (node_of_prefix prefix) (prefix_key prefix) counted ≡ conditioned_weight prefix lines (records_in_node_sums counted)
-node_sum_left-node_sum laws lines prefix counted is node depths =
-    node_sum_by_test (λ (c : Counted). has_node_sum_key (node_of_prefix prefix) (prefix_key prefix) c && not
-    (explained_by_depth c.depths (node_of_prefix prefix)))
+    → sum_left (node_of_prefix prefix) (prefix_key prefix) counted ≡ conditioned_weight prefix lines (records_in counted)
+sum_left-node_sum laws lines prefix counted is node depths =
+    node_sum_by_test (λ (c : Counted). has_sum (node_of_prefix prefix) (prefix_key prefix) c && not
+    (explained_by c.depths (node_of_prefix prefix)))
     (λ (r : RecordValue). covers prefix r && not (one_line_covers (lines_under prefix lines) r)) (λ (c : Counted). c.rec)
     (λ (r : RecordValue). r.weight) counted
     (λ place d within. same (get_or counted place d) (depths place d within))
   where
-    own : (c : Counted) → has_node_sum_key (node_of_prefix prefix) (prefix_key prefix) c ≡ true → prefix_at (node_of_prefix prefix) c.rec ≡ prefix
+    own : (c : Counted) → has_sum (node_of_prefix prefix) (prefix_key prefix) c ≡ true → prefix_at (node_of_prefix prefix) c.rec ≡ prefix
     own c has =
         let at = laws.of_record (node_of_prefix prefix) c.rec node in
         laws.apart (prefix_at (node_of_prefix prefix) c.rec) prefix at.is_prefix is at.of_node
@@ -137,10 +137,10 @@ node_sum_left-node_sum laws lines prefix counted is node depths =
     split false false x y same more = refl
 
     same : (c : Counted) → AreDepths lines c.rec c.depths
-        → (has_node_sum_key (node_of_prefix prefix) (prefix_key prefix) c && not (explained_by_depth c.depths (node_of_prefix prefix)))
+        → (has_sum (node_of_prefix prefix) (prefix_key prefix) c && not (explained_by c.depths (node_of_prefix prefix)))
         ≡ (covers prefix c.rec && not (one_line_covers (lines_under prefix lines) c.rec))
     same c are =
-        split (has_node_sum_key (node_of_prefix prefix) (prefix_key prefix) c) (covers prefix c.rec) (explained_by_depth c.depths (node_of_prefix prefix))
+        split (has_sum (node_of_prefix prefix) (prefix_key prefix) c) (covers prefix c.rec) (explained_by c.depths (node_of_prefix prefix))
         (one_line_covers (lines_under prefix lines) c.rec) (sym (laws.covering prefix c.rec is))
         (λ has. explained_by_depths lines c.rec c.depths (node_of_prefix prefix) are node
         ∙ ap (λ p. one_line_covers (lines_under p lines) c.rec) (own c has))
@@ -148,13 +148,13 @@ node_sum_left-node_sum laws lines prefix counted is node depths =
 -- sums by keys are sums by prefixes
 pub AreNodeSums-by_prefix : {S : Type 0} → AreNodeSumLaws → (node : NodeValue) (lines : List PrefixValue)
     (records : List RecordValue) (counted : List Counted) (sums : HashMap ℕ Sums S) → IsNode node
-    → AreNodeKeySums node counted sums → AreCountedInNodeSums lines records counted → AreNodeSums node lines records sums
+    → AreKeySums node counted sums → AreCountedIn lines records counted → AreNodeSums node lines records sums
 AreNodeSums-by_prefix laws node lines records counted sums node_is by_key are prefix is of_node =
     let make : ℕ → ℕ → Sums = λ weight left. record { weight = weight; left = left } in
     ap (λ weight. make weight (sums_for sums (prefix_key prefix)).left)
-    (by_key.weight (prefix_key prefix) ∙ ap (λ n. node_sum_weight n (prefix_key prefix) counted) (sym of_node)
-    ∙ node_sum_weight-node_sum laws prefix counted is ∙ ap (prefix_weight prefix) are.same)
+    (by_key.weight (prefix_key prefix) ∙ ap (λ n. sum_weight n (prefix_key prefix) counted) (sym of_node)
+    ∙ sum_weight-node_sum laws prefix counted is ∙ ap (prefix_weight prefix) are.same)
     ∙ ap (make (prefix_weight prefix records))
-    (by_key.left (prefix_key prefix) ∙ ap (λ n. node_sum_left n (prefix_key prefix) counted) (sym of_node)
-    ∙ node_sum_left-node_sum laws lines prefix counted is (subst IsNode (sym of_node) node_is) are.depths
+    (by_key.left (prefix_key prefix) ∙ ap (λ n. sum_left n (prefix_key prefix) counted) (sym of_node)
+    ∙ sum_left-node_sum laws lines prefix counted is (subst IsNode (sym of_node) node_is) are.depths
     ∙ ap (conditioned_weight prefix lines) are.same)

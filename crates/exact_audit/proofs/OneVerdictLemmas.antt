@@ -10,24 +10,24 @@ use Rattle.std.proofs.lemmas.Bool.{cases_lt, cases_order, cases_eq}
 use Rattle.std.proofs.lemmas.List.{get_or-take, length-take-le}
 use Rattle.std.proofs.lemmas.Option.{get_or_from_slice_get, slice_get_within}
 use Rattle.prefix_lattice.specs.{RecordValue, PrefixValue, IsPrefix, report_order, conditioned_weight}
-use Rattle.hhh_report.specs.{records_before_cut, AreWithinListsInSoundReport, IsThreshold, HoldsWeightInSoundReport}
+use Rattle.hhh_report.specs.{records_before, AreWithinLists, IsThreshold, LineHoldsWeight}
 use Rattle.hhh_report.specs.declared.line.Line.{Line}
 use Rattle.hhh_report.specs.declared.report.Report.{Report}
-use Rattle.hhh_report.specs.{IsNarrowInSoundReport, IsHeavyInSoundReport, AreCompleteInSoundReport, prefixes_of_lines}
+use Rattle.hhh_report.specs.{IsNarrowLine, IsHeavyLine, AreComplete, prefixes_of_lines}
 use Rattle.exact_audit.specs.declared.verdict.Verdict.{Verdict}
 use Rattle.exact_audit.specs.declared.verdict.Verdict.TheVariants.{Good, BadPositions, BadTotal, BadThreshold}
 use Rattle.exact_audit.specs.declared.verdict.Verdict.TheVariants.{BadInterval, TooWide, LowLine, NotJustified, LeftOut}
-use Rattle.exact_audit.specs.LineTests.{IsFirstFailingLine, LineTestMeasures}
+use Rattle.exact_audit.specs.LineTests.{FailsFirst, TestMeasures}
 use Rattle.exact_audit.specs.LeftOut.{IsFirstLeftOut}
-use Rattle.exact_audit.specs.Verdict.{IsVerdict, IsTotalForVerdict}
-use Rattle.exact_audit.specs.LineTests.{LinesPassWeightTest, LinesPassWidthTest, LinesPassHeavyTest}
-use Rattle.exact_audit.specs.LineTests.{LinesPassJustifiedTest, LinePassesJustifiedTest}
-use Rattle.exact_audit.specs.Verdict.{VerdictReachesLines}
+use Rattle.exact_audit.specs.Verdict.{IsVerdict, IsTotal}
+use Rattle.exact_audit.specs.LineTests.{PassWeight, PassWidth, PassHeavy}
+use Rattle.exact_audit.specs.LineTests.{PassJustified, PassesJustified}
+use Rattle.exact_audit.specs.Verdict.{ReachesLines}
 use Rattle.exact_audit.proofs.VerdictLemmas.{no_verdict_where_all_pass}
 
 -- two first lines that fail a test are the same
-one_verdict_names_one_line : (Passes : Line → Type 0) (lines : List Line) (number other : ℕ) → IsFirstFailingLine Passes lines number
-    → IsFirstFailingLine Passes lines other → number ≡ other
+one_verdict_names_one_line : (Passes : Line → Type 0) (lines : List Line) (number other : ℕ) → FailsFirst Passes lines number
+    → FailsFirst Passes lines other → number ≡ other
 one_verdict_names_one_line Passes lines number other is other_is =
     ⊎_elim (λ (same : is.before ≡ other_is.before). omega (arith, same, is.counted, other_is.counted))
     (λ (apart : (is.before < other_is.before) ⊎ (other_is.before < is.before)).
@@ -35,8 +35,8 @@ one_verdict_names_one_line Passes lines number other is other_is =
     (λ (more : other_is.before < is.before). absurd (earlier other number other_is is more)) apart)
     (cases_order is.before other_is.before)
   where
-    earlier : (number other : ℕ) (is : IsFirstFailingLine Passes lines number)
-        (other_is : IsFirstFailingLine Passes lines other)
+    earlier : (number other : ℕ) (is : FailsFirst Passes lines number)
+        (other_is : FailsFirst Passes lines other)
         → is.before < other_is.before → ⊥
     earlier number other is other_is less =
         let within = slice_get_within lines other_is.before other_is.line other_is.is in
@@ -76,24 +76,24 @@ record OneVerdictSubject : Type 0 where
   pub report : Report
 
 -- what the tests of lines are made with
-abbrev one_verdict_tested_by : OneVerdictSubject → LineTestMeasures
+abbrev one_verdict_tested_by : OneVerdictSubject → TestMeasures
 one_verdict_tested_by of = record { capacity = of.capacity; threshold = of.report.threshold; total = of.report.total }
 
 -- the records that the report counts
 abbrev one_verdict_records : OneVerdictSubject → List RecordValue
-one_verdict_records of = records_before_cut of.lists of.report.positions
+one_verdict_records of = records_before of.lists of.report.positions
 
 -- the tests in their order; there is no ninth
 abbrev OneVerdictTest : OneVerdictSubject → ℕ → Type 0
-OneVerdictTest of zero = AreWithinListsInSoundReport of.report.positions of.lists
-OneVerdictTest of (suc zero) = IsTotalForVerdict of.lists of.report
+OneVerdictTest of zero = AreWithinLists of.report.positions of.lists
+OneVerdictTest of (suc zero) = IsTotal of.lists of.report
 OneVerdictTest of (suc (suc zero)) = IsThreshold of.phi of.report.total of.report.threshold
-OneVerdictTest of (suc (suc (suc zero))) = LinesPassWeightTest (one_verdict_records of) of.report.lines
-OneVerdictTest of (suc (suc (suc (suc zero)))) = LinesPassWidthTest (one_verdict_tested_by of) of.report.lines
-OneVerdictTest of (suc (suc (suc (suc (suc zero))))) = LinesPassHeavyTest (one_verdict_tested_by of) of.report.lines
-OneVerdictTest of (suc (suc (suc (suc (suc (suc zero)))))) = LinesPassJustifiedTest (one_verdict_tested_by of) (one_verdict_records of) of.report.lines
+OneVerdictTest of (suc (suc (suc zero))) = PassWeight (one_verdict_records of) of.report.lines
+OneVerdictTest of (suc (suc (suc (suc zero)))) = PassWidth (one_verdict_tested_by of) of.report.lines
+OneVerdictTest of (suc (suc (suc (suc (suc zero))))) = PassHeavy (one_verdict_tested_by of) of.report.lines
+OneVerdictTest of (suc (suc (suc (suc (suc (suc zero)))))) = PassJustified (one_verdict_tested_by of) (one_verdict_records of) of.report.lines
 OneVerdictTest of (suc (suc (suc (suc (suc (suc (suc zero))))))) =
-    AreCompleteInSoundReport of.report.threshold (prefixes_of_lines of.report.lines) (one_verdict_records of)
+    AreComplete of.report.threshold (prefixes_of_lines of.report.lines) (one_verdict_records of)
 OneVerdictTest of (suc (suc (suc (suc (suc (suc (suc (suc n)))))))) = ⊥
 
 -- this many of the first tests hold
@@ -116,7 +116,7 @@ tests_before_one_verdict Good = 8
 abbrev IsOneVerdictOn : OneVerdictSubject → Verdict → Type 0
 IsOneVerdictOn of verdict = IsVerdict of.lists of.capacity of.phi of.report verdict
 
-one_verdict_passes_head : (of : OneVerdictSubject) → VerdictReachesLines of.lists of.phi of.report → OneVerdictTestsHold of 3
+one_verdict_passes_head : (of : OneVerdictSubject) → ReachesLines of.lists of.phi of.report → OneVerdictTestsHold of 3
 one_verdict_passes_head of passes = (((tt, passes.positions), passes.total), passes.threshold)
 
 -- the tests before the one that fails hold
@@ -138,15 +138,15 @@ test_fails_at_one_verdict : (of : OneVerdictSubject) (verdict : Verdict) → IsO
 test_fails_at_one_verdict of BadPositions is = is
 test_fails_at_one_verdict of BadTotal is = is.1
 test_fails_at_one_verdict of BadThreshold is = is.2
-test_fails_at_one_verdict of (BadInterval number) is = λ all. no_verdict_where_all_pass (HoldsWeightInSoundReport (one_verdict_records of)) of.report.lines
+test_fails_at_one_verdict of (BadInterval number) is = λ all. no_verdict_where_all_pass (LineHoldsWeight (one_verdict_records of)) of.report.lines
     number all
     is.lines
 test_fails_at_one_verdict of (TooWide number) is =
-    λ all. no_verdict_where_all_pass (IsNarrowInSoundReport of.capacity of.report.total) of.report.lines number all is.lines.1
-test_fails_at_one_verdict of (LowLine number) is = λ all. no_verdict_where_all_pass (IsHeavyInSoundReport of.report.threshold) of.report.lines number all
+    λ all. no_verdict_where_all_pass (IsNarrowLine of.capacity of.report.total) of.report.lines number all is.lines.1
+test_fails_at_one_verdict of (LowLine number) is = λ all. no_verdict_where_all_pass (IsHeavyLine of.report.threshold) of.report.lines number all
     is.lines.2
 test_fails_at_one_verdict of (NotJustified number) is =
-    λ all. no_verdict_where_all_pass (LinePassesJustifiedTest (one_verdict_tested_by of) (one_verdict_records of) of.report.lines) of.report.lines number all
+    λ all. no_verdict_where_all_pass (PassesJustified (one_verdict_tested_by of) (one_verdict_records of) of.report.lines) of.report.lines number all
     is.lines.3
 test_fails_at_one_verdict of (LeftOut prefix weight) is = λ complete.
     let out = is.lines.4.left_out in
@@ -182,14 +182,14 @@ one_verdict_at_one_test order apart of BadPositions BadPositions is other_is sam
 one_verdict_at_one_test order apart of BadTotal BadTotal is other_is same = refl
 one_verdict_at_one_test order apart of BadThreshold BadThreshold is other_is same = refl
 one_verdict_at_one_test order apart of (BadInterval number) (BadInterval other) is other_is same =
-    ap BadInterval (one_verdict_names_one_line (HoldsWeightInSoundReport (one_verdict_records of)) of.report.lines number other is.lines other_is.lines)
+    ap BadInterval (one_verdict_names_one_line (LineHoldsWeight (one_verdict_records of)) of.report.lines number other is.lines other_is.lines)
 one_verdict_at_one_test order apart of (TooWide number) (TooWide other) is other_is same =
-    ap TooWide (one_verdict_names_one_line (IsNarrowInSoundReport of.capacity of.report.total) of.report.lines number other is.lines.1
+    ap TooWide (one_verdict_names_one_line (IsNarrowLine of.capacity of.report.total) of.report.lines number other is.lines.1
     other_is.lines.1)
 one_verdict_at_one_test order apart of (LowLine number) (LowLine other) is other_is same =
-    ap LowLine (one_verdict_names_one_line (IsHeavyInSoundReport of.report.threshold) of.report.lines number other is.lines.2 other_is.lines.2)
+    ap LowLine (one_verdict_names_one_line (IsHeavyLine of.report.threshold) of.report.lines number other is.lines.2 other_is.lines.2)
 one_verdict_at_one_test order apart of (NotJustified number) (NotJustified other) is other_is same =
-    ap NotJustified (one_verdict_names_one_line (LinePassesJustifiedTest (one_verdict_tested_by of) (one_verdict_records of) of.report.lines) of.report.lines
+    ap NotJustified (one_verdict_names_one_line (PassesJustified (one_verdict_tested_by of) (one_verdict_records of) of.report.lines) of.report.lines
     number other
     is.lines.3 other_is.lines.3)
 one_verdict_at_one_test order apart of (LeftOut prefix weight) (LeftOut other more) is other_is same =

@@ -4,17 +4,17 @@ use Rattle.std.proofs.Common.{refl, subst, arith, ⊎_elim}
 use Rattle.std.proofs.lemmas.Bool.{cases_lt}
 use Rattle.std.proofs.lemmas.Option.{get_or_from_slice_get, slice_get_within}
 use Rattle.prefix_lattice.specs.{RecordValue, PrefixValue, conditioned_weight}
-use Rattle.hhh_report.specs.{records_before_cut, IsSound, IsThreshold, AreCompleteInSoundReport}
+use Rattle.hhh_report.specs.{records_before, IsSound, IsThreshold, AreComplete}
 use Rattle.hhh_report.specs.declared.line.Line.{Line}
 use Rattle.hhh_report.specs.declared.report.Report.{Report}
 use Rattle.exact_audit.specs.declared.verdict.Verdict.{Verdict}
 use Rattle.exact_audit.specs.declared.verdict.Verdict.TheVariants.{Good, BadPositions, BadTotal, BadThreshold}
 use Rattle.exact_audit.specs.declared.verdict.Verdict.TheVariants.{BadInterval, TooWide, LowLine, NotJustified, LeftOut}
 use Rattle.exact_audit.specs.declared.left_out.LeftOut.{LeftOut as Left}
-use Rattle.exact_audit.specs.LineTests.{IsFirstFailingLine}
+use Rattle.exact_audit.specs.LineTests.{FailsFirst}
 use Rattle.exact_audit.specs.LeftOut.{IsLeftOut, IsFirstLeftOut}
-use Rattle.exact_audit.specs.Verdict.{IsLineVerdict, VerdictReachesLines, IsVerdict}
-use Rattle.exact_audit.specs.Findings.{IsFirstFinding}
+use Rattle.exact_audit.specs.Verdict.{IsLineVerdict, ReachesLines, IsVerdict}
+use Rattle.exact_audit.specs.Findings.{IsFirst}
 
 -- a total has one threshold
 pub verdict_threshold_is_unique : (phi total threshold other : ℕ) → IsThreshold phi total threshold → IsThreshold phi total other
@@ -26,13 +26,13 @@ verdict_threshold_is_unique phi total threshold other is other_is =
 
 -- the first prefix of those left out
 pub verdict_leaves_out_first : (lines : List PrefixValue) (records : List RecordValue) (threshold : ℕ) (first : Left)
-    → IsFirstFinding (IsLeftOut lines records threshold) (Some first)
+    → IsFirst (IsLeftOut lines records threshold) (Some first)
     → IsFirstLeftOut lines records threshold first.prefix first.weight
 verdict_leaves_out_first lines records threshold first is = record { left_out = is.0; first = is.1 }
 
 -- where none is left out
 pub verdict_leaves_out_none : (lines : List PrefixValue) (records : List RecordValue) (threshold : ℕ)
-    → IsFirstFinding (IsLeftOut lines records threshold) None → AreCompleteInSoundReport threshold lines records
+    → IsFirst (IsLeftOut lines records threshold) None → AreComplete threshold lines records
 verdict_leaves_out_none lines records threshold none prefix is no_line =
     ⊎_elim (λ (less : conditioned_weight prefix lines records < threshold). less)
     (λ (heavy : threshold ≤ conditioned_weight prefix lines records).
@@ -42,9 +42,9 @@ verdict_leaves_out_none lines records threshold none prefix is no_line =
 
 -- the verdict on lines is that on a report whose first three tests hold
 pub verdict_from_lines : (lists : List (List RecordValue)) (capacity phi : ℕ) (report : Report) (verdict : Verdict)
-    → VerdictReachesLines lists phi report
+    → ReachesLines lists phi report
     → IsLineVerdict (record { capacity = capacity; threshold = report.threshold; total = report.total })
-    (records_before_cut lists report.positions) report.lines verdict
+    (records_before lists report.positions) report.lines verdict
     → IsVerdict lists capacity phi report verdict
 verdict_from_lines lists capacity phi report Good head lines = record {
   positions = head.positions;
@@ -66,7 +66,7 @@ verdict_from_lines lists capacity phi report (NotJustified number) head lines = 
 verdict_from_lines lists capacity phi report (LeftOut prefix weight) head lines = record { head = head; lines = lines }
 
 -- where all lines pass a test, none is the first that fails it
-pub no_verdict_where_all_pass : (Passes : Line → Type 0) (lines : List Line) (number : ℕ) → All Passes lines → IsFirstFailingLine Passes
+pub no_verdict_where_all_pass : (Passes : Line → Type 0) (lines : List Line) (number : ℕ) → All Passes lines → FailsFirst Passes
     lines number → ⊥
 no_verdict_where_all_pass Passes lines number all first =
     first.fails (subst Passes (get_or_from_slice_get lines first.before first.line first.line first.is)

@@ -13,43 +13,43 @@ use Rattle.exact_audit.specs.NodeSums.{sums_of}
 use Rattle.exact_audit.specs.LeftOut.{IsLeftOut}
 
 -- as many sums as lines, and those of each line of the nodes before an index
-pub record AreFindingSumsBefore (index : ℕ) (lines : List Line) (records : List RecordValue) (sums : List Sums) : Type 0
+pub record AreSumsBefore (index : ℕ) (lines : List Line) (records : List RecordValue) (sums : List Sums) : Type 0
   where
     pub as_many : length sums ≡ length lines
     pub each : (place : ℕ) (line : Line) → slice_get lines place ≡ Some line → node_index (node_of_prefix line.prefix) < index
         → slice_get sums place ≡ Some (sums_of (prefixes_of_lines lines) records line.prefix)
 
 -- as many sums as lines, and those of each line
-pub record AreFindingSums (lines : List Line) (records : List RecordValue) (sums : List Sums) : Type 0 where
+pub record AreSumsOf (lines : List Line) (records : List RecordValue) (sums : List Sums) : Type 0 where
   pub as_many : length sums ≡ length lines
   pub each : (place : ℕ) (line : Line) → slice_get lines place ≡ Some line
       → slice_get sums place ≡ Some (sums_of (prefixes_of_lines lines) records line.prefix)
 
 -- the other if it comes first in the order of a report, and else the first
-abbrev pub first_finding_by : Ordering → LeftOut → LeftOut → LeftOut
-first_finding_by Less other first = other
-first_finding_by Equal other first = first
-first_finding_by Greater other first = first
+abbrev pub first_by : Ordering → LeftOut → LeftOut → LeftOut
+first_by Less other first = other
+first_by Equal other first = first
+first_by Greater other first = first
 
 -- the first of two
-abbrev pub first_finding_with : Option LeftOut → LeftOut → LeftOut
-first_finding_with None other = other
-first_finding_with (Some first) other = first_finding_by (report_order other.prefix first.prefix) other first
+abbrev pub first_with : Option LeftOut → LeftOut → LeftOut
+first_with None other = other
+first_with (Some first) other = first_by (report_order other.prefix first.prefix) other first
 
 -- of the prefixes and weights that meet a condition, the first in the order of a report, if there is one
-abbrev pub IsFirstFinding : (PrefixValue → ℕ → Type 0) → Option LeftOut → Type 0
-IsFirstFinding Meets None = (prefix : PrefixValue) (weight : ℕ) → Meets prefix weight → ⊥
-IsFirstFinding Meets (Some first) = Meets first.prefix first.weight
+abbrev pub IsFirst : (PrefixValue → ℕ → Type 0) → Option LeftOut → Type 0
+IsFirst Meets None = (prefix : PrefixValue) (weight : ℕ) → Meets prefix weight → ⊥
+IsFirst Meets (Some first) = Meets first.prefix first.weight
     × ((prefix : PrefixValue) (weight : ℕ) → Meets prefix weight → report_order prefix first.prefix ≢ Less)
 
 -- the first of the prefixes left out whose node is before an index
-abbrev pub IsFirstFindingBefore : ℕ → List PrefixValue → List RecordValue → ℕ → Option LeftOut → Type 0
-IsFirstFindingBefore index lines records threshold found = IsFirstFinding
+abbrev pub IsFirstBefore : ℕ → List PrefixValue → List RecordValue → ℕ → Option LeftOut → Type 0
+IsFirstBefore index lines records threshold found = IsFirst
     (λ prefix weight. IsLeftOut lines records threshold prefix weight × (node_index (node_of_prefix prefix) < index)) found
 
 -- the first of those before the index of a node, and of those of the node with one of these keys
-abbrev pub IsFirstFindingWith : ℕ → List ℕ → List PrefixValue → List RecordValue → ℕ → Option LeftOut → Type 0
-IsFirstFindingWith index keys lines records threshold found = IsFirstFinding
+abbrev pub IsFirstWith : ℕ → List ℕ → List PrefixValue → List RecordValue → ℕ → Option LeftOut → Type 0
+IsFirstWith index keys lines records threshold found = IsFirst
     (λ prefix weight. IsLeftOut lines records threshold prefix weight
     × ((node_index (node_of_prefix prefix) < index)
     ⊎ ((node_index (node_of_prefix prefix) ≡ index) × (list_any (nat_eq (prefix_key prefix)) keys ≡ true)))) found
@@ -57,5 +57,5 @@ IsFirstFindingWith index keys lines records threshold found = IsFirstFinding
 -- what was found of lines and records: the sums of each line, and the first prefix that is left out
 pub record AreFindings (lines : List Line) (records : List RecordValue) (threshold : ℕ) (findings : Findings) : Type 0
   where
-    pub sums : AreFindingSums lines records findings.sums.items
-    pub left_out : IsFirstFinding (IsLeftOut (prefixes_of_lines lines) records threshold) findings.left_out
+    pub sums : AreSumsOf lines records findings.sums.items
+    pub left_out : IsFirst (IsLeftOut (prefixes_of_lines lines) records threshold) findings.left_out

@@ -2,7 +2,7 @@ pub mod LineTests
 pub mod LeftOut
 pub mod Verdict
 -- within the crate
-pub mod CountedParts
+pub mod Counted
 pub mod LineCodes
 pub mod Depths
 pub mod NodeSums

@@ -2,12 +2,12 @@
 use Rattle.std.specs.Prelude.{ℕ, ◌≡◌, ◌+◌, List, take, All, slice_get, Option, None, Some}
 use Rattle.prefix_lattice.specs.{RecordValue}
 use Rattle.hhh_report.specs.declared.line.Line.{Line}
-use Rattle.hhh_report.specs.{HoldsWeightInSoundReport, IsNarrowInSoundReport, IsHeavyInSoundReport}
-use Rattle.hhh_report.specs.{IsJustifiedInSoundReport, prefixes_of_lines}
+use Rattle.hhh_report.specs.{LineHoldsWeight, IsNarrowLine, IsHeavyLine}
+use Rattle.hhh_report.specs.{IsJustified, prefixes_of_lines}
 use Rattle.exact_audit.specs.declared.line_tests.Measures.{Measures}
 
 -- the line of this number, counted from 1, is the first that fails a test
-pub record IsFirstFailingLine (Passes : Line → Type 0) (lines : List Line) (number : ℕ) : Type 0 where
+pub record FailsFirst (Passes : Line → Type 0) (lines : List Line) (number : ℕ) : Type 0 where
   pub before : ℕ
   pub counted : number ≡ before + 1
   pub line : Line
@@ -16,44 +16,44 @@ pub record IsFirstFailingLine (Passes : Line → Type 0) (lines : List Line) (nu
   pub passed : All Passes (take before lines)
 
 -- all lines pass a test, or the line of this number is the first that fails it
-abbrev pub IsLineTestResult : (Line → Type 0) → List Line → Option ℕ → Type 0
-IsLineTestResult Passes lines None = All Passes lines
-IsLineTestResult Passes lines (Some number) = IsFirstFailingLine Passes lines number
+abbrev pub IsTestResult : (Line → Type 0) → List Line → Option ℕ → Type 0
+IsTestResult Passes lines None = All Passes lines
+IsTestResult Passes lines (Some number) = FailsFirst Passes lines number
 
 -- the least capacity of tables for which a report is audited
-abbrev pub least_audited_capacity : ℕ
-least_audited_capacity = 2
+abbrev pub least_audited : ℕ
+least_audited = 2
 
 -- the greatest capacity of tables for which a report is audited
-abbrev pub most_audited_capacity : ℕ
-most_audited_capacity = 4096
+abbrev pub most_audited : ℕ
+most_audited = 4096
 
 -- what the tests of lines are made with: the capacity of the tables, and the threshold and the total of the report
-pub record LineTestMeasures : Type 0 where
+pub record TestMeasures : Type 0 where
   pub capacity : ℕ
   pub threshold : ℕ
   pub total : ℕ
 
 -- the interval of each line holds its prefix's weight
-abbrev pub LinesPassWeightTest : List RecordValue → List Line → Type 0
-LinesPassWeightTest records lines = All (HoldsWeightInSoundReport records) lines
+abbrev pub PassWeight : List RecordValue → List Line → Type 0
+PassWeight records lines = All (LineHoldsWeight records) lines
 
 -- no interval of a line is too wide
-abbrev pub LinesPassWidthTest : LineTestMeasures → List Line → Type 0
-LinesPassWidthTest by lines = All (IsNarrowInSoundReport by.capacity by.total) lines
+abbrev pub PassWidth : TestMeasures → List Line → Type 0
+PassWidth by lines = All (IsNarrowLine by.capacity by.total) lines
 
 -- no high of a line is below the threshold
-abbrev pub LinesPassHeavyTest : LineTestMeasures → List Line → Type 0
-LinesPassHeavyTest by lines = All (IsHeavyInSoundReport by.threshold) lines
+abbrev pub PassHeavy : TestMeasures → List Line → Type 0
+PassHeavy by lines = All (IsHeavyLine by.threshold) lines
 
 -- a line is justified among these lines
-abbrev pub LinePassesJustifiedTest : LineTestMeasures → List RecordValue → List Line → Line → Type 0
-LinePassesJustifiedTest by records lines line = IsJustifiedInSoundReport by.capacity by.threshold (prefixes_of_lines lines) records line
+abbrev pub PassesJustified : TestMeasures → List RecordValue → List Line → Line → Type 0
+PassesJustified by records lines line = IsJustified by.capacity by.threshold (prefixes_of_lines lines) records line
 
 -- each line is justified
-abbrev pub LinesPassJustifiedTest : LineTestMeasures → List RecordValue → List Line → Type 0
-LinesPassJustifiedTest by records lines = All (LinePassesJustifiedTest by records lines) lines
+abbrev pub PassJustified : TestMeasures → List RecordValue → List Line → Type 0
+PassJustified by records lines = All (PassesJustified by records lines) lines
 
 -- what the tests of lines are made with
-abbrev pub line_test_measures : Measures → LineTestMeasures
-line_test_measures by = record { capacity = by.capacity; threshold = by.threshold; total = by.total }
+abbrev pub measures_of : Measures → TestMeasures
+measures_of by = record { capacity = by.capacity; threshold = by.threshold; total = by.total }

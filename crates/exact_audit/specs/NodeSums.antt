@@ -8,15 +8,15 @@ use Rattle.prefix_lattice.specs.{prefix_at}
 use Rattle.prefix_lattice.specs.{prefix_weight, conditioned_weight}
 use Rattle.exact_audit.specs.declared.counted.Counted.{Counted}
 use Rattle.exact_audit.specs.declared.node_sums.Sums.{Sums}
-use Rattle.exact_audit.specs.Depths.{AreDepths, explained_by_depth}
+use Rattle.exact_audit.specs.Depths.{AreDepths, explained_by}
 
 -- the records that are counted
-abbrev pub records_in_node_sums : List Counted → List RecordValue
-records_in_node_sums counted = map (λ c. c.rec) counted
+abbrev pub records_in : List Counted → List RecordValue
+records_in counted = map (λ c. c.rec) counted
 
 -- these records are counted, each with its depths under the lines
-pub record AreCountedInNodeSums (lines : List PrefixValue) (records : List RecordValue) (counted : List Counted) : Type 0 where
-  pub same : records_in_node_sums counted ≡ records
+pub record AreCountedIn (lines : List PrefixValue) (records : List RecordValue) (counted : List Counted) : Type 0 where
+  pub same : records_in counted ≡ records
   pub depths : All (λ c. AreDepths lines c.rec c.depths) counted
 
 -- the sums of no record
@@ -24,26 +24,26 @@ abbrev pub no_sums : Sums
 no_sums = record { weight = 0; left = 0 }
 
 -- whether the record's prefix of a node has a key
-abbrev pub has_node_sum_key : NodeValue → ℕ → Counted → Bool
-has_node_sum_key node key counted = prefix_key (prefix_at node counted.rec) == key
+abbrev pub has_sum : NodeValue → ℕ → Counted → Bool
+has_sum node key counted = prefix_key (prefix_at node counted.rec) == key
 
 -- the weight of the records whose prefix of a node has a key
-abbrev pub node_sum_weight : NodeValue → ℕ → List Counted → ℕ
-node_sum_weight node key counted = sum_by (λ c. if has_node_sum_key node key c then c.rec.weight else 0) counted
+abbrev pub sum_weight : NodeValue → ℕ → List Counted → ℕ
+sum_weight node key counted = sum_by (λ c. if has_sum node key c then c.rec.weight else 0) counted
 
 -- the weight of those among them that no line strictly under the prefix covers
-abbrev pub node_sum_left : NodeValue → ℕ → List Counted → ℕ
-node_sum_left node key counted =
-    sum_by (λ c. if has_node_sum_key node key c && not (explained_by_depth c.depths node) then c.rec.weight else 0) counted
+abbrev pub sum_left : NodeValue → ℕ → List Counted → ℕ
+sum_left node key counted =
+    sum_by (λ c. if has_sum node key c && not (explained_by c.depths node) then c.rec.weight else 0) counted
 
 -- the sums of a key, none if it is missing
 abbrev pub sums_for : {S : Type 0} → HashMap ℕ Sums S → ℕ → Sums
 sums_for sums key = unwrap_or (get nat_eq sums key) no_sums
 
 -- the sums of a node over counted records, by the keys of their prefixes
-pub record AreNodeKeySums {S : Type 0} (node : NodeValue) (counted : List Counted) (sums : HashMap ℕ Sums S) : Type 0 where
-  pub weight : (key : ℕ) → (sums_for sums key).weight ≡ node_sum_weight node key counted
-  pub left : (key : ℕ) → (sums_for sums key).left ≡ node_sum_left node key counted
+pub record AreKeySums {S : Type 0} (node : NodeValue) (counted : List Counted) (sums : HashMap ℕ Sums S) : Type 0 where
+  pub weight : (key : ℕ) → (sums_for sums key).weight ≡ sum_weight node key counted
+  pub left : (key : ℕ) → (sums_for sums key).left ≡ sum_left node key counted
 
 -- the weight of a prefix, and its conditioned weight over lines
 abbrev pub sums_of : List PrefixValue → List RecordValue → PrefixValue → Sums
@@ -58,5 +58,5 @@ AreNodeSums node lines records sums = (prefix : PrefixValue) → IsPrefix prefix
     → sums_for sums (prefix_key prefix) ≡ sums_of lines records prefix
 
 -- each key that is kept is one of the node
-abbrev pub HasNodeSumKeys : {S : Type 0} → NodeValue → HashMap ℕ Sums S → Type 0
-HasNodeSumKeys node sums = (key : ℕ) → is_some (get nat_eq sums key) ≡ true → IsPrefixKey node key
+abbrev pub HasSumKeys : {S : Type 0} → NodeValue → HashMap ℕ Sums S → Type 0
+HasSumKeys node sums = (key : ℕ) → is_some (get nat_eq sums key) ≡ true → IsPrefixKey node key

@@ -2,9 +2,9 @@
 
 ghost use Rattle.std.specs.Prelude.{◌≡◌, ◌≤◌, ◌<◌, ◌↔◌, List, length, IfOk};
 ghost use Rattle.prefix_lattice.specs.{RecordValue, total_weight, total_limit};
-ghost use Rattle.hhh_report.specs.{threshold_million, AreReportLines, IsSound};
+ghost use Rattle.hhh_report.specs.{million, AreReportLines, IsSound};
 ghost use Rattle.exact_audit.specs.declared.verdict.Verdict.TheVariants.{Good};
-ghost use Rattle.exact_audit.specs.LineTests.{least_audited_capacity, most_audited_capacity};
+ghost use Rattle.exact_audit.specs.LineTests.{least_audited, most_audited};
 ghost use Rattle.exact_audit.specs.Verdict.{IsLineVerdict, IsVerdict};
 ghost use Rattle.exact_audit.specs.Findings.{AreFindings};
 
@@ -34,10 +34,10 @@ pub fn audit(
     capacity: u32,
     phi: u32,
 ) -> Result<Verdict, AllocError>
-    requires least { least_audited_capacity ≤ capacity }
-    requires most { capacity ≤ most_audited_capacity }
+    requires least { least_audited ≤ capacity }
+    requires most { capacity ≤ most_audited }
     requires some { 1 ≤ phi }
-    requires share { phi ≤ threshold_million }
+    requires share { phi ≤ million }
     ensures verdict { IfOk result (IsVerdict dealt.now capacity phi report.now) }
     ensures good { IfOk result (λ verdict. (verdict ≡ Good) ↔ IsSound report.now dealt.now capacity phi) }
 {
@@ -70,7 +70,7 @@ fn verdict_of(
 ) -> Result<Verdict, AllocError>
     requires lines { AreReportLines lines.now }
     requires as_many { length findings.now.sums.items ≡ length lines.now }
-    requires capacity { capacity ≤ most_audited_capacity }
+    requires capacity { capacity ≤ most_audited }
     requires total { total < total_limit }
     ensures { IfOk result (λ verdict. (records : List RecordValue) → AreFindings lines.now records threshold findings.now
         → total_weight records ≡ total

@@ -2,8 +2,8 @@
 
 ghost use Rattle.std.specs.Prelude.{◌≡◌, ◌<◌, ◌≤◌, ◌*◌, IfOk, length};
 ghost use Rattle.std.specs.List.{filter_map, list_any};
-ghost use Rattle.prefix_lattice.specs.{strictly_under, lines_under, greatest_lines, closest, same_in_lattice};
-ghost use Rattle.prefix_lattice.specs.{is_under_third_beside_pair, kept_pair_meet, kept_pairs};
+ghost use Rattle.prefix_lattice.specs.{strictly_under, lines_under, greatest_lines, closest, same_as};
+ghost use Rattle.prefix_lattice.specs.{under_third, pair_meet, kept_pairs};
 ghost use Rattle.hhh_report.specs.{prefixes_of_lines, line_limit};
 
 use hhh_report::Line;
@@ -75,7 +75,7 @@ pub(crate) fn count_kept_pairs(members: &[Prefix]) -> u64
 // How many pairs of one member with each of these others are kept.
 fn count_kept_with(members: &[Prefix], first: &Prefix, seconds: &[Prefix]) -> u64
     requires { length seconds.now < line_limit }
-    ensures number { result ≡ length (filter_map (kept_pair_meet members.now first.now) seconds.now) }
+    ensures number { result ≡ length (filter_map (pair_meet members.now first.now) seconds.now) }
     ensures few { result ≤ length seconds.now }
 {
     let mut pairs = 0;
@@ -89,7 +89,7 @@ fn count_kept_with(members: &[Prefix], first: &Prefix, seconds: &[Prefix]) -> u6
 
 // The meet of a pair, if the pair is kept.
 fn kept_meet(members: &[Prefix], first: &Prefix, second: &Prefix) -> Option<Prefix>
-    ensures { result ≡ kept_pair_meet members.now first.now second.now }
+    ensures { result ≡ pair_meet members.now first.now second.now }
 {
     let meet = first.meet(second)?;
     if is_under_third(members, first, second, &meet) {
@@ -100,7 +100,7 @@ fn kept_meet(members: &[Prefix], first: &Prefix, second: &Prefix) -> Option<Pref
 }
 
 fn is_under_third(members: &[Prefix], first: &Prefix, second: &Prefix, meet: &Prefix) -> bool
-    ensures { result ≡ is_under_third_beside_pair members.now first.now second.now meet.now }
+    ensures { result ≡ under_third members.now first.now second.now meet.now }
 {
     members.iter().any(|third| meet.under(third)
         && !(is_same(third, first) || is_same(third, second)))
@@ -108,7 +108,7 @@ fn is_under_third(members: &[Prefix], first: &Prefix, second: &Prefix, meet: &Pr
 
 // Whether two prefixes are the same: each is under the other.
 fn is_same(prefix: &Prefix, other: &Prefix) -> bool
-    ensures { result ≡ same_in_lattice prefix.now other.now }
+    ensures { result ≡ same_as prefix.now other.now }
 {
     prefix.under(other) && other.under(prefix)
 }

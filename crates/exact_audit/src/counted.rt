@@ -2,10 +2,10 @@
 
 ghost use Rattle.std.specs.Prelude.{◌≡◌, ◌≤◌, ◌<◌, ◌*◌, ◌^◌, ◌++◌, ◌↔◌, List, length, All, IsTrue, IfOk, OnOk};
 ghost use Rattle.prefix_lattice.specs.{PrefixValue, RecordValue, total_weight, total_limit, record_limit};
-ghost use Rattle.hhh_report.specs.{records_before_cut, AreWithinListsInSoundReport};
+ghost use Rattle.hhh_report.specs.{records_before, AreWithinLists};
 ghost use Rattle.exact_audit.specs.LineCodes.{AreLineCodes};
-ghost use Rattle.exact_audit.specs.NodeSums.{AreCountedInNodeSums};
-ghost use Rattle.exact_audit.specs.CountedParts.{counted_part_at};
+ghost use Rattle.exact_audit.specs.NodeSums.{AreCountedIn};
+ghost use Rattle.exact_audit.specs.Counted.{part_at};
 
 use crate::depths::Depths;
 use crate::line_codes::LineCodes;
@@ -23,7 +23,7 @@ pub(crate) struct Counted {
 
 /// Whether there are as many positions as shards, and none is past the end of its shard's records.
 pub(crate) fn are_within(dealt: &Dealt, positions: &Positions) -> bool
-    ensures { IsTrue result ↔ AreWithinListsInSoundReport positions.now dealt.now }
+    ensures { IsTrue result ↔ AreWithinLists positions.now dealt.now }
 {
     if positions.len() != dealt.shards() as usize {
         return false;
@@ -38,8 +38,8 @@ pub(crate) fn are_within(dealt: &Dealt, positions: &Positions) -> bool
 
 /// The weight of the records before positions.
 pub(crate) fn total_before(dealt: &Dealt, positions: &Positions) -> u64
-    requires { AreWithinListsInSoundReport positions.now dealt.now }
-    ensures total { result ≡ total_weight (records_before_cut dealt.now positions.now) }
+    requires { AreWithinLists positions.now dealt.now }
+    ensures total { result ≡ total_weight (records_before dealt.now positions.now) }
     ensures bounded { result < total_limit }
 {
     let mut total = 0;
@@ -56,9 +56,9 @@ pub(crate) fn count_before(
     positions: &Positions,
     lines: &LineCodes,
 ) -> Result<Vec<Counted>, AllocError>
-    requires { AreWithinListsInSoundReport positions.now dealt.now }
+    requires { AreWithinLists positions.now dealt.now }
     ensures { IfOk result (λ counted. (prefixes : List PrefixValue) → AreLineCodes prefixes lines.now.codes.keys
-        → AreCountedInNodeSums prefixes (records_before_cut dealt.now positions.now) counted.items) }
+        → AreCountedIn prefixes (records_before dealt.now positions.now) counted.items) }
 {
     let mut counted = Vec::new(alloc);
     for shard in 0..dealt.shards() {
@@ -69,9 +69,9 @@ pub(crate) fn count_before(
 
 // The records of a shard before its position.
 fn part<'a>(dealt: &'a Dealt, positions: &Positions, shard: u32) -> &'a [Record]
-    requires within { AreWithinListsInSoundReport positions.now dealt.now }
+    requires within { AreWithinLists positions.now dealt.now }
     requires shard { shard < length dealt.now }
-    ensures value { result.now ≡ counted_part_at dealt.now positions.now shard }
+    ensures value { result.now ≡ part_at dealt.now positions.now shard }
     ensures few { length result.now ≤ record_limit }
     ensures light { All (λ rec. rec.weight < 2 ^ 32) result.now }
 {
@@ -100,7 +100,7 @@ fn push_counted(
     lines: &LineCodes,
 ) -> Result<(), AllocError>
     ensures { OnOk result ((prefixes : List PrefixValue) (before : List RecordValue) → AreLineCodes prefixes lines.now.codes.keys
-        → AreCountedInNodeSums prefixes before counted.old.items → AreCountedInNodeSums prefixes (before ++ records.now) counted.new.items) }
+        → AreCountedIn prefixes before counted.old.items → AreCountedIn prefixes (before ++ records.now) counted.new.items) }
 {
     counted.reserve(records.len())?;
     for rec in records {

@@ -3,7 +3,7 @@
 ghost use Rattle.std.specs.Prelude.{◌≡◌, ◌+◌, ◌≤◌, List};
 ghost use Rattle.prefix_lattice.specs.{PrefixValue, address_length};
 ghost use Rattle.exact_audit.specs.LineCodes.{AreLineCodes};
-ghost use Rattle.exact_audit.specs.Depths.{AreDepths, IsDepth, explained_by_depth};
+ghost use Rattle.exact_audit.specs.Depths.{AreDepths, IsDepth, explained_by};
 
 use crate::line_codes::LineCodes;
 use prefix_lattice::{Node, Prefix, Record, keys_are_of_their_node};
@@ -41,7 +41,7 @@ impl Depths {
 
     /// Whether a line strictly under the record's prefix of a node covers the record.
     pub(crate) fn explained(&self, node: Node) -> bool
-        ensures { result ≡ explained_by_depth self.now node }
+        ensures { result ≡ explained_by self.now node }
     {
         let (own, below) = match node.source_bytes() {
             0 => (self.zero, self.one),

@@ -4,8 +4,8 @@ ghost use Rattle.std.specs.Prelude.{◌≡◌, ◌+◌, ◌≤◌, ◌<◌, List
 ghost use Rattle.prefix_lattice.specs.{RecordValue, node_index, total_weight, total_limit};
 ghost use Rattle.hhh_report.specs.{prefixes_of_lines};
 ghost use Rattle.exact_audit.specs.LineCodes.{AreLineCodes};
-ghost use Rattle.exact_audit.specs.NodeSums.{AreCountedInNodeSums, AreNodeSums, records_in_node_sums};
-ghost use Rattle.exact_audit.specs.Findings.{AreFindings, AreFindingSumsBefore};
+ghost use Rattle.exact_audit.specs.NodeSums.{AreCountedIn, AreNodeSums, records_in};
+ghost use Rattle.exact_audit.specs.Findings.{AreFindings, AreSumsBefore};
 
 use crate::counted::Counted;
 use crate::left_out::{LeftOut, first_left_out};
@@ -33,11 +33,11 @@ pub(crate) fn find(
     threshold: u64,
 ) -> Result<Findings, AllocError>
     requires codes { AreLineCodes (prefixes_of_lines lines.now) codes.now.codes.keys }
-    requires light { total_weight (records_in_node_sums counted.now) < total_limit }
+    requires light { total_weight (records_in counted.now) < total_limit }
     requires some { 1 ≤ threshold }
     ensures as_many { IfOk result (λ findings. length findings.sums.items ≡ length lines.now) }
     ensures found { IfOk result (λ findings. (records : List RecordValue)
-        → AreCountedInNodeSums (prefixes_of_lines lines.now) records counted.now → AreFindings lines.now records threshold findings) }
+        → AreCountedIn (prefixes_of_lines lines.now) records counted.now → AreFindings lines.now records threshold findings) }
 {
     let mut line_sums = vec![in alloc; Sums::NONE; lines.len()]?;
     let mut left_out = None;
@@ -58,8 +58,8 @@ fn note_lines(line_sums: &mut Vec<Sums>, lines: &[Line], node: Node, sums: &Inde
     requires { length line_sums.old.items ≡ length lines.now }
     ensures as_many { length line_sums.new.items ≡ length lines.now }
     ensures sums { (records : List RecordValue) → AreNodeSums node (prefixes_of_lines lines.now) records sums.now
-        → AreFindingSumsBefore (node_index node) lines.now records line_sums.old.items
-        → AreFindingSumsBefore (node_index node + 1) lines.now records line_sums.new.items }
+        → AreSumsBefore (node_index node) lines.now records line_sums.old.items
+        → AreSumsBefore (node_index node + 1) lines.now records line_sums.new.items }
 {
     for (place, line) in lines.iter().enumerate() {
         if line.prefix.node().index() == node.index() {

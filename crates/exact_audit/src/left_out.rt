@@ -4,8 +4,8 @@ ghost use Rattle.std.specs.Prelude.{◌≡◌, ◌+◌, ◌^◌, ◌≤◌, ◌<
 ghost use Rattle.std.specs.List.{list_any};
 ghost use Rattle.prefix_lattice.specs.{RecordValue, PrefixValue, IsNode, node_index, prefix_key, prefix_code};
 ghost use Rattle.exact_audit.specs.LineCodes.{AreLineCodes};
-ghost use Rattle.exact_audit.specs.NodeSums.{AreNodeSums, HasNodeSumKeys};
-ghost use Rattle.exact_audit.specs.Findings.{IsFirstFindingBefore, first_finding_with};
+ghost use Rattle.exact_audit.specs.NodeSums.{AreNodeSums, HasSumKeys};
+ghost use Rattle.exact_audit.specs.Findings.{IsFirstBefore, first_with};
 
 use crate::line_codes::LineCodes;
 use crate::node_sums::Sums;
@@ -31,10 +31,10 @@ pub(crate) fn first_left_out(
 ) -> Option<LeftOut>
     requires node { IsNode node }
     requires some { 1 ≤ threshold }
-    requires keys { HasNodeSumKeys node sums.now }
+    requires keys { HasSumKeys node sums.now }
     ensures { (prefixes : List PrefixValue) (records : List RecordValue) → AreLineCodes prefixes lines.now.codes.keys
-        → AreNodeSums node prefixes records sums.now → IsFirstFindingBefore (node_index node) prefixes records threshold found
-        → IsFirstFindingBefore (node_index node + 1) prefixes records threshold result }
+        → AreNodeSums node prefixes records sums.now → IsFirstBefore (node_index node) prefixes records threshold found
+        → IsFirstBefore (node_index node + 1) prefixes records threshold result }
 {
     keys_are_of_their_node();
     report_order_is_total();
@@ -57,7 +57,7 @@ fn first_unless_line(
     found: Option<LeftOut>,
 ) -> Option<LeftOut>
     ensures value { result ≡ (if list_any (nat_eq (prefix_code prefix)) lines.now.codes.keys then found
-        else Some (first_finding_with found (record { prefix = prefix; weight = weight }))) }
+        else Some (first_with found (record { prefix = prefix; weight = weight }))) }
     ensures small { prefix_key prefix < 2 ^ 64 }
 {
     if lines.has(&prefix) {
@@ -68,7 +68,7 @@ fn first_unless_line(
 
 // The first, in the order of a report, of a prefix that was found before, if one was, and of another.
 fn first_of(found: Option<LeftOut>, other: LeftOut) -> LeftOut
-    ensures { result ≡ first_finding_with found other }
+    ensures { result ≡ first_with found other }
 {
     let Some(first) = found else {
         return other;

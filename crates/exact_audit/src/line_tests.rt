@@ -1,13 +1,13 @@
 //! The tests of lines. Each answers the number of the first line that fails it, counted from 1.
 
 ghost use Rattle.std.specs.Prelude.{◌≡◌, ◌+◌, ◌*◌, ◌≤◌, ◌<◌, ◌^◌, ◌↔◌, List, length, All, IsTrue, IfOk};
-ghost use Rattle.prefix_lattice.specs.{RecordValue, IntervalHoldsWeight, total_weight, total_limit};
-ghost use Rattle.hhh_report.specs.{HoldsWeightInSoundReport, IsHeavyInSoundReport, IsNarrowInSoundReport, line_limit};
+ghost use Rattle.prefix_lattice.specs.{RecordValue, HoldsWeight, total_weight, total_limit};
+ghost use Rattle.hhh_report.specs.{LineHoldsWeight, IsHeavyLine, IsNarrowLine, line_limit};
 ghost use Rattle.hhh_report.specs.{prefixes_of_lines};
-ghost use Rattle.exact_audit.specs.LineTests.{IsLineTestResult, LinePassesJustifiedTest};
+ghost use Rattle.exact_audit.specs.LineTests.{IsTestResult, PassesJustified};
 ghost use Rattle.exact_audit.specs.Widths.{widths_of};
-ghost use Rattle.exact_audit.specs.LineTests.{line_test_measures, most_audited_capacity};
-ghost use Rattle.exact_audit.specs.Findings.{AreFindingSums};
+ghost use Rattle.exact_audit.specs.LineTests.{measures_of, most_audited};
+ghost use Rattle.exact_audit.specs.Findings.{AreSumsOf};
 
 use crate::closest_lines::{closest, count_kept_pairs};
 use crate::node_sums::Sums;
@@ -17,8 +17,8 @@ use std::alloc::{AllocError, Global};
 /// The first line whose interval doesn't hold its prefix's weight.
 pub(crate) fn bad_interval(lines: &[Line], sums: &[Sums]) -> Option<u64>
     requires { length sums.now ≡ length lines.now }
-    ensures { (records : List RecordValue) → AreFindingSums lines.now records sums.now
-        → IsLineTestResult (HoldsWeightInSoundReport records) lines.now result }
+    ensures { (records : List RecordValue) → AreSumsOf lines.now records sums.now
+        → IsTestResult (LineHoldsWeight records) lines.now result }
 {
     for (place, line) in lines.iter().enumerate() {
         if !holds(line, sums[place].weight) {
@@ -30,7 +30,7 @@ pub(crate) fn bad_interval(lines: &[Line], sums: &[Sums]) -> Option<u64>
 
 // Whether the interval of a line holds a weight.
 fn holds(line: &Line, weight: u64) -> bool
-    ensures { IsTrue result ↔ IntervalHoldsWeight line.now.lo line.now.hi weight }
+    ensures { IsTrue result ↔ HoldsWeight line.now.lo line.now.hi weight }
 {
     line.lo <= weight && weight <= line.hi
 }
@@ -38,7 +38,7 @@ fn holds(line: &Line, weight: u64) -> bool
 /// The first line whose interval's width times the capacity is above the total.
 pub(crate) fn too_wide(lines: &[Line], capacity: u32, total: u64) -> Option<u64>
     requires { All (λ line. line.lo ≤ line.hi) lines.now }
-    ensures { IsLineTestResult (IsNarrowInSoundReport capacity total) lines.now result }
+    ensures { IsTestResult (IsNarrowLine capacity total) lines.now result }
 {
     for (place, line) in lines.iter().enumerate() {
         if u128::from(line.hi - line.lo) * u128::from(capacity) > u128::from(total) {
@@ -50,7 +50,7 @@ pub(crate) fn too_wide(lines: &[Line], capacity: u32, total: u64) -> Option<u64>
 
 /// The first line whose high is below the threshold.
 pub(crate) fn low_line(lines: &[Line], threshold: u64) -> Option<u64>
-    ensures { IsLineTestResult (IsHeavyInSoundReport threshold) lines.now result }
+    ensures { IsTestResult (IsHeavyLine threshold) lines.now result }
 {
     for (place, line) in lines.iter().enumerate() {
         if line.hi < threshold {
@@ -77,11 +77,11 @@ pub(crate) fn not_justified(
 ) -> Result<Option<u64>, AllocError>
     requires few { length lines.now < line_limit }
     requires as_many { length sums.now ≡ length lines.now }
-    requires capacity { by.now.capacity ≤ most_audited_capacity }
+    requires capacity { by.now.capacity ≤ most_audited }
     requires total { by.now.total < total_limit }
-    ensures { IfOk result (λ found. (records : List RecordValue) → AreFindingSums lines.now records sums.now
+    ensures { IfOk result (λ found. (records : List RecordValue) → AreSumsOf lines.now records sums.now
         → total_weight records ≡ by.now.total
-        → IsLineTestResult (LinePassesJustifiedTest (line_test_measures by.now) records lines.now) lines.now found) }
+        → IsTestResult (PassesJustified (measures_of by.now) records lines.now) lines.now found) }
 {
     for (place, line) in lines.iter().enumerate() {
         if !is_justified(alloc, line, lines, sums[place].left, by)? {
@@ -101,7 +101,7 @@ fn is_justified(
     by: &Measures,
 ) -> Result<bool, AllocError>
     requires few { length lines.now < line_limit }
-    requires capacity { by.now.capacity ≤ most_audited_capacity }
+    requires capacity { by.now.capacity ≤ most_audited }
     requires total { by.now.total < total_limit }
     ensures { IfOk result (λ justified. IsTrue justified ↔ (by.now.capacity * by.now.threshold ≤ by.now.capacity * left
         + widths_of line.now.prefix (prefixes_of_lines lines.now) * by.now.total)) }
@@ -120,7 +120,7 @@ fn is_justified(
 impl Measures {
     // Whether a conditioned weight is at least the threshold less this many widths, each the total over the capacity.
     fn allows(&self, left: u64, widths: u64) -> bool
-        requires capacity { self.now.capacity ≤ most_audited_capacity }
+        requires capacity { self.now.capacity ≤ most_audited }
         requires total { self.now.total < total_limit }
         ensures { IsTrue result ↔ (self.now.capacity * self.now.threshold
             ≤ self.now.capacity * left + widths * self.now.total) }

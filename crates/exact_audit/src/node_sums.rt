@@ -4,7 +4,7 @@ ghost use Rattle.std.specs.Prelude.{◌≡◌, ◌+◌, ◌<◌, ◌^◌, ℕ, L
 ghost use Rattle.std.specs.Prelude.{OnOk};
 ghost use Rattle.std.specs.HashMap.{get};
 ghost use Rattle.prefix_lattice.specs.{IsNode, PrefixValue, RecordValue, total_weight, total_limit};
-ghost use Rattle.exact_audit.specs.NodeSums.{AreCountedInNodeSums, AreNodeSums, HasNodeSumKeys, records_in_node_sums};
+ghost use Rattle.exact_audit.specs.NodeSums.{AreCountedIn, AreNodeSums, HasSumKeys, records_in};
 ghost use Rattle.exact_audit.specs.NodeSums.{sums_for};
 
 use crate::counted::Counted;
@@ -32,10 +32,10 @@ pub(crate) fn sums_at(
     node: Node,
 ) -> Result<IndexMap<u64, Sums>, AllocError>
     requires node { IsNode node }
-    requires light { total_weight (records_in_node_sums counted.now) < total_limit }
-    ensures keys { IfOk result (HasNodeSumKeys node) }
+    requires light { total_weight (records_in counted.now) < total_limit }
+    ensures keys { IfOk result (HasSumKeys node) }
     ensures sums { IfOk result (λ sums. (lines : List PrefixValue) (records : List RecordValue)
-        → AreCountedInNodeSums lines records counted.now → AreNodeSums node lines records sums) }
+        → AreCountedIn lines records counted.now → AreNodeSums node lines records sums) }
 {
     keys_tell_covering();
     keys_are_of_their_node();

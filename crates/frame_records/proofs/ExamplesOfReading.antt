@@ -3,14 +3,14 @@ use Rattle.std.proofs.Common.{ℕ, ◌≡◌, ◌-◌, ◌^◌, true, false, Lis
 use Rattle.pcap_frames.specs.declared.fault.FaultKind.TheVariants.{ShortHeader}
 use Rattle.pcap_frames.specs.declared.fault.ReadRefusal.TheVariants.{Capture, ReadFault, OutOfMemory}
 use Rattle.pcap_frames.specs.{FrameValue, header_fault, header_fault_at}
-use Rattle.frame_records.specs.CaptureFile.{CaptureFileHasFrames, IsRefusedCaptureFile}
+use Rattle.frame_records.specs.CaptureFile.{FileHasFrames, IsRefusedFile}
 use Rattle.frame_records.specs.declared.records.Records.{Records}
 use Rattle.frame_records.specs.declared.skip.Skip.TheVariants.{Short, BadHeader}
 use Rattle.frame_records.specs.declared.weigh.Weigh.TheVariants.{Bytes, Packets}
 use Rattle.frame_records.specs.FrameRecord.{record_of}
-use Rattle.frame_records.specs.RecordVisitor.{visitor_weighing, capped_by_visitor, VisitorKeepsRecordsOf}
-use Rattle.frame_records.specs.RecordVisitor.{visitor_with_skip, visitor_after_frame}
-use Rattle.frame_records.specs.Records.{AreRecordsOf, HasRecords, HasRefusedRecords, HasReadRecordsInPart}
+use Rattle.frame_records.specs.RecordVisitor.{visitor_weighing, capped, KeepsRecordsOf}
+use Rattle.frame_records.specs.RecordVisitor.{with_skip, after_frame}
+use Rattle.frame_records.specs.Records.{AreRecordsOf, HasRecords, HasRefused, HasReadInPart}
 use Rattle.frame_records.proofs.Examples.{plain, arp, weighing}
 
 abbrev frames : List FrameValue
@@ -27,7 +27,7 @@ records_and_counts = record { list = refl; frames = refl; not_ipv4 = refl; short
 pub skipped_frame_is_a_frame : AreRecordsOf Packets frames (record records { frames = 2 }) → ⊥
 skipped_frame_is_a_frame are = omega (arith, are.frames)
 
-pub records_of_a_capture : (file : List ℕ) → CaptureFileHasFrames file frames → HasRecords Packets (Some file) records
+pub records_of_a_capture : (file : List ℕ) → FileHasFrames file frames → HasRecords Packets (Some file) records
 records_of_a_capture file is = record { frames = frames; few = omega arith; told = is; are = records_and_counts }
 
 -- a source whose bytes are unknown had some frames
@@ -35,24 +35,24 @@ pub records_of_an_untold_capture : HasRecords Packets None records
 records_of_an_untold_capture = record { frames = frames; few = omega arith; told = tt; are = records_and_counts }
 
 -- an empty file is refused for its missing header, at its first byte
-pub empty_file_has_no_header : IsRefusedCaptureFile [] (header_fault_at ShortHeader 0)
+pub empty_file_has_no_header : IsRefusedFile [] (header_fault_at ShortHeader 0)
 unfolding header_fault
 empty_file_has_no_header =
     ([], inr (inl (record { none_shown = refl; short = omega arith; none_before = refl; is_fault = refl })))
 
-pub empty_file_is_refused : HasRefusedRecords (Some []) 3 3 (Capture (header_fault_at ShortHeader 0))
+pub empty_file_is_refused : HasRefused (Some []) 3 3 (Capture (header_fault_at ShortHeader 0))
 empty_file_is_refused = empty_file_has_no_header
 
-pub fault_of_the_source_was_counted : HasRefusedRecords None 3 4 ReadFault
+pub fault_of_the_source_was_counted : HasRefused None 3 4 ReadFault
 fault_of_the_source_was_counted = omega arith
 
-pub fault_without_a_count_is_none : HasRefusedRecords None 3 3 ReadFault → ⊥
+pub fault_without_a_count_is_none : HasRefused None 3 3 ReadFault → ⊥
 fault_without_a_count_is_none rose = omega (arith, rose)
 
-pub want_of_memory_has_no_other_cause : HasRefusedRecords None 3 3 OutOfMemory
+pub want_of_memory_has_no_other_cause : HasRefused None 3 3 OutOfMemory
 want_of_memory_has_no_other_cause = tt
 
-pub two_bytes_were_read : HasReadRecordsInPart (Some (1 ∷ 2 ∷ 3 ∷ [])) (Some (3 ∷ []))
+pub two_bytes_were_read : HasReadInPart (Some (1 ∷ 2 ∷ 3 ∷ [])) (Some (3 ∷ []))
 two_bytes_were_read = (1 ∷ 2 ∷ [], refl)
 
 pub packets_where_the_type_says_so : visitor_weighing true ≡ Packets
@@ -61,25 +61,25 @@ packets_where_the_type_says_so = refl
 pub bytes_where_it_does_not : visitor_weighing false ≡ Bytes
 bytes_where_it_does_not = refl
 
-pub small_count_is_kept : capped_by_visitor 3 ≡ 3
+pub small_count_is_kept : capped 3 ≡ 3
 small_count_is_kept = refl
 
-pub count_past_the_greatest_is_capped : capped_by_visitor (2 ^ 64) ≡ 2 ^ 64 - 1
+pub count_past_the_greatest_is_capped : capped (2 ^ 64) ≡ 2 ^ 64 - 1
 count_past_the_greatest_is_capped = refl
 
-pub visitor_keeps_them : VisitorKeepsRecordsOf Packets frames records
+pub visitor_keeps_them : KeepsRecordsOf Packets frames records
 visitor_keeps_them = record { list = refl; frames = refl; not_ipv4 = refl; short = refl; bad_header = refl }
 
-pub short_frame_is_counted : visitor_with_skip Short records ≡ record records { short = 1 }
+pub short_frame_is_counted : with_skip Short records ≡ record records { short = 1 }
 short_frame_is_counted = refl
 
-pub after_another_packet : visitor_after_frame (record_of Packets plain) records
+pub after_another_packet : after_frame (record_of Packets plain) records
     ≡ record records { list = weighing 1 ∷ weighing 1 ∷ weighing 1 ∷ []; frames = 4 }
 after_another_packet = refl
 
-pub after_a_bad_header : visitor_after_frame (Err BadHeader) records ≡ record records { frames = 4; bad_header = 1 }
+pub after_a_bad_header : after_frame (Err BadHeader) records ≡ record records { frames = 4; bad_header = 1 }
 after_a_bad_header = refl
 
 -- no frames are taken from an empty file
-pub empty_file_has_no_frames : (frames : List FrameValue) → CaptureFileHasFrames [] frames → ⊥
+pub empty_file_has_no_frames : (frames : List FrameValue) → FileHasFrames [] frames → ⊥
 empty_file_has_no_frames frames (order, splits) = let header = splits.header in omega (arith, header.whole)

@@ -4,9 +4,9 @@ use Rattle.pcap_frames.specs.declared.fault.CaptureFault.{CaptureFault}
 use Rattle.pcap_frames.specs.{FrameValue, IsCapture, HasCaptureFault}
 
 -- these are the frames taken from a file: it is a capture of them
-abbrev pub CaptureFileHasFrames : List ℕ → List FrameValue → Type 0
-CaptureFileHasFrames file frames = IsCapture file frames
+abbrev pub FileHasFrames : List ℕ → List FrameValue → Type 0
+FileHasFrames file frames = IsCapture file frames
 
 -- a file is refused for this fault, which is its first
-abbrev pub IsRefusedCaptureFile : List ℕ → CaptureFault → Type 0
-IsRefusedCaptureFile file fault = HasCaptureFault file fault
+abbrev pub IsRefusedFile : List ℕ → CaptureFault → Type 0
+IsRefusedFile file fault = HasCaptureFault file fault

@@ -2,36 +2,36 @@
 use Rattle.std.specs.Prelude.{⊤, ℕ, ◌≡◌, ◌≤◌, List, length, Option, IfSome}
 use Rattle.std.specs.Io.KnownBytes.{Consumes}
 use Rattle.pcap_frames.specs.{FrameValue, frame_count_limit}
-use Rattle.outside_io.specs.{FaultCountRose}
-use Rattle.frame_records.specs.CaptureFile.{CaptureFileHasFrames, IsRefusedCaptureFile}
+use Rattle.outside_io.specs.{FaultRose}
+use Rattle.frame_records.specs.CaptureFile.{FileHasFrames, IsRefusedFile}
 use Rattle.pcap_frames.specs.declared.fault.ReadRefusal.{ReadRefusal}
 use Rattle.pcap_frames.specs.declared.fault.ReadRefusal.TheVariants.{Capture, ReadFault, OutOfMemory}
-use Rattle.frame_records.specs.FrameRecord.{frame_records_of, skipped_frame_count}
+use Rattle.frame_records.specs.FrameRecord.{records_of, skipped_count}
 use Rattle.frame_records.specs.declared.weigh.Weigh.{Weigh}
 use Rattle.frame_records.specs.declared.skip.Skip.TheVariants.{NotIpv4, Short, BadHeader}
 use Rattle.frame_records.specs.declared.records.Records.{Records}
 
 -- the records and the four counts of some frames
 pub record AreRecordsOf (weigh : Weigh) (all : List FrameValue) (records : Records) : Type 0 where
-  pub list : records.list ≡ frame_records_of weigh all
+  pub list : records.list ≡ records_of weigh all
   pub frames : records.frames ≡ length all
-  pub not_ipv4 : records.not_ipv4 ≡ skipped_frame_count NotIpv4 all
-  pub short : records.short ≡ skipped_frame_count Short all
-  pub bad_header : records.bad_header ≡ skipped_frame_count BadHeader all
+  pub not_ipv4 : records.not_ipv4 ≡ skipped_count NotIpv4 all
+  pub short : records.short ≡ skipped_count Short all
+  pub bad_header : records.bad_header ≡ skipped_count BadHeader all
 
 -- the records are those of at most 16,777,216 frames, which are the frames of the source's bytes where these are known
 pub record HasRecords (weigh : Weigh) (left : Option (List ℕ)) (records : Records) : Type 0 where
   pub frames : List FrameValue
   pub few : length frames ≤ frame_count_limit
-  pub told : IfSome left (λ file. CaptureFileHasFrames file frames)
+  pub told : IfSome left (λ file. FileHasFrames file frames)
   pub are : AreRecordsOf weigh frames records
 
 -- each refusal has its cause: the known bytes have this first fault, or the source's count of faults rose
-abbrev pub HasRefusedRecords : Option (List ℕ) → ℕ → ℕ → ReadRefusal → Type 0
-HasRefusedRecords left before now (Capture fault) = IfSome left (λ file. IsRefusedCaptureFile file fault)
-HasRefusedRecords left before now ReadFault = FaultCountRose before now
-HasRefusedRecords left before now OutOfMemory = ⊤
+abbrev pub HasRefused : Option (List ℕ) → ℕ → ℕ → ReadRefusal → Type 0
+HasRefused left before now (Capture fault) = IfSome left (λ file. IsRefusedFile file fault)
+HasRefused left before now ReadFault = FaultRose before now
+HasRefused left before now OutOfMemory = ⊤
 
 -- a front of the known bytes of the source was read, and the others remain
-abbrev pub HasReadRecordsInPart : Option (List ℕ) → Option (List ℕ) → Type 0
-HasReadRecordsInPart left now = (front : List ℕ) × Consumes left now front
+abbrev pub HasReadInPart : Option (List ℕ) → Option (List ℕ) → Type 0
+HasReadInPart left now = (front : List ℕ) × Consumes left now front

@@ -4,8 +4,8 @@ ghost use Rattle.std.specs.Prelude.{◌≡◌, ◌≤◌, ◌+◌, ◌*◌, min,
 ghost use Rattle.byteorder.specs.Endian.{big_from};
 ghost use Rattle.prefix_lattice.specs.{address_length};
 ghost use Rattle.pcap_frames.specs.{frame_content};
-ghost use Rattle.frame_records.specs.FrameRecord.{record_of, frame_has_tag_at, frame_tag_bytes, frame_begins_ipv4};
-ghost use Rattle.frame_records.specs.FrameRecord.{frame_tag_length, frame_type_length, frame_type_place};
+ghost use Rattle.frame_records.specs.FrameRecord.{record_of, is_tag_at, frame_tag_bytes, begins_as_ipv4};
+ghost use Rattle.frame_records.specs.FrameRecord.{tag_length, type_length, type_place};
 
 use crate::{Skip, Weigh};
 use byteorder::{BigEndian, ByteOrder};
@@ -52,7 +52,7 @@ pub fn record_of(frame: &Frame<'_>, weigh: Weigh) -> Result<Record, Skip>
 // How many bytes of VLAN tags precede the type: two tags at most.
 fn tag_bytes(frame: &Frame<'_>) -> usize
     ensures tags { result ≡ frame_tag_bytes (frame_content frame.now) }
-    ensures few { result ≤ 2 * frame_tag_length }
+    ensures few { result ≤ 2 * tag_length }
 {
     if !has_tag_at(frame, 12) {
         return 0;
@@ -64,8 +64,8 @@ fn tag_bytes(frame: &Frame<'_>) -> usize
 }
 
 fn has_tag_at(frame: &Frame<'_>, place: usize) -> bool
-    requires { place ≤ frame_type_place + frame_tag_length }
-    ensures { result ≡ frame_has_tag_at place (frame_content frame.now) }
+    requires { place ≤ type_place + tag_length }
+    ensures { result ≡ is_tag_at place (frame_content frame.now) }
 {
     if frame.head.len() < place + 2 {
         return false;
@@ -76,8 +76,8 @@ fn has_tag_at(frame: &Frame<'_>, place: usize) -> bool
 
 // The Ethernet type at this offset, in network byte order.
 fn type_at(head: &[u8], place: usize) -> u16
-    requires { place + frame_type_length ≤ length head.now }
-    ensures { result ≡ big_from place frame_type_length head.now }
+    requires { place + type_length ≤ length head.now }
+    ensures { result ≡ big_from place type_length head.now }
 {
     BigEndian::read_u16(&head[place..])
 }
@@ -92,7 +92,7 @@ fn address_at(head: &[u8], place: usize) -> u32
 
 // Whether a byte begins an IPv4 header: version 4, and a header length of at least five 32-bit words.
 fn begins_ipv4(byte: u8) -> bool
-    ensures { result ≡ frame_begins_ipv4 byte }
+    ensures { result ≡ begins_as_ipv4 byte }
 {
     byte / 16 == 4 && byte % 16 >= 5
 }

@@ -2,7 +2,7 @@
 
 ghost use Rattle.std.specs.Prelude.{◌≡◌, ◌≤◌, ◌<◌, vec_len, length, IfOk, IfErr, OnOk, OnErr, IsErrOf};
 ghost use Rattle.std.specs.Io.KnownBytes.{IsAtEnd};
-ghost use Rattle.frame_records.specs.Records.{HasRecords, HasRefusedRecords, HasReadRecordsInPart};
+ghost use Rattle.frame_records.specs.Records.{HasRecords, HasRefused, HasReadInPart};
 ghost use Rattle.frame_records.specs.RecordVisitor.{visitor_weighing};
 ghost use Rattle.prefix_lattice.specs.{record_limit};
 
@@ -25,8 +25,8 @@ pub fn read_records<S: Source>(
     ensures records { IfOk result (HasRecords weigh (S.left source.old)) }
     ensures few { IfOk result (λ records. length records.list ≤ record_limit) }
     ensures at_end { OnOk result (IsAtEnd (S.left source.new)) }
-    ensures refused { IfErr result (HasRefusedRecords (S.left source.old) (S.faults source.old) (S.faults source.new)) }
-    ensures front { OnErr result (HasReadRecordsInPart (S.left source.old) (S.left source.new)) }
+    ensures refused { IfErr result (HasRefused (S.left source.old) (S.faults source.old) (S.faults source.new)) }
+    ensures front { OnErr result (HasReadInPart (S.left source.old) (S.left source.new)) }
     ensures later { S.faults source.old ≤ S.faults source.new }
     ensures told { (IsErrOf result ReadRefusal.ReadFault → ⊥) → S.faults source.new ≡ S.faults source.old }
 {
@@ -48,8 +48,8 @@ fn read_weighed<S: Source, const PACKETS: bool>(
     ensures records { IfOk result (HasRecords (visitor_weighing PACKETS) (S.left source.old)) }
     ensures few { IfOk result (λ records. length records.list ≤ record_limit) }
     ensures at_end { OnOk result (IsAtEnd (S.left source.new)) }
-    ensures refused { IfErr result (HasRefusedRecords (S.left source.old) (S.faults source.old) (S.faults source.new)) }
-    ensures front { OnErr result (HasReadRecordsInPart (S.left source.old) (S.left source.new)) }
+    ensures refused { IfErr result (HasRefused (S.left source.old) (S.faults source.old) (S.faults source.new)) }
+    ensures front { OnErr result (HasReadInPart (S.left source.old) (S.left source.new)) }
     ensures later { S.faults source.old ≤ S.faults source.new }
     ensures told { (IsErrOf result ReadRefusal.ReadFault → ⊥) → S.faults source.new ≡ S.faults source.old }
 {

@@ -2,7 +2,7 @@
 
 ghost use Rattle.std.specs.Prelude.{◌≡◌, [], ◌∷◌, OnOk, OnErr};
 ghost use Rattle.pcap_frames.specs.{frame_content, VisitorSees};
-ghost use Rattle.frame_records.specs.RecordVisitor.{VisitorKeepsRecordsOf, visitor_weighing};
+ghost use Rattle.frame_records.specs.RecordVisitor.{KeepsRecordsOf, visitor_weighing};
 
 use crate::{Records, Weigh, record_of};
 use pcap_frames::{Frame, FrameVisitor};
@@ -18,7 +18,7 @@ pub(crate) struct RecordVisitor<const PACKETS: bool> {
 impl<const PACKETS: bool> RecordVisitor<PACKETS> {
     /// A visitor that has seen no frame.
     pub(crate) fn new(alloc: Global) -> Self
-        ensures { VisitorKeepsRecordsOf (visitor_weighing PACKETS) [] result.records }
+        ensures { KeepsRecordsOf (visitor_weighing PACKETS) [] result.records }
     {
         RecordVisitor {
             records: Records {
@@ -43,7 +43,7 @@ impl<const PACKETS: bool> RecordVisitor<PACKETS> {
 }
 
 impl<const PACKETS: bool> FrameVisitor for RecordVisitor<PACKETS> {
-    ghost represents = { λ v frames. VisitorKeepsRecordsOf (visitor_weighing PACKETS) frames v.records };
+    ghost represents = { λ v frames. KeepsRecordsOf (visitor_weighing PACKETS) frames v.records };
 
     fn frame(&mut self, frame: &Frame<'_>) -> Result<(), AllocError> {
         self.records.take(record_of(frame, Self::weigh()))

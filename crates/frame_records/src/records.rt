@@ -21,11 +21,11 @@ pub struct Records {
 
 impl Records {
     ghost use Rattle.std.specs.Prelude.{◌≡◌, OnOk, OnErr};
-    ghost use Rattle.frame_records.specs.RecordVisitor.{visitor_after_frame, visitor_with_skip};
+    ghost use Rattle.frame_records.specs.RecordVisitor.{after_frame, with_skip};
 
     /// Takes the record of the next frame, or the reason why it has none. After an `Err` all is unchanged.
     pub(crate) fn take(&mut self, outcome: Result<Record, Skip>) -> Result<(), AllocError>
-        ensures taken { OnOk result (self.new ≡ visitor_after_frame outcome self.old) }
+        ensures taken { OnOk result (self.new ≡ after_frame outcome self.old) }
         ensures err { OnErr result (self.new ≡ self.old) }
     {
         match outcome {
@@ -37,7 +37,7 @@ impl Records {
     }
 
     fn count(&mut self, skip: Skip)
-        ensures { self.new ≡ visitor_with_skip skip self.old }
+        ensures { self.new ≡ with_skip skip self.old }
     {
         match skip {
             Skip::NotIpv4 => self.not_ipv4 = self.not_ipv4.saturating_add(1),

@@ -1,7 +1,7 @@
 //! What a frame weighs.
 
 ghost use Rattle.std.specs.Prelude.{◌≡◌};
-ghost use Rattle.frame_records.specs.FrameRecord.{weight_of_frame};
+ghost use Rattle.frame_records.specs.FrameRecord.{weight_of};
 ghost use Rattle.pcap_frames.specs.{frame_content};
 
 use pcap_frames::Frame;
@@ -18,7 +18,7 @@ pub enum Weigh {
 impl Weigh {
     /// The weight of a frame, in bytes or packets. A frame with captured bytes weighs at least 1.
     pub fn of(self, frame: &Frame<'_>) -> u32
-        ensures { result ≡ weight_of_frame self (frame_content frame.now) }
+        ensures { result ≡ weight_of self (frame_content frame.now) }
     {
         match self {
             Weigh::Bytes => frame.captured.max(frame.original),

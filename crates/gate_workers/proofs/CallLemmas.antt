@@ -8,28 +8,28 @@ use Rattle.std.proofs.lemmas.List.Elements.{All-nil, All-cons, All-append, All-h
 use Rattle.std.proofs.lemmas.List.{length-map, length-append, map-append}
 use Rattle.std.proofs.lemmas.List.Sorted.{IsNonDecreasingBy-drop, IsNonDecreasingBy-short}
 use Rattle.prefix_lattice.specs.{RecordValue}
-use Rattle.shard_state.specs.{AreCoreShards, CoreBasesRepresent, CutRepresents, CutValue, HasCoreShape, IsShard}
+use Rattle.shard_state.specs.{AreCoreShards, BasesRepresent, CutRepresents, CutValue, HasCoreShape, IsShard}
 use Rattle.shard_state.specs.{ShardValue}
 use Rattle.shard_state.specs.{SnapshotRepresents, SnapshotValue, core_capacity, core_lists, cut_positions}
-use Rattle.shard_state.specs.{snapshot_of_shard}
+use Rattle.shard_state.specs.{snapshot_of}
 use Rattle.shard_state.specs.{shard_state_at}
 use Rattle.hhh_output.specs.{IsReportOf}
 use Rattle.hhh_report.specs.declared.report.Report.{Report}
 use Rattle.hhh_report.specs.declared.reports.Reported.{Reported}
 use Rattle.position_words.specs.declared.view.Trail.{Trail}
 use Rattle.position_words.specs.declared.view.View.{View}
-use Rattle.pass_tokens.specs.{IsOddWord, ReadsCut, ShardRead, after_reads, seen_in_view, states_of_read}
-use Rattle.gate_workers.specs.Call.{Calls, IsCutAtCall, IsReportAtCall, after_calls, cut_at_call}
-use Rattle.gate_workers.specs.Call.{call_positions_of_shard, positions_read_by_call, states_at_call}
+use Rattle.pass_tokens.specs.{IsOddWord, ReadsCut, ShardRead, after_reads, seen_in, states_of}
+use Rattle.gate_workers.specs.Calling.{Calls, IsCutAtCall, IsReportAtCall, after_calls, cut_at}
+use Rattle.gate_workers.specs.Calling.{shard_positions, positions_read, states_at}
 
 call_states_at_positions : (opening : List ShardValue) (reads : List ShardRead)
-    → states_of_read opening reads ≡ states_at_call opening (positions_read_by_call reads)
+    → states_of opening reads ≡ states_at opening (positions_read reads)
 call_states_at_positions [] reads = refl
 call_states_at_positions (shard ∷ rest) [] = refl
 call_states_at_positions (shard ∷ rest) (read ∷ reads) = ap (λ states. shard_state_at read.position shard ∷ states) (call_states_at_positions rest reads)
 
 call_states_keep_positions : (opening : List ShardValue) (positions : List ℕ) → length positions ≡ length opening
-    → map (λ (snapshot : SnapshotValue). snapshot.position) (map snapshot_of_shard (states_at_call opening positions)) ≡ positions
+    → map (λ (snapshot : SnapshotValue). snapshot.position) (map snapshot_of (states_at opening positions)) ≡ positions
 call_states_keep_positions [] [] many = refl
 call_states_keep_positions [] (position ∷ positions) many = absurd (omega (arith, many))
 call_states_keep_positions (shard ∷ rest) [] many = absurd (omega (arith, many))
@@ -39,13 +39,13 @@ call_states_keep_positions (shard ∷ rest) (position ∷ positions) many =
 -- the cut that was read is that of the pure core at the positions of the reads
 call_makes_cut_at_positions : (opening : List ShardValue) (before now : View) (cut changed : CutValue)
     (reads : ReadsCut opening before cut now changed) → HasCoreShape (length opening) (core_capacity opening) cut
-    → IsCutAtCall opening (positions_read_by_call reads.reads) changed
+    → IsCutAtCall opening (positions_read reads.reads) changed
 call_makes_cut_at_positions opening before now cut changed reads shape = record {
   as_many = length-map reads.reads (λ read. read.position) ∙ reads.as_many;
   kept = subst (All IsShard) (call_states_at_positions opening reads.reads) reads.kept;
   is =
       reads.core
-      ∙ ap₂ (λ capacity states. record { capacity = capacity; shards = map snapshot_of_shard states }) shape.alike
+      ∙ ap₂ (λ capacity states. record { capacity = capacity; shards = map snapshot_of states }) shape.alike
       (call_states_at_positions opening reads.reads);
 }
 
@@ -57,38 +57,38 @@ pub call_cut_at_its_positions : (opening : List ShardValue) (before now : View) 
     → ReadsCut opening before cut now changed → HasCoreShape (length opening) (core_capacity opening) cut
     → IsCutAtCall opening (cut_positions changed) changed
 call_cut_at_its_positions opening before now cut changed reads shape =
-    let at : IsCutAtCall opening (positions_read_by_call reads.reads) changed =
+    let at : IsCutAtCall opening (positions_read reads.reads) changed =
     call_makes_cut_at_positions opening before now cut changed reads shape in
-    subst (λ ps. IsCutAtCall opening ps changed) (sym (call_cut_has_positions opening (positions_read_by_call reads.reads) changed at)) at
+    subst (λ ps. IsCutAtCall opening ps changed) (sym (call_cut_has_positions opening (positions_read reads.reads) changed at)) at
 
 -- such a cut represents the lists if the bases do
 call_snapshots_represent_records : (opening : List ShardValue) (positions : List ℕ) → length positions ≡ length opening
     → ((shard : ShardValue) → SnapshotRepresents shard.base shard.list → shard.base.position ≤ shard.position
-    → shard.position ≤ length shard.list → SnapshotRepresents (snapshot_of_shard shard) shard.list)
+    → shard.position ≤ length shard.list → SnapshotRepresents (snapshot_of shard) shard.list)
     → All (λ (shard : ShardValue). SnapshotRepresents shard.base shard.list) opening
-    → All IsShard (states_at_call opening positions)
-    → AllZip SnapshotRepresents (map snapshot_of_shard (states_at_call opening positions)) (core_lists opening)
+    → All IsShard (states_at opening positions)
+    → AllZip SnapshotRepresents (map snapshot_of (states_at opening positions)) (core_lists opening)
 call_snapshots_represent_records [] [] many goes_on bases kept = tt
 call_snapshots_represent_records [] (position ∷ positions) many goes_on bases kept = absurd (omega (arith, many))
 call_snapshots_represent_records (shard ∷ rest) [] many goes_on bases kept = absurd (omega (arith, many))
 call_snapshots_represent_records (shard ∷ rest) (position ∷ positions) many goes_on bases kept =
     let state : ShardValue = shard_state_at position shard in
-    let is_shard : IsShard state = All-head IsShard state (states_at_call rest positions) kept in (
+    let is_shard : IsShard state = All-head IsShard state (states_at rest positions) kept in (
       goes_on state (All-head (λ (s : ShardValue). SnapshotRepresents s.base s.list) shard rest bases)
           is_shard.begun is_shard.within,
       call_snapshots_represent_records rest positions (omega (arith, many)) goes_on
           (All-tail (λ (s : ShardValue). SnapshotRepresents s.base s.list) shard rest bases)
-          (All-tail IsShard state (states_at_call rest positions) kept),
+          (All-tail IsShard state (states_at rest positions) kept),
     )
 
 call_snapshots_have_capacity : (opening : List ShardValue) (positions : List ℕ) (capacity : ℕ)
     → All (λ (shard : ShardValue). shard.base.capacity ≡ capacity) opening
-    → All (λ (snapshot : SnapshotValue). snapshot.capacity ≡ capacity) (map snapshot_of_shard (states_at_call opening positions))
+    → All (λ (snapshot : SnapshotValue). snapshot.capacity ≡ capacity) (map snapshot_of (states_at opening positions))
 call_snapshots_have_capacity [] positions capacity alike = All-nil (λ (snapshot : SnapshotValue). snapshot.capacity ≡ capacity)
 call_snapshots_have_capacity (shard ∷ rest) [] capacity alike = All-nil (λ (snapshot : SnapshotValue). snapshot.capacity ≡ capacity)
 call_snapshots_have_capacity (shard ∷ rest) (position ∷ positions) capacity alike =
-    All-cons (λ (snapshot : SnapshotValue). snapshot.capacity ≡ capacity) (snapshot_of_shard (shard_state_at position shard))
-    (map snapshot_of_shard (states_at_call rest positions))
+    All-cons (λ (snapshot : SnapshotValue). snapshot.capacity ≡ capacity) (snapshot_of (shard_state_at position shard))
+    (map snapshot_of (states_at rest positions))
     (All-head (λ (s : ShardValue). s.base.capacity ≡ capacity) shard rest alike)
     (call_snapshots_have_capacity rest positions capacity
     (All-tail (λ (s : ShardValue). s.base.capacity ≡ capacity) shard rest alike))
@@ -96,8 +96,8 @@ call_snapshots_have_capacity (shard ∷ rest) (position ∷ positions) capacity 
 pub call_cut_represents_records : (opening : List ShardValue) (positions : List ℕ) (cut : CutValue) → AreCoreShards opening
     → IsCutAtCall opening positions cut
     → ((shard : ShardValue) → SnapshotRepresents shard.base shard.list → shard.base.position ≤ shard.position
-    → shard.position ≤ length shard.list → SnapshotRepresents (snapshot_of_shard shard) shard.list)
-    → CoreBasesRepresent opening → CutRepresents cut (core_lists opening)
+    → shard.position ≤ length shard.list → SnapshotRepresents (snapshot_of shard) shard.list)
+    → BasesRepresent opening → CutRepresents cut (core_lists opening)
 call_cut_represents_records opening positions cut are at goes_on bases =
     subst (λ (c : CutValue). CutRepresents c (core_lists opening)) (sym at.is)
     (record {
@@ -106,16 +106,16 @@ call_cut_represents_records opening positions cut are at goes_on bases =
     })
 
 pub call_weights_are_positive : (opening : List ShardValue) (positions : List ℕ) → length positions ≡ length opening
-    → All IsShard (states_at_call opening positions)
+    → All IsShard (states_at opening positions)
     → All (λ (list : List RecordValue). All (λ (rec : RecordValue). 1 ≤ rec.weight) list) (core_lists opening)
 call_weights_are_positive [] positions many kept =
     All-nil (λ (list : List RecordValue). All (λ (rec : RecordValue). 1 ≤ rec.weight) list)
 call_weights_are_positive (shard ∷ rest) [] many kept = absurd (omega (arith, many))
 call_weights_are_positive (shard ∷ rest) (position ∷ positions) many kept =
     All-cons (λ (list : List RecordValue). All (λ (rec : RecordValue). 1 ≤ rec.weight) list) shard.list (core_lists rest)
-    (All-head IsShard (shard_state_at position shard) (states_at_call rest positions) kept).weighed
+    (All-head IsShard (shard_state_at position shard) (states_at rest positions) kept).weighed
     (call_weights_are_positive rest positions (omega (arith, many))
-    (All-tail IsShard (shard_state_at position shard) (states_at_call rest positions) kept))
+    (All-tail IsShard (shard_state_at position shard) (states_at rest positions) kept))
 
 -- the report of such a cut is one at its own positions
 pub call_report_at_its_positions : (opening : List ShardValue) (positions : List ℕ) (cut : CutValue) (phi : ℕ) (report : Report)
@@ -125,9 +125,9 @@ call_report_at_its_positions opening positions cut phi report at here is =
     let same : report.positions ≡ positions = is.positions ∙ here in
     record {
       as_many = ap length same ∙ at.as_many;
-      kept = subst (λ ps. All IsShard (states_at_call opening ps)) (sym same) at.kept;
+      kept = subst (λ ps. All IsShard (states_at opening ps)) (sym same) at.kept;
       is =
-          subst (λ ps. IsReportOf (cut_at_call opening ps) phi report) (sym same)
+          subst (λ ps. IsReportOf (cut_at opening ps) phi report) (sym same)
           (subst (λ (c : CutValue). IsReportOf c phi report) at.is is);
     }
 
@@ -164,7 +164,7 @@ call_positions_never_fall_on first (next ∷ numbers) more up on =
 call_sees_its_position : (trails : List Trail) (reads : List ShardRead) (shard : ℕ) → shard < length trails
     → shard < length reads
     → slice_index (map (λ trail. trail.seen) (after_reads trails reads)) shard
-    ≡ slice_index (positions_read_by_call reads) shard
+    ≡ slice_index (positions_read reads) shard
 call_sees_its_position [] reads shard inside read = absurd (omega arith)
 call_sees_its_position (trail ∷ rest) [] shard inside read = absurd (omega arith)
 call_sees_its_position (trail ∷ rest) (first ∷ reads) zero inside read = refl
@@ -173,7 +173,7 @@ call_sees_its_position (trail ∷ rest) (first ∷ reads) (suc shard) inside rea
 
 call_has_shard_position : (reads : List ShardRead) (shard : ℕ) → shard < length reads
     → (read : ShardRead) × (slice_get reads shard ≡ Some read)
-    × (slice_index (positions_read_by_call reads) shard ≡ read.position)
+    × (slice_index (positions_read reads) shard ≡ read.position)
 call_has_shard_position [] shard inside = absurd (omega arith)
 call_has_shard_position (read ∷ reads) zero inside = (read, refl, refl)
 call_has_shard_position (read ∷ reads) (suc shard) inside = call_has_shard_position reads shard (omega arith)
@@ -186,27 +186,27 @@ call_keeps_trails_as_many (trail ∷ rest) (read ∷ reads) = ap suc (call_keeps
 -- what was seen of a shard after rounds is the position that the last of them read
 calls_see_last_position : (trails : List Trail) (rounds : List (List ShardRead)) (shards shard : ℕ) → shard < shards
     → length trails ≡ shards → All (λ round. length round ≡ shards) rounds
-    → last_call_position (slice_index (map (λ trail. trail.seen) trails) shard) (call_positions_of_shard shard rounds)
+    → last_call_position (slice_index (map (λ trail. trail.seen) trails) shard) (shard_positions shard rounds)
     ≡ slice_index (map (λ trail. trail.seen) (after_calls trails rounds)) shard
 calls_see_last_position trails [] shards shard inside many whole = refl
 calls_see_last_position trails (first ∷ rounds) shards shard inside many whole =
     let is_whole : length first ≡ shards = All-head (λ round. length round ≡ shards) first rounds whole in
-    ap (λ seen. last_call_position seen (call_positions_of_shard shard rounds))
+    ap (λ seen. last_call_position seen (shard_positions shard rounds))
     (sym (call_sees_its_position trails first shard (omega (arith, inside, many)) (omega (arith, inside, is_whole))))
     ∙ calls_see_last_position (after_reads trails first) rounds shards shard inside
     (call_keeps_trails_as_many trails first ∙ many) (All-tail (λ round. length round ≡ shards) first rounds whole)
 
 -- each round read each shard
 calls_reach_each_shard : (opening : List ShardValue) (phi : ℕ) (reports : List Reported) (rounds : List (List ShardRead))
-    → map (λ (reported : Reported). reported.report.positions) reports ≡ map positions_read_by_call rounds
+    → map (λ (reported : Reported). reported.report.positions) reports ≡ map positions_read rounds
     → All (λ (reported : Reported). IsReportAtCall opening phi reported.report) reports
     → All (λ (round : List ShardRead). length round ≡ length opening) rounds
 calls_reach_each_shard opening phi reports [] same each = All-nil (λ (round : List ShardRead). length round ≡ length opening)
 calls_reach_each_shard opening phi [] (round ∷ rounds) same each = cc same
 calls_reach_each_shard opening phi (reported ∷ reports) (round ∷ rounds) same each =
-    let first : reported.report.positions ≡ positions_read_by_call round =
+    let first : reported.report.positions ≡ positions_read round =
     ap (λ all. get_or all 0 []) same in
-    let rest : map (λ (reported : Reported). reported.report.positions) reports ≡ map positions_read_by_call rounds =
+    let rest : map (λ (reported : Reported). reported.report.positions) reports ≡ map positions_read rounds =
     ap (λ all. drop 1 all) same in
     let at : IsReportAtCall opening phi reported.report =
     All-head (λ (reported : Reported). IsReportAtCall opening phi reported.report) reported reports each in
@@ -222,7 +222,7 @@ no_calls opening phi view = record {
   odd = All-nil (λ round. All (λ (read : ShardRead). All IsOddWord read.losses) round);
   view = refl;
   positions = refl;
-  never_fall = λ shard inside. IsNonDecreasingBy-short (λ x. x) (seen_in_view shard view ∷ []) (omega arith);
+  never_fall = λ shard inside. IsNonDecreasingBy-short (λ x. x) (seen_in shard view ∷ []) (omega arith);
   each = All-nil (λ (reported : Reported). IsReportAtCall opening phi reported.report);
   unsaved = All-nil (λ (reported : Reported). reported.saved ≡ None);
 }
@@ -244,13 +244,13 @@ one_call opening phi before after cut changed report round shape here is_report 
       view = round.view;
       positions =
           ap (λ positions. positions ∷ []) (here
-          ∙ call_cut_has_positions opening (positions_read_by_call reads) changed
+          ∙ call_cut_has_positions opening (positions_read reads) changed
           (call_makes_cut_at_positions opening before after cut changed round shape));
       never_fall = λ shard inside.
-          let position : ℕ = slice_index (positions_read_by_call reads) shard in
+          let position : ℕ = slice_index (positions_read reads) shard in
           let read = call_has_shard_position reads shard (omega (arith, inside, round.as_many)) in
-          let later : seen_in_view shard before ≤ position = omega (arith, round.later shard read.0 read.1, read.2) in
-          call_position_may_come_first (seen_in_view shard before) position [] later
+          let later : seen_in shard before ≤ position = omega (arith, round.later shard read.0 read.1, read.2) in
+          call_position_may_come_first (seen_in shard before) position [] later
           (IsNonDecreasingBy-short (λ x. x) (position ∷ []) (omega arith));
       each =
           All-cons (λ (reported : Reported). IsReportAtCall opening phi reported.report) reported [] is_report
@@ -275,18 +275,18 @@ more_calls opening phi rounds more before middle now reports later many one two 
       ∙ ap (λ trails. record before { trails = trails }) (sym (calls-append before.trails one.reads two.reads));
   positions =
       map-append (λ (reported : Reported). reported.report.positions) reports later
-      ∙ ap₂ (λ a b. a ++ b) one.positions two.positions ∙ sym (map-append positions_read_by_call one.reads two.reads);
+      ∙ ap₂ (λ a b. a ++ b) one.positions two.positions ∙ sym (map-append positions_read one.reads two.reads);
   never_fall = λ shard inside.
       let whole = calls_reach_each_shard opening phi reports one.reads one.positions one.each in
-      let last : last_call_position (seen_in_view shard before) (call_positions_of_shard shard one.reads) ≡ seen_in_view shard middle =
+      let last : last_call_position (seen_in shard before) (shard_positions shard one.reads) ≡ seen_in shard middle =
       calls_see_last_position before.trails one.reads (length opening) shard inside many whole
-      ∙ ap (seen_in_view shard) (sym one.view) in
-      subst (λ ps. IsNonDecreasing (seen_in_view shard before ∷ ps))
-      (sym (map-append (λ reads. slice_index (positions_read_by_call reads) shard) one.reads two.reads))
-      (call_positions_never_fall_on (seen_in_view shard before) (call_positions_of_shard shard one.reads)
-      (call_positions_of_shard shard two.reads)
+      ∙ ap (seen_in shard) (sym one.view) in
+      subst (λ ps. IsNonDecreasing (seen_in shard before ∷ ps))
+      (sym (map-append (λ reads. slice_index (positions_read reads) shard) one.reads two.reads))
+      (call_positions_never_fall_on (seen_in shard before) (shard_positions shard one.reads)
+      (shard_positions shard two.reads)
       (one.never_fall shard inside)
-      (subst (λ seen. IsNonDecreasing (seen ∷ call_positions_of_shard shard two.reads)) (sym last)
+      (subst (λ seen. IsNonDecreasing (seen ∷ shard_positions shard two.reads)) (sym last)
       (two.never_fall shard inside)));
   each = All-append (λ (reported : Reported). IsReportAtCall opening phi reported.report) reports later one.each two.each;
   unsaved = All-append (λ (reported : Reported). reported.saved ≡ None) reports later one.unsaved two.unsaved;

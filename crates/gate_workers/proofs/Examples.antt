@@ -4,16 +4,16 @@ use Rattle.std.proofs.Common.{refl, ap, arith, subst, All, slice_index_or}
 use Rattle.std.proofs.lemmas.List.Elements.{All-nil, All-from_recursion}
 use Rattle.std.proofs.lemmas.Option.{same_Some}
 use Rattle.prefix_lattice.specs.{RecordValue}
-use Rattle.shard_state.specs.{IsShard, ShardValue, empty_snapshot, snapshot_of_shard, shard_state_at}
+use Rattle.shard_state.specs.{IsShard, ShardValue, empty_snapshot, snapshot_of, shard_state_at}
 use Rattle.shard_state.specs.declared.shard_state.Folded.{Folded}
 use Rattle.position_words.specs.declared.view.Trail.{Trail}
 use Rattle.position_words.specs.declared.view.View.{View}
 use Rattle.pass_tokens.specs.{IsFoldOf, IsOddWord, ShardRead, after_reads, first_view, folded_once}
-use Rattle.pass_tokens.specs.{trail_after_fold_losses}
-use Rattle.gate_workers.specs.Feed.{IsFed, Feeds, FeedHasSeenEnd, FeedHasSeenEnds}
-use Rattle.gate_workers.specs.Call.{Calls, IsCutAtCall, CallReadsOnce, after_calls, cut_at_call}
-use Rattle.gate_workers.specs.Call.{call_positions_of_shard}
-use Rattle.gate_workers.specs.Call.{positions_read_by_call, states_at_call}
+use Rattle.pass_tokens.specs.{after_losses}
+use Rattle.gate_workers.specs.Feeding.{IsFed, Feeds, HasSeenEnd, HasSeenEnds}
+use Rattle.gate_workers.specs.Calling.{Calls, IsCutAtCall, ReadsOnce, after_calls, cut_at}
+use Rattle.gate_workers.specs.Calling.{shard_positions}
+use Rattle.gate_workers.specs.Calling.{positions_read, states_at}
 use Rattle.gate_workers.proofs.FeedingLemmas.{feeding_of_same_view}
 use Rattle.gate_workers.proofs.CallLemmas.{no_calls}
 
@@ -72,26 +72,26 @@ splitting_is_not_feeding feeds = cc (ap (λ (v : View). v.splits) feeds.same)
 abbrev ended : View
 ended = record first { trails = trail 2 ∷ trail 1 ∷ [] }
 
-pub end_was_seen : FeedHasSeenEnd shards 0 ended
+pub end_was_seen : HasSeenEnd shards 0 ended
 end_was_seen state is = subst (λ (s : ShardValue). length s.list ≤ 2) (same_Some pair state is) (omega arith)
 
-pub end_not_seen : FeedHasSeenEnd shards 0 first → ⊥
+pub end_not_seen : HasSeenEnd shards 0 first → ⊥
 end_not_seen ends = let end : 2 ≤ 0 = ends pair refl in omega (arith, end)
 
-pub not_all_ends_seen : FeedHasSeenEnds shards (record first { trails = trail 2 ∷ trail 0 ∷ [] }) → ⊥
+pub not_all_ends_seen : HasSeenEnds shards (record first { trails = trail 2 ∷ trail 0 ∷ [] }) → ⊥
 not_all_ends_seen ends = let end : 1 ≤ 0 = ends 1 single refl in omega (arith, end)
 
-pub shards_at_positions : states_at_call shards (2 ∷ 1 ∷ []) ≡ shard_state_at 2 pair ∷ shard_state_at 1 single ∷ []
+pub shards_at_positions : states_at shards (2 ∷ 1 ∷ []) ≡ shard_state_at 2 pair ∷ shard_state_at 1 single ∷ []
 shards_at_positions = refl
 
-pub cut_of_the_core : cut_at_call shards (1 ∷ 0 ∷ [])
-    ≡ record { capacity = 4; shards = snapshot_of_shard (shard_state_at 1 pair) ∷ snapshot_of_shard single ∷ [] }
+pub cut_of_the_core : cut_at shards (1 ∷ 0 ∷ [])
+    ≡ record { capacity = 4; shards = snapshot_of (shard_state_at 1 pair) ∷ snapshot_of single ∷ [] }
 cut_of_the_core = refl
 
-pub empty_cut_is_at_no_position : IsCutAtCall [] [] (cut_at_call [] [])
+pub empty_cut_is_at_no_position : IsCutAtCall [] [] (cut_at [] [])
 empty_cut_is_at_no_position = record { as_many = refl; kept = All-nil IsShard; is = refl }
 
-pub cut_with_a_position_too_many : IsCutAtCall [] (1 ∷ []) (cut_at_call [] []) → ⊥
+pub cut_with_a_position_too_many : IsCutAtCall [] (1 ∷ []) (cut_at [] []) → ⊥
 cut_with_a_position_too_many at = cc at.as_many
 
 -- how two shards were read: the second after a take that lost
@@ -101,14 +101,14 @@ reads = record { losses = []; position = 2 } ∷ record { losses = 1 ∷ []; pos
 abbrev reads_again : List ShardRead
 reads_again = record { losses = []; position = 2 } ∷ record { losses = []; position = 1 } ∷ []
 
-pub positions_of_a_round : positions_read_by_call reads ≡ 2 ∷ 0 ∷ []
+pub positions_of_a_round : positions_read reads ≡ 2 ∷ 0 ∷ []
 positions_of_a_round = refl
 
 pub trails_after_two_rounds : after_calls (trail 0 ∷ trail 0 ∷ []) (reads ∷ reads_again ∷ [])
     ≡ record (trail 2) { reads = 2 ∷ 2 ∷ [] } ∷ record (trail 1) { reads = 0 ∷ 1 ∷ []; losses = 1 ∷ [] } ∷ []
 trails_after_two_rounds = refl
 
-pub positions_of_the_second_shard : call_positions_of_shard 1 (reads ∷ reads_again ∷ []) ≡ 0 ∷ 1 ∷ []
+pub positions_of_the_second_shard : shard_positions 1 (reads ∷ reads_again ∷ []) ≡ 0 ∷ 1 ∷ []
 positions_of_the_second_shard = refl
 
 pub no_round_no_report : Calls shards 500000 0 first first []
@@ -118,12 +118,12 @@ no_round_no_report = no_calls shards 500000 first
 pub round_without_a_report : Calls shards 500000 1 first first [] → ⊥
 round_without_a_report calls = no_round calls.reads calls.as_many calls.positions
   where
-    no_round : (reads : List (List ShardRead)) → length reads ≡ 1 → [] ≡ map positions_read_by_call reads → ⊥
+    no_round : (reads : List (List ShardRead)) → length reads ≡ 1 → [] ≡ map positions_read reads → ⊥
     no_round [] many positions = cc many
     no_round (round ∷ rounds) many positions = cc positions
 
 -- each of the two shards was read once
-pub two_shards_were_read : CallReadsOnce shards first (record first { trails = after_reads first.trails reads })
+pub two_shards_were_read : ReadsOnce shards first (record first { trails = after_reads first.trails reads })
 two_shards_were_read = record {
   reads = reads;
   as_many = refl;
@@ -137,7 +137,7 @@ two_shards_were_read = record {
 abbrev half_read : View
 half_read = record first { trails = after_reads first.trails (record { losses = []; position = 2 } ∷ []) }
 
-pub second_shard_was_left_out : CallReadsOnce shards first half_read → ⊥
+pub second_shard_was_left_out : ReadsOnce shards first half_read → ⊥
 second_shard_was_left_out once = left_out once.reads once.as_many once.view
   where
     not_empty : (positions : List ℕ) (position : ℕ) → [] ≡ positions ++ position ∷ [] → ⊥
@@ -149,5 +149,5 @@ second_shard_was_left_out once = left_out once.reads once.as_many once.view
     left_out [] many same = cc many
     left_out (one ∷ []) many same = omega (arith, many)
     left_out (one ∷ two ∷ more) many same =
-        not_empty (trail_after_fold_losses two.losses (trail 0)).reads two.position
+        not_empty (after_losses two.losses (trail 0)).reads two.position
         (ap (λ (v : View). (slice_index_or v.trails 1 (trail 0)).reads) same)

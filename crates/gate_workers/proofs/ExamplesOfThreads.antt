@@ -5,14 +5,14 @@ use Rattle.prefix_lattice.specs.{RecordValue}
 use Rattle.shard_state.specs.{empty_snapshot}
 use Rattle.position_words.specs.declared.view.Trail.{Trail}
 use Rattle.position_words.specs.declared.view.View.{View}
-use Rattle.pass_tokens.specs.{PositionWordsValue, first_view, newcomer_view, view_after_join}
+use Rattle.pass_tokens.specs.{WordsValue, first_view, newcomer_view, after_join}
 use Rattle.hhh_report.specs.declared.report.Report.{Report}
-use Rattle.gate_workers.specs.Call.{IsReportAtCall}
-use Rattle.gate_workers.specs.Feed.{FeedHasSeenEnds}
-use Rattle.gate_workers.specs.Threads.{AreSoundThreadReports, CallingThreadMakesRounds, WorkerThreadHasFed}
-use Rattle.gate_workers.specs.Threads.{EachThreadByNumber, after_thread_splits}
+use Rattle.gate_workers.specs.Calling.{IsReportAtCall}
+use Rattle.gate_workers.specs.Feeding.{HasSeenEnds}
+use Rattle.gate_workers.specs.Running.{AreSoundReports, MakesRounds, HasFed}
+use Rattle.gate_workers.specs.Running.{EachByNumber, after_splits}
 use Rattle.gate_workers.specs.Plan.{IsPlanFor}
-use Rattle.gate_workers.specs.LaterView.{IsLaterTrail, IsLaterView, StaysReadyInLaterViews}
+use Rattle.gate_workers.specs.LaterView.{IsLaterTrail, IsLaterView, StaysReady}
 use Rattle.gate_workers.specs.declared.plan.ThreadPlan.{ThreadPlan}
 use Rattle.gate_workers.proofs.Examples.{shards, first, trail}
 
@@ -54,7 +54,7 @@ nothing_falls is = let later : 1 ≤ 0 = is.later in omega (arith, later)
 abbrev none : View
 none = first_view []
 
-pub a_split_is_later : IsLaterView none (after_thread_splits 1 none)
+pub a_split_is_later : IsLaterView none (after_splits 1 none)
 a_split_is_later = record {
   same = refl;
   splits = omega arith;
@@ -62,42 +62,42 @@ a_split_is_later = record {
   trails = λ shard before now is. cc is;
 }
 
-pub a_join_is_no_later_view : IsLaterView none (view_after_join none none) → ⊥
+pub a_join_is_no_later_view : IsLaterView none (after_join none none) → ⊥
 a_join_is_no_later_view later = cc (ap (λ (v : View). v.joins) later.same)
 
 -- a condition on the board alone still holds in later views
-pub nothing_stays_ready : StaysReadyInLaterViews (λ (board : PositionWordsValue) (view : View). length board.opening ≡ 2)
+pub nothing_stays_ready : StaysReady (λ (board : WordsValue) (view : View). length board.opening ≡ 2)
 nothing_stays_ready board before now later ready = ready
 
 -- a condition that no pass was split off need not
-pub no_split_does_not_stay : (board : PositionWordsValue) → StaysReadyInLaterViews (λ board (view : View). view.splits ≡ 0) → ⊥
-no_split_does_not_stay board stays = cc (stays board none (after_thread_splits 1 none) a_split_is_later refl)
+pub no_split_does_not_stay : (board : WordsValue) → StaysReady (λ board (view : View). view.splits ≡ 0) → ⊥
+no_split_does_not_stay board stays = cc (stays board none (after_splits 1 none) a_split_is_later refl)
 
-pub three_passes_were_split_off : (after_thread_splits 3 first).splits ≡ 3
+pub three_passes_were_split_off : (after_splits 3 first).splits ≡ 3
 three_passes_were_split_off = refl
 
 -- the view of the pass that was split off after two others tells which it is
-pub third_pass_is_told : (newcomer_view (after_thread_splits 2 first)).lineage ≡ 2 ∷ []
+pub third_pass_is_told : (newcomer_view (after_splits 2 first)).lineage ≡ 2 ∷ []
 third_pass_is_told = refl
 
 -- two threads with their numbers, and the same two exchanged
 abbrev HasItsNumber : ℕ → ℕ → Type 0
 HasItsNumber number thread = thread ≡ number
 
-pub threads_in_order : EachThreadByNumber HasItsNumber (0 ∷ 1 ∷ [])
+pub threads_in_order : EachByNumber HasItsNumber (0 ∷ 1 ∷ [])
 threads_in_order zero default below = refl
 threads_in_order (suc zero) default below = refl
 threads_in_order (suc (suc number)) default below = absurd (omega (arith, below))
 
-pub exchanged_threads : EachThreadByNumber HasItsNumber (1 ∷ 0 ∷ []) → ⊥
+pub exchanged_threads : EachByNumber HasItsNumber (1 ∷ 0 ∷ []) → ⊥
 exchanged_threads each = let one : 1 ≡ 0 = each 0 7 (omega arith) in omega (arith, one)
 
 -- a worker of no shard has nothing to feed
-pub worker_of_no_shard : WorkerThreadHasFed [] 1 none (newcomer_view none) → FeedHasSeenEnds [] (newcomer_view none)
+pub worker_of_no_shard : HasFed [] 1 none (newcomer_view none) → HasSeenEnds [] (newcomer_view none)
 worker_of_no_shard fed = fed.ends
 
 -- a view in which the end of a list wasn't seen is not that of a worker at its end
-pub worker_that_stops_early : WorkerThreadHasFed shards 1 first first → ⊥
+pub worker_that_stops_early : HasFed shards 1 first first → ⊥
 worker_that_stops_early fed =
     let end : 2 ≤ 0 = fed.ends 0 (record {
       list = x ∷ x ∷ [];
@@ -110,14 +110,14 @@ worker_that_stops_early fed =
     x = record { src = 0x01000001; dst = 0x65000001; weight = 1 }
 
 -- rounds that change nothing, made once after three splits
-pub idle_rounds : CallingThreadMakesRounds (λ before now. before ≡ now) 3 first
-idle_rounds = record { now = after_thread_splits 3 first; does = refl }
+pub idle_rounds : MakesRounds (λ before now. before ≡ now) 3 first
+idle_rounds = record { now = after_splits 3 first; does = refl }
 
 -- they were not made before the splits
-pub rounds_begin_after_the_splits : CallingThreadMakesRounds (λ before now. before.splits ≡ 0) 3 first → ⊥
+pub rounds_begin_after_the_splits : MakesRounds (λ before now. before.splits ≡ 0) 3 first → ⊥
 rounds_begin_after_the_splits goes = cc goes.does
 
-pub no_report_is_sound : AreSoundThreadReports shards 500000 []
+pub no_report_is_sound : AreSoundReports shards 500000 []
 no_report_is_sound place default below = absurd (omega (arith, below))
 
 -- a report with a position for one of two shards

@@ -7,13 +7,13 @@ use Rattle.std.proofs.Math.Nat.{add-mod_right, mod-eq_of_lt}
 use Rattle.std.proofs.lemmas.Bool.{cases_eq}
 use Rattle.std.proofs.lemmas.List.Elements.{All-nil, All-cons, All-append}
 use Rattle.std.proofs.lemmas.Option.{same_Some, slice_get_within}
-use Rattle.shard_state.specs.{ShardValue, changed_in_core}
+use Rattle.shard_state.specs.{ShardValue, changed_in}
 use Rattle.shard_state.specs.declared.shard_state.Folded.{Folded}
 use Rattle.position_words.specs.declared.view.Trail.{Trail}
 use Rattle.position_words.specs.declared.view.View.{View}
-use Rattle.pass_tokens.specs.{Folds, IsFoldOf, IsOddWord, WordStepLoses, folded_once, view_trail_after_loss}
-use Rattle.pass_tokens.specs.{seen_in_view, view_with_trail}
-use Rattle.gate_workers.specs.Feed.{IsFed, Feeds, FeedHasSeenEnd, FeedHasSeenEnds}
+use Rattle.pass_tokens.specs.{Folds, IsFoldOf, IsOddWord, StepLoses, folded_once, trail_after_loss}
+use Rattle.pass_tokens.specs.{seen_in, with_trail}
+use Rattle.gate_workers.specs.Feeding.{IsFed, Feeds, HasSeenEnd, HasSeenEnds}
 
 -- a trail that stays the same
 feeding_of_same_trail : (opening : List ShardValue) (shard block : ℕ) (trail : Trail) → IsFed opening shard block trail trail
@@ -45,7 +45,7 @@ feeding_of_folded_trail opening shard block trail done core seen = record {
 
 -- a trail with one more loss
 feeding_of_lost_trail : (opening : List ShardValue) (shard block : ℕ) (trail : Trail) (word : ℕ) → IsOddWord word
-    → trail.seen ≤ word / 2 → IsFed opening shard block trail (view_trail_after_loss word trail)
+    → trail.seen ≤ word / 2 → IsFed opening shard block trail (trail_after_loss word trail)
 feeding_of_lost_trail opening shard block trail word odd seen = record {
   folds = [];
   losses = word ∷ [];
@@ -93,7 +93,7 @@ feeding_shard_has_trail (trail ∷ rest) (suc shard) inside = feeding_shard_has_
 
 feeding_changes_one_trail : (change : Trail → Trail) (place : ℕ) (trails : List Trail) (shard : ℕ) (trail later : Trail)
     → slice_get trails shard ≡ Some trail
-    → slice_get (changed_in_core change place trails) shard ≡ Some later
+    → slice_get (changed_in change place trails) shard ≡ Some later
     → ((shard ≡ place) × (later ≡ change trail)) ⊎ (later ≡ trail)
 feeding_changes_one_trail change place [] shard trail later is now = cc is
 feeding_changes_one_trail change zero (first ∷ rest) zero trail later is now =
@@ -105,7 +105,7 @@ feeding_changes_one_trail change (suc place) (first ∷ rest) (suc shard) trail 
     (feeding_changes_one_trail change place rest shard trail later is now)
 
 feeding_change-length : (change : Trail → Trail) (place : ℕ) (trails : List Trail)
-    → length (changed_in_core change place trails) ≡ length trails
+    → length (changed_in change place trails) ≡ length trails
 feeding_change-length change place [] = refl
 feeding_change-length change zero (trail ∷ rest) = refl
 feeding_change-length change (suc place) (trail ∷ rest) = ap suc (feeding_change-length change place rest)
@@ -121,11 +121,11 @@ feeding_of_same_view opening block view = record {
 
 -- a step at one shard
 feeding_at_one_shard : (opening : List ShardValue) (block place : ℕ) (before now : View) (change : Trail → Trail)
-    → now ≡ view_with_trail change place before
+    → now ≡ with_trail change place before
     → ((trail : Trail) → slice_get before.trails place ≡ Some trail
     → IsFed opening place block trail (change trail)) → Feeds opening block before now
 feeding_at_one_shard opening block place before now change is fed =
-    let trails_are : now.trails ≡ changed_in_core change place before.trails = ap (λ (v : View). v.trails) is in
+    let trails_are : now.trails ≡ changed_in change place before.trails = ap (λ (v : View). v.trails) is in
     record {
       same = is ∙ ap (λ ts. record before { trails = ts }) (sym trails_are);
       as_many = ap length trails_are ∙ feeding_change-length change place before.trails;
@@ -149,10 +149,10 @@ feeding_by_fold opening shard block before now done folds =
     feeding_of_folded_trail opening shard block trail done folds.core
     (omega (arith, seen_by_feeding_trail before.trails shard trail is, folds.later)))
 
-pub feeding_by_loss : (opening : List ShardValue) (shard block : ℕ) (before now : View) → WordStepLoses shard before now
+pub feeding_by_loss : (opening : List ShardValue) (shard block : ℕ) (before now : View) → StepLoses shard before now
     → Feeds opening block before now
 feeding_by_loss opening shard block before now loses =
-    feeding_at_one_shard opening block shard before now (view_trail_after_loss loses.word) loses.view
+    feeding_at_one_shard opening block shard before now (trail_after_loss loses.word) loses.view
     (λ trail is.
     feeding_of_lost_trail opening shard block trail loses.word loses.odd
     (omega (arith, seen_by_feeding_trail before.trails shard trail is, loses.meets.later)))
@@ -173,7 +173,7 @@ feeding_goes_on opening block before middle now first second = record {
 
 -- what was seen never falls
 pub feeding_seen_never_falls : (opening : List ShardValue) (block shard : ℕ) (before now : View) → shard < length before.trails
-    → Feeds opening block before now → seen_in_view shard before ≤ seen_in_view shard now
+    → Feeds opening block before now → seen_in shard before ≤ seen_in shard now
 feeding_seen_never_falls opening block shard before now inside feeds =
     let was = feeding_shard_has_trail before.trails shard inside in
     let is = feeding_shard_has_trail now.trails shard (omega (arith, inside, feeds.as_many)) in
@@ -183,7 +183,7 @@ feeding_seen_never_falls opening block shard before now inside feeds =
 -- a fold that moved nothing was at the end
 feeding_sees_changed_position : (change : Trail → Trail) (position place : ℕ) (trails : List Trail)
     → ((trail : Trail) → (change trail).seen ≡ position) → place < length trails
-    → slice_index (map (λ trail. trail.seen) (changed_in_core change place trails)) place ≡ position
+    → slice_index (map (λ trail. trail.seen) (changed_in change place trails)) place ≡ position
 feeding_sees_changed_position change position place [] sees inside = absurd (omega arith)
 feeding_sees_changed_position change position zero (trail ∷ rest) sees inside = sees trail
 feeding_sees_changed_position change position (suc place) (trail ∷ rest) sees inside =
@@ -191,24 +191,24 @@ feeding_sees_changed_position change position (suc place) (trail ∷ rest) sees 
 
 pub feeding_is_at_end : (opening : List ShardValue) (shard block : ℕ) (before now : View) (done : Folded) → 1 ≤ block
     → shard < length before.trails → Folds opening shard block before now done
-    → done.from ≡ done.to → FeedHasSeenEnd opening shard now
+    → done.from ≡ done.to → HasSeenEnd opening shard now
 feeding_is_at_end opening shard block before now done some inside folds still state is =
     let same : folds.core.state ≡ state = same_Some folds.core.state state (sym folds.core.is ∙ is) in
     let position : done.to ≡ min (length folds.core.state.list) (done.from + block) =
     ap (λ (s : ShardValue). s.position) folds.core.core in
-    let seen : seen_in_view shard now ≡ done.to =
-    ap (seen_in_view shard) folds.view
+    let seen : seen_in shard now ≡ done.to =
+    ap (seen_in shard) folds.view
     ∙ feeding_sees_changed_position (folded_once done) done.to shard before.trails (λ trail. refl) inside in
-    subst (λ (s : ShardValue). length s.list ≤ seen_in_view shard now) same (omega (arith, some, still, position, seen))
+    subst (λ (s : ShardValue). length s.list ≤ seen_in shard now) same (omega (arith, some, still, position, seen))
 
 pub feeding_stays_at_end : (opening : List ShardValue) (block shard : ℕ) (before now : View)
     → length before.trails ≡ length opening → Feeds opening block before now
-    → FeedHasSeenEnd opening shard before → FeedHasSeenEnd opening shard now
+    → HasSeenEnd opening shard before → HasSeenEnd opening shard now
 feeding_stays_at_end opening block shard before now many feeds ends state is =
     let below : shard < length opening = slice_get_within opening shard state is in
-    let rises : seen_in_view shard before ≤ seen_in_view shard now =
+    let rises : seen_in shard before ≤ seen_in shard now =
     feeding_seen_never_falls opening block shard before now (omega (arith, many, below)) feeds in
-    let end : length state.list ≤ seen_in_view shard before = ends state is in
+    let end : length state.list ≤ seen_in shard before = ends state is in
     omega (arith, rises, end)
 
 -- both of two tests
@@ -220,12 +220,12 @@ feeding_tests_both_hold false false holds = cc holds
 
 -- one more shard of a round is at its end
 pub feeding_round_goes_on : (opening : List ShardValue) (shards first turn : ℕ) (view : View)
-    → ((earlier : ℕ) → earlier < turn → FeedHasSeenEnd opening ((first + earlier) % shards) view)
-    → FeedHasSeenEnd opening ((first + turn) % shards) view → (earlier : ℕ) → earlier < turn + 1
-    → FeedHasSeenEnd opening ((first + earlier) % shards) view
+    → ((earlier : ℕ) → earlier < turn → HasSeenEnd opening ((first + earlier) % shards) view)
+    → HasSeenEnd opening ((first + turn) % shards) view → (earlier : ℕ) → earlier < turn + 1
+    → HasSeenEnd opening ((first + earlier) % shards) view
 feeding_round_goes_on opening shards first turn view before here earlier below =
     elim (cases_eq earlier turn) [
-      | inl same ↦ subst (λ k. FeedHasSeenEnd opening ((first + k) % shards) view) (sym same) here
+      | inl same ↦ subst (λ k. HasSeenEnd opening ((first + k) % shards) view) (sym same) here
       | inr apart ↦ before earlier (omega (arith, below, apart))
     ]
 
@@ -257,8 +257,8 @@ feeding_round_reaches_shard shards first shard inside below = ⊎_elim later soo
 
 pub feeding_round_sees_ends : (opening : List ShardValue) (shards first : ℕ) (view : View) → shards ≡ length opening
     → first < shards
-    → ((turn : ℕ) → turn < shards → FeedHasSeenEnd opening ((first + turn) % shards) view) → FeedHasSeenEnds opening view
+    → ((turn : ℕ) → turn < shards → HasSeenEnd opening ((first + turn) % shards) view) → HasSeenEnds opening view
 feeding_round_sees_ends opening shards first view many inside seen shard state is =
     let below : shard < length opening = slice_get_within opening shard state is in
     let at = feeding_round_reaches_shard shards first shard inside (omega (arith, many, below)) in
-    subst (λ k. FeedHasSeenEnd opening k view) at.2 (seen at.0 at.1) state is
+    subst (λ k. HasSeenEnd opening k view) at.2 (seen at.0 at.1) state is

@@ -6,16 +6,16 @@ use Rattle.std.specs.List.{AllZip}
 use Rattle.std.proofs.lemmas.Bool.{cases_lt}
 use Rattle.std.proofs.lemmas.List.{get_or_append_left, get_or_push}
 use Rattle.std.proofs.lemmas.List.Elements.{All-head, All-tail}
-use Rattle.shard_state.specs.{CoreBasesRepresent, ShardValue}
+use Rattle.shard_state.specs.{BasesRepresent, ShardValue}
 use Rattle.position_words.specs.declared.view.Trail.{Trail}
 use Rattle.position_words.specs.declared.view.View.{View}
-use Rattle.pass_tokens.specs.{IsPassOfBoard, SeatValue, PositionWordsValue, view_after_join, newcomer_view, view}
-use Rattle.gate_workers.specs.Feed.{Feeds, FeedHasSeenEnds}
-use Rattle.gate_workers.specs.Call.{Calls}
-use Rattle.gate_workers.specs.Threads.{AreSoundThreadReports, CallerThreadBringsBack, EachRelatesAcrossThreads}
-use Rattle.gate_workers.specs.Threads.{WorkerThreadFeedsToEnds, CallerThreadHasCalled, CallerThreadHasEnded}
-use Rattle.gate_workers.specs.Threads.{EachThreadByNumber, WorkerThreadHasFed}
-use Rattle.gate_workers.specs.Threads.{IsSplitOffForThread, CallerThreadRuns, after_thread_splits}
+use Rattle.pass_tokens.specs.{IsPassOf, SeatValue, WordsValue, after_join, newcomer_view, view}
+use Rattle.gate_workers.specs.Feeding.{Feeds, HasSeenEnds}
+use Rattle.gate_workers.specs.Calling.{Calls}
+use Rattle.gate_workers.specs.Running.{AreSoundReports, BringsBack, EachRelates}
+use Rattle.gate_workers.specs.Running.{FeedsToEnds, HasCalled, HasEnded}
+use Rattle.gate_workers.specs.Running.{EachByNumber, HasFed}
+use Rattle.gate_workers.specs.Running.{IsSplitOff, Runs, after_splits}
 use Rattle.gate_workers.specs.declared.callers.Caller.{Caller}
 use Rattle.gate_workers.specs.declared.gathered.Called.{Called}
 use Rattle.gate_workers.specs.declared.plan.ThreadPlan.{ThreadPlan}
@@ -25,16 +25,16 @@ gathered_sums_associate a b c = omega arith
 
 -- splits, and then more
 pub gathered_splits_are_summed : (first second : ℕ) (before : View)
-    → after_thread_splits second (after_thread_splits first before) ≡ after_thread_splits (first + second) before
+    → after_splits second (after_splits first before) ≡ after_splits (first + second) before
 gathered_splits_are_summed first second before =
     ap (λ (splits : ℕ). record before { splits = splits }) (gathered_sums_associate before.splits first second)
 
-pub gathered_splits_are_none : (before : View) → before ≡ after_thread_splits 0 before
+pub gathered_splits_are_none : (before : View) → before ≡ after_splits 0 before
 gathered_splits_are_none before = ap (λ (splits : ℕ). record before { splits = splits }) (sym (add-zero before.splits))
 
 -- one more thread, which has the next number
 pub gathered_one_more_thread : {X : Type 0} (P : ℕ → X → Type 0) (threads : List X) (thread : X) (number : ℕ)
-    → length threads ≡ number → EachThreadByNumber P threads → P number thread → EachThreadByNumber P (threads ++ thread ∷ [])
+    → length threads ≡ number → EachByNumber P threads → P number thread → EachByNumber P (threads ++ thread ∷ [])
 gathered_one_more_thread P threads thread number many each next place default below =
     ⊎_elim
     (λ (within : place < length threads).
@@ -47,7 +47,7 @@ gathered_one_more_thread P threads thread number many each next place default be
 
 -- what holds of an answer for each thread holds of the list of answers
 pub gathered_threads-map : {X Y : Type 0} (P : ℕ → Y → Type 0) (f : X → Y) (threads : List X)
-    → EachThreadByNumber (λ number thread. P number (f thread)) threads → EachThreadByNumber P (map f threads)
+    → EachByNumber (λ number thread. P number (f thread)) threads → EachByNumber P (map f threads)
 gathered_threads-map P f [] each place default below = absurd (omega (arith, below))
 gathered_threads-map P f (thread ∷ rest) each zero default below = each 0 thread (omega arith)
 gathered_threads-map P f (thread ∷ rest) each (suc place) default below =
@@ -55,11 +55,11 @@ gathered_threads-map P f (thread ∷ rest) each (suc place) default below =
     place default (omega (arith, below))
 
 -- each worker, from what its thread did
-pub gathered_workers_have_fed : (board : PositionWordsValue) (block : ℕ) (before : View) (passes fed : List SeatValue)
+pub gathered_workers_have_fed : (board : WordsValue) (block : ℕ) (before : View) (passes fed : List SeatValue)
     → length fed ≡ length passes
-    → EachThreadByNumber (λ number. IsSplitOffForThread board (after_thread_splits number before)) passes
-    → EachRelatesAcrossThreads (WorkerThreadFeedsToEnds board block) passes fed
-    → EachThreadByNumber (λ number pass. WorkerThreadHasFed board.opening block (after_thread_splits number before) (view pass)) fed
+    → EachByNumber (λ number. IsSplitOff board (after_splits number before)) passes
+    → EachRelates (FeedsToEnds board block) passes fed
+    → EachByNumber (λ number pass. HasFed board.opening block (after_splits number before) (view pass)) fed
 gathered_workers_have_fed board block before passes fed many split each place default below =
     let within : place < length passes = omega (arith, many, below) in
     let made = each place default within in
@@ -70,17 +70,17 @@ gathered_workers_have_fed board block before passes fed many split each place de
       ends = made.ends;
     }
 
-pub gathered_workers_are_of_board : (board : PositionWordsValue) (block : ℕ) (passes fed : List SeatValue)
-    → length fed ≡ length passes → EachRelatesAcrossThreads (WorkerThreadFeedsToEnds board block) passes fed → All (IsPassOfBoard board) fed
+pub gathered_workers_are_of_board : (board : WordsValue) (block : ℕ) (passes fed : List SeatValue)
+    → length fed ≡ length passes → EachRelates (FeedsToEnds board block) passes fed → All (IsPassOf board) fed
 gathered_workers_are_of_board board block passes fed many each place default below =
     (each place default (omega (arith, many, below))).pass
 
 -- each caller, whose pass was split off from the view of its number, from what its thread did
-pub gathered_callers_have_ended : (board : PositionWordsValue) (plan : ThreadPlan) (before : ℕ → View) (callers ended : List Caller)
+pub gathered_callers_have_ended : (board : WordsValue) (plan : ThreadPlan) (before : ℕ → View) (callers ended : List Caller)
     → length ended ≡ length callers
-    → EachThreadByNumber (λ number caller. view caller.pass ≡ newcomer_view (before number)) callers
-    → EachRelatesAcrossThreads (CallerThreadRuns board plan) callers ended
-    → EachThreadByNumber (λ number. CallerThreadHasEnded board plan (before number)) ended
+    → EachByNumber (λ number caller. view caller.pass ≡ newcomer_view (before number)) callers
+    → EachRelates (Runs board plan) callers ended
+    → EachByNumber (λ number. HasEnded board plan (before number)) ended
 gathered_callers_have_ended board plan before callers ended many new each place default below =
     let within : place < length callers = omega (arith, many, below) in
     let made = each place default within in
@@ -96,7 +96,7 @@ gathered_callers_have_ended board plan before callers ended many new each place 
 -- what holds for each element of a list carries over to another list, if a relation holds at each index
 gathered_lists_carry_over : {X Y : Type 0} (P : ℕ → X → Type 0) (R : X → Y → Type 0) (Q : ℕ → Y → Type 0)
     → ((number : ℕ) (x : X) (y : Y) → P number x → R x y → Q number y) → (xs : List X) (ys : List Y)
-    → EachThreadByNumber P xs → AllZip R xs ys → EachThreadByNumber Q ys
+    → EachByNumber P xs → AllZip R xs ys → EachByNumber Q ys
 gathered_lists_carry_over P R Q one [] [] each related place default below = absurd (omega (arith, below))
 gathered_lists_carry_over P R Q one [] (y ∷ ys) each related place default below = absurd related
 gathered_lists_carry_over P R Q one (x ∷ xs) [] each related place default below = absurd related
@@ -106,46 +106,46 @@ gathered_lists_carry_over P R Q one (x ∷ xs) (y ∷ ys) each related (suc plac
     gathered_lists_carry_over (λ number. P (suc number)) R (λ number. Q (suc number)) (λ number. one (suc number)) xs ys
     (λ number other within. each (suc number) other (omega (arith, within))) related.1 place default (omega (arith, below))
 
-gathered_caller_has_called : (board : PositionWordsValue) (plan : ThreadPlan) (before : View) (caller : Caller) (called : Called)
-    → CallerThreadHasEnded board plan before caller → CallerThreadBringsBack caller called → CallerThreadHasCalled board.opening plan before called
+gathered_caller_has_called : (board : WordsValue) (plan : ThreadPlan) (before : View) (caller : Caller) (called : Called)
+    → HasEnded board plan before caller → BringsBack caller called → HasCalled board.opening plan before called
 gathered_caller_has_called board plan before caller called ended back =
     subst (λ pass. Calls board.opening plan.phi plan.rounds (newcomer_view before) (view pass) called.reports)
     (sym back.pass)
     (subst (λ reports. IfOk reports (Calls board.opening plan.phi plan.rounds (newcomer_view before) (view caller.pass)))
     back.reports ended.calls)
 
-pub gathered_callers_have_called : (board : PositionWordsValue) (plan : ThreadPlan) (before : ℕ → View) (ended : List Caller)
-    (called : List Called) → EachThreadByNumber (λ number. CallerThreadHasEnded board plan (before number)) ended
-    → AllZip CallerThreadBringsBack ended called
-    → EachThreadByNumber (λ number. CallerThreadHasCalled board.opening plan (before number)) called
+pub gathered_callers_have_called : (board : WordsValue) (plan : ThreadPlan) (before : ℕ → View) (ended : List Caller)
+    (called : List Called) → EachByNumber (λ number. HasEnded board plan (before number)) ended
+    → AllZip BringsBack ended called
+    → EachByNumber (λ number. HasCalled board.opening plan (before number)) called
 gathered_callers_have_called board plan before ended called each back =
-    gathered_lists_carry_over (λ number. CallerThreadHasEnded board plan (before number)) CallerThreadBringsBack
-    (λ number. CallerThreadHasCalled board.opening plan (before number))
+    gathered_lists_carry_over (λ number. HasEnded board plan (before number)) BringsBack
+    (λ number. HasCalled board.opening plan (before number))
     (λ number. gathered_caller_has_called board plan (before number)) ended called each back
 
-pub gathered_callers_are_sound : (board : PositionWordsValue) (plan : ThreadPlan) (before : ℕ → View) (ended : List Caller)
-    (called : List Called) → EachThreadByNumber (λ number. CallerThreadHasEnded board plan (before number)) ended
-    → AllZip CallerThreadBringsBack ended called → CoreBasesRepresent board.opening
-    → All (λ (one : Called). AreSoundThreadReports board.opening plan.phi one.reports) called
+pub gathered_callers_are_sound : (board : WordsValue) (plan : ThreadPlan) (before : ℕ → View) (ended : List Caller)
+    (called : List Called) → EachByNumber (λ number. HasEnded board plan (before number)) ended
+    → AllZip BringsBack ended called → BasesRepresent board.opening
+    → All (λ (one : Called). AreSoundReports board.opening plan.phi one.reports) called
 gathered_callers_are_sound board plan before ended called each back bases =
-    gathered_lists_carry_over (λ number. CallerThreadHasEnded board plan (before number)) CallerThreadBringsBack
-    (λ number (one : Called). AreSoundThreadReports board.opening plan.phi one.reports)
+    gathered_lists_carry_over (λ number. HasEnded board plan (before number)) BringsBack
+    (λ number (one : Called). AreSoundReports board.opening plan.phi one.reports)
     (λ number caller one has brings.
-    subst (λ reports. IfOk reports (λ rs. CoreBasesRepresent board.opening → AreSoundThreadReports board.opening plan.phi rs))
+    subst (λ reports. IfOk reports (λ rs. BasesRepresent board.opening → AreSoundReports board.opening plan.phi rs))
     brings.reports has.sound bases)
     ended called each back
 
-pub gathered_callers_are_of_board : (board : PositionWordsValue) (plan : ThreadPlan) (before : ℕ → View) (ended : List Caller)
-    (called : List Called) → EachThreadByNumber (λ number. CallerThreadHasEnded board plan (before number)) ended
-    → AllZip CallerThreadBringsBack ended called → All (λ (one : Called). IsPassOfBoard board one.pass) called
+pub gathered_callers_are_of_board : (board : WordsValue) (plan : ThreadPlan) (before : ℕ → View) (ended : List Caller)
+    (called : List Called) → EachByNumber (λ number. HasEnded board plan (before number)) ended
+    → AllZip BringsBack ended called → All (λ (one : Called). IsPassOf board one.pass) called
 gathered_callers_are_of_board board plan before ended called each back =
-    gathered_lists_carry_over (λ number. CallerThreadHasEnded board plan (before number)) CallerThreadBringsBack
-    (λ number (one : Called). IsPassOfBoard board one.pass)
-    (λ number caller one has brings. subst (IsPassOfBoard board) (sym brings.pass) has.pass) ended called each back
+    gathered_lists_carry_over (λ number. HasEnded board plan (before number)) BringsBack
+    (λ number (one : Called). IsPassOf board one.pass)
+    (λ number caller one has brings. subst (IsPassOf board) (sym brings.pass) has.pass) ended called each back
 
 -- the trails of a view to which another was joined
 abbrev gathered_trails : View → View → List Trail → List Trail → List Trail
-gathered_trails to other trails others = (view_after_join (record to { trails = trails }) (record other { trails = others })).trails
+gathered_trails to other trails others = (after_join (record to { trails = trails }) (record other { trails = others })).trails
 
 abbrev seen_in_gathered : ℕ → List Trail → ℕ
 seen_in_gathered shard trails = slice_index (map (λ (trail : Trail). trail.seen) trails) shard
@@ -168,44 +168,44 @@ gathered_trails_see_no_less to other (trail ∷ rest) (one ∷ more) (suc shard)
     gathered_trails_see_no_less to other rest more shard (omega (arith, many))
 
 gathered_ends_of_other : (opening : List ShardValue) (to other : View) → length other.trails ≡ length to.trails
-    → FeedHasSeenEnds opening other → FeedHasSeenEnds opening (view_after_join to other)
+    → HasSeenEnds opening other → HasSeenEnds opening (after_join to other)
 gathered_ends_of_other opening to other many ends shard state at =
     omega (arith, ends shard state at, (gathered_trails_see_no_less to other to.trails other.trails shard many).1)
 
 gathered_ends_stay : (opening : List ShardValue) (to other : View) → length other.trails ≡ length to.trails
-    → FeedHasSeenEnds opening to → FeedHasSeenEnds opening (view_after_join to other)
+    → HasSeenEnds opening to → HasSeenEnds opening (after_join to other)
 gathered_ends_stay opening to other many ends shard state at =
     omega (arith, ends shard state at, (gathered_trails_see_no_less to other to.trails other.trails shard many).0)
 
-gathered_ends_all_stay : (board : PositionWordsValue) (to : View) (fed : List SeatValue) → length to.trails ≡ length board.opening
-    → All (IsPassOfBoard board) fed → FeedHasSeenEnds board.opening to
-    → FeedHasSeenEnds board.opening (fold view_after_join to (map view fed))
+gathered_ends_all_stay : (board : WordsValue) (to : View) (fed : List SeatValue) → length to.trails ≡ length board.opening
+    → All (IsPassOf board) fed → HasSeenEnds board.opening to
+    → HasSeenEnds board.opening (fold after_join to (map view fed))
 gathered_ends_all_stay board to [] many passes ends = ends
 gathered_ends_all_stay board to (pass ∷ rest) many passes ends =
-    let seat = (All-head (IsPassOfBoard board) pass rest passes).seat in
-    gathered_ends_all_stay board (view_after_join to (view pass)) rest
+    let seat = (All-head (IsPassOf board) pass rest passes).seat in
+    gathered_ends_all_stay board (after_join to (view pass)) rest
     (gathered_trails-length to (view pass) to.trails (view pass).trails ∙ many)
-    (All-tail (IsPassOfBoard board) pass rest passes)
+    (All-tail (IsPassOf board) pass rest passes)
     (gathered_ends_stay board.opening to (view pass) (seat.trails ∙ sym many) ends)
 
 -- the pass to which those of the workers are joined has seen the end of each list
-pub gathered_pass_sees_ends : (board : PositionWordsValue) (to : View) (fed : List SeatValue)
-    → length to.trails ≡ length board.opening → 1 ≤ length fed → All (IsPassOfBoard board) fed
-    → All (λ pass. FeedHasSeenEnds board.opening (view pass)) fed
-    → FeedHasSeenEnds board.opening (fold view_after_join to (map view fed))
+pub gathered_pass_sees_ends : (board : WordsValue) (to : View) (fed : List SeatValue)
+    → length to.trails ≡ length board.opening → 1 ≤ length fed → All (IsPassOf board) fed
+    → All (λ pass. HasSeenEnds board.opening (view pass)) fed
+    → HasSeenEnds board.opening (fold after_join to (map view fed))
 gathered_pass_sees_ends board to [] many some passes each = absurd (omega (arith, some))
 gathered_pass_sees_ends board to (pass ∷ rest) many some passes each =
-    let seat = (All-head (IsPassOfBoard board) pass rest passes).seat in
-    let ends = All-head (λ pass. FeedHasSeenEnds board.opening (view pass)) pass rest each in
-    gathered_ends_all_stay board (view_after_join to (view pass)) rest
+    let seat = (All-head (IsPassOf board) pass rest passes).seat in
+    let ends = All-head (λ pass. HasSeenEnds board.opening (view pass)) pass rest each in
+    gathered_ends_all_stay board (after_join to (view pass)) rest
     (gathered_trails-length to (view pass) to.trails (view pass).trails ∙ many)
-    (All-tail (IsPassOfBoard board) pass rest passes)
+    (All-tail (IsPassOf board) pass rest passes)
     (gathered_ends_of_other board.opening to (view pass) (seat.trails ∙ sym many) ends)
 
 -- what one more caller brought back
 pub gathered_one_more_caller : (callers : List Caller) (called : List Called) (caller : Caller) (one : Called)
-    → AllZip CallerThreadBringsBack callers called → CallerThreadBringsBack caller one
-    → AllZip CallerThreadBringsBack (callers ++ caller ∷ []) (called ++ one ∷ [])
+    → AllZip BringsBack callers called → BringsBack caller one
+    → AllZip BringsBack (callers ++ caller ∷ []) (called ++ one ∷ [])
 gathered_one_more_caller [] [] caller one back more = (more, tt)
 gathered_one_more_caller [] (other ∷ called) caller one back more = absurd back
 gathered_one_more_caller (first ∷ callers) [] caller one back more = absurd back

@@ -2,7 +2,7 @@
 use Rattle.std.specs.Prelude.{ℕ, ◌≡◌, ◌≤◌, length, Some, slice_get}
 use Rattle.position_words.specs.declared.view.Trail.{Trail}
 use Rattle.position_words.specs.declared.view.View.{View}
-use Rattle.pass_tokens.specs.{PositionWordsValue}
+use Rattle.pass_tokens.specs.{WordsValue}
 
 -- a later trail of the same steps: its shard may have been seen further on
 pub record IsLaterTrail (before now : Trail) : Type 0 where
@@ -18,5 +18,5 @@ pub record IsLaterView (before now : View) : Type 0 where
       → slice_get now.trails shard ≡ Some later → IsLaterTrail trail later
 
 -- what holds of a board and a view still holds of a later view of the same steps
-abbrev pub StaysReadyInLaterViews : (PositionWordsValue → View → Type 0) → Type 0
-StaysReadyInLaterViews ready = (board : PositionWordsValue) (before now : View) → IsLaterView before now → ready board before → ready board now
+abbrev pub StaysReady : (WordsValue → View → Type 0) → Type 0
+StaysReady ready = (board : WordsValue) (before now : View) → IsLaterView before now → ready board before → ready board now

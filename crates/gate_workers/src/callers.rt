@@ -2,10 +2,10 @@
 
 ghost use Rattle.std.specs.Prelude.{◌≡◌, ◌≤◌, ◌<◌, ◌^◌, length, All, IfOk, OnOk};
 ghost use Rattle.std.specs.List.{AllZip};
-ghost use Rattle.shard_state.specs.{core_capacity, least_table_capacity, most_table_capacity};
-ghost use Rattle.pass_tokens.specs.{IsPassOfBoard, newcomer_view, view};
-ghost use Rattle.gate_workers.specs.Threads.{CallerThreadBringsBack, CallerThreadCanCall, EachRelatesAcrossThreads};
-ghost use Rattle.gate_workers.specs.Threads.{CallerThreadRuns, EachThreadByNumber, after_thread_splits};
+ghost use Rattle.shard_state.specs.{core_capacity, least_capacity, most_capacity};
+ghost use Rattle.pass_tokens.specs.{IsPassOf, newcomer_view, view};
+ghost use Rattle.gate_workers.specs.Running.{BringsBack, CanCall, EachRelates};
+ghost use Rattle.gate_workers.specs.Running.{Runs, EachByNumber, after_splits};
 ghost use Rattle.gate_workers.specs.Plan.{IsPlanFor};
 
 use crate::calling::report_in_rounds;
@@ -37,13 +37,13 @@ pub(crate) fn split_callers(
     plan: &ThreadPlan,
 ) -> Result<Vec<Caller>, AllocError>
     requires plan { IsPlanFor board.now.opening plan.now }
-    requires pass { IsPassOfBoard board.now pass.old }
-    ensures callers { IfOk result (λ callers. All (CallerThreadCanCall board.now) callers.items) }
-    ensures newcomers { IfOk result (λ callers. EachThreadByNumber
-        (λ number caller. view caller.pass ≡ newcomer_view (after_thread_splits number (view pass.old))) callers.items) }
+    requires pass { IsPassOf board.now pass.old }
+    ensures callers { IfOk result (λ callers. All (CanCall board.now) callers.items) }
+    ensures newcomers { IfOk result (λ callers. EachByNumber
+        (λ number caller. view caller.pass ≡ newcomer_view (after_splits number (view pass.old))) callers.items) }
     ensures count { IfOk result (λ callers. length callers.items ≡ plan.now.callers) }
-    ensures split { OnOk result (view pass.new ≡ after_thread_splits plan.now.callers (view pass.old)) }
-    ensures pass { IsPassOfBoard board.now pass.new }
+    ensures split { OnOk result (view pass.new ≡ after_splits plan.now.callers (view pass.old)) }
+    ensures pass { IsPassOf board.now pass.new }
 {
     let mut callers = Vec::new(alloc);
     for _caller in 0..plan.callers {
@@ -60,14 +60,14 @@ fn new_caller(
     pass: &mut Pass,
     capacity: u32,
 ) -> Result<Caller, AllocError>
-    requires least { least_table_capacity ≤ capacity }
-    requires most { capacity ≤ most_table_capacity }
+    requires least { least_capacity ≤ capacity }
+    requires most { capacity ≤ most_capacity }
     requires alike { capacity ≡ core_capacity board.now.opening }
-    requires pass { IsPassOfBoard board.now pass.old }
-    ensures caller { IfOk result (CallerThreadCanCall board.now) }
+    requires pass { IsPassOf board.now pass.old }
+    ensures caller { IfOk result (CanCall board.now) }
     ensures newcomer { IfOk result (λ caller. view caller.pass ≡ newcomer_view (view pass.old)) }
-    ensures split { OnOk result (view pass.new ≡ after_thread_splits 1 (view pass.old)) }
-    ensures pass { IsPassOfBoard board.now pass.new }
+    ensures split { OnOk result (view pass.new ≡ after_splits 1 (view pass.old)) }
+    ensures pass { IsPassOf board.now pass.new }
 {
     let cut = Cut::with_room(alloc, board.shards(), capacity)?;
     Ok(Caller {
@@ -88,13 +88,13 @@ pub(crate) fn call_each<R: Threads + Wait + Sync, G: Gate + Sync>(
 )
     requires plan { IsPlanFor board.now.opening plan.now }
     requires count { length callers.old ≡ plan.now.callers }
-    requires callers { All (CallerThreadCanCall board.now) callers.old }
-    ensures { EachRelatesAcrossThreads (CallerThreadRuns board.now plan.now) callers.old callers.new }
+    requires callers { All (CanCall board.now) callers.old }
+    ensures { EachRelates (Runs board.now plan.now) callers.old callers.new }
 {
     let threads = plan.callers.max(1) as usize;
     let call = |number: usize, caller: &mut Caller|
-        requires { (number < 2 ^ 32) × IsPlanFor board.now.opening plan.now × CallerThreadCanCall board.now caller.now }
-        ensures { CallerThreadRuns board.entry.now plan.entry.now caller.entry.now caller.exit.now }
+        requires { (number < 2 ^ 32) × IsPlanFor board.now.opening plan.now × CanCall board.now caller.now }
+        ensures { Runs board.entry.now plan.entry.now caller.entry.now caller.exit.now }
     { make_rounds(rt, alloc, board, plan, number as u32, gate, caller) };
     for_each_mut(rt, callers, threads, &call);
 }
@@ -110,8 +110,8 @@ fn make_rounds<R: Wait, G: Gate>(
     caller: &mut Caller,
 )
     requires plan { IsPlanFor board.now.opening plan.now }
-    requires caller { CallerThreadCanCall board.now caller.old }
-    ensures { CallerThreadRuns board.now plan.now caller.old caller.new }
+    requires caller { CanCall board.now caller.old }
+    ensures { Runs board.now plan.now caller.old caller.new }
 {
     caller.reports = report_in_rounds(
         rt,
@@ -128,7 +128,7 @@ fn make_rounds<R: Wait, G: Gate>(
 
 /// What the callers bring back, in their order. The first error that a caller met is returned.
 pub(crate) fn brought_back(alloc: Global, callers: Vec<Caller>) -> Result<Vec<Called>, AllocError>
-    ensures { IfOk result (λ called. AllZip CallerThreadBringsBack callers.items called.items) }
+    ensures { IfOk result (λ called. AllZip BringsBack callers.items called.items) }
 {
     let mut called = Vec::new(alloc);
     for caller in callers {

@@ -1,11 +1,11 @@
 //! Reporting round after round.
 
 ghost use Rattle.std.specs.Prelude.{◌≡◌, ◌≤◌, ◌<◌, ◌++◌, [], ◌∷◌, length, All, IfOk, None};
-ghost use Rattle.shard_state.specs.{CoreBasesRepresent, HasCoreShape, core_capacity, core_lists, cut_positions};
-ghost use Rattle.hhh_report.specs.{IsSound, threshold_million};
+ghost use Rattle.shard_state.specs.{BasesRepresent, HasCoreShape, core_capacity, core_lists, cut_positions};
+ghost use Rattle.hhh_report.specs.{IsSound, million};
 ghost use Rattle.hhh_output.specs.{IsWideShare};
-ghost use Rattle.pass_tokens.specs.{IsPassOfBoard, view};
-ghost use Rattle.gate_workers.specs.Call.{Calls, IsCutAtCall, IsReportAtCall, CallReadsOnce, cut_at_call};
+ghost use Rattle.pass_tokens.specs.{IsPassOf, view};
+ghost use Rattle.gate_workers.specs.Calling.{Calls, IsCutAtCall, IsReportAtCall, ReadsOnce, cut_at};
 
 use crate::Gate;
 use hhh_output::report_of;
@@ -28,15 +28,15 @@ pub fn call_reports<R: Wait, G: Gate>(
     mut cut: Cut,
     gate: &G,
 ) -> (Pass, Result<Reports, AllocError>)
-    requires pass { IsPassOfBoard board.now pass }
+    requires pass { IsPassOf board.now pass }
     requires shape { HasCoreShape (length board.now.opening) (core_capacity board.now.opening) cut }
     requires some { 1 ≤ phi }
-    requires most { phi ≤ threshold_million }
+    requires most { phi ≤ million }
     requires wide { IsWideShare phi (core_capacity board.now.opening) }
     ensures calls { IfOk result.1 (Calls board.now.opening phi rounds (view pass) (view result.0)) }
-    ensures sound { IfOk result.1 (λ reports. CoreBasesRepresent board.now.opening
+    ensures sound { IfOk result.1 (λ reports. BasesRepresent board.now.opening
         → All (λ reported. IsSound reported.report (core_lists board.now.opening) (core_capacity board.now.opening) phi) reports) }
-    ensures pass { IsPassOfBoard board.now result.0 }
+    ensures pass { IsPassOf board.now result.0 }
 {
     let reports = report_in_rounds(
         rt, alloc, board, &mut pass, caller, rounds, phi, &mut cut, gate,
@@ -56,15 +56,15 @@ pub(crate) fn report_in_rounds<R: Wait, G: Gate>(
     cut: &mut Cut,
     gate: &G,
 ) -> Result<Reports, AllocError>
-    requires pass { IsPassOfBoard board.now pass.old }
+    requires pass { IsPassOf board.now pass.old }
     requires shape { HasCoreShape (length board.now.opening) (core_capacity board.now.opening) cut.old }
     requires some { 1 ≤ phi }
-    requires most { phi ≤ threshold_million }
+    requires most { phi ≤ million }
     requires wide { IsWideShare phi (core_capacity board.now.opening) }
     ensures calls { IfOk result (Calls board.now.opening phi rounds (view pass.old) (view pass.new)) }
-    ensures sound { IfOk result (λ reports. CoreBasesRepresent board.now.opening
+    ensures sound { IfOk result (λ reports. BasesRepresent board.now.opening
         → All (λ reported. IsSound reported.report (core_lists board.now.opening) (core_capacity board.now.opening) phi) reports) }
-    ensures pass { IsPassOfBoard board.now pass.new }
+    ensures pass { IsPassOf board.now pass.new }
 {
     let mut reports = Reports::new(alloc);
     for round in 0..rounds {
@@ -91,19 +91,19 @@ pub fn report_once<R: Wait, G: Gate>(
     cut: &mut Cut,
     gate: &G,
 ) -> Result<Report, AllocError>
-    requires pass { IsPassOfBoard board.now pass.old }
+    requires pass { IsPassOf board.now pass.old }
     requires shape { HasCoreShape (length board.now.opening) (core_capacity board.now.opening) cut.old }
     requires some { 1 ≤ phi }
-    requires most { phi ≤ threshold_million }
+    requires most { phi ≤ million }
     requires wide { IsWideShare phi (core_capacity board.now.opening) }
-    ensures reads { CallReadsOnce board.now.opening (view pass.old) (view pass.new) }
+    ensures reads { ReadsOnce board.now.opening (view pass.old) (view pass.new) }
     ensures calls { IfOk result (λ report. Calls board.now.opening phi 1 (view pass.old) (view pass.new)
         (record { report = report; saved = None } ∷ [])) }
-    ensures sound { IfOk result (λ report. CoreBasesRepresent board.now.opening
+    ensures sound { IfOk result (λ report. BasesRepresent board.now.opening
         → IsSound report (core_lists board.now.opening) (core_capacity board.now.opening) phi) }
-    ensures cut { IfOk result (λ report. cut.new ≡ cut_at_call board.now.opening report.positions) }
+    ensures cut { IfOk result (λ report. cut.new ≡ cut_at board.now.opening report.positions) }
     ensures shape { HasCoreShape (length board.now.opening) (core_capacity board.now.opening) cut.new }
-    ensures pass { IsPassOfBoard board.now pass.new }
+    ensures pass { IsPassOf board.now pass.new }
 {
     gate.before_read(caller, round);
     board.read_cut(rt, pass, cut);
@@ -116,11 +116,11 @@ pub fn report_once<R: Wait, G: Gate>(
 fn report_at(alloc: Global, board: &Board, cut: &Cut, phi: u32) -> Result<Report, AllocError>
     requires cut { IsCutAtCall board.now.opening (cut_positions cut.now) cut.now }
     requires some { 1 ≤ phi }
-    requires most { phi ≤ threshold_million }
+    requires most { phi ≤ million }
     requires wide { IsWideShare phi (core_capacity board.now.opening) }
     ensures positions { IfOk result (λ report. report.positions ≡ cut_positions cut.now) }
     ensures report { IfOk result (IsReportAtCall board.now.opening phi) }
-    ensures sound { IfOk result (λ report. CoreBasesRepresent board.now.opening
+    ensures sound { IfOk result (λ report. BasesRepresent board.now.opening
         → IsSound report (core_lists board.now.opening) (core_capacity board.now.opening) phi) }
 {
     shards_stand();

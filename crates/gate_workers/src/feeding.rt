@@ -1,8 +1,8 @@
 //! Feeding the shards of a board to their ends.
 
 ghost use Rattle.std.specs.Prelude.{◌≤◌, ◌<◌, length, IsTrue};
-ghost use Rattle.pass_tokens.specs.{IsPassOfBoard, view};
-ghost use Rattle.gate_workers.specs.Feed.{Feeds, FeedHasSeenEnd, FeedHasSeenEnds};
+ghost use Rattle.pass_tokens.specs.{IsPassOf, view};
+ghost use Rattle.gate_workers.specs.Feeding.{Feeds, HasSeenEnd, HasSeenEnds};
 
 use crate::Gate;
 use pass_tokens::{Board, Pass, TryFold};
@@ -27,10 +27,10 @@ pub fn feed_all<R: Wait, G: Gate>(
     gate: &G,
 ) -> Pass
     requires block { 1 ≤ block }
-    requires pass { IsPassOfBoard board.now pass }
+    requires pass { IsPassOf board.now pass }
     ensures feeds { Feeds board.now.opening block (view pass) (view result) }
-    ensures ends { FeedHasSeenEnds board.now.opening (view result) }
-    ensures pass { IsPassOfBoard board.now result }
+    ensures ends { HasSeenEnds board.now.opening (view result) }
+    ensures pass { IsPassOf board.now result }
 {
     feed_to_ends(rt, board, &mut pass, worker, block, gate);
     pass
@@ -46,10 +46,10 @@ pub(crate) fn feed_to_ends<R: Wait, G: Gate>(
     gate: &G,
 )
     requires block { 1 ≤ block }
-    requires pass { IsPassOfBoard board.now pass.old }
+    requires pass { IsPassOf board.now pass.old }
     ensures feeds { Feeds board.now.opening block (view pass.old) (view pass.new) }
-    ensures ends { FeedHasSeenEnds board.now.opening (view pass.new) }
-    ensures pass { IsPassOfBoard board.now pass.new }
+    ensures ends { HasSeenEnds board.now.opening (view pass.new) }
+    ensures pass { IsPassOf board.now pass.new }
 {
     for _ in rt.forever() {
         if feed_round(rt, board, pass, worker, block, gate) {
@@ -75,10 +75,10 @@ fn feed_round<R: Wait, G: Gate>(
     gate: &G,
 ) -> bool
     requires block { 1 ≤ block }
-    requires pass { IsPassOfBoard board.now pass.old }
+    requires pass { IsPassOf board.now pass.old }
     ensures feeds { Feeds board.now.opening block (view pass.old) (view pass.new) }
-    ensures ends { IsTrue result → FeedHasSeenEnds board.now.opening (view pass.new) }
-    ensures pass { IsPassOfBoard board.now pass.new }
+    ensures ends { IsTrue result → HasSeenEnds board.now.opening (view pass.new) }
+    ensures pass { IsPassOf board.now pass.new }
 {
     let shards = board.shards();
     let first = worker % shards;
@@ -102,10 +102,10 @@ fn feed_shard<R: Wait, G: Gate>(
 ) -> bool
     requires within { shard < length board.now.opening }
     requires block { 1 ≤ block }
-    requires pass { IsPassOfBoard board.now pass.old }
+    requires pass { IsPassOf board.now pass.old }
     ensures feeds { Feeds board.now.opening block (view pass.old) (view pass.new) }
-    ensures end { IsTrue result → FeedHasSeenEnd board.now.opening shard (view pass.new) }
-    ensures pass { IsPassOfBoard board.now pass.new }
+    ensures end { IsTrue result → HasSeenEnd board.now.opening shard (view pass.new) }
+    ensures pass { IsPassOf board.now pass.new }
 {
     for _ in rt.forever() {
         gate.before_fold(worker, shard);

@@ -1,11 +1,11 @@
 //! Laws of what workers and callers do, each the contract of a function that does nothing.
 
 ghost use Rattle.std.specs.Prelude.{◌≡◌, ℕ, ◌+◌, ◌++◌, List, [], length};
-ghost use Rattle.shard_state.specs.{AreCoreShards, CoreBasesRepresent, CutRepresents, ShardValue, core_lists};
+ghost use Rattle.shard_state.specs.{AreCoreShards, BasesRepresent, CutRepresents, ShardValue, core_lists};
 ghost use Rattle.hhh_report.specs.declared.report.Report.{Report};
 ghost use Rattle.hhh_report.specs.declared.reports.Reported.{Reported};
 ghost use Rattle.position_words.specs.declared.view.View.{View};
-ghost use Rattle.gate_workers.specs.Call.{Calls, IsReportAtCall, cut_at_call};
+ghost use Rattle.gate_workers.specs.Calling.{Calls, IsReportAtCall, cut_at};
 
 use shard_state::shards_stand;
 
@@ -13,7 +13,7 @@ use shard_state::shards_stand;
 /// list.
 pub fn reported_cuts_represent()
     ensures { (opening : List ShardValue) (phi : ℕ) (report : Report) → AreCoreShards opening → IsReportAtCall opening phi report
-        → CoreBasesRepresent opening → CutRepresents (cut_at_call opening report.positions) (core_lists opening) }
+        → BasesRepresent opening → CutRepresents (cut_at opening report.positions) (core_lists opening) }
 {
     shards_stand();
 }

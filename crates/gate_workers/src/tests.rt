@@ -1,6 +1,6 @@
 ghost use Rattle.std.specs.Prelude.{◌≡◌, ◌<◌, ◌≤◌, length, IfOk};
 ghost use Rattle.shard_state.specs.{AreCoreShards, HasCoreShape, core_capacity};
-ghost use Rattle.pass_tokens.specs.{IsPassOfBoard};
+ghost use Rattle.pass_tokens.specs.{IsPassOf};
 
 use super::*;
 use hhh_report::Reports;
@@ -65,8 +65,8 @@ fn list_of(alloc: Global, packets: &[u8]) -> Result<RecordList, AllocError>
 
 // A worker with blocks of one record.
 fn feeds<R: Wait, G: Gate>(rt: &R, board: &Board, pass: Pass, worker: u32, gate: &G) -> Pass
-    requires { IsPassOfBoard board.now pass }
-    ensures { IsPassOfBoard board.now result }
+    requires { IsPassOf board.now pass }
+    ensures { IsPassOf board.now result }
 {
     feed_all(rt, board, pass, worker, 1, gate)
 }
@@ -80,7 +80,7 @@ fn calls<R: Wait, G: Gate>(
     cut: Cut,
     gate: &G,
 ) -> Result<Reports, AllocError>
-    requires pass { IsPassOfBoard board.now pass }
+    requires pass { IsPassOf board.now pass }
     requires capacity { core_capacity board.now.opening ≡ 4 }
     requires shape { HasCoreShape (length board.now.opening) 4 cut }
 {

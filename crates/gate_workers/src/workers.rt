@@ -1,10 +1,10 @@
 //! The workers: a pass for each, split off before threads start, and joined after they have ended.
 
 ghost use Rattle.std.specs.Prelude.{◌≡◌, ◌<◌, ◌^◌, length, All, IfOk, OnOk, fold, map};
-ghost use Rattle.pass_tokens.specs.{IsPassOfBoard, view_after_join, view};
+ghost use Rattle.pass_tokens.specs.{IsPassOf, after_join, view};
 ghost use Rattle.gate_workers.specs.Plan.{IsPlanFor};
-ghost use Rattle.gate_workers.specs.Threads.{EachRelatesAcrossThreads, WorkerThreadFeedsToEnds, IsSplitOffForThread};
-ghost use Rattle.gate_workers.specs.Threads.{EachThreadByNumber, after_thread_splits};
+ghost use Rattle.gate_workers.specs.Running.{EachRelates, FeedsToEnds, IsSplitOff};
+ghost use Rattle.gate_workers.specs.Running.{EachByNumber, after_splits};
 
 use crate::feeding::feed_to_ends;
 use crate::{Gate, ThreadPlan};
@@ -21,12 +21,12 @@ pub(crate) fn split_workers(
     pass: &mut Pass,
     count: u32,
 ) -> Result<Vec<Pass>, AllocError>
-    requires pass { IsPassOfBoard board.now pass.old }
-    ensures workers { IfOk result (λ workers. EachThreadByNumber
-        (λ number. IsSplitOffForThread board.now (after_thread_splits number (view pass.old))) workers.items) }
+    requires pass { IsPassOf board.now pass.old }
+    ensures workers { IfOk result (λ workers. EachByNumber
+        (λ number. IsSplitOff board.now (after_splits number (view pass.old))) workers.items) }
     ensures count { IfOk result (λ workers. length workers.items ≡ count) }
-    ensures split { OnOk result (view pass.new ≡ after_thread_splits count (view pass.old)) }
-    ensures pass { IsPassOfBoard board.now pass.new }
+    ensures split { OnOk result (view pass.new ≡ after_splits count (view pass.old)) }
+    ensures pass { IsPassOf board.now pass.new }
 {
     let mut workers = Vec::new(alloc);
     for _worker in 0..count {
@@ -46,23 +46,23 @@ pub(crate) fn feed_each<R: Threads + Wait + Sync, G: Gate + Sync>(
 )
     requires plan { IsPlanFor board.now.opening plan.now }
     requires count { length workers.old ≡ plan.now.workers }
-    requires workers { All (IsPassOfBoard board.now) workers.old }
-    ensures { EachRelatesAcrossThreads (WorkerThreadFeedsToEnds board.now plan.now.block) workers.old workers.new }
+    requires workers { All (IsPassOf board.now) workers.old }
+    ensures { EachRelates (FeedsToEnds board.now plan.now.block) workers.old workers.new }
 {
     let threads = plan.workers as usize;
     let feed = |number: usize, pass: &mut Pass|
-        requires { (number < 2 ^ 32) × IsPlanFor board.now.opening plan.now × IsPassOfBoard board.now pass.now }
-        ensures { WorkerThreadFeedsToEnds board.entry.now plan.entry.now.block pass.entry.now pass.exit.now }
+        requires { (number < 2 ^ 32) × IsPlanFor board.now.opening plan.now × IsPassOf board.now pass.now }
+        ensures { FeedsToEnds board.entry.now plan.entry.now.block pass.entry.now pass.exit.now }
     { feed_to_ends(rt, board, pass, number as u32, plan.block, gate) };
     for_each_mut(rt, workers, threads, &feed);
 }
 
 /// Joins the passes of the workers, which have ended, to that of the calling thread.
 pub(crate) fn join_workers(board: &Board, pass: &mut Pass, workers: Vec<Pass>)
-    requires pass { IsPassOfBoard board.now pass.old }
-    requires workers { All (IsPassOfBoard board.now) workers.items }
-    ensures joined { view pass.new ≡ fold view_after_join (view pass.old) (map view workers.items) }
-    ensures pass { IsPassOfBoard board.now pass.new }
+    requires pass { IsPassOf board.now pass.old }
+    requires workers { All (IsPassOf board.now) workers.items }
+    ensures joined { view pass.new ≡ fold after_join (view pass.old) (map view workers.items) }
+    ensures pass { IsPassOf board.now pass.new }
 {
     for worker in workers {
         board.join(pass, worker);

@@ -3,7 +3,7 @@ use Rattle.std.proofs.Common.{◌≡◌, ℕ, List, [], ◌++◌, Option, Result
 use Rattle.std.proofs.Common.{append-nil, take, drop, subst, take-append-drop}
 use Rattle.std.specs.Io.KnownBytes.{Appends}
 use Rattle.std.proofs.KnownBytes.{Appends-nil, Appends-trans}
-use Rattle.outside_io.specs.{FailsByFaultCount, FaultCountRose, IsBeginning}
+use Rattle.outside_io.specs.{FailsByCount, FaultRose, IsBeginning}
 use Rattle.hhh.specs.ToldStatus.{AppendsFront}
 
 -- a front of the line was appended, and this rest is still to be written
@@ -57,7 +57,7 @@ front_is_told old new line (Err e) whole part = part
 
 -- and all of it, unless the stream failed
 pub line_is_told : {T E : Type 0} (old new : Option (List ℕ)) (line : List ℕ) (before now : ℕ) (result : Result T E)
-    → OnOk result (Appends old new line) → FailsByFaultCount before now result → (FaultCountRose before now → ⊥)
+    → OnOk result (Appends old new line) → FailsByCount before now result → (FaultRose before now → ⊥)
     → Appends old new line
 line_is_told old new line before now (Ok x) whole cause none = whole
 line_is_told old new line before now (Err e) whole cause none = absurd (none cause.failed)

@@ -1,4 +1,4 @@
-pub mod ProgramInputs
-pub mod ProgramRules
+pub mod Input
+pub mod Rules
 pub mod ToldStatus
-pub mod FileSyncs
+pub mod StoreFile

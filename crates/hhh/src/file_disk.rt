@@ -2,10 +2,10 @@
 
 ghost use Rattle.std.specs.Prelude.{◌≡◌, ◌<◌, ◌≤◌, ◌+◌, length, vec_len, drop, ⊤, false, true, is_err, None, IfOk};
 ghost use Rattle.std.specs.Prelude.{ℕ, List, Option, OnOk, OnErr, is_some};
-ghost use Rattle.outside_io.specs.{FailsByFaultCount};
-ghost use Rattle.slot_disk.specs.{IfImageKnown, IfBothImagesKnown, GivesImageRange, IsTornImage, IsWrittenImage};
-ghost use Rattle.slot_disk.specs.{IsTornFromImage, IsOnlyImage, MomentsGoOn, IsUnchangedAtMoment};
-ghost use Rattle.hhh.specs.FileSyncs.{CountsFileSync, late_file_syncs};
+ghost use Rattle.outside_io.specs.{FailsByCount};
+ghost use Rattle.slot_disk.specs.{IfImageKnown, IfBothKnown, GivesRange, IsTornImage, IsWrittenImage};
+ghost use Rattle.slot_disk.specs.{IsTornFrom, IsOnlyImage, MomentsGoOn, IsUnchangedAt};
+ghost use Rattle.hhh.specs.StoreFile.{CountsSync, late_syncs};
 
 use crate::store_file::{StoreFile, StoreOpener};
 use outside_io::{Failed, PathText};
@@ -85,8 +85,8 @@ impl<O: StoreOpener<F> + Drop, F: StoreFile + Drop> FileDisk<O, F> {
         ensures after_failed { self.old.sync_failed ≡ true → is_err result ≡ true }
         ensures failed { is_err result ≡ self.new.sync_failed }
         ensures named { OnOk result (self.new.name_synced ≡ true) }
-        ensures synced { OnOk result (CountsFileSync (late_file_syncs O.syncs F.syncs self.old.opener self.old.path self.old.opened)
-            (late_file_syncs O.syncs F.syncs self.new.opener self.new.path self.new.opened)) }
+        ensures synced { OnOk result (CountsSync (late_syncs O.syncs F.syncs self.old.opener self.old.path self.old.opened)
+            (late_syncs O.syncs F.syncs self.new.opener self.new.path self.new.opened)) }
     {
         if self.sync_failed {
             return Err(Error::from(ErrorKind::Other));
@@ -104,7 +104,7 @@ impl<O: StoreOpener<F> + Drop, F: StoreFile + Drop> FileDisk<O, F> {
     // Fails, and counts that.
     fn fail<T>(&mut self) -> Result<T, Failed>
         ensures failed { is_err result ≡ true }
-        ensures cause { FailsByFaultCount self.old.faults self.new.faults result }
+        ensures cause { FailsByCount self.old.faults self.new.faults result }
         ensures same_syncs { self.new.sync_failed ≡ self.old.sync_failed }
     {
         self.faults = self.faults.saturating_add(1);
@@ -131,10 +131,10 @@ impl<O: StoreOpener<F> + Drop, F: StoreFile + Drop> Disk for FileDisk<O, F> {
 
     fn len(&mut self) -> Result<u64, Failed>
         ensures length { IfOk result (λ count. IfImageKnown None (λ bytes. count ≡ length bytes)) }
-        ensures unchanged { IsUnchangedAtMoment (λ _. None) (λ _ _. ⊤) self.old self.new }
+        ensures unchanged { IsUnchangedAt (λ _. None) (λ _ _. ⊤) self.old self.new }
         ensures images { (image : List ℕ) → ⊤ → ⊤ }
         ensures time { MomentsGoOn (λ _. 0) (λ _ _ _. ⊤) self.old self.new }
-        ensures cause { FailsByFaultCount self.old.faults self.new.faults result }
+        ensures cause { FailsByCount self.old.faults self.new.faults result }
 
         // The mark of a failed sync is kept.
         ensures same_syncs { self.new.sync_failed ≡ self.old.sync_failed }
@@ -148,11 +148,11 @@ impl<O: StoreOpener<F> + Drop, F: StoreFile + Drop> Disk for FileDisk<O, F> {
     fn read_at(&mut self, place: u64, into: &mut [u8]) -> Result<usize, Failed>
         ensures fits { IfOk result (λ count. count ≤ length into.old) }
         ensures later_places { IfOk result (λ count. drop count into.new ≡ drop count into.old) }
-        ensures given { IfOk result (λ count. IfImageKnown None (λ bytes. GivesImageRange place (length into.old) bytes into.new count)) }
-        ensures unchanged { IsUnchangedAtMoment (λ _. None) (λ _ _. ⊤) self.old self.new }
+        ensures given { IfOk result (λ count. IfImageKnown None (λ bytes. GivesRange place (length into.old) bytes into.new count)) }
+        ensures unchanged { IsUnchangedAt (λ _. None) (λ _ _. ⊤) self.old self.new }
         ensures images { (image : List ℕ) → ⊤ → ⊤ }
         ensures time { MomentsGoOn (λ _. 0) (λ _ _ _. ⊤) self.old self.new }
-        ensures cause { FailsByFaultCount self.old.faults self.new.faults result }
+        ensures cause { FailsByCount self.old.faults self.new.faults result }
 
         // The mark of a failed sync is kept.
         ensures same_syncs { self.new.sync_failed ≡ self.old.sync_failed }
@@ -165,11 +165,11 @@ impl<O: StoreOpener<F> + Drop, F: StoreFile + Drop> Disk for FileDisk<O, F> {
 
     fn write_at(&mut self, place: u64, bytes: &[u8]) -> Result<(), Failed>
         ensures known { let unknown : Option (List ℕ) = None in is_some unknown ≡ is_some unknown }
-        ensures torn { IfBothImagesKnown None None (IsTornImage place (length bytes.now)) }
-        ensures written { OnOk result (IfBothImagesKnown None None (IsWrittenImage place bytes.now)) }
-        ensures images { (image : List ℕ) → ⊤ → IsTornFromImage (λ _. ⊤) place (length bytes.now) image }
+        ensures torn { IfBothKnown None None (IsTornImage place (length bytes.now)) }
+        ensures written { OnOk result (IfBothKnown None None (IsWrittenImage place bytes.now)) }
+        ensures images { (image : List ℕ) → ⊤ → IsTornFrom (λ _. ⊤) place (length bytes.now) image }
         ensures time { MomentsGoOn (λ _. 0) (λ _ _ _. ⊤) self.old self.new }
-        ensures cause { FailsByFaultCount self.old.faults self.new.faults result }
+        ensures cause { FailsByCount self.old.faults self.new.faults result }
 
         // The mark of a failed sync is kept.
         ensures same_syncs { self.new.sync_failed ≡ self.old.sync_failed }
@@ -185,7 +185,7 @@ impl<O: StoreOpener<F> + Drop, F: StoreFile + Drop> Disk for FileDisk<O, F> {
         ensures images { (image : List ℕ) → ⊤ → ⊤ }
         ensures safe { OnOk result (IfImageKnown None (λ bytes. IsOnlyImage bytes (λ _. ⊤))) }
         ensures time { MomentsGoOn (λ _. 0) (λ _ _ _. ⊤) self.old self.new }
-        ensures cause { FailsByFaultCount self.old.faults self.new.faults result }
+        ensures cause { FailsByCount self.old.faults self.new.faults result }
 
         // After a sync that failed each sync fails. One that succeeds has synced the file's name.
         ensures after_failed { self.old.sync_failed ≡ true → is_err result ≡ true }
@@ -193,8 +193,8 @@ impl<O: StoreOpener<F> + Drop, F: StoreFile + Drop> Disk for FileDisk<O, F> {
         ensures named { OnOk result (self.new.name_synced ≡ true) }
 
         // Where it is known how often the file was synced, it was synced once more.
-        ensures synced { OnOk result (CountsFileSync (late_file_syncs O.syncs F.syncs self.old.opener self.old.path self.old.opened)
-            (late_file_syncs O.syncs F.syncs self.new.opener self.new.path self.new.opened)) }
+        ensures synced { OnOk result (CountsSync (late_syncs O.syncs F.syncs self.old.opener self.old.path self.old.opened)
+            (late_syncs O.syncs F.syncs self.new.opener self.new.path self.new.opened)) }
     {
         match self.try_sync() {
             Ok(()) => Ok(()),
@@ -222,8 +222,8 @@ fn sync_opened<O: StoreOpener<F>, F: StoreFile + Drop>(
     opener: &O,
     path: &str,
 ) -> IoResult<()>
-    ensures { OnOk result (CountsFileSync (late_file_syncs O.syncs F.syncs opener.now path.now slot.old)
-        (late_file_syncs O.syncs F.syncs opener.now path.now slot.new)) }
+    ensures { OnOk result (CountsSync (late_syncs O.syncs F.syncs opener.now path.now slot.old)
+        (late_syncs O.syncs F.syncs opener.now path.now slot.new)) }
 {
     let mut file = match slot.take() {
         Some(file) => file,

@@ -2,7 +2,7 @@
 
 ghost use Rattle.std.specs.Prelude.{◌≡◌, ℕ, List, Option, None, IfOk};
 ghost use Rattle.std.specs.Io.KnownBytes.{Keeps};
-ghost use Rattle.hhh.specs.ProgramInputs.{input_remaining, late_file_remaining};
+ghost use Rattle.hhh.specs.Input.{input_remaining, late_remaining};
 
 use outside_io::PathText;
 use std::fs::File;
@@ -75,7 +75,7 @@ impl<O, F> LateFile<O, F> {
 
 impl<O: Opener<F>, F: Read + Drop> Read for LateFile<O, F> {
     // Those of the opened file; before that, the contents of the file at the path.
-    ghost remaining = { late_file_remaining O.contents F.remaining };
+    ghost remaining = { late_remaining O.contents F.remaining };
 
     // If the file can't be opened, the next read tries again.
     fn read(&mut self, into: &mut [u8]) -> IoResult<usize> {

@@ -2,7 +2,7 @@
 
 ghost use Rattle.std.specs.Prelude.{◌≡◌, ◌<◌, ◌≤◌, ℕ, List, length, take, None, IfOk, OnOk, OnErr};
 ghost use Rattle.std.specs.Io.KnownBytes.{Appends, WriteAppends};
-ghost use Rattle.outside_io.specs.{FailsByFaultCount, IsBeginning, next_fault_count};
+ghost use Rattle.outside_io.specs.{FailsByCount, IsBeginning, next_count};
 ghost use Rattle.hhh.specs.ToldStatus.{AppendsFront};
 
 use outside_io::{Failed, Sink};
@@ -27,7 +27,7 @@ impl<W: Write + Drop> StdSink<W> {
     pub fn write_line(&mut self, line: &[u8]) -> Result<(), Failed>
         ensures whole { OnOk result (Appends (W.contents self.old.writer) (W.contents self.new.writer) line.now) }
         ensures beginning { OnErr result (AppendsFront (W.contents self.old.writer) (W.contents self.new.writer) line.now) }
-        ensures cause { FailsByFaultCount self.old.faults self.new.faults result }
+        ensures cause { FailsByCount self.old.faults self.new.faults result }
     {
         let mut rest = line;
         while !rest.is_empty() {
@@ -47,7 +47,7 @@ impl<W: Write + Drop> Sink for StdSink<W> {
         ensures fits { IfOk result (λ count. count ≤ length bytes.now) }
         ensures takes_some { IfOk result (λ count. 0 < length bytes.now → 0 < count) }
         ensures appended { WriteAppends None None result bytes.now }
-        ensures cause { FailsByFaultCount self.old.faults self.new.faults result }
+        ensures cause { FailsByCount self.old.faults self.new.faults result }
 
         // Where the contents of the stream are known, these bytes are appended to them.
         ensures of_stream { IfOk result (λ count. Appends (W.contents self.old.writer) (W.contents self.new.writer) (take count bytes.now)) }
@@ -55,7 +55,7 @@ impl<W: Write + Drop> Sink for StdSink<W> {
         // After a fault, a beginning of them may have been appended, taken but not flushed, and no other byte.
         ensures of_failed_stream { OnErr result ((front : List ℕ) × IsBeginning front bytes.now
             × Appends (W.contents self.old.writer) (W.contents self.new.writer) front) }
-        ensures counted { OnErr result (self.new.faults ≡ next_fault_count self.old.faults) }
+        ensures counted { OnErr result (self.new.faults ≡ next_count self.old.faults) }
     {
         let count = written(&mut self.writer, bytes);
         if count.is_err() {

@@ -2,7 +2,7 @@
 
 ghost use Rattle.std.specs.Prelude.{◌≡◌, ◌≤◌, ◌<◌, length, vec_len, drop, None, IfOk, OnErr};
 ghost use Rattle.std.specs.Io.KnownBytes.{ReadConsumes};
-ghost use Rattle.outside_io.specs.{FailsByFaultCount, next_fault_count};
+ghost use Rattle.outside_io.specs.{FailsByCount, next_count};
 
 use outside_io::{Failed, Source};
 use std::alloc::{AllocError, Global};
@@ -42,11 +42,11 @@ impl<R: Read + Drop> Source for StdSource<R> {
         ensures fits { IfOk result (λ count. count ≤ length into.old) }
         ensures later_places { IfOk result (λ count. drop count into.new ≡ drop count into.old) }
         ensures first_bytes { ReadConsumes None None result into.new }
-        ensures cause { FailsByFaultCount self.old.faults self.new.faults result }
+        ensures cause { FailsByCount self.old.faults self.new.faults result }
 
         // Where the remaining bytes of the stream are known, these are the next of them.
         ensures of_stream { ReadConsumes (R.remaining self.old.reader) (R.remaining self.new.reader) result into.new }
-        ensures counted { OnErr result (self.new.faults ≡ next_fault_count self.old.faults) }
+        ensures counted { OnErr result (self.new.faults ≡ next_count self.old.faults) }
     {
         let count = read_by(&mut self.reader, &mut self.buffer, into);
         if count.is_err() {

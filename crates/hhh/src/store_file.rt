@@ -1,7 +1,7 @@
 //! The file of a store, and what opens it.
 
 ghost use Rattle.std.specs.Prelude.{ℕ, List, Option, None, IfOk, OnOk};
-ghost use Rattle.hhh.specs.FileSyncs.{CountsFileSync, KeepsFileSyncs};
+ghost use Rattle.hhh.specs.StoreFile.{CountsSync, KeepsSyncs};
 
 use std::fs;
 use std::fs::{File, OpenOptions};
@@ -22,7 +22,7 @@ pub trait StoreFile: FileExt {
 
     /// Makes what was written safe from a crash.
     fn sync(&mut self) -> IoResult<()>
-        ensures { OnOk result (CountsFileSync (syncs self.old) (syncs self.new)) };
+        ensures { OnOk result (CountsSync (syncs self.old) (syncs self.new)) };
 }
 
 /// What opens the file of a store.
@@ -32,7 +32,7 @@ pub trait StoreOpener<F: StoreFile> {
 
     /// Opens the file at a path for reading and writing, and creates it empty where it is missing.
     fn open_file(&self, path: &str) -> IoResult<F>
-        ensures { IfOk result (λ file. KeepsFileSyncs (syncs self.now path.now) (F.syncs file)) };
+        ensures { IfOk result (λ file. KeepsSyncs (syncs self.now path.now) (F.syncs file)) };
 
     /// Makes the name of the file at a path safe from a crash.
     fn sync_name(&self, path: &str) -> IoResult<()>;

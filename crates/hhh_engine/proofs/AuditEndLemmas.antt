@@ -4,24 +4,24 @@ use Rattle.std.proofs.Common.{inl, inr, ⊎_elim, refl, sym, ap, subst, arith, a
 use Rattle.std.specs.Io.KnownBytes.{Appends, Consumes, IsAtEnd}
 use Rattle.std.proofs.lemmas.Bool.{cases_lt}
 use Rattle.std.proofs.lemmas.List.{length-append}
-use Rattle.outside_io.specs.{AppendsBeginning, FaultCountRose}
+use Rattle.outside_io.specs.{AppendsPart, FaultRose}
 use Rattle.outside_io.specs.declared.source.Source.{Ghosts as SourceOf}
 use Rattle.outside_io.specs.declared.sink.Sink.{Ghosts as SinkOf}
 use Rattle.slot_disk.specs.declared.disk.Disk.{Ghosts as DiskOf}
 use Rattle.prefix_lattice.specs.{RecordValue}
-use Rattle.report_text.specs.{HasSessionTextReadFault, longest_session_text_length}
+use Rattle.report_text.specs.{HasReadFault, longest_session}
 use Rattle.report_text.specs.declared.session.Session.{Session}
 use Rattle.report_text.specs.declared.session_fault.SessionFault.{SessionFault}
 use Rattle.report_text.specs.declared.session_fault.SessionFault.TheVariants as session
 use Rattle.report_text.specs.declared.session_fault.TextFault.TheVariants.{BadLine, MissingEnd, TooLong}
 use Rattle.command_words.specs.declared.command.Command.TheVariants.{Audit}
 use Rattle.command_words.specs.declared.settings.Settings.{Settings}
-use Rattle.hhh_engine.specs.Answer.{IsUnfinishedAnswer}
-use Rattle.session_audit.specs.{AreAudited, IsAuditText, IsSoundAudit, IsUnsoundAudit, IsAuditingAnswer, AuditingSays}
-use Rattle.hhh_engine.specs.Reading.{AreAuditingInputs, HasNoAudit}
+use Rattle.hhh_engine.specs.Answer.{IsUnfinished}
+use Rattle.session_audit.specs.{AreAudited, IsAuditText, IsSoundAudit, IsUnsoundAudit, IsAuditingAnswer, Says}
+use Rattle.hhh_engine.specs.Reading.{AreAuditing, HasNoAudit}
 use Rattle.hhh_engine.specs.Tasks.{audit_task}
-use Rattle.hhh_engine.specs.Ending.{course, Ends, EndingSourceFaults}
-use Rattle.hhh_engine.specs.Inputs.{InputBytes, HoldsOfAuditInputs, inputs}
+use Rattle.hhh_engine.specs.Ending.{course, Ends, SourceFaults}
+use Rattle.hhh_engine.specs.Inputs.{InputBytes, HoldsOfAudit, inputs}
 use Rattle.dealt_capture.specs.{IsCaptureFile, DealingRules}
 use Rattle.run_status.specs.{status_of_session}
 use Rattle.session_audit.specs.declared.audit.Answer.{Answer}
@@ -31,14 +31,14 @@ use Rattle.run_status.specs.declared.status.Status.TheVariants.{Done, BadWords, 
 use Rattle.run_status.specs.declared.status.Status.TheVariants.{DiskFault, NotFormatted, Damaged, OtherSettings}
 use Rattle.run_status.specs.declared.status.Status.TheVariants.{OtherCapture, AuditNo, BadReport, OutOfMemory}
 use Rattle.hhh_engine.proofs.CaptureReportLemmas.{capture_report_if_known}
-use Rattle.hhh_engine.specs.CommandEnding.{CommandEnds}
+use Rattle.hhh_engine.specs.Commands.{CommandEnds}
 use Rattle.hhh_engine.specs.TopCall.{Streams, faults_after, faults_before, run_inputs}
-use Rattle.report_session.specs.{IsAsBeforeSaves}
+use Rattle.report_session.specs.{IsAsBefore}
 use Rattle.hhh_engine.proofs.StatusLemmas.{status_beside_disk}
 
 -- what follows of the inputs of an audit that may be known
 pub audit_end_inputs_imply_more : (read : InputBytes) (P Q : List ℕ → List ℕ → Type 0)
-    → ((file text : List ℕ) → P file text → Q file text) → HoldsOfAuditInputs read P → HoldsOfAuditInputs read Q
+    → ((file text : List ℕ) → P file text → Q file text) → HoldsOfAudit read P → HoldsOfAudit read Q
 audit_end_inputs_imply_more read P Q follows has =
     capture_report_if_known read.capture (λ file. IsCaptureFile file × IfSome read.text (P file))
     (λ file. IsCaptureFile file × IfSome read.text (Q file))
@@ -46,27 +46,27 @@ audit_end_inputs_imply_more read P Q follows has =
 
 -- the fault of the bytes that were read is one of the text itself
 audit_end_text_is_faulty : (text left : Option (List ℕ)) (bytes : List ℕ) (fault : SessionFault) → Consumes text left bytes
-    → (length bytes ≤ longest_session_text_length → IsAtEnd left) → HasSessionTextReadFault bytes fault
-    → (longest_session_text_length < length bytes → fault ≡ session.Text TooLong)
-    → IfSome text (λ whole. HasSessionTextReadFault whole fault)
+    → (length bytes ≤ longest_session → IsAtEnd left) → HasReadFault bytes fault
+    → (longest_session < length bytes → fault ≡ session.Text TooLong)
+    → IfSome text (λ whole. HasReadFault whole fault)
 audit_end_text_is_faulty None left bytes fault consumed at_end has too_long = tt
 audit_end_text_is_faulty (Some whole) None bytes fault consumed at_end has too_long = absurd consumed
 audit_end_text_is_faulty (Some whole) (Some rest) bytes fault consumed at_end has too_long =
     ⊎_elim
-    (λ (long : longest_session_text_length < length bytes).
-    subst (HasSessionTextReadFault whole) (sym (too_long long))
+    (λ (long : longest_session < length bytes).
+    subst (HasReadFault whole) (sym (too_long long))
     (omega (arith, long, ap length consumed, length-append bytes rest)))
-    (λ (short : length bytes ≤ longest_session_text_length).
-    subst (λ t. HasSessionTextReadFault t fault)
+    (λ (short : length bytes ≤ longest_session).
+    subst (λ t. HasReadFault t fault)
     (sym (consumed ∙ ap (λ r. bytes ++ r) (at_end short) ∙ append-nil bytes)) has)
-    (cases_lt longest_session_text_length (length bytes))
+    (cases_lt longest_session (length bytes))
 
 -- why the inputs of an audit were not accepted: the text of a session was refused
-pub audit_ends_at_refused_text : (capture capture_left text text_left store : Option (List ℕ)) (before now : EndingSourceFaults)
+pub audit_ends_at_refused_text : (capture capture_left text text_left store : Option (List ℕ)) (before now : SourceFaults)
     (bytes : List ℕ) (fault : SessionFault) → IsAtEnd capture_left → IfSome capture IsCaptureFile
-    → Consumes text text_left bytes → length bytes ≤ longest_session_text_length + 1
-    → (length bytes ≤ longest_session_text_length → IsAtEnd text_left) → HasSessionTextReadFault bytes fault
-    → (longest_session_text_length < length bytes → fault ≡ session.Text TooLong)
+    → Consumes text text_left bytes → length bytes ≤ longest_session + 1
+    → (length bytes ≤ longest_session → IsAtEnd text_left) → HasReadFault bytes fault
+    → (longest_session < length bytes → fault ≡ session.Text TooLong)
     → HasNoAudit (inputs capture capture_left text text_left store) before now (status_of_session fault)
 audit_ends_at_refused_text capture capture_left text text_left store before now bytes (session.Text TooLong) read is_capture consumed
     limit at_end has too_long = record {
@@ -93,7 +93,7 @@ audit_ends_at_refused_text capture capture_left text text_left store before now 
     limit at_end has too_long = tt
 
 -- how an audit ended
-abbrev pub EndsAudit : {K : Type 0} → Settings → DealingRules → InputBytes → (read_before read_now : EndingSourceFaults)
+abbrev pub EndsAudit : {K : Type 0} → Settings → DealingRules → InputBytes → (read_before read_now : SourceFaults)
     → (sink written : K) → (old new : Option (List ℕ)) → (write_before write_now : ℕ) → Status → Type 0
 EndsAudit settings rules given read_before read_now sink written old new write_before write_now =
     Ends (audit_task settings rules given old new) (record {
@@ -110,7 +110,7 @@ EndsAudit settings rules given read_before read_now sink written old new write_b
 
 -- an audit whose inputs were not accepted
 pub audit_ends_without_inputs : {K : Type 0} (settings : Settings) (rules : DealingRules) (given : InputBytes)
-    (read_before read_now : EndingSourceFaults) (sink : K) (old : Option (List ℕ)) (faults : ℕ) (status : Status)
+    (read_before read_now : SourceFaults) (sink : K) (old : Option (List ℕ)) (faults : ℕ) (status : Status)
     → HasNoAudit given read_before read_now status → ((status ≡ ReadFault → ⊥) → read_now ≡ read_before)
     → EndsAudit settings rules given read_before read_now sink sink old old faults faults status
 audit_ends_without_inputs settings rules given read_before read_now sink old faults Done none told =
@@ -143,7 +143,7 @@ audit_ends_without_inputs settings rules given read_before read_now sink old fau
 -- what an audit says is its text, whether all reports are sound or not
 audit_end_says_its_text : (settings : Settings) (rules : DealingRules) (file bytes : List ℕ) (lists : List (List RecordValue))
     (said : Session) (text : List ℕ) (status : Status) → AreAudited settings rules file bytes lists said
-    → AuditingSays settings lists said.reports text status → IsAuditText settings rules file bytes text
+    → Says settings lists said.reports text status → IsAuditText settings rules file bytes text
 audit_end_says_its_text settings rules file bytes lists said text Done audited says =
     inl (record { lists = lists; session = said; audited = audited; sound = says.0; spelled = says.1 })
 audit_end_says_its_text settings rules file bytes lists said text (BadWords kind) audited says =
@@ -173,11 +173,11 @@ audit_end_says_its_text settings rules file bytes lists said text OutOfMemory au
 
 -- an audit whose answer was not written whole
 pub audit_ends_broken_off : {K : Type 0} (settings : Settings) (rules : DealingRules) (given : InputBytes)
-    (read_before read_now : EndingSourceFaults) (sink written : K) (old new : Option (List ℕ)) (write_before write_now : ℕ)
-    (audited : Audited) (answer : Answer) → AreAuditingInputs settings rules given audited
+    (read_before read_now : SourceFaults) (sink written : K) (old new : Option (List ℕ)) (write_before write_now : ℕ)
+    (audited : Audited) (answer : Answer) → AreAuditing settings rules given audited
     → IsAuditingAnswer settings audited.dealt audited.session.reports answer → IsAtEnd given.capture_left
-    → IsAtEnd given.text_left → read_now ≡ read_before → AppendsBeginning old new answer.text.items
-    → FaultCountRose write_before write_now
+    → IsAtEnd given.text_left → read_now ≡ read_before → AppendsPart old new answer.text.items
+    → FaultRose write_before write_now
     → EndsAudit settings rules given read_before read_now sink written old new write_before write_now WriteFault
 audit_ends_broken_off settings rules given read_before read_now sink written old new write_before write_now audited answer are
     says capture_read text_read same begun rose = (
@@ -185,7 +185,7 @@ audit_ends_broken_off settings rules given read_before read_now sink written old
       record {
         text = begun.front;
         is_text = audit_end_inputs_imply_more given (λ file bytes. AreAudited settings rules file bytes audited.dealt audited.session)
-            (λ file bytes. IsUnfinishedAnswer (IsAuditText settings rules file bytes) begun.front)
+            (λ file bytes. IsUnfinished (IsAuditText settings rules file bytes) begun.front)
             (λ file bytes is. record {
               text = answer.text.items;
               is_text = audit_end_says_its_text settings rules file bytes audited.dealt audited.session answer.text.items answer.status
@@ -201,10 +201,10 @@ audit_ends_broken_off settings rules given read_before read_now sink written old
 
 -- an audit whose answer was written
 audit_ends_in_written_text : {K : Type 0} (settings : Settings) (rules : DealingRules) (given : InputBytes)
-    (read_before read_now : EndingSourceFaults) (sink written : K) (old new : Option (List ℕ)) (write_before write_now : ℕ)
+    (read_before read_now : SourceFaults) (sink written : K) (old new : Option (List ℕ)) (write_before write_now : ℕ)
     (lists : List (List RecordValue)) (said : Session) (text : List ℕ) (status : Status)
-    → HoldsOfAuditInputs given (λ file bytes. AreAudited settings rules file bytes lists said)
-    → AuditingSays settings lists said.reports text status → IsAtEnd given.capture_left → IsAtEnd given.text_left
+    → HoldsOfAudit given (λ file bytes. AreAudited settings rules file bytes lists said)
+    → Says settings lists said.reports text status → IsAtEnd given.capture_left → IsAtEnd given.text_left
     → read_now ≡ read_before → Appends old new text → write_now ≡ write_before
     → EndsAudit settings rules given read_before read_now sink written old new write_before write_now status
 audit_ends_in_written_text settings rules given read_before read_now sink written old new write_before write_now lists said text
@@ -273,8 +273,8 @@ audit_ends_in_written_text settings rules given read_before read_now sink writte
     absurd says
 
 pub audit_ends_as_written : {K : Type 0} (settings : Settings) (rules : DealingRules) (given : InputBytes)
-    (read_before read_now : EndingSourceFaults) (sink written : K) (old new : Option (List ℕ)) (write_before write_now : ℕ)
-    (audited : Audited) (answer : Answer) → AreAuditingInputs settings rules given audited
+    (read_before read_now : SourceFaults) (sink written : K) (old new : Option (List ℕ)) (write_before write_now : ℕ)
+    (audited : Audited) (answer : Answer) → AreAuditing settings rules given audited
     → IsAuditingAnswer settings audited.dealt audited.session.reports answer → IsAtEnd given.capture_left
     → IsAtEnd given.text_left → read_now ≡ read_before → Appends old new answer.text.items → write_now ≡ write_before
     → EndsAudit settings rules given read_before read_now sink written old new write_before write_now answer.status
@@ -285,11 +285,11 @@ audit_ends_as_written settings rules given read_before read_now sink written old
 
 -- how an audit ended, as a command with a disk that is untouched
 pub audit_ends_as : {S T K D : Type 0} (s : SourceOf S) (t : SourceOf T) (k : SinkOf K) (d : DiskOf D) (old new : Streams S T K D)
-    (rules : DealingRules) (settings : Settings) (status : Status) → new.disk ≡ old.disk → IsAsBeforeSaves d old.disk new.disk
+    (rules : DealingRules) (settings : Settings) (status : Status) → new.disk ≡ old.disk → IsAsBefore d old.disk new.disk
     → EndsAudit settings rules (run_inputs s t k d old new) (faults_before s t k d old new) (faults_after s t k d old new) old.sink new.sink
     (k.taken old.sink) (k.taken new.sink) (k.faults old.sink) (k.faults new.sink) status
     → CommandEnds s t k d old new rules (Audit settings) status
 audit_ends_as s t k d old new rules settings status same before ends =
     status_beside_disk (audit_task settings rules (run_inputs s t k d old new) (k.taken old.sink) (k.taken new.sink))
     (course k (s.left old.capture) (faults_before s t k d old new) (faults_after s t k d old new) old.sink new.sink)
-    (new.disk ≡ old.disk) (IsAsBeforeSaves d old.disk new.disk) status (λ failed. failed) same before ends
+    (new.disk ≡ old.disk) (IsAsBefore d old.disk new.disk) status (λ failed. failed) same before ends

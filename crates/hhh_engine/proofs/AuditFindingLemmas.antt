@@ -3,9 +3,9 @@ use Rattle.std.proofs.Common.{◌≡◌, ◌⊎◌, ◌≤◌, ℕ, List, length
 use Rattle.std.proofs.Common.{inl, inr, refl, ap, ap₂, subst, ⊎_elim}
 use Rattle.prefix_lattice.specs.{RecordValue}
 use Rattle.pcap_frames.specs.{FrameValue}
-use Rattle.frame_records.specs.{CaptureFileHasFrames, IsRefusedCaptureFile}
+use Rattle.frame_records.specs.{FileHasFrames, IsRefusedFile}
 use Rattle.hhh_report.specs.declared.reports.Reported.{Reported}
-use Rattle.report_text.specs.{HasSessionTextFault, IsSessionText, longest_session_text_length}
+use Rattle.report_text.specs.{HasSessionFault, IsSessionText, longest_session}
 use Rattle.report_text.specs.declared.session.Session.{Session}
 use Rattle.report_text.specs.declared.session_fault.TextFault.{TextFault}
 use Rattle.exact_audit.specs.declared.verdict.Verdict.{Verdict}
@@ -14,11 +14,11 @@ use Rattle.command_words.specs.declared.command.Command.{Command}
 use Rattle.command_words.specs.declared.command.Command.TheVariants.{Weigh, Report as ToReport, Format, Audit, Make}
 use Rattle.command_words.specs.declared.command.Command.TheVariants.{Demo}
 use Rattle.command_words.specs.declared.settings.Settings.{Settings}
-use Rattle.session_audit.specs.{AreAudited, IsAuditText, IsAuditedAsFirstUnsound, IsAuditedAsSound, IsSoundAudit}
+use Rattle.session_audit.specs.{AreAudited, IsAuditText, IsFirstUnsound, IsAuditedSound, IsSoundAudit}
 use Rattle.session_audit.specs.{IsUnsoundAudit}
-use Rattle.hhh_engine.specs.Answer.{IsUnfinishedAnswer}
-use Rattle.hhh_engine.specs.Ending.{AuditFindsAtEnding}
-use Rattle.hhh_engine.specs.Inputs.{InputBytes, HoldsOfAuditInputs, InputsWereRead}
+use Rattle.hhh_engine.specs.Answer.{IsUnfinished}
+use Rattle.hhh_engine.specs.Ending.{AuditFinds}
+use Rattle.hhh_engine.specs.Inputs.{InputBytes, HoldsOfAudit, WereRead}
 use Rattle.dealt_capture.specs.{IsCaptureFile, DealingRules}
 use Rattle.run_status.specs.declared.status.Status.{Status}
 use Rattle.run_status.specs.declared.status.Status.TheVariants.{Done, BadWords, BadCapture, ReadFault, WriteFault}
@@ -28,31 +28,31 @@ use Rattle.hhh_engine.proofs.StatusLemmas.{CaptureStatusIsFaultless, SessionStat
 use Rattle.outside_io.specs.declared.source.Source.{Ghosts as SourceOf}
 use Rattle.outside_io.specs.declared.sink.Sink.{Ghosts as SinkOf}
 use Rattle.slot_disk.specs.declared.disk.Disk.{Ghosts as DiskOf}
-use Rattle.hhh_engine.specs.CommandEnding.{CommandEnds}
+use Rattle.hhh_engine.specs.Commands.{CommandEnds}
 use Rattle.hhh_engine.specs.TopCall.{FindsUnsound, LeavesUnwritten, RefusesText, Streams, run_inputs}
 
 -- a text has one fault at most
 abbrev pub AuditFindingHasOneFault : Type 0
-AuditFindingHasOneFault = (text : List ℕ) (fault other : TextFault) → HasSessionTextFault text fault → HasSessionTextFault text other → fault ≡ other
+AuditFindingHasOneFault = (text : List ℕ) (fault other : TextFault) → HasSessionFault text fault → HasSessionFault text other → fault ≡ other
 
 -- an audit finds one report first, and none where all are sound
 pub record AuditFindingIsUnique : Type 0 where
   pub one_first : (settings : Settings) (lists : List (List RecordValue)) (reports : List Reported) (report number : ℕ)
-      (verdict other : Verdict) → IsAuditedAsFirstUnsound settings lists reports report verdict
-      → IsAuditedAsFirstUnsound settings lists reports number other → (number ≡ report) × (other ≡ verdict)
+      (verdict other : Verdict) → IsFirstUnsound settings lists reports report verdict
+      → IsFirstUnsound settings lists reports number other → (number ≡ report) × (other ≡ verdict)
   pub never_both : (settings : Settings) (lists : List (List RecordValue)) (reports : List Reported) (report : ℕ) (verdict : Verdict)
-      → IsAuditedAsFirstUnsound settings lists reports report verdict → All (IsAuditedAsSound settings lists) reports → ⊥
+      → IsFirstUnsound settings lists reports report verdict → All (IsAuditedSound settings lists) reports → ⊥
 
 -- what holds of known inputs
 pub audit_finding_of_known_inputs : (given : InputBytes) (file bytes : List ℕ) (Holds : List ℕ → List ℕ → Type 0)
-    → given.capture ≡ Some file → given.text ≡ Some bytes → HoldsOfAuditInputs given Holds → Holds file bytes
+    → given.capture ≡ Some file → given.text ≡ Some bytes → HoldsOfAudit given Holds → Holds file bytes
 audit_finding_of_known_inputs given file bytes Holds is_file is_text holds =
     status_of_known_file given.text bytes (Holds file) is_text
     (status_of_known_file given.capture file (λ f. IsCaptureFile f × IfSome given.text (Holds f)) is_file holds).1
 
 -- the audit of a text with a fault says nothing
 audit_finding_excludes_bad_text : SessionStatusIsFaultless → (settings : Settings) (rules : DealingRules) (file bytes answer : List ℕ) (fault : TextFault)
-    → HasSessionTextFault bytes fault → IsAuditText settings rules file bytes answer → ⊥
+    → HasSessionFault bytes fault → IsAuditText settings rules file bytes answer → ⊥
 audit_finding_excludes_bad_text no_fault settings rules file bytes answer fault has =
     ⊎_elim
     (λ is. no_fault bytes is.session fault is.audited.is_session is.audited.not_long has)
@@ -71,7 +71,7 @@ module _ {S T K D : Type 0} (s : SourceOf S) (t : SourceOf T) (k : SinkOf K) (d 
   -- an audit of a text with a fault is refused for it, unless a source fails or memory runs out
   pub audit_finding_is_text_fault : CaptureStatusIsFaultless → AuditFindingHasOneFault → SessionStatusIsFaultless
       → (settings : Settings) (status : Status) (file bytes : List ℕ) (frames : List FrameValue) (fault : TextFault)
-      → given.capture ≡ Some file → CaptureFileHasFrames file frames → given.text ≡ Some bytes → HasSessionTextFault bytes fault
+      → given.capture ≡ Some file → FileHasFrames file frames → given.text ≡ Some bytes → HasSessionFault bytes fault
       → Ended (Audit settings) status
       → (status ≡ BadReport fault) ⊎ ((status ≡ ReadFault) ⊎ (status ≡ OutOfMemory))
   audit_finding_is_text_fault never_both one_fault no_fault settings Done file bytes frames fault is_file capture is_text has ends =
@@ -81,12 +81,12 @@ module _ {S T K D : Type 0} (s : SourceOf S) (t : SourceOf T) (k : SinkOf K) (d 
   audit_finding_is_text_fault never_both one_fault no_fault settings (BadWords kind) file bytes frames fault is_file capture is_text has ends =
       absurd ends
   audit_finding_is_text_fault never_both one_fault no_fault settings (BadCapture other) file bytes frames fault is_file capture is_text has ends =
-      absurd (never_both file frames other capture (status_of_known_file given.capture file (λ f. IsRefusedCaptureFile f other) is_file ends.0))
+      absurd (never_both file frames other capture (status_of_known_file given.capture file (λ f. IsRefusedFile f other) is_file ends.0))
   audit_finding_is_text_fault never_both one_fault no_fault settings ReadFault file bytes frames fault is_file capture is_text has ends =
       inr (inl refl)
   audit_finding_is_text_fault never_both one_fault no_fault settings WriteFault file bytes frames fault is_file capture is_text has ends =
       let is =
-      audit_finding_of_known_inputs given file bytes (λ f t. IsUnfinishedAnswer (IsAuditText settings rules f t) ends.1.text) is_file is_text
+      audit_finding_of_known_inputs given file bytes (λ f t. IsUnfinished (IsAuditText settings rules f t) ends.1.text) is_file is_text
       ends.1.is_text in
       absurd (audit_finding_excludes_bad_text no_fault settings rules file bytes is.text fault has is.is_text)
   audit_finding_is_text_fault never_both one_fault no_fault settings DiskFault file bytes frames fault is_file capture is_text has ends =
@@ -105,7 +105,7 @@ module _ {S T K D : Type 0} (s : SourceOf S) (t : SourceOf T) (k : SinkOf K) (d 
       absurd (no_fault bytes is.session fault is.audited.is_session is.audited.not_long has)
   audit_finding_is_text_fault never_both one_fault no_fault settings (BadReport wrong) file bytes frames fault is_file capture is_text has ends =
       inl (ap BadReport (one_fault bytes wrong fault
-      (status_of_known_file given.text bytes (λ t. HasSessionTextFault t wrong) is_text ends.0.first_fault) has))
+      (status_of_known_file given.text bytes (λ t. HasSessionFault t wrong) is_text ends.0.first_fault) has))
   audit_finding_is_text_fault never_both one_fault no_fault settings OutOfMemory file bytes frames fault is_file capture is_text has ends =
       inr (inr refl)
 
@@ -114,10 +114,10 @@ module _ {S T K D : Type 0} (s : SourceOf S) (t : SourceOf T) (k : SinkOf K) (d 
   pub audit_finding_is_first_unsound : CaptureStatusIsFaultless → SessionStatusIsFaultless → AuditFindingIsUnique
       → (settings : Settings) (status : Status) (file bytes : List ℕ) (frames : List FrameValue) (known : Session)
       (report : ℕ) (verdict : Verdict)
-      → given.capture ≡ Some file → CaptureFileHasFrames file frames → given.text ≡ Some bytes → IsSessionText bytes known
-      → length bytes ≤ longest_session_text_length
+      → given.capture ≡ Some file → FileHasFrames file frames → given.text ≡ Some bytes → IsSessionText bytes known
+      → length bytes ≤ longest_session
       → ((lists : List (List RecordValue)) (session : Session) → AreAudited settings rules file bytes lists session
-      → IsAuditedAsFirstUnsound settings lists session.reports report verdict)
+      → IsFirstUnsound settings lists session.reports report verdict)
       → Ended (Audit settings) status
       → (status ≡ AuditNo report verdict) ⊎ ((status ≡ ReadFault) ⊎ ((status ≡ WriteFault) ⊎ (status ≡ OutOfMemory)))
   audit_finding_is_first_unsound never_both no_fault one settings Done file bytes frames known report verdict is_file capture is_text is_session
@@ -130,7 +130,7 @@ module _ {S T K D : Type 0} (s : SourceOf S) (t : SourceOf T) (k : SinkOf K) (d 
       absurd ends
   audit_finding_is_first_unsound never_both no_fault one settings (BadCapture other) file bytes frames known report verdict is_file capture is_text is_session
       not_long first ends =
-      absurd (never_both file frames other capture (status_of_known_file given.capture file (λ f. IsRefusedCaptureFile f other) is_file ends.0))
+      absurd (never_both file frames other capture (status_of_known_file given.capture file (λ f. IsRefusedFile f other) is_file ends.0))
   audit_finding_is_first_unsound never_both no_fault one settings ReadFault file bytes frames known report verdict is_file capture is_text is_session
       not_long first ends =
       inr (inl refl)
@@ -162,15 +162,15 @@ module _ {S T K D : Type 0} (s : SourceOf S) (t : SourceOf T) (k : SinkOf K) (d 
   audit_finding_is_first_unsound never_both no_fault one settings (BadReport wrong) file bytes frames known report verdict is_file capture is_text is_session
       not_long first ends =
       absurd (no_fault bytes known wrong is_session not_long
-      (status_of_known_file given.text bytes (λ t. HasSessionTextFault t wrong) is_text ends.0.first_fault))
+      (status_of_known_file given.text bytes (λ t. HasSessionFault t wrong) is_text ends.0.first_fault))
   audit_finding_is_first_unsound never_both no_fault one settings OutOfMemory file bytes frames known report verdict is_file capture is_text is_session
       not_long first ends =
       inr (inr (inr refl))
 
   -- what an audit that ended so found
   audit_finding_for_command : (words : List (List ℕ)) (command : Command) (report : ℕ) (verdict : Verdict)
-      → AskForCommand words command → InputsWereRead command given
-      → AuditFindsAtEnding command rules given (k.taken old.sink) (k.taken new.sink) (AuditNo report verdict)
+      → AskForCommand words command → WereRead command given
+      → AuditFinds command rules given (k.taken old.sink) (k.taken new.sink) (AuditNo report verdict)
       → FindsUnsound s t k d old new words rules report verdict
   audit_finding_for_command words (Weigh prefix settings) report verdict asked read finds = absurd finds
   audit_finding_for_command words (ToReport settings) report verdict asked read finds = absurd finds
@@ -194,7 +194,7 @@ module _ {S T K D : Type 0} (s : SourceOf S) (t : SourceOf T) (k : SinkOf K) (d 
 
   -- the text of a session that was refused
   audit_finding_refuses_text : (words : List (List ℕ)) (command : Command) (fault : TextFault) → AskForCommand words command
-      → AuditFindsAtEnding command rules given (k.taken old.sink) (k.taken new.sink) (BadReport fault)
+      → AuditFinds command rules given (k.taken old.sink) (k.taken new.sink) (BadReport fault)
       → LeavesUnwritten s t k d old new → RefusesText s t k d old new words fault
   audit_finding_refuses_text words (Weigh prefix settings) fault asked finds nothing = absurd finds
   audit_finding_refuses_text words (ToReport settings) fault asked finds nothing = absurd finds

@@ -5,11 +5,11 @@ use Rattle.prefix_lattice.specs.{RecordValue}
 use Rattle.recovery.specs.declared.fault.OpenFault.{OpenFault}
 use Rattle.recovery.specs.declared.fault.OpenFault.TheVariants as opening
 use Rattle.command_words.specs.declared.settings.Settings.{Settings}
-use Rattle.report_session.specs.{WritesAnswer, DealtFeedEnds, DealtFeedRefusesStore, DealtFeedWrites}
-use Rattle.report_session.specs.{DealtFeedWritesInPart, RoundFaults, store_settings_for_saves, BeginsSession}
-use Rattle.report_session.specs.{IsSession, IsSessionInPart, SessionKeeping, IsSessionOverShards, session_opening}
-use Rattle.hhh_engine.specs.Ending.{Ends, IsRefusedStoreAtEnding, RefusesStoreAtEnding, EndingSourceFaults}
-use Rattle.report_session.specs.{IsDealtFeedCapture}
+use Rattle.report_session.specs.{WritesAnswer, FeedEnds, FeedRefuses, FeedWrites}
+use Rattle.report_session.specs.{FeedWritesPart, RoundFaults, saves_settings, BeginsSession}
+use Rattle.report_session.specs.{IsSession, IsSessionInPart, SessionKeeping, IsOverShards, session_opening}
+use Rattle.hhh_engine.specs.Ending.{Ends, IsRefusedStore, EndsRefusing, SourceFaults}
+use Rattle.report_session.specs.{IsFeedCapture}
 use Rattle.dealt_capture.specs.{IsCaptureFile, DealingRules}
 use Rattle.run_status.specs.declared.status.Status.{Status}
 use Rattle.run_status.specs.declared.status.Status.TheVariants.{Done, BadWords, BadCapture, ReadFault, WriteFault}
@@ -20,7 +20,7 @@ use Rattle.outside_io.specs.declared.sink.Sink.{Ghosts as SinkOf}
 use Rattle.slot_disk.specs.declared.disk.Disk.{Ghosts as DiskOf}
 use Rattle.hhh_engine.specs.Ending.{course}
 use Rattle.hhh_engine.specs.Tasks.{report_task}
-use Rattle.report_session.specs.{IsAsBeforeSaves, SavesAreKeptOnDisk}
+use Rattle.report_session.specs.{IsAsBefore, AreKeptOnDisk}
 
 -- what follows of each capture that may be known follows of the one that is
 pub capture_report_if_known : (left : Option (List ℕ)) (P Q : List ℕ → Type 0) → ((file : List ℕ) → P file → Q file) → IfSome left P
@@ -31,12 +31,12 @@ capture_report_if_known (Some file) P Q follows has = follows file has
 -- the whole session over a capture
 capture_report_writes_session : (settings : Settings) (rules : DealingRules) (keeping : SessionKeeping) (left store : Option (List ℕ))
     (lists : List (List RecordValue)) (tail : List ℕ) (old new : Option (List ℕ))
-    → IfSome left (λ file. IsDealtFeedCapture settings rules file lists tail)
-    → DealtFeedWrites settings lists tail keeping store old new
+    → IfSome left (λ file. IsFeedCapture settings rules file lists tail)
+    → FeedWrites settings lists tail keeping store old new
     → WritesAnswer (λ text. IfSome left (λ file. IsSession settings rules keeping store file text)) old new
 capture_report_writes_session settings rules keeping left store lists tail old new dealt writes = record {
   text = writes.writes.text;
-  is_text = capture_report_if_known left (λ file. IsDealtFeedCapture settings rules file lists tail)
+  is_text = capture_report_if_known left (λ file. IsFeedCapture settings rules file lists tail)
       (λ file. IsSession settings rules keeping store file writes.writes.text)
       (λ file capture. record {
         records = capture.records;
@@ -46,8 +46,8 @@ capture_report_writes_session settings rules keeping left store lists tail old n
         begins = writes.begins;
         represents = writes.represents;
         spelled =
-            subst (λ t. IsSessionOverShards (session_opening settings.capacity lists writes.base) settings
-            (λ cuts. settings.store ≡ true → keeping (store_settings_for_saves settings) lists cuts []) t writes.writes.text)
+            subst (λ t. IsOverShards (session_opening settings.capacity lists writes.base) settings
+            (λ cuts. settings.store ≡ true → keeping (saves_settings settings) lists cuts []) t writes.writes.text)
             capture.is_tail writes.writes.is_text;
       }) dealt;
   written = writes.writes.written;
@@ -56,12 +56,12 @@ capture_report_writes_session settings rules keeping left store lists tail old n
 -- the session in part
 capture_report_writes_in_part : (settings : Settings) (rules : DealingRules) (keeping : SessionKeeping) (left store : Option (List ℕ))
     (lists : List (List RecordValue)) (tail : List ℕ) (old new : Option (List ℕ))
-    → IfSome left (λ file. IsDealtFeedCapture settings rules file lists tail)
-    → DealtFeedWritesInPart settings lists tail keeping store old new
+    → IfSome left (λ file. IsFeedCapture settings rules file lists tail)
+    → FeedWritesPart settings lists tail keeping store old new
     → WritesAnswer (λ front. IfSome left (λ file. IsSessionInPart settings rules keeping store file front)) old new
 capture_report_writes_in_part settings rules keeping left store lists tail old new dealt writes = record {
   text = writes.writes.text;
-  is_text = capture_report_if_known left (λ file. IsDealtFeedCapture settings rules file lists tail)
+  is_text = capture_report_if_known left (λ file. IsFeedCapture settings rules file lists tail)
       (λ file. IsSessionInPart settings rules keeping store file writes.writes.text)
       (λ file capture. record {
         records = capture.records;
@@ -72,7 +72,7 @@ capture_report_writes_in_part settings rules keeping left store lists tail old n
         represents = writes.represents;
         begun =
             subst (λ t. BeginsSession (session_opening settings.capacity lists writes.base) settings
-            (λ saved unfinished. settings.store ≡ true → keeping (store_settings_for_saves settings) lists saved unfinished) t
+            (λ saved unfinished. settings.store ≡ true → keeping (saves_settings settings) lists saved unfinished) t
             writes.writes.text) capture.is_tail writes.writes.is_text;
       }) dealt;
   written = writes.writes.written;
@@ -81,14 +81,14 @@ capture_report_writes_in_part settings rules keeping left store lists tail old n
 -- the store is refused over the dealt lists of a capture
 capture_report_refuses_store : (settings : Settings) (rules : DealingRules) (left store : Option (List ℕ)) (AsBefore : Type 0)
     (lists : List (List RecordValue)) (tail : List ℕ) (fault : OpenFault)
-    → IfSome left (λ file. IsDealtFeedCapture settings rules file lists tail)
-    → DealtFeedRefusesStore settings lists store AsBefore fault
-    → RefusesStoreAtEnding settings rules left store AsBefore fault
+    → IfSome left (λ file. IsFeedCapture settings rules file lists tail)
+    → FeedRefuses settings lists store AsBefore fault
+    → EndsRefusing settings rules left store AsBefore fault
 capture_report_refuses_store settings rules left store AsBefore lists tail fault dealt refuses = (
   refuses.used,
   refuses.as_before,
-  capture_report_if_known left (λ file. IsDealtFeedCapture settings rules file lists tail)
-      (λ file. IsRefusedStoreAtEnding settings rules store file fault)
+  capture_report_if_known left (λ file. IsFeedCapture settings rules file lists tail)
+      (λ file. IsRefusedStore settings rules store file fault)
       (λ file capture. record {
         records = capture.records;
         lists = lists;
@@ -100,8 +100,8 @@ capture_report_refuses_store settings rules left store AsBefore lists tail fault
 -- nothing was written, or a part of the text was
 capture_report_nothing_or_part : (settings : Settings) (rules : DealingRules) (keeping : SessionKeeping) (left store : Option (List ℕ))
     (lists : List (List RecordValue)) (tail : List ℕ) (ReadToEnd Nothing : Type 0) (old new : Option (List ℕ))
-    → IfSome left (λ file. IsDealtFeedCapture settings rules file lists tail) → ReadToEnd
-    → Nothing ⊎ DealtFeedWritesInPart settings lists tail keeping store old new
+    → IfSome left (λ file. IsFeedCapture settings rules file lists tail) → ReadToEnd
+    → Nothing ⊎ FeedWritesPart settings lists tail keeping store old new
     → Nothing
     ⊎ (ReadToEnd × WritesAnswer (λ front. IfSome left (λ file. IsSessionInPart settings rules keeping store file front)) old new)
 capture_report_nothing_or_part settings rules keeping left store lists tail ReadToEnd Nothing old new dealt read =
@@ -110,66 +110,66 @@ capture_report_nothing_or_part settings rules keeping left store lists tail Read
 
 -- how a report over a capture ended, from how it ended over its dealt lists
 pub capture_report_ends : {K D : Type 0} (k : SinkOf K) (d : DiskOf D) (settings : Settings) (rules : DealingRules)
-    (left left_now : Option (List ℕ)) (before now : EndingSourceFaults) (sink written : K) (old new : D)
+    (left left_now : Option (List ℕ)) (before now : SourceFaults) (sink written : K) (old new : D)
     (lists : List (List RecordValue)) (tail : List ℕ) (status : Status)
-    → IfSome left (λ file. IsDealtFeedCapture settings rules file lists tail) → IsAtEnd left_now → now ≡ before
-    → DealtFeedEnds k d settings lists tail sink written old new status
+    → IfSome left (λ file. IsFeedCapture settings rules file lists tail) → IsAtEnd left_now → now ≡ before
+    → FeedEnds k d settings lists tail sink written old new status
     → Ends (report_task d settings rules left left_now old new) (course k left before now sink written) status
 capture_report_ends k d settings rules left left_now before now sink written old new lists tail Done dealt read same ends = (
   read,
-  capture_report_writes_session settings rules (SavesAreKeptOnDisk d old new) left (d.reads old) lists tail (k.taken sink) (k.taken written) dealt ends.0,
+  capture_report_writes_session settings rules (AreKeptOnDisk d old new) left (d.reads old) lists tail (k.taken sink) (k.taken written) dealt ends.0,
   same,
   ap (λ (f : RoundFaults). f.sink) ends.1,
 )
 capture_report_ends k d settings rules left left_now before now sink written old new lists tail WriteFault dealt read same ends = (
   read,
-  capture_report_writes_in_part settings rules (SavesAreKeptOnDisk d old new) left (d.reads old) lists tail
+  capture_report_writes_in_part settings rules (AreKeptOnDisk d old new) left (d.reads old) lists tail
       (k.taken sink) (k.taken written) dealt ends.0,
   ends.1.rose,
   same,
 )
 capture_report_ends k d settings rules left left_now before now sink written old new lists tail DiskFault dealt read same ends = (
   read,
-  capture_report_if_known left (λ file. IsDealtFeedCapture settings rules file lists tail) IsCaptureFile
+  capture_report_if_known left (λ file. IsFeedCapture settings rules file lists tail) IsCaptureFile
       (λ file capture. (capture.dealt.frames, capture.dealt.capture)) dealt,
   ⊎_elim (λ none. inl none)
-      (λ part. inr (capture_report_writes_in_part settings rules (SavesAreKeptOnDisk d old new) left (d.reads old) lists tail
+      (λ part. inr (capture_report_writes_in_part settings rules (AreKeptOnDisk d old new) left (d.reads old) lists tail
       (k.taken sink) (k.taken written) dealt part)) ends.0,
   ends.1.rose,
   same,
   ends.1.sink,
 )
 capture_report_ends k d settings rules left left_now before now sink written old new lists tail NotFormatted dealt read same ends = (
-  capture_report_refuses_store settings rules left (d.reads old) (IsAsBeforeSaves d old new) lists tail opening.NotFormatted dealt ends.0,
+  capture_report_refuses_store settings rules left (d.reads old) (IsAsBefore d old new) lists tail opening.NotFormatted dealt ends.0,
   read,
   ends.1,
   same,
   ap (λ (f : RoundFaults). f.sink) ends.2,
 )
 capture_report_ends k d settings rules left left_now before now sink written old new lists tail (Damaged slot) dealt read same ends = (
-  capture_report_refuses_store settings rules left (d.reads old) (IsAsBeforeSaves d old new) lists tail (opening.Damaged slot) dealt ends.0,
+  capture_report_refuses_store settings rules left (d.reads old) (IsAsBefore d old new) lists tail (opening.Damaged slot) dealt ends.0,
   read,
   ends.1,
   same,
   ap (λ (f : RoundFaults). f.sink) ends.2,
 )
 capture_report_ends k d settings rules left left_now before now sink written old new lists tail (OtherSettings stored asked) dealt read same ends = (
-  capture_report_refuses_store settings rules left (d.reads old) (IsAsBeforeSaves d old new) lists tail (opening.OtherSettings stored asked) dealt ends.0,
+  capture_report_refuses_store settings rules left (d.reads old) (IsAsBefore d old new) lists tail (opening.OtherSettings stored asked) dealt ends.0,
   read,
   ends.1,
   same,
   ap (λ (f : RoundFaults). f.sink) ends.2,
 )
 capture_report_ends k d settings rules left left_now before now sink written old new lists tail (OtherCapture stored asked) dealt read same ends = (
-  capture_report_refuses_store settings rules left (d.reads old) (IsAsBeforeSaves d old new) lists tail (opening.OtherCapture stored asked) dealt ends.0,
+  capture_report_refuses_store settings rules left (d.reads old) (IsAsBefore d old new) lists tail (opening.OtherCapture stored asked) dealt ends.0,
   read,
   ends.1,
   same,
   ap (λ (f : RoundFaults). f.sink) ends.2,
 )
 capture_report_ends k d settings rules left left_now before now sink written old new lists tail OutOfMemory dealt read same ends = (
-  capture_report_nothing_or_part settings rules (SavesAreKeptOnDisk d old new) left (d.reads old) lists tail (IsAtEnd left_now)
-      ((written ≡ sink) × IsAsBeforeSaves d old new) (k.taken sink) (k.taken written) dealt read ends.0,
+  capture_report_nothing_or_part settings rules (AreKeptOnDisk d old new) left (d.reads old) lists tail (IsAtEnd left_now)
+      ((written ≡ sink) × IsAsBefore d old new) (k.taken sink) (k.taken written) dealt read ends.0,
   same,
   ap (λ (f : RoundFaults). f.sink) ends.1,
 )
@@ -182,7 +182,7 @@ capture_report_ends k d settings rules left left_now before now sink written old
 -- the disk's count of faults rose only where the status says so
 pub capture_report_tells_disk_fault : {K D : Type 0} (k : SinkOf K) (d : DiskOf D) (settings : Settings)
     (lists : List (List RecordValue)) (tail : List ℕ) (sink written : K) (old new : D) (status : Status)
-    → DealtFeedEnds k d settings lists tail sink written old new status → (status ≡ DiskFault → ⊥) → d.faults new ≡ d.faults old
+    → FeedEnds k d settings lists tail sink written old new status → (status ≡ DiskFault → ⊥) → d.faults new ≡ d.faults old
 capture_report_tells_disk_fault k d settings lists tail sink written old new Done ends other = ap (λ (f : RoundFaults). f.disk) ends.1
 capture_report_tells_disk_fault k d settings lists tail sink written old new WriteFault ends other = ends.1.disk
 capture_report_tells_disk_fault k d settings lists tail sink written old new DiskFault ends other = absurd (other refl)

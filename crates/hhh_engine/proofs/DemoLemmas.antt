@@ -1,7 +1,7 @@
 -- The report of a demonstration.
 use Rattle.std.proofs.Common.{◌≡◌, ℕ, List, Some, arith, refl}
 use Rattle.pcap_frames.specs.{FrameValue}
-use Rattle.frame_records.specs.{CaptureFileHasFrames}
+use Rattle.frame_records.specs.{FileHasFrames}
 use Rattle.hhh_engine.specs.Reading.{HasNoText}
 use Rattle.run_status.specs.declared.status.Status.{Status}
 use Rattle.run_status.specs.declared.status.Status.TheVariants.{Done, BadWords, BadCapture, ReadFault, WriteFault}
@@ -10,7 +10,7 @@ use Rattle.run_status.specs.declared.status.Status.TheVariants.{OtherCapture, Au
 use Rattle.hhh_engine.proofs.StatusLemmas.{CaptureStatusIsFaultless}
 
 -- a capture in memory is never refused
-pub demo_capture_is_never_refused : CaptureStatusIsFaultless → (file : List ℕ) (frames : List FrameValue) (status : Status) → CaptureFileHasFrames file frames
+pub demo_capture_is_never_refused : CaptureStatusIsFaultless → (file : List ℕ) (frames : List FrameValue) (status : Status) → FileHasFrames file frames
     → HasNoText (Some file) 0 0 status → (status ≡ OutOfMemory → ⊥) → ⊥
 demo_capture_is_never_refused never_both file frames Done capture none other = none
 demo_capture_is_never_refused never_both file frames (BadWords kind) capture none other = none

@@ -9,7 +9,7 @@ use Rattle.hhh_report.specs.declared.report.Report.{Report}
 use Rattle.traffic_maker.specs.{made_capture}
 use Rattle.command_words.specs.declared.settings.Settings.{Settings}
 use Rattle.hhh_engine.specs.Demo.{IsDemoText, demo_text}
-use Rattle.dealt_capture.specs.{rules_by_formula, AreDealtRecords}
+use Rattle.dealt_capture.specs.{rules_by, AreDealtRecords}
 use Rattle.std.proofs.Common.{Ok, Err, IfOk}
 use Rattle.std.specs.declared.result.Result.{Result}
 use Rattle.report_session.specs.{IsWholeReport}
@@ -23,12 +23,12 @@ demo_text_if_ok_implies (Err error) P Q follows holds = tt
 pub record DemoTextIsDealtOnce : Type 0 where
   pub records : (formula : DealKind → ℕ → RecordValue → ℕ → ℕ) (settings other : Settings) (file : List ℕ) (records others : Records)
       (lists other_lists : List (List RecordValue)) → settings.weigh ≡ other.weigh
-      → AreDealtRecords settings (rules_by_formula formula) file records lists
-      → AreDealtRecords other (rules_by_formula formula) file others other_lists → records.list ≡ others.list
+      → AreDealtRecords settings (rules_by formula) file records lists
+      → AreDealtRecords other (rules_by formula) file others other_lists → records.list ≡ others.list
   pub lists : (formula : DealKind → ℕ → RecordValue → ℕ → ℕ) (settings other : Settings) (file : List ℕ) (records others : Records)
       (lists other_lists : List (List RecordValue)) → settings.shards ≡ other.shards → settings.deal ≡ other.deal
-      → settings.weigh ≡ other.weigh → AreDealtRecords settings (rules_by_formula formula) file records lists
-      → AreDealtRecords other (rules_by_formula formula) file others other_lists → lists ≡ other_lists
+      → settings.weigh ≡ other.weigh → AreDealtRecords settings (rules_by formula) file records lists
+      → AreDealtRecords other (rules_by formula) file others other_lists → lists ≡ other_lists
 
 -- and dealt lists have one report over all of them
 abbrev pub DemoTextReportIsUnique : Type 0
@@ -41,8 +41,8 @@ pub demo_text_is_unique : DemoTextIsDealtOnce → DemoTextReportIsUnique → (fo
     (settings other : Settings) (seed frames : ℕ) (text other_text : List ℕ)
     → settings.shards ≡ other.shards → settings.capacity ≡ other.capacity → settings.phi ≡ other.phi
     → settings.deal ≡ other.deal → settings.weigh ≡ other.weigh
-    → IsDemoText settings (rules_by_formula formula) seed frames text
-    → IsDemoText other (rules_by_formula formula) seed frames other_text → text ≡ other_text
+    → IsDemoText settings (rules_by formula) seed frames text
+    → IsDemoText other (rules_by formula) seed frames other_text → text ≡ other_text
 demo_text_is_unique once one_report formula settings other seed frames text other_text shards capacity phi deal weigh is is_other =
     let file = made_capture seed frames in
     let records : is.records.list ≡ is_other.records.list =

@@ -11,15 +11,15 @@ use Rattle.command_words.specs.declared.command.Command.{Command}
 use Rattle.command_words.specs.declared.command.Command.TheVariants.{Weigh, Report as report_command, Format, Audit}
 use Rattle.command_words.specs.declared.command.Command.TheVariants.{Make, Demo}
 use Rattle.command_words.specs.declared.words_kind.WordsKind.TheVariants.{NoCommand}
-use Rattle.hhh_engine.specs.Answer.{Answers, AnswersInPart, IsAnswer, IsAnswerInPart, IsWeighAnswerInPart}
-use Rattle.hhh_engine.specs.Answer.{IsUnfinishedAnswer, formatted_answer}
-use Rattle.report_session.specs.{WritesAnswer, store_settings_for_saves}
-use Rattle.hhh_engine.specs.Inputs.{AskedCommandAvoidsInput, AskedCommandUsesInput, InputsCanBeAnswered}
-use Rattle.hhh_engine.specs.Inputs.{HasKnownInputCapture, UsesInputCapture, UsesInputSession, UsesInputStore}
-use Rattle.hhh_engine.specs.Inputs.{InputsWereAccepted, InputsWereRead, inputs}
-use Rattle.hhh_engine.specs.Ending.{Ends, EndsAnswered, EndsAsBeforeUnlessFormat, EndsAtFailedSource}
-use Rattle.hhh_engine.specs.Ending.{EndsTearingFront, FormatEnds, HappenedToDiskAtEnding, RefusesAtEnding}
-use Rattle.hhh_engine.specs.Ending.{RefusesStoreAtEnding, SourceFaultsRoseAtEnding, ending_source_faults}
+use Rattle.hhh_engine.specs.Answer.{Answers, AnswersInPart, IsAnswer, IsAnswerInPart, IsWeighInPart}
+use Rattle.hhh_engine.specs.Answer.{IsUnfinished, formatted_answer}
+use Rattle.report_session.specs.{WritesAnswer, saves_settings}
+use Rattle.hhh_engine.specs.Inputs.{CommandAvoids, CommandUses, CanBeAnswered}
+use Rattle.hhh_engine.specs.Inputs.{HasCapture, UsesCapture, UsesSession, UsesStore}
+use Rattle.hhh_engine.specs.Inputs.{WereAccepted, WereRead, inputs}
+use Rattle.hhh_engine.specs.Ending.{Ends, EndsAnswered, EndsAsBefore, FailsAtSource}
+use Rattle.hhh_engine.specs.Ending.{EndsTearing, FormatEnds, DiskHappened, Refuses}
+use Rattle.hhh_engine.specs.Ending.{EndsRefusing, SourceFaultsRose, faults_of_source}
 use Rattle.hhh_engine.specs.TopCall.{FailsToRead, FailsToStore, FailsToWrite, RefusesCapture, RefusesWords, RunEnds}
 use Rattle.hhh_engine.specs.TopCall.{Streams, WritesNothing, WritesPart, streams}
 use Rattle.outside_io.specs.declared.source.Source.{Ghosts as SourceOf}
@@ -40,7 +40,7 @@ use Rattle.report_session.proofs.ExamplesOfSessions.{header_is_a_capture, in_tur
 use Rattle.report_session.proofs.ExamplesOfSessions.{session_over_the_header, settings, text}
 use Rattle.report_session.proofs.ExamplesOfSaves.{formatted, formatted_opens_to_nothing, one}
 use Rattle.checkpoint.specs.{StoreOpensTo}
-use Rattle.hhh_engine.specs.Ending.{EndsWithEmptyStore}
+use Rattle.hhh_engine.specs.Ending.{EndsEmpty}
 use Rattle.prefix_lattice.specs.{RecordValue}
 use Rattle.std.proofs.Common.{subst, sym}
 use Rattle.hhh_engine.specs.Inputs.{IsInputStore}
@@ -83,7 +83,7 @@ asks_for_a_report = record {
   wide = omega arith;
 }
 
-pub report_asks_to_read : AskedCommandUsesInput UsesInputCapture words
+pub report_asks_to_read : CommandUses UsesCapture words
 report_asks_to_read = record { command = report_command settings; asked = asks_for_a_report; uses = tt }
 
 no_words_ask : (command : Command) → AskForCommand [] command → ⊥
@@ -94,57 +94,57 @@ no_words_ask (Audit settings) asked = let begun = asked.are_words.begun in cc
 no_words_ask (Make seed frames) asked = let begun = asked.are_words.begun in cc
 no_words_ask (Demo seed frames settings) asked = let begun = asked.are_words.begun in cc
 
-pub no_words_ask_to_read : AskedCommandUsesInput UsesInputCapture [] → ⊥
+pub no_words_ask_to_read : CommandUses UsesCapture [] → ⊥
 no_words_ask_to_read asks = no_words_ask asks.command asks.asked
 
-pub report_reads_a_capture : UsesInputCapture (report_command settings)
+pub report_reads_a_capture : UsesCapture (report_command settings)
 report_reads_a_capture = tt
 
-pub format_reads_no_capture : UsesInputCapture (Format settings) → ⊥
+pub format_reads_no_capture : UsesCapture (Format settings) → ⊥
 format_reads_no_capture reads = reads
 
 -- an audit reads two inputs, and a report one
-pub audit_reads_a_session : UsesInputSession (Audit settings)
+pub audit_reads_a_session : UsesSession (Audit settings)
 audit_reads_a_session = tt
 
-pub report_reads_no_session : UsesInputSession (report_command settings) → ⊥
+pub report_reads_no_session : UsesSession (report_command settings) → ⊥
 report_reads_no_session reads = reads
 
 -- the settings ask for no store
-pub report_without_a_store : UsesInputStore (report_command settings) → ⊥
+pub report_without_a_store : UsesStore (report_command settings) → ⊥
 report_without_a_store uses = cc uses
 
-pub report_with_a_store : UsesInputStore (report_command (record settings { store = true }))
+pub report_with_a_store : UsesStore (report_command (record settings { store = true }))
 report_with_a_store = refl
 
-pub report_asks_for_no_store : AskedCommandAvoidsInput UsesInputStore words
+pub report_asks_for_no_store : CommandAvoids UsesStore words
 report_asks_for_no_store = record {
   command = report_command settings;
   asked = asks_for_a_report;
   unused = report_without_a_store;
 }
 
-pub source_of_a_header : HasKnownInputCapture (Some header)
+pub source_of_a_header : HasCapture (Some header)
 source_of_a_header = record { file = header; told = refl; frames = []; capture = header_is_a_capture }
 
-pub silent_source_tells_no_capture : HasKnownInputCapture None → ⊥
+pub silent_source_tells_no_capture : HasCapture None → ⊥
 silent_source_tells_no_capture tells = let told = tells.told in cc
 
 -- nothing needs to be known of the disk
 pub report_over_a_header_can_be_answered :
-    InputsCanBeAnswered in_turn (report_command settings) (inputs (Some header) (Some []) None None None)
+    CanBeAnswered in_turn (report_command settings) (inputs (Some header) (Some []) None None None)
 report_over_a_header_can_be_answered = (source_of_a_header, λ used. absurd (cc used))
 
 -- but with a store its bytes need to be
 pub report_over_an_unknown_store :
-    InputsCanBeAnswered in_turn (report_command (record settings { store = true })) (inputs (Some header) (Some []) None None None) → ⊥
+    CanBeAnswered in_turn (report_command (record settings { store = true })) (inputs (Some header) (Some []) None None None) → ⊥
 report_over_an_unknown_store can = let store = can.1 refl in cc store.told
 
-pub header_was_accepted : InputsWereAccepted (report_command settings) (inputs (Some header) (Some []) None None None)
+pub header_was_accepted : WereAccepted (report_command settings) (inputs (Some header) (Some []) None None None)
 header_was_accepted = ([], header_is_a_capture)
 
 -- a source with a remaining byte was not read to its end
-pub one_byte_left : InputsWereRead (report_command settings) (inputs (Some header) (Some (1 ∷ [])) None None None) → ⊥
+pub one_byte_left : WereRead (report_command settings) (inputs (Some header) (Some (1 ∷ [])) None None None) → ⊥
 one_byte_left read = cc read
 
 -- the text follows what the sink held
@@ -176,7 +176,7 @@ pub nothing_is_not_written : WritesAnswer (λ text. text ≡ codes "no") (Some [
 nothing_is_not_written writes = cc (writes.written, writes.is_text)
 
 -- a sink with room for 6 bytes took the least weight, but not the end of its line
-pub weight_in_part : IsWeighAnswerInPart prefix Bytes file (codes "low 10")
+pub weight_in_part : IsWeighInPart prefix Bytes file (codes "low 10")
 weight_in_part = record {
   text = codes "low 100\nhigh 100\ntotal 100\n";
   is_text = weight_of_the_file;
@@ -206,7 +206,7 @@ format_is_cut_short = record {
 }
 
 -- a whole text isn't cut short
-pub whole_text_is_not_cut_short : IsUnfinishedAnswer (λ text. text ≡ codes "yes") (codes "yes") → ⊥
+pub whole_text_is_not_cut_short : IsUnfinished (λ text. text ≡ codes "yes") (codes "yes") → ⊥
 whole_text_is_not_cut_short short =
     let same : length short.text ≡ 3 = ap length short.is_text in omega (arith, same, short.cut)
 
@@ -309,18 +309,18 @@ source_failed = record {
 
 -- the source of a text fails only once the capture was read to its end
 pub text_failed_too_early :
-    EndsAtFailedSource {T = List ℕ} ⊤ ⊤ (inputs (Some header) (Some (1 ∷ [])) None None None) (ending_source_faults 3 0)
-    (ending_source_faults 3 1) (3 ∷ []) [] → ⊥
+    FailsAtSource {T = List ℕ} ⊤ ⊤ (inputs (Some header) (Some (1 ∷ [])) None None None) (faults_of_source 3 0)
+    (faults_of_source 3 1) (3 ∷ []) [] → ⊥
 text_failed_too_early failed =
     ⊎_elim
     (λ capture. omega (arith, capture.rose))
     (λ text. let none : 1 ≡ 0 = ap (λ (bytes : List ℕ). length bytes) text.read_to_end in omega (arith, none)) failed
 
 -- the source of the text of a session may fail instead, as its count alone shows
-pub text_failed : SourceFaultsRoseAtEnding (ending_source_faults 3 0) (ending_source_faults 3 1)
+pub text_failed : SourceFaultsRose (faults_of_source 3 0) (faults_of_source 3 1)
 text_failed = inr (omega arith)
 
-pub no_source_failed : SourceFaultsRoseAtEnding (ending_source_faults 3 0) (ending_source_faults 3 0) → ⊥
+pub no_source_failed : SourceFaultsRose (faults_of_source 3 0) (faults_of_source 3 0) → ⊥
 no_source_failed rose = ⊎_elim (λ capture. omega (arith, capture)) (λ text. omega (arith, text)) rose
 
 -- a run over a header that wrote a part of the session, or nothing, to a sink that failed so often
@@ -384,17 +384,17 @@ disk_fault_reported_as_done ends =
 
 -- where no store is asked for, none is refused
 pub no_store_is_refused : (fault : OpenFault)
-    → RefusesStoreAtEnding settings in_turn (Some header) None ⊤ fault → ⊥
+    → EndsRefusing settings in_turn (Some header) None ⊤ fault → ⊥
 no_store_is_refused fault refuses = cc refuses.0
 
 pub format_refuses_no_store : (fault : OpenFault)
-    → RefusesAtEnding (Format settings) in_turn (inputs None None None None None) ⊤ fault → ⊥
+    → Refuses (Format settings) in_turn (inputs None None None None None) ⊤ fault → ⊥
 format_refuses_no_store fault refuses = refuses
 
 -- where the disk fails, `format` writes nothing, and changes no more than the front; where memory runs out, the disk is as
 -- before too
 pub format_without_memory :
-    FormatEnds {K = Known} disk (store_settings_for_saves settings) nothing nothing nothing (known (8 ∷ []) 0) OutOfMemory → ⊥
+    FormatEnds {K = Known} disk (saves_settings settings) nothing nothing nothing (known (8 ∷ []) 0) OutOfMemory → ⊥
 format_without_memory ended =
     let same : 1 ≡ 0 = ap (λ (stream : Known). length stream.bytes) ended.1 in omega (arith, same)
 
@@ -402,14 +402,14 @@ format_without_memory ended =
 abbrev disk_ending_in : ℕ → Known
 disk_ending_in last = known (replicate 64 0 ++ last ∷ []) 0
 
-pub byte_behind_the_front_was_torn : EndsTearingFront disk (disk_ending_in 1) (disk_ending_in 2) → ⊥
+pub byte_behind_the_front_was_torn : EndsTearing disk (disk_ending_in 1) (disk_ending_in 2) → ⊥
 byte_behind_the_front_was_torn torn =
     let last : 2 ≡ 1 = (torn.reading (disk_ending_in 1).bytes (disk_ending_in 2).bytes refl refl).after 64 (omega arith) (omega arith) in
     omega (arith, last)
 
 -- `format` reads no capture that could be refused
 pub format_refuses_no_capture :
-    FormatEnds {K = Known} disk (store_settings_for_saves settings) nothing nothing nothing nothing
+    FormatEnds {K = Known} disk (saves_settings settings) nothing nothing nothing nothing
     (BadCapture (header_fault_at ShortHeader 0)) → ⊥
 format_refuses_no_capture ended = ended
 
@@ -452,8 +452,8 @@ ends_with read_before read_now written write_before write_now status =
     })
     (record {
       capture = Some [];
-      read_before = ending_source_faults read_before 0;
-      read_now = ending_source_faults read_now 0;
+      read_before = faults_of_source read_before 0;
+      read_now = faults_of_source read_now 0;
       sink = [];
       written = written;
       old = Some [];
@@ -522,23 +522,23 @@ pub report_that_found_a_report : EndsAnswered (report_command settings) (AuditNo
 report_that_found_a_report answered = cc answered
 
 -- something can happen to a disk only by a command that may use a store
-pub audit_uses_no_disk : HappenedToDiskAtEnding (Audit settings) ⊤ → ⊥
+pub audit_uses_no_disk : DiskHappened (Audit settings) ⊤ → ⊥
 audit_uses_no_disk happened = happened
 
-pub report_may_use_a_disk : HappenedToDiskAtEnding (report_command settings) ⊤
+pub report_may_use_a_disk : DiskHappened (report_command settings) ⊤
 report_may_use_a_disk = tt
 
 -- where no byte was written, a store that was to be opened is as before, and one that `format` began to make need not be
-pub report_leaves_a_disk_as_before : EndsAsBeforeUnlessFormat (report_command settings) ⊥ → ⊥
+pub report_leaves_a_disk_as_before : EndsAsBefore (report_command settings) ⊥ → ⊥
 report_leaves_a_disk_as_before as_before = as_before
 
-pub format_may_have_begun_a_store : EndsAsBeforeUnlessFormat (Format settings) ⊥
+pub format_may_have_begun_a_store : EndsAsBefore (Format settings) ⊥
 format_may_have_begun_a_store = tt
 
 -- ---- stores
 
 -- what `format` leaves
-pub formatted_store_is_empty : EndsWithEmptyStore (Some formatted) (λ image. image ≡ formatted) one
+pub formatted_store_is_empty : EndsEmpty (Some formatted) (λ image. image ≡ formatted) one
 formatted_store_is_empty bytes told image is =
     subst (λ bytes. StoreOpensTo one bytes None) (sym is) formatted_opens_to_nothing
 

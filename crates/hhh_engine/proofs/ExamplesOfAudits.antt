@@ -10,33 +10,33 @@ use Rattle.exact_audit.specs.declared.verdict.Verdict.TheVariants.{BadPositions,
 use Rattle.pcap_frames.specs.declared.fault.FaultKind.TheVariants.{ShortHeader}
 use Rattle.report_text.specs.declared.session_fault.TextFault.TheVariants.{BadLine}
 use Rattle.pcap_frames.specs.{header_fault_at}
-use Rattle.session_audit.specs.{IsAuditedAsFirstUnsound, IsAuditedAsSound, AuditReadOnFault, AuditReadPastLimit}
-use Rattle.session_audit.specs.{sound_audit_text, unsound_audit_text, audit_verdict_text, AuditingHasNoBytes}
-use Rattle.session_audit.specs.{AuditingSays}
+use Rattle.session_audit.specs.{IsFirstUnsound, IsAuditedSound, ReadOnFault, ReadPastLimit}
+use Rattle.session_audit.specs.{sound_audit, unsound_audit, verdict_text, HasNoBytes}
+use Rattle.session_audit.specs.{Says}
 use Rattle.hhh_engine.specs.Reading.{HasNoAudit}
 use Rattle.report_session.specs.{IsWholeReport}
 use Rattle.hhh_engine.specs.Demo.{demo_text}
-use Rattle.hhh_engine.specs.Ending.{ending_source_faults}
+use Rattle.hhh_engine.specs.Ending.{faults_of_source}
 use Rattle.hhh_engine.specs.Inputs.{inputs}
 use Rattle.run_status.specs.declared.status.Status.TheVariants.{Done, BadCapture, ReadFault, OutOfMemory}
 use Rattle.hhh_engine.proofs.ExamplesOfAnswers.{empty_file_has_no_text}
 use Rattle.report_session.proofs.ExamplesOfSessions.{last, nothing_is_sound, report, report_at_the_ends, settings}
 use Rattle.report_session.proofs.ExamplesOfSessions.{lists}
 
-pub text_of_a_wide_line : audit_verdict_text (TooWide 12) ≡ codes "too wide in line 12"
+pub text_of_a_wide_line : verdict_text (TooWide 12) ≡ codes "too wide in line 12"
 unfolding digits
 text_of_a_wide_line = refl
 
-pub text_of_three_sound_reports : sound_audit_text 3 ≡ codes "good 3\n"
+pub text_of_three_sound_reports : sound_audit 3 ≡ codes "good 3\n"
 unfolding digits
 text_of_three_sound_reports = refl
 
-pub text_of_the_second_report : unsound_audit_text 2 BadTotal ≡ codes "report 2: bad total\n"
+pub text_of_the_second_report : unsound_audit 2 BadTotal ≡ codes "report 2: bad total\n"
 unfolding digits
 text_of_the_second_report = refl
 
 -- a report of no records in four shards is sound, and so is one that was saved after
-pub last_report_is_sound : IsAuditedAsSound settings lists last
+pub last_report_is_sound : IsAuditedSound settings lists last
 last_report_is_sound = nothing_is_sound
 
 -- a report of one record of the first shard, which has none
@@ -48,7 +48,7 @@ past_the_end within = omega (arith, within.0)
 
 -- it is the first that is not sound
 pub second_report_is_past_the_end :
-    IsAuditedAsFirstUnsound settings lists (last ∷ record { report = past; saved = None } ∷ []) 2 BadPositions
+    IsFirstUnsound settings lists (last ∷ record { report = past; saved = None } ∷ []) 2 BadPositions
 second_report_is_past_the_end = record {
   before = 1;
   counted = refl;
@@ -56,22 +56,22 @@ second_report_is_past_the_end = record {
   is = refl;
   found = past_the_end;
   not_good = λ is. cc is;
-  sound = All-cons (IsAuditedAsSound settings lists) last [] last_report_is_sound (All-nil (IsAuditedAsSound settings lists));
+  sound = All-cons (IsAuditedSound settings lists) last [] last_report_is_sound (All-nil (IsAuditedSound settings lists));
 }
 
 -- a report that is good is not the first that isn't
-pub good_report_is_not_unsound : IsAuditedAsFirstUnsound settings lists (last ∷ []) 1 Good → ⊥
+pub good_report_is_not_unsound : IsFirstUnsound settings lists (last ∷ []) 1 Good → ⊥
 good_report_is_not_unsound first = first.not_good refl
 
 -- a text that is not too long was read to its end, whatever its fault
-pub text_was_read : AuditReadOnFault (BadLine 1) (Some (1 ∷ 2 ∷ [])) (Some [])
+pub text_was_read : ReadOnFault (BadLine 1) (Some (1 ∷ 2 ∷ [])) (Some [])
 text_was_read = refl
 
-pub one_byte_was_not_read : AuditReadOnFault (BadLine 1) (Some (1 ∷ 2 ∷ [])) (Some (2 ∷ [])) → ⊥
+pub one_byte_was_not_read : ReadOnFault (BadLine 1) (Some (1 ∷ 2 ∷ [])) (Some (2 ∷ [])) → ⊥
 one_byte_was_not_read read = let none : 1 ≡ 0 = ap (λ (bytes : List ℕ). length bytes) read in omega (arith, none)
 
 -- the first byte of two doesn't show that a text is too long
-pub one_byte_is_not_the_limit : AuditReadPastLimit (Some (1 ∷ 2 ∷ [])) (Some (2 ∷ [])) → ⊥
+pub one_byte_is_not_the_limit : ReadPastLimit (Some (1 ∷ 2 ∷ [])) (Some (2 ∷ [])) → ⊥
 one_byte_is_not_the_limit read =
     let front : 2 ≡ length read.front + 1 =
     ap (λ (bytes : List ℕ). length bytes) read.consumed ∙ length-append read.front (2 ∷ []) in
@@ -79,24 +79,24 @@ one_byte_is_not_the_limit read =
 
 -- ---- within the crate
 
-pub bytes_of_a_failed_source : AuditingHasNoBytes 3 4 ReadFault
+pub bytes_of_a_failed_source : HasNoBytes 3 4 ReadFault
 bytes_of_a_failed_source = omega arith
 
-pub bytes_are_there_at_success : AuditingHasNoBytes 3 3 Done → ⊥
+pub bytes_are_there_at_success : HasNoBytes 3 3 Done → ⊥
 bytes_are_there_at_success none = none
 
-pub audit_of_an_empty_capture : HasNoAudit (inputs (Some []) (Some []) None None None) (ending_source_faults 0 0)
-    (ending_source_faults 0 0) (BadCapture (header_fault_at ShortHeader 0))
+pub audit_of_an_empty_capture : HasNoAudit (inputs (Some []) (Some []) None None None) (faults_of_source 0 0)
+    (faults_of_source 0 0) (BadCapture (header_fault_at ShortHeader 0))
 audit_of_an_empty_capture = empty_file_has_no_text
 
-pub audit_whose_text_failed : HasNoAudit (inputs None None None None None) (ending_source_faults 3 0) (ending_source_faults 3 1) ReadFault
+pub audit_whose_text_failed : HasNoAudit (inputs None None None None None) (faults_of_source 3 0) (faults_of_source 3 1) ReadFault
 audit_whose_text_failed = inr (omega arith)
 
-pub audit_of_one_report : AuditingSays settings lists (last ∷ []) (sound_audit_text 1) Done
+pub audit_of_one_report : Says settings lists (last ∷ []) (sound_audit 1) Done
 audit_of_one_report =
-    (All-cons (IsAuditedAsSound settings lists) last [] last_report_is_sound (All-nil (IsAuditedAsSound settings lists)), refl)
+    (All-cons (IsAuditedSound settings lists) last [] last_report_is_sound (All-nil (IsAuditedSound settings lists)), refl)
 
-pub audit_says_nothing_without_memory : AuditingSays settings lists (last ∷ []) [] OutOfMemory → ⊥
+pub audit_says_nothing_without_memory : Says settings lists (last ∷ []) [] OutOfMemory → ⊥
 audit_says_nothing_without_memory says = says
 
 -- ---- the demonstration

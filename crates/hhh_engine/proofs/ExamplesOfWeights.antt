@@ -3,10 +3,10 @@ use Rattle.std.proofs.Common.{◌≡◌, ℕ, List, [], ◌∷◌, ◌++◌, ref
 use Rattle.std.specs.Fmt.{digits}
 use Rattle.prefix_lattice.specs.{PrefixValue}
 use Rattle.pcap_frames.specs.declared.file_order.FileOrder.TheVariants.{Little}
-use Rattle.pcap_frames.specs.{number_in_file_order, FrameValue, header_magic_order}
-use Rattle.frame_records.specs.{CaptureFileHasFrames}
+use Rattle.pcap_frames.specs.{number_in_order, FrameValue, order_of_magic}
+use Rattle.frame_records.specs.{FileHasFrames}
 use Rattle.frame_records.specs.declared.weigh.Weigh.TheVariants.{Bytes, Packets}
-use Rattle.hhh_engine.specs.WeightText.{weight_text_capacity, weight_text, weight_text_for, IsWeightText}
+use Rattle.hhh_engine.specs.Weigh.{text_capacity, weight_text, text_for, IsWeightText}
 use Rattle.report_session.proofs.Examples.{header}
 use Rattle.dealt_capture.proofs.Examples.{packet}
 
@@ -21,14 +21,14 @@ pub text_of_a_weight : weight_text 60 100 100 ≡ codes "low 60\nhigh 100\ntotal
 unfolding digits
 text_of_a_weight = refl
 
-pub text_of_the_packet : weight_text_for prefix (packet ∷ []) ≡ weight_text 100 100 100
+pub text_of_the_packet : text_for prefix (packet ∷ []) ≡ weight_text 100 100 100
 text_of_the_packet = refl
 
 -- a table that isn't full shows that nothing came from other sources
-pub text_of_another_source : weight_text_for other_source (packet ∷ []) ≡ weight_text 0 0 100
+pub text_of_another_source : text_for other_source (packet ∷ []) ≡ weight_text 0 0 100
 text_of_another_source = refl
 
-pub room_for_other_prefixes : weight_text_capacity ≡ 64
+pub room_for_other_prefixes : text_capacity ≡ 64
 room_for_other_prefixes = refl
 
 -- the header of its frame, 34 captured bytes of 100, and those bytes
@@ -46,8 +46,8 @@ file = header ++ frame_header ++ captured
 abbrev frame : FrameValue
 frame = record { head = captured; captured = 34; original = 100 }
 
-pub file_is_a_capture : CaptureFileHasFrames file (frame ∷ [])
-unfolding number_in_file_order header_magic_order
+pub file_is_a_capture : FileHasFrames file (frame ∷ [])
+unfolding number_in_order order_of_magic
 file_is_a_capture = (
   Little,
   record {

@@ -6,14 +6,14 @@ use Rattle.std.specs.Int.{byte_at}
 use Rattle.std.specs.List.{range_with_len}
 use Rattle.std.proofs.lemmas.Bool.{cond_both}
 use Rattle.std.proofs.lemmas.List.FromFn.{length-map-range_with_len}
-use Rattle.frame_records.specs.{CaptureFileHasFrames}
+use Rattle.frame_records.specs.{FileHasFrames}
 use Rattle.pcap_frames.specs.declared.file_order.FileOrder.TheVariants.{Little}
-use Rattle.pcap_frames.specs.{BeginsWithFrame, BeginsWithFrames, FrameValue, IsHeader, header_magic_order}
-use Rattle.pcap_frames.specs.{number_in_file_order}
-use Rattle.traffic_maker.specs.{made_address, made_capture_header, draw, made_frame_ethernet_header, made_frame_bytes}
-use Rattle.traffic_maker.specs.{made_frame_ip_header}
-use Rattle.traffic_maker.specs.{made_capture, made_frame, made_capture_frames, most_made_capture_frames}
-use Rattle.traffic_maker.specs.{made_frame_wire_length}
+use Rattle.pcap_frames.specs.{BeginsWithFrame, BeginsWithFrames, FrameValue, IsHeader, order_of_magic}
+use Rattle.pcap_frames.specs.{number_in_order}
+use Rattle.traffic_maker.specs.{made_address, capture_header, draw, ethernet_header, frame_bytes}
+use Rattle.traffic_maker.specs.{ip_header}
+use Rattle.traffic_maker.specs.{made_capture, made_frame, capture_frames, most_frames}
+use Rattle.traffic_maker.specs.{wire_length}
 
 -- a list of four numbers
 record IsMadeCaptureAddress (bytes : List ℕ) : Type 0 where
@@ -35,28 +35,28 @@ made_capture_address_is_four first number =
 -- the frame that a reader takes from the bytes of a made one
 abbrev pub made_capture_value_between : ℕ → List ℕ → List ℕ → FrameValue
 made_capture_value_between index source dest = record {
-  head = made_frame_ethernet_header ++ made_frame_ip_header index source dest;
+  head = ethernet_header ++ ip_header index source dest;
   captured = 34;
-  original = made_frame_wire_length index;
+  original = wire_length index;
 }
 
 -- the four bytes of a wire length, lowest first, are that length again
 made_capture_length_is_spelled : (index : ℕ)
-    → made_frame_wire_length index
-    ≡ byte_at 0 (made_frame_wire_length index) + 256 * (byte_at 1 (made_frame_wire_length index) + 256 * (byte_at 2 (made_frame_wire_length index)
-    + 256 * (byte_at 3 (made_frame_wire_length index) + 256 * 0)))
+    → wire_length index
+    ≡ byte_at 0 (wire_length index) + 256 * (byte_at 1 (wire_length index) + 256 * (byte_at 2 (wire_length index)
+    + 256 * (byte_at 3 (wire_length index) + 256 * 0)))
 made_capture_length_is_spelled index = omega arith
 
 -- over two addresses of four bytes the bytes of a made frame begin with that frame
 made_capture_spells_value : (index a b c d e f g h : ℕ) (rest : List ℕ)
-    → BeginsWithFrame Little (made_frame_bytes index (a ∷ b ∷ c ∷ d ∷ []) (e ∷ f ∷ g ∷ h ∷ []) ++ rest)
+    → BeginsWithFrame Little (frame_bytes index (a ∷ b ∷ c ∷ d ∷ []) (e ∷ f ∷ g ∷ h ∷ []) ++ rest)
     (made_capture_value_between index (a ∷ b ∷ c ∷ d ∷ []) (e ∷ f ∷ g ∷ h ∷ []))
-unfolding made_frame_bytes number_in_file_order
+unfolding frame_bytes number_in_order
 made_capture_spells_value index a b c d e f g h rest = record {
   header = omega arith;
   is_frame = ap
       (λ original. record {
-        head = made_frame_ethernet_header ++ made_frame_ip_header index (a ∷ b ∷ c ∷ d ∷ []) (e ∷ f ∷ g ∷ h ∷ []);
+        head = ethernet_header ++ ip_header index (a ∷ b ∷ c ∷ d ∷ []) (e ∷ f ∷ g ∷ h ∷ []);
         captured = 34;
         original = original;
       })
@@ -67,14 +67,14 @@ made_capture_spells_value index a b c d e f g h rest = record {
 
 -- a made frame has 50 bytes in the file
 made_capture_behind_value : (index a b c d e f g h : ℕ) (rest : List ℕ)
-    → drop 50 (made_frame_bytes index (a ∷ b ∷ c ∷ d ∷ []) (e ∷ f ∷ g ∷ h ∷ []) ++ rest) ≡ rest
-unfolding made_frame_bytes
+    → drop 50 (frame_bytes index (a ∷ b ∷ c ∷ d ∷ []) (e ∷ f ∷ g ∷ h ∷ []) ++ rest) ≡ rest
+unfolding frame_bytes
 made_capture_behind_value index a b c d e f g h rest = refl
 
 -- the bytes of a frame, and then those of others, are that frame and the others
 made_capture_values_follow : (index : ℕ) (source dest : List ℕ) → IsMadeCaptureAddress source → IsMadeCaptureAddress dest
     → (rest : List ℕ) (frames : List FrameValue) → BeginsWithFrames Little rest frames []
-    → BeginsWithFrames Little (made_frame_bytes index source dest ++ rest) (made_capture_value_between index source dest ∷ frames) []
+    → BeginsWithFrames Little (frame_bytes index source dest ++ rest) (made_capture_value_between index source dest ∷ frames) []
 made_capture_values_follow index source dest from to rest frames others =
     let behind =
     made_capture_behind_value index from.first from.second from.third from.fourth to.first to.second to.third to.fourth rest in
@@ -94,23 +94,23 @@ made_capture_values seed first count = map (made_capture_value seed) (range_with
 
 -- the bytes of made frames are those frames
 made_capture_begins_with_values : (seed first count : ℕ)
-    → BeginsWithFrames Little (made_capture_frames seed first count) (made_capture_values seed first count) []
+    → BeginsWithFrames Little (capture_frames seed first count) (made_capture_values seed first count) []
 unfolding made_frame
 made_capture_begins_with_values seed first zero = refl
 made_capture_begins_with_values seed first (suc count) =
     made_capture_values_follow first (made_address 10 (draw seed (2 * first))) (made_address 20 (draw seed (2 * first + 1)))
     (made_capture_address_is_four 10 (draw seed (2 * first))) (made_capture_address_is_four 20 (draw seed (2 * first + 1)))
-    (made_capture_frames seed (first + 1) count) (made_capture_values seed (first + 1) count)
+    (capture_frames seed (first + 1) count) (made_capture_values seed (first + 1) count)
     (made_capture_begins_with_values seed (first + 1) count)
 
 -- a made capture begins with a whole header
-made_capture_has_header : (rest : List ℕ) → IsHeader Little (made_capture_header ++ rest)
-unfolding made_capture_header header_magic_order number_in_file_order
+made_capture_has_header : (rest : List ℕ) → IsHeader Little (capture_header ++ rest)
+unfolding capture_header order_of_magic number_in_order
 made_capture_has_header rest = record { whole = omega arith; magic = refl; major = refl; minor = refl; link = refl }
 
 -- the frames follow the header
-made_capture_behind_header : (rest : List ℕ) → drop 24 (made_capture_header ++ rest) ≡ rest
-unfolding made_capture_header
+made_capture_behind_header : (rest : List ℕ) → drop 24 (capture_header ++ rest) ≡ rest
+unfolding capture_header
 made_capture_behind_header rest = refl
 
 -- a reader takes as many frames from a made capture as were asked for
@@ -118,18 +118,18 @@ pub made_capture_value_count : (seed count : ℕ) → length (made_capture_value
 made_capture_value_count seed count = length-map-range_with_len (made_capture_value seed) 0 count
 
 -- the frames of a made capture are those made
-pub made_capture_has_values : (seed count : ℕ) → count ≤ most_made_capture_frames
-    → CaptureFileHasFrames (made_capture seed count) (made_capture_values seed 0 count)
+pub made_capture_has_values : (seed count : ℕ) → count ≤ most_frames
+    → FileHasFrames (made_capture seed count) (made_capture_values seed 0 count)
 made_capture_has_values seed count few = (
   Little,
   record {
-    header = made_capture_has_header (made_capture_frames seed 0 count);
-    begins = rw (made_capture_behind_header (made_capture_frames seed 0 count)) (made_capture_begins_with_values seed 0 count);
+    header = made_capture_has_header (capture_frames seed 0 count);
+    begins = rw (made_capture_behind_header (capture_frames seed 0 count)) (made_capture_begins_with_values seed 0 count);
     limit = omega (arith, few, made_capture_value_count seed count);
   },
 )
 
 -- a made capture is a capture
-pub made_capture_has_frames : (seed count : ℕ) → count ≤ most_made_capture_frames
-    → (frames : List FrameValue) × CaptureFileHasFrames (made_capture seed count) frames
+pub made_capture_has_frames : (seed count : ℕ) → count ≤ most_frames
+    → (frames : List FrameValue) × FileHasFrames (made_capture seed count) frames
 made_capture_has_frames seed count few = (made_capture_values seed 0 count, made_capture_has_values seed count few)

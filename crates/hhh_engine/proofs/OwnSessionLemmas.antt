@@ -9,7 +9,7 @@ use Rattle.frame_records.specs.declared.weigh.Weigh.{Weigh}
 use Rattle.hhh_report.specs.{IsSound}
 use Rattle.hhh_report.specs.declared.reports.Reported.{Reported}
 use Rattle.command_words.specs.declared.settings.Settings.{Settings}
-use Rattle.session_audit.specs.{IsAuditedAsSound}
+use Rattle.session_audit.specs.{IsAuditedSound}
 use Rattle.dealt_capture.specs.{AreDealtRecords, DealingRules}
 
 -- records that are dealt for some settings are dealt for all that agree on this
@@ -29,7 +29,7 @@ own_session_is_dealt_alike settings other rules file records lists shards deal w
 pub own_session_is_sound_alike : (settings other : Settings) (lists : List (List RecordValue)) (reports : List Reported)
     → settings.capacity ≡ other.capacity → settings.phi ≡ other.phi
     → All (λ reported. IsSound reported.report lists settings.capacity settings.phi) reports
-    → All (IsAuditedAsSound other lists) reports
+    → All (IsAuditedSound other lists) reports
 own_session_is_sound_alike settings other lists reports capacity phi sound = λ k d lt.
     subst (λ n. IsSound (get_or reports k d).report lists n other.phi) capacity
     (subst (λ n. IsSound (get_or reports k d).report lists settings.capacity n) phi (sound k d lt))

@@ -2,7 +2,7 @@
 use Rattle.std.proofs.Common.{◌≡◌, ℕ, List, Option, IfSome, inl, inr, refl, sym, subst, arith, ⊎_elim}
 use Rattle.std.specs.Prelude.{⊤}
 use Rattle.std.specs.Io.KnownBytes.{IsAtEnd}
-use Rattle.outside_io.specs.{FaultCountRose}
+use Rattle.outside_io.specs.{FaultRose}
 use Rattle.prefix_lattice.specs.{RecordValue}
 use Rattle.pcap_frames.specs.declared.fault.CaptureFault.{CaptureFault}
 use Rattle.report_text.specs.declared.session_fault.SessionFault.{SessionFault}
@@ -12,11 +12,11 @@ use Rattle.command_words.specs.{AskForCommand}
 use Rattle.command_words.specs.declared.command.Command.{Command}
 use Rattle.command_words.specs.declared.command.Command.TheVariants.{Weigh, Report, Format, Audit, Make, Demo}
 use Rattle.command_words.specs.declared.settings.Settings.{Settings}
-use Rattle.session_audit.specs.{AuditingHasNoBytes, AuditingSays}
-use Rattle.hhh_engine.specs.Ending.{Task, course, Ends, HappenedToDiskAtEnding, EndsAtFailedSource, EndingSourceFaults, EndsInOrder}
-use Rattle.hhh_engine.specs.Ending.{EndsAsBeforeUnlessFormat, ending_source_faults}
-use Rattle.hhh_engine.specs.Inputs.{AskedCommandUsesInput, InputBytes, MayUseInputStore, UsesInputCapture}
-use Rattle.hhh_engine.specs.Inputs.{UsesInputSession}
+use Rattle.session_audit.specs.{HasNoBytes, Says}
+use Rattle.hhh_engine.specs.Ending.{Task, course, Ends, DiskHappened, FailsAtSource, SourceFaults, EndsInOrder}
+use Rattle.hhh_engine.specs.Ending.{EndsAsBefore, faults_of_source}
+use Rattle.hhh_engine.specs.Inputs.{CommandUses, InputBytes, MayUseStore, UsesCapture}
+use Rattle.hhh_engine.specs.Inputs.{UsesSession}
 use Rattle.dealt_capture.specs.{IsCaptureFile, DealingRules}
 use Rattle.run_status.specs.{status_of_session}
 use Rattle.run_status.specs.declared.status.Status.{Status}
@@ -26,17 +26,17 @@ use Rattle.run_status.specs.declared.status.Status.TheVariants.{OtherCapture, Au
 use Rattle.outside_io.specs.declared.source.Source.{Ghosts as SourceOf}
 use Rattle.outside_io.specs.declared.sink.Sink.{Ghosts as SinkOf}
 use Rattle.slot_disk.specs.declared.disk.Disk.{Ghosts as DiskOf}
-use Rattle.hhh_engine.specs.CommandEnding.{CommandEnds, CommandEndsInOrder}
+use Rattle.hhh_engine.specs.Commands.{CommandEnds, CommandInOrder}
 use Rattle.hhh_engine.specs.TopCall.{FailsToRead, FailsToStore, RefusesCapture, Streams, faults_after, faults_before}
 use Rattle.hhh_engine.specs.TopCall.{run_inputs}
-use Rattle.report_session.specs.{IsAsBeforeSaves}
+use Rattle.report_session.specs.{IsAsBefore}
 
 -- ---- the steps of an audit
 
 -- its text was not read
-pub read_order_without_text : {T : Type 0} (read : InputBytes) (before now : EndingSourceFaults) (text text_read : T) (status : Status)
+pub read_order_without_text : {T : Type 0} (read : InputBytes) (before now : SourceFaults) (text text_read : T) (status : Status)
     → IsAtEnd read.capture_left → IfSome read.capture IsCaptureFile → now.capture ≡ before.capture
-    → AuditingHasNoBytes before.text now.text status → EndsInOrder ⊤ ⊤ read before now text text_read status
+    → HasNoBytes before.text now.text status → EndsInOrder ⊤ ⊤ read before now text text_read status
 read_order_without_text read before now text text_read Done at_end is_capture same none = absurd none
 read_order_without_text read before now text text_read (BadWords kind) at_end is_capture same none = absurd none
 read_order_without_text read before now text text_read (BadCapture fault) at_end is_capture same none = absurd none
@@ -53,15 +53,15 @@ read_order_without_text read before now text text_read (BadReport fault) at_end 
 read_order_without_text read before now text text_read OutOfMemory at_end is_capture same none = tt
 
 -- its text is not that of a session
-pub read_order_at_bad_text : {T : Type 0} (read : InputBytes) (before now : EndingSourceFaults) (text text_read : T) (fault : SessionFault)
+pub read_order_at_bad_text : {T : Type 0} (read : InputBytes) (before now : SourceFaults) (text text_read : T) (fault : SessionFault)
     → EndsInOrder ⊤ ⊤ read before now text text_read (status_of_session fault)
 read_order_at_bad_text read before now text text_read (session.Text fault) = tt
 read_order_at_bad_text read before now text text_read session.OutOfMemory = tt
 
 -- the audit was made
-pub read_order_of_made_audit : {T : Type 0} (read : InputBytes) (before now : EndingSourceFaults) (text text_read : T)
+pub read_order_of_made_audit : {T : Type 0} (read : InputBytes) (before now : SourceFaults) (text text_read : T)
     (settings : Settings) (lists : List (List RecordValue)) (reports : List Reported) (written : List ℕ) (status : Status)
-    → AuditingSays settings lists reports written status → EndsInOrder ⊤ ⊤ read before now text text_read status
+    → Says settings lists reports written status → EndsInOrder ⊤ ⊤ read before now text text_read status
 read_order_of_made_audit read before now text text_read settings lists reports written Done says = tt
 read_order_of_made_audit read before now text text_read settings lists reports written (BadWords kind) says = absurd says
 read_order_of_made_audit read before now text text_read settings lists reports written (BadCapture fault) says = absurd says
@@ -82,9 +82,9 @@ read_order_of_made_audit read before now text text_read settings lists reports w
 
 -- what a command reads may be said in other words
 read_order_in_other_terms : {T : Type 0} (Reads ReadsText Other OtherText : Type 0) (read : InputBytes)
-    (before now : EndingSourceFaults) (text text_read : T) → (Reads → Other) → (ReadsText → OtherText)
-    → EndsAtFailedSource Reads ReadsText read before now text text_read
-    → EndsAtFailedSource Other OtherText read before now text text_read
+    (before now : SourceFaults) (text text_read : T) → (Reads → Other) → (ReadsText → OtherText)
+    → FailsAtSource Reads ReadsText read before now text text_read
+    → FailsAtSource Other OtherText read before now text text_read
 read_order_in_other_terms Reads ReadsText Other OtherText read before now text text_read reads reads_text failed =
     ⊎_elim
     (λ is. inl (record { reads = reads is.reads; rose = is.rose; text_unread = is.text_unread }))
@@ -99,15 +99,15 @@ read_order_in_other_terms Reads ReadsText Other OtherText read before now text t
 -- how a command that reads a capture and no text ended: whatever the faults of a text's source are, its own rose
 pub read_order_of_capture_alone : {K T : Type 0} (task : Task) (k : SinkOf K) (capture : Option (List ℕ)) (before now other : ℕ)
     (sink written : K) (status : Status) (Reads ReadsText : Type 0) (read : InputBytes) (text : T) → Reads
-    → Ends task (course k capture (ending_source_faults before 0) (ending_source_faults now 0) sink written) status
-    → EndsInOrder Reads ReadsText read (ending_source_faults before other) (ending_source_faults now other) text text status
+    → Ends task (course k capture (faults_of_source before 0) (faults_of_source now 0) sink written) status
+    → EndsInOrder Reads ReadsText read (faults_of_source before other) (faults_of_source now other) text text status
 read_order_of_capture_alone task k capture before now other sink written Done Reads ReadsText read text reads ends = tt
 read_order_of_capture_alone task k capture before now other sink written (BadWords kind) Reads ReadsText read text reads ends = tt
 read_order_of_capture_alone task k capture before now other sink written (BadCapture fault) Reads ReadsText read text reads ends = (reads, refl)
 read_order_of_capture_alone task k capture before now other sink written ReadFault Reads ReadsText read text reads ends =
     ⊎_elim
-    (λ (rose : FaultCountRose before now). inl (record { reads = reads; rose = rose; text_unread = refl }))
-    (λ (rose : FaultCountRose 0 0). absurd (omega (arith, rose))) ends.0
+    (λ (rose : FaultRose before now). inl (record { reads = reads; rose = rose; text_unread = refl }))
+    (λ (rose : FaultRose 0 0). absurd (omega (arith, rose))) ends.0
 read_order_of_capture_alone task k capture before now other sink written WriteFault Reads ReadsText read text reads ends = tt
 read_order_of_capture_alone task k capture before now other sink written DiskFault Reads ReadsText read text reads ends = tt
 read_order_of_capture_alone task k capture before now other sink written NotFormatted Reads ReadsText read text reads ends = tt
@@ -119,7 +119,7 @@ read_order_of_capture_alone task k capture before now other sink written (BadRep
 read_order_of_capture_alone task k capture before now other sink written OutOfMemory Reads ReadsText read text reads ends = tt
 
 -- and one that reads neither: it ends at no fault of them
-pub read_order_of_neither : {T : Type 0} (Reads ReadsText : Type 0) (read : InputBytes) (before now : EndingSourceFaults) (text : T)
+pub read_order_of_neither : {T : Type 0} (Reads ReadsText : Type 0) (read : InputBytes) (before now : SourceFaults) (text : T)
     (status : Status) → ((fault : CaptureFault) → status ≡ BadCapture fault → ⊥) → (status ≡ ReadFault → ⊥)
     → EndsInOrder Reads ReadsText read before now text text status
 read_order_of_neither Reads ReadsText read before now text Done no_capture no_read = tt
@@ -137,22 +137,22 @@ read_order_of_neither Reads ReadsText read before now text (BadReport fault) no_
 read_order_of_neither Reads ReadsText read before now text OutOfMemory no_capture no_read = tt
 
 -- the command that a variant is reads what the variant reads
-pub read_order_of_variant : {T : Type 0} (command other : Command) (read : InputBytes) (before now : EndingSourceFaults)
+pub read_order_of_variant : {T : Type 0} (command other : Command) (read : InputBytes) (before now : SourceFaults)
     (text text_read : T) (status : Status) → command ≡ other
-    → EndsInOrder (UsesInputCapture other) (UsesInputSession other) read before now text text_read status
-    → EndsInOrder (UsesInputCapture command) (UsesInputSession command) read before now text text_read status
+    → EndsInOrder (UsesCapture other) (UsesSession other) read before now text text_read status
+    → EndsInOrder (UsesCapture command) (UsesSession command) read before now text text_read status
 read_order_of_variant command other read before now text text_read status is stops =
-    subst (λ c. EndsInOrder (UsesInputCapture c) (UsesInputSession c) read before now text text_read status) (sym is) stops
+    subst (λ c. EndsInOrder (UsesCapture c) (UsesSession c) read before now text text_read status) (sym is) stops
 
 -- ---- the top call
 
 -- the arguments ask for what their command uses
 read_order_as_asked : (Uses : Command → Type 0) (words : List (List ℕ)) (command : Command) → AskForCommand words command
-    → Uses command → AskedCommandUsesInput Uses words
+    → Uses command → CommandUses Uses words
 read_order_as_asked Uses words command asked uses = record { command = command; asked = asked; uses = uses }
 
 -- only a command that may use a store has a disk that fails
-read_order_lets_use_store : (command : Command) (Happened : Type 0) → HappenedToDiskAtEnding command Happened → MayUseInputStore command × Happened
+read_order_lets_use_store : (command : Command) (Happened : Type 0) → DiskHappened command Happened → MayUseStore command × Happened
 read_order_lets_use_store (Weigh prefix settings) Happened happened = absurd happened
 read_order_lets_use_store (Report settings) Happened happened = (tt, happened)
 read_order_lets_use_store (Format settings) Happened happened = (tt, happened)
@@ -171,7 +171,7 @@ module _ {S T K D : Type 0} (s : SourceOf S) (t : SourceOf T) (k : SinkOf K) (d 
   Ended = CommandEnds s t k d old new rules
 
   abbrev EndedInOrder : Command → Status → Type 0
-  EndedInOrder = CommandEndsInOrder s t k d old new rules
+  EndedInOrder = CommandInOrder s t k d old new rules
 
   -- the capture was refused
   pub read_order_at_refused_capture : (words : List (List ℕ)) (command : Command) (status : Status) (fault : CaptureFault)
@@ -181,7 +181,7 @@ module _ {S T K D : Type 0} (s : SourceOf S) (t : SourceOf T) (k : SinkOf K) (d 
       let order = subst (EndedInOrder command) is stops in
       let ended = subst (Ended command) is ends in
       record {
-        asked = read_order_as_asked UsesInputCapture words command asked order.0;
+        asked = read_order_as_asked UsesCapture words command asked order.0;
         first_fault = ended.0;
         text_unread = order.1;
         nothing = record { unwritten = ended.1; untouched = ended.2 };
@@ -194,9 +194,9 @@ module _ {S T K D : Type 0} (s : SourceOf S) (t : SourceOf T) (k : SinkOf K) (d 
       let order = subst (EndedInOrder command) is stops in
       let ended = subst (Ended command) is ends in
       record {
-        failed = read_order_in_other_terms (UsesInputCapture command) (UsesInputSession command) (AskedCommandUsesInput UsesInputCapture words)
-            (AskedCommandUsesInput UsesInputSession words) given (faults_before s t k d old new) (faults_after s t k d old new) old.text new.text
-            (read_order_as_asked UsesInputCapture words command asked) (read_order_as_asked UsesInputSession words command asked) order;
+        failed = read_order_in_other_terms (UsesCapture command) (UsesSession command) (CommandUses UsesCapture words)
+            (CommandUses UsesSession words) given (faults_before s t k d old new) (faults_after s t k d old new) old.text new.text
+            (read_order_as_asked UsesCapture words command asked) (read_order_as_asked UsesSession words command asked) order;
         nothing = record { unwritten = ended.1; untouched = ended.2 };
       }
 
@@ -205,13 +205,13 @@ module _ {S T K D : Type 0} (s : SourceOf S) (t : SourceOf T) (k : SinkOf K) (d 
       → status ≡ DiskFault → Ended command status → FailsToStore s t k d old new words rules
   read_order_at_failed_disk words command status asked is ends =
       let ended = subst (Ended command) is ends in
-      let used = read_order_lets_use_store command (FaultCountRose (d.faults old.disk) (d.faults new.disk)) ended.3 in
+      let used = read_order_lets_use_store command (FaultRose (d.faults old.disk) (d.faults new.disk)) ended.3 in
       record {
         command = command;
         asked = asked;
         may_use = used.0;
         rose = used.1;
         in_part = ⊎_elim
-            (λ (nothing : (new.sink ≡ old.sink) × EndsAsBeforeUnlessFormat command (IsAsBeforeSaves d old.disk new.disk)). inl nothing)
+            (λ (nothing : (new.sink ≡ old.sink) × EndsAsBefore command (IsAsBefore d old.disk new.disk)). inl nothing)
             (λ part. inr (record { command = command; asked = asked; read_to_end = ended.0; answer = part })) ended.2;
       }

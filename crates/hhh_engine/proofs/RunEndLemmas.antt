@@ -4,7 +4,7 @@ use Rattle.std.specs.declared.result.Result.{Result}
 use Rattle.outside_io.specs.declared.source.Source.{Ghosts as SourceOf}
 use Rattle.outside_io.specs.declared.sink.Sink.{Ghosts as SinkOf}
 use Rattle.slot_disk.specs.declared.disk.Disk.{Ghosts as DiskOf}
-use Rattle.recovery.specs.{BelongingStoresAreOpened, OpeningsAreDecided}
+use Rattle.recovery.specs.{BelongingOpen, AreDecided}
 use Rattle.command_words.specs.{AskForCommand, HasWordsFault, IsLimitedCommand}
 use Rattle.command_words.specs.declared.command.Command.{Command}
 use Rattle.command_words.specs.declared.command.Command.TheVariants.{Weigh, Report, Format, Audit, Make, Demo}
@@ -12,11 +12,11 @@ use Rattle.command_words.specs.declared.settings.Settings.{Settings}
 use Rattle.command_words.specs.declared.words_kind.WordsKind.{WordsKind}
 use Rattle.command_words.specs.declared.words_kind.WordsRefusal.{WordsRefusal}
 use Rattle.command_words.specs.declared.words_kind.WordsRefusal.TheVariants as words
-use Rattle.hhh_engine.specs.CommandEnding.{AnswersCommand, CommandEnds}
-use Rattle.hhh_engine.specs.Ending.{EndsAsBeforeUnlessFormat, FormatEnds}
-use Rattle.hhh_engine.specs.Inputs.{UsesInputCapture, UsesInputSession, UsesInputStore}
+use Rattle.hhh_engine.specs.Commands.{AnswersCommand, CommandEnds}
+use Rattle.hhh_engine.specs.Ending.{EndsAsBefore, FormatEnds}
+use Rattle.hhh_engine.specs.Inputs.{UsesCapture, UsesSession, UsesStore}
 use Rattle.hhh_engine.specs.TopCall.{RunEnds, Streams, faults_after, faults_before}
-use Rattle.report_session.specs.{IsAsBeforeSaves, store_settings_for_saves, IsAsBeforeSaves-untouched}
+use Rattle.report_session.specs.{IsAsBefore, saves_settings, IsAsBefore-untouched}
 use Rattle.dealt_capture.specs.{DealingRules}
 use Rattle.run_status.specs.{status_of_words}
 use Rattle.run_status.specs.declared.status.Status.{Status}
@@ -37,8 +37,8 @@ use Rattle.hhh_engine.proofs.StatusLemmas.{status_names_refusal, status_of_asked
 pub record RunLaws : Type 0 where
   pub never_both : CaptureStatusIsFaultless
   pub one_fault : FaultStatusIsUnique
-  pub decided : OpeningsAreDecided
-  pub opened : BelongingStoresAreOpened
+  pub decided : AreDecided
+  pub opened : BelongingOpen
   pub one_text_fault : AuditFindingHasOneFault
   pub no_text_fault : SessionStatusIsFaultless
   pub one_verdict : AuditFindingIsUnique
@@ -114,7 +114,7 @@ module _ {S T K D : Type 0} (s : SourceOf S) (t : SourceOf T) (k : SinkOf K) (d 
     unused_capture = λ avoids. refl;
     unused_text = λ avoids. refl;
     unused_disk = λ avoids. refl;
-    out_of_memory = λ is. inl (refl, IsAsBeforeSaves-untouched d old.disk old.disk only_now refl);
+    out_of_memory = λ is. inl (refl, IsAsBefore-untouched d old.disk old.disk only_now refl);
     complete = λ command asks can no_capture no_text no_sink no_disk. inr refl;
   }
 
@@ -172,14 +172,14 @@ module _ {S T K D : Type 0} (s : SourceOf S) (t : SourceOf T) (k : SinkOf K) (d 
   run_reports_write_fault command OutOfMemory none ends = ends.2
 
   -- where nothing was written for want of memory, the disk is as before, also if the command is `format`
-  run_is_as_before : RunDiskIsNow d → (command : Command) → EndsAsBeforeUnlessFormat command (IsAsBeforeSaves d old.disk new.disk)
+  run_is_as_before : RunDiskIsNow d → (command : Command) → EndsAsBefore command (IsAsBefore d old.disk new.disk)
       → ((settings : Settings) → command ≡ Format settings
-      → FormatEnds d (store_settings_for_saves settings) old.sink new.sink old.disk new.disk OutOfMemory)
-      → IsAsBeforeSaves d old.disk new.disk
+      → FormatEnds d (saves_settings settings) old.sink new.sink old.disk new.disk OutOfMemory)
+      → IsAsBefore d old.disk new.disk
   run_is_as_before only_now (Weigh prefix settings) as_before formats = as_before
   run_is_as_before only_now (Report settings) as_before formats = as_before
   run_is_as_before only_now (Format settings) as_before formats =
-      IsAsBeforeSaves-untouched d old.disk new.disk only_now (formats settings refl).1
+      IsAsBefore-untouched d old.disk new.disk only_now (formats settings refl).1
   run_is_as_before only_now (Audit settings) as_before formats = as_before
   run_is_as_before only_now (Make seed frames) as_before formats = as_before
   run_is_as_before only_now (Demo seed frames settings) as_before formats = as_before
@@ -206,7 +206,7 @@ module _ {S T K D : Type 0} (s : SourceOf S) (t : SourceOf T) (k : SinkOf K) (d 
             read_order_at_refused_capture s t k d old new rules arguments command status fault asked is answers.order ends;
         refuses_capture = λ file fault asks known has.
             status_of_refused_capture s t k d old new rules laws.never_both laws.one_fault command status file fault
-            (subst UsesInputCapture (sym (same asks.command asks.asked)) asks.uses) known has ends;
+            (subst UsesCapture (sym (same asks.command asks.asked)) asks.uses) known has ends;
         bad_store = λ fault shown is. status_names_refusal s t k d old new rules arguments command status fault asked shown is ends;
         refuses_store = λ settings file image frames fault asks used known capture is_store shown refused.
             status_is_store_refusal s t k d old new rules laws.never_both laws.decided settings status file image frames fault
@@ -239,19 +239,19 @@ module _ {S T K D : Type 0} (s : SourceOf S) (t : SourceOf T) (k : SinkOf K) (d 
         disk_fault_reported = answers.told;
         formats = λ settings asks. answers.formats settings (same (Format settings) asks);
         unused_capture = λ avoids.
-            answers.unread (subst (λ c. UsesInputCapture c → ⊥) (sym (same avoids.command avoids.asked)) avoids.unused);
+            answers.unread (subst (λ c. UsesCapture c → ⊥) (sym (same avoids.command avoids.asked)) avoids.unused);
         unused_text = λ avoids.
-            answers.text_unread (subst (λ c. UsesInputSession c → ⊥) (sym (same avoids.command avoids.asked)) avoids.unused);
+            answers.text_unread (subst (λ c. UsesSession c → ⊥) (sym (same avoids.command avoids.asked)) avoids.unused);
         unused_disk = λ avoids.
-            answers.unused (subst (λ c. UsesInputStore c → ⊥) (sym (same avoids.command avoids.asked)) avoids.unused);
+            answers.unused (subst (λ c. UsesStore c → ⊥) (sym (same avoids.command avoids.asked)) avoids.unused);
         out_of_memory = λ is.
             let ended = subst (Ended command) is ends in
             ⊎_elim
-            (λ (nothing : (new.sink ≡ old.sink) × EndsAsBeforeUnlessFormat command (IsAsBeforeSaves d old.disk new.disk)).
+            (λ (nothing : (new.sink ≡ old.sink) × EndsAsBefore command (IsAsBefore d old.disk new.disk)).
             inl (
               nothing.0,
               run_is_as_before only_now command nothing.1 (λ settings formatted.
-                  subst (FormatEnds d (store_settings_for_saves settings) old.sink new.sink old.disk new.disk) is
+                  subst (FormatEnds d (saves_settings settings) old.sink new.sink old.disk new.disk) is
                   (answers.formats settings formatted)),
             ))
             (λ part. inr (record { command = command; asked = asked; read_to_end = part.0; answer = part.1 })) ended.0;

@@ -2,13 +2,13 @@
 use Rattle.std.proofs.Common.{◌≡◌, ◌⊎◌, ◌≤◌, ℕ, List, length, All, Some, inl, inr, refl}
 use Rattle.prefix_lattice.specs.{RecordValue}
 use Rattle.pcap_frames.specs.{FrameValue}
-use Rattle.frame_records.specs.{CaptureFileHasFrames, IsRefusedCaptureFile}
-use Rattle.report_text.specs.{HasSessionTextFault, IsSessionText, longest_session_text_length}
+use Rattle.frame_records.specs.{FileHasFrames, IsRefusedFile}
+use Rattle.report_text.specs.{HasSessionFault, IsSessionText, longest_session}
 use Rattle.report_text.specs.declared.session.Session.{Session}
 use Rattle.command_words.specs.declared.command.Command.{Command}
 use Rattle.command_words.specs.declared.command.Command.TheVariants.{Audit}
 use Rattle.command_words.specs.declared.settings.Settings.{Settings}
-use Rattle.session_audit.specs.{AreAudited, IsAuditedAsSound, IsUnsoundAudit}
+use Rattle.session_audit.specs.{AreAudited, IsAuditedSound, IsUnsoundAudit}
 use Rattle.hhh_engine.specs.Inputs.{InputBytes}
 use Rattle.dealt_capture.specs.{DealingRules}
 use Rattle.run_status.specs.declared.status.Status.{Status}
@@ -20,7 +20,7 @@ use Rattle.hhh_engine.proofs.StatusLemmas.{CaptureStatusIsFaultless, SessionStat
 use Rattle.outside_io.specs.declared.source.Source.{Ghosts as SourceOf}
 use Rattle.outside_io.specs.declared.sink.Sink.{Ghosts as SinkOf}
 use Rattle.slot_disk.specs.declared.disk.Disk.{Ghosts as DiskOf}
-use Rattle.hhh_engine.specs.CommandEnding.{CommandEnds}
+use Rattle.hhh_engine.specs.Commands.{CommandEnds}
 use Rattle.hhh_engine.specs.TopCall.{Streams, run_inputs}
 
 -- a run, whose command ended so
@@ -36,10 +36,10 @@ module _ {S T K D : Type 0} (s : SourceOf S) (t : SourceOf T) (k : SinkOf K) (d 
   -- it is found so, however the records are dealt, unless a source or the sink fails or memory runs out
   pub sound_session_is_found : CaptureStatusIsFaultless → SessionStatusIsFaultless → AuditFindingIsUnique
       → (settings : Settings) (status : Status) (file bytes : List ℕ) (frames : List FrameValue) (known : Session)
-      → given.capture ≡ Some file → CaptureFileHasFrames file frames → given.text ≡ Some bytes → IsSessionText bytes known
-      → length bytes ≤ longest_session_text_length
+      → given.capture ≡ Some file → FileHasFrames file frames → given.text ≡ Some bytes → IsSessionText bytes known
+      → length bytes ≤ longest_session
       → ((lists : List (List RecordValue)) (session : Session) → AreAudited settings rules file bytes lists session
-      → All (IsAuditedAsSound settings lists) session.reports)
+      → All (IsAuditedSound settings lists) session.reports)
       → Ended (Audit settings) status
       → (status ≡ Done) ⊎ ((status ≡ ReadFault) ⊎ ((status ≡ WriteFault) ⊎ (status ≡ OutOfMemory)))
   sound_session_is_found never_both no_fault one settings Done file bytes frames known is_file capture is_text
@@ -51,7 +51,7 @@ module _ {S T K D : Type 0} (s : SourceOf S) (t : SourceOf T) (k : SinkOf K) (d 
   sound_session_is_found never_both no_fault one settings (BadCapture other) file bytes frames known is_file capture is_text
       is_session not_long sound ends =
       absurd
-      (never_both file frames other capture (status_of_known_file given.capture file (λ f. IsRefusedCaptureFile f other) is_file ends.0))
+      (never_both file frames other capture (status_of_known_file given.capture file (λ f. IsRefusedFile f other) is_file ends.0))
   sound_session_is_found never_both no_fault one settings ReadFault file bytes frames known is_file capture is_text
       is_session not_long sound ends =
       inr (inl refl)
@@ -82,7 +82,7 @@ module _ {S T K D : Type 0} (s : SourceOf S) (t : SourceOf T) (k : SinkOf K) (d 
       is_session not_long sound ends =
       absurd
       (no_fault bytes known wrong is_session not_long
-      (status_of_known_file given.text bytes (λ t. HasSessionTextFault t wrong) is_text ends.0.first_fault))
+      (status_of_known_file given.text bytes (λ t. HasSessionFault t wrong) is_text ends.0.first_fault))
   sound_session_is_found never_both no_fault one settings OutOfMemory file bytes frames known is_file capture is_text
       is_session not_long sound ends =
       inr (inr (inr refl))

@@ -1,43 +1,43 @@
 -- How a command can end.
 use Rattle.std.proofs.Common.{◌≡◌, ◌⊎◌, ◌≤◌, ℕ, true, List, [], length, Option, Some, IfSome, inl, inr, ⊎_elim, refl}
 use Rattle.std.proofs.Common.{sym, ap, subst}
-use Rattle.outside_io.specs.{FaultCountRose}
+use Rattle.outside_io.specs.{FaultRose}
 use Rattle.outside_io.specs.declared.source.Source.{Ghosts as SourceOf}
 use Rattle.outside_io.specs.declared.sink.Sink.{Ghosts as SinkOf}
 use Rattle.slot_disk.specs.declared.disk.Disk.{Ghosts as DiskOf}
 use Rattle.prefix_lattice.specs.{RecordValue}
 use Rattle.pcap_frames.specs.{FrameValue}
-use Rattle.frame_records.specs.{CaptureFileHasFrames, IsRefusedCaptureFile}
+use Rattle.frame_records.specs.{FileHasFrames, IsRefusedFile}
 use Rattle.frame_records.specs.declared.records.Records.{Records}
 use Rattle.pcap_frames.specs.declared.fault.CaptureFault.{CaptureFault}
-use Rattle.recovery.specs.{BelongingStoresAreOpened, IsRefusedAtOpening, IsShownByOpening, OpeningsAreDecided}
+use Rattle.recovery.specs.{BelongingOpen, RefusesOpening, IsShown, AreDecided}
 use Rattle.recovery.specs.declared.fault.OpenFault.{OpenFault}
 use Rattle.recovery.specs.declared.fault.OpenFault.TheVariants as opening
 use Rattle.shard_state.specs.{CutValue}
-use Rattle.command_words.specs.{AreLimitedSettings, AskForCommand, IsLimitedCommand}
+use Rattle.command_words.specs.{AreLimited, AskForCommand, IsLimitedCommand}
 use Rattle.command_words.specs.declared.command.Command.{Command}
 use Rattle.command_words.specs.declared.command.Command.TheVariants.{Weigh, Report, Format, Audit, Make, Demo}
 use Rattle.command_words.specs.declared.settings.Settings.{Settings}
-use Rattle.report_text.specs.{HasSessionTextFault, IsSessionText, longest_session_text_length}
+use Rattle.report_text.specs.{HasSessionFault, IsSessionText, longest_session}
 use Rattle.report_text.specs.declared.session.Session.{Session}
 use Rattle.report_text.specs.declared.session_fault.TextFault.{TextFault}
 use Rattle.exact_audit.specs.declared.verdict.Verdict.{Verdict}
 use Rattle.session_audit.specs.{IsAuditText, IsSoundAudit, IsUnsoundAudit}
-use Rattle.hhh_engine.specs.Answer.{IsAnswer, IsAnswerInPart, IsUnfinishedAnswer, IsWeighAnswerInPart}
-use Rattle.hhh_engine.specs.Ending.{Course, Task, Ends, AuditFindsAtEnding, IsRefusedStoreAtEnding, HappenedToDiskAtEnding}
-use Rattle.hhh_engine.specs.Ending.{SourceFaultsRoseAtEnding, RefusesAtEnding, RefusesStoreAtEnding}
+use Rattle.hhh_engine.specs.Answer.{IsAnswer, IsAnswerInPart, IsUnfinished, IsWeighInPart}
+use Rattle.hhh_engine.specs.Ending.{Course, Task, Ends, AuditFinds, IsRefusedStore, DiskHappened}
+use Rattle.hhh_engine.specs.Ending.{SourceFaultsRose, Refuses, EndsRefusing}
 use Rattle.hhh_engine.specs.Ending.{EndsAnswered}
-use Rattle.hhh_engine.specs.Inputs.{InputsCanBeAnswered, HasKnownInputCapture, HasKnownInputStore, UsesInputCapture}
-use Rattle.hhh_engine.specs.Inputs.{InputBytes, InputsWereAccepted, InputsWereRead}
+use Rattle.hhh_engine.specs.Inputs.{CanBeAnswered, HasCapture, HasStore, UsesCapture}
+use Rattle.hhh_engine.specs.Inputs.{InputBytes, WereAccepted, WereRead}
 use Rattle.dealt_capture.specs.{IsCaptureFile, AreDealtRecords, DealingRules}
-use Rattle.hhh_engine.specs.CommandEnding.{CommandEnds}
+use Rattle.hhh_engine.specs.Commands.{CommandEnds}
 use Rattle.hhh_engine.specs.TopCall.{RefusesStore, Streams, faults_after, faults_before, run_inputs, run_keeping}
-use Rattle.report_session.specs.{IsAsBeforeSaves, store_settings_for_saves, SessionGoesOnFrom, IsSession}
-use Rattle.report_session.specs.{IsSessionInPart, SessionKeeping, store_settings_for_saves-allowed}
+use Rattle.report_session.specs.{IsAsBefore, saves_settings, GoesOnFrom, IsSession}
+use Rattle.report_session.specs.{IsSessionInPart, SessionKeeping, saves_settings-allowed}
 use Rattle.command_words.specs.declared.words_kind.WordsRefusal.{WordsRefusal}
 use Rattle.command_words.specs.declared.words_kind.WordsRefusal.TheVariants as words
 use Rattle.run_status.specs.{status_of_opening, status_of_words}
-use Rattle.hhh_engine.specs.WeightText.{IsWeightText}
+use Rattle.hhh_engine.specs.Weigh.{IsWeightText}
 use Rattle.run_status.specs.declared.status.Status.{Status}
 use Rattle.run_status.specs.declared.status.Status.TheVariants.{Done, BadWords, BadCapture, ReadFault, WriteFault}
 use Rattle.run_status.specs.declared.status.Status.TheVariants.{DiskFault, NotFormatted, Damaged, OtherSettings}
@@ -46,13 +46,13 @@ use Rattle.run_status.specs.declared.status.Status.TheVariants.{OtherCapture, Au
 -- no file is both a capture and a file with a fault
 abbrev pub CaptureStatusIsFaultless : Type 0
 CaptureStatusIsFaultless =
-    (file : List ℕ) (frames : List FrameValue) (fault : CaptureFault) → CaptureFileHasFrames file frames
-    → IsRefusedCaptureFile file fault → ⊥
+    (file : List ℕ) (frames : List FrameValue) (fault : CaptureFault) → FileHasFrames file frames
+    → IsRefusedFile file fault → ⊥
 
 -- a file has one fault at most
 abbrev pub FaultStatusIsUnique : Type 0
 FaultStatusIsUnique =
-    (file : List ℕ) (fault other : CaptureFault) → IsRefusedCaptureFile file fault → IsRefusedCaptureFile file other → other ≡ fault
+    (file : List ℕ) (fault other : CaptureFault) → IsRefusedFile file fault → IsRefusedFile file other → other ≡ fault
 
 -- what is known of a source with this file
 pub status_of_known_file : (left : Option (List ℕ)) (file : List ℕ) (P : List ℕ → Type 0) → left ≡ Some file → IfSome left P → P file
@@ -60,7 +60,7 @@ status_of_known_file left file P known holds = subst (λ o. IfSome o P) known ho
 
 -- a command that reads a capture has a text over captures alone
 status_tells_capture : (rules : DealingRules) (keeping : SessionKeeping) (command : Command) (given : InputBytes)
-    (file text : List ℕ) → UsesInputCapture command → given.capture ≡ Some file
+    (file text : List ℕ) → UsesCapture command → given.capture ≡ Some file
     → IsAnswer rules keeping command given text → IsCaptureFile file
 status_tells_capture rules keeping (Weigh prefix settings) given file text reads known answer =
     let is = status_of_known_file given.capture file (λ f. IsWeightText prefix settings.weigh f text) known answer in
@@ -77,10 +77,10 @@ status_tells_capture rules keeping (Demo seed frames settings) given file text r
 
 -- and a part of a text
 status_tells_capture_in_part : (rules : DealingRules) (keeping : SessionKeeping) (command : Command) (given : InputBytes) (file front : List ℕ)
-    → UsesInputCapture command → given.capture ≡ Some file → IsAnswerInPart rules keeping command given front
+    → UsesCapture command → given.capture ≡ Some file → IsAnswerInPart rules keeping command given front
     → IsCaptureFile file
 status_tells_capture_in_part rules keeping (Weigh prefix settings) given file front reads known answer =
-    let is = status_of_known_file given.capture file (λ f. IsWeighAnswerInPart prefix settings.weigh f front) known answer in
+    let is = status_of_known_file given.capture file (λ f. IsWeighInPart prefix settings.weigh f front) known answer in
     (is.is_text.frames, is.is_text.capture)
 status_tells_capture_in_part rules keeping (Report settings) given file front reads known answer =
     let is = status_of_known_file given.capture file (λ f. IsSessionInPart settings rules keeping given.store f front) known answer in
@@ -88,18 +88,18 @@ status_tells_capture_in_part rules keeping (Report settings) given file front re
 status_tells_capture_in_part rules keeping (Format settings) given file front reads known answer = absurd reads
 status_tells_capture_in_part rules keeping (Audit settings) given file front reads known answer =
     (status_of_known_file given.capture file
-    (λ f. IsCaptureFile f × IfSome given.text (λ session. IsUnfinishedAnswer (IsAuditText settings rules f session) front))
+    (λ f. IsCaptureFile f × IfSome given.text (λ session. IsUnfinished (IsAuditText settings rules f session) front))
     known answer).0
 status_tells_capture_in_part rules keeping (Make seed frames) given file front reads known answer = absurd reads
 status_tells_capture_in_part rules keeping (Demo seed frames settings) given file front reads known answer = absurd reads
 
 -- and a store is refused over captures alone
 status_tells_capture_if_refused : (rules : DealingRules) (command : Command) (given : InputBytes) (AsBefore : Type 0) (file : List ℕ)
-    (fault : OpenFault) → given.capture ≡ Some file → RefusesAtEnding command rules given AsBefore fault
+    (fault : OpenFault) → given.capture ≡ Some file → Refuses command rules given AsBefore fault
     → IsCaptureFile file
 status_tells_capture_if_refused rules (Weigh prefix settings) given AsBefore file fault known refuses = absurd refuses
 status_tells_capture_if_refused rules (Report settings) given AsBefore file fault known refuses =
-    let is = status_of_known_file given.capture file (λ f. IsRefusedStoreAtEnding settings rules given.store f fault) known refuses.2 in
+    let is = status_of_known_file given.capture file (λ f. IsRefusedStore settings rules given.store f fault) known refuses.2 in
     (is.dealt.frames, is.dealt.capture)
 status_tells_capture_if_refused rules (Format settings) given AsBefore file fault known refuses = absurd refuses
 status_tells_capture_if_refused rules (Audit settings) given AsBefore file fault known refuses = absurd refuses
@@ -109,7 +109,7 @@ status_tells_capture_if_refused rules (Demo seed frames settings) given AsBefore
 -- and an audit that ends by what it found read a capture
 status_tells_capture_if_audited : (rules : DealingRules) (command : Command) (given : InputBytes) (old new : Option (List ℕ)) (file : List ℕ)
     (report : ℕ) (verdict : Verdict) → given.capture ≡ Some file
-    → AuditFindsAtEnding command rules given old new (AuditNo report verdict) → IsCaptureFile file
+    → AuditFinds command rules given old new (AuditNo report verdict) → IsCaptureFile file
 status_tells_capture_if_audited rules (Weigh prefix settings) given old new file report verdict known finds = absurd finds
 status_tells_capture_if_audited rules (Report settings) given old new file report verdict known finds = absurd finds
 status_tells_capture_if_audited rules (Format settings) given old new file report verdict known finds = absurd finds
@@ -121,7 +121,7 @@ status_tells_capture_if_audited rules (Audit settings) given old new file report
     known finds.0).0
 
 status_tells_capture_if_faulty : (rules : DealingRules) (command : Command) (given : InputBytes) (old new : Option (List ℕ)) (file : List ℕ)
-    (fault : TextFault) → given.capture ≡ Some file → AuditFindsAtEnding command rules given old new (BadReport fault)
+    (fault : TextFault) → given.capture ≡ Some file → AuditFinds command rules given old new (BadReport fault)
     → IsCaptureFile file
 status_tells_capture_if_faulty rules (Weigh prefix settings) given old new file fault known finds = absurd finds
 status_tells_capture_if_faulty rules (Report settings) given old new file fault known finds = absurd finds
@@ -132,8 +132,8 @@ status_tells_capture_if_faulty rules (Audit settings) given old new file fault k
     status_of_known_file given.capture file IsCaptureFile known finds.accepted
 
 -- an accepted capture is one
-status_tells_accepted_capture : (command : Command) (given : InputBytes) (file : List ℕ) → UsesInputCapture command
-    → given.capture ≡ Some file → InputsWereAccepted command given → IsCaptureFile file
+status_tells_accepted_capture : (command : Command) (given : InputBytes) (file : List ℕ) → UsesCapture command
+    → given.capture ≡ Some file → WereAccepted command given → IsCaptureFile file
 status_tells_accepted_capture (Weigh prefix settings) given file reads known was = status_of_known_file given.capture file IsCaptureFile known was
 status_tells_accepted_capture (Report settings) given file reads known was = status_of_known_file given.capture file IsCaptureFile known was
 status_tells_accepted_capture (Format settings) given file reads known was = absurd reads
@@ -143,39 +143,39 @@ status_tells_accepted_capture (Demo seed frames settings) given file reads known
 
 -- what each command that reads a capture needs of it
 status_of_known_capture : (rules : DealingRules) (command : Command) (given : InputBytes) (file : List ℕ)
-    (fault : CaptureFault) → CaptureStatusIsFaultless → UsesInputCapture command → InputsCanBeAnswered rules command given
-    → IfSome given.capture (λ f. IsRefusedCaptureFile f fault) → ⊥
+    (fault : CaptureFault) → CaptureStatusIsFaultless → UsesCapture command → CanBeAnswered rules command given
+    → IfSome given.capture (λ f. IsRefusedFile f fault) → ⊥
 status_of_known_capture rules (Weigh prefix settings) given file fault never_both reads can has =
-    never_both can.file can.frames fault can.capture (status_of_known_file given.capture can.file (λ f. IsRefusedCaptureFile f fault) can.told has)
+    never_both can.file can.frames fault can.capture (status_of_known_file given.capture can.file (λ f. IsRefusedFile f fault) can.told has)
 status_of_known_capture rules (Report settings) given file fault never_both reads can has =
     let capture = can.0 in
     never_both capture.file capture.frames fault capture.capture
-    (status_of_known_file given.capture capture.file (λ f. IsRefusedCaptureFile f fault) capture.told has)
+    (status_of_known_file given.capture capture.file (λ f. IsRefusedFile f fault) capture.told has)
 status_of_known_capture rules (Format settings) given file fault never_both reads can has = absurd reads
 status_of_known_capture rules (Audit settings) given file fault never_both reads can has =
     let capture = can.0 in
     never_both capture.file capture.frames fault capture.capture
-    (status_of_known_file given.capture capture.file (λ f. IsRefusedCaptureFile f fault) capture.told has)
+    (status_of_known_file given.capture capture.file (λ f. IsRefusedFile f fault) capture.told has)
 status_of_known_capture rules (Make seed frames) given file fault never_both reads can has = absurd reads
 status_of_known_capture rules (Demo seed frames settings) given file fault never_both reads can has = absurd reads
 
 -- a store of the records isn't refused
-status_is_never_refusal : OpeningsAreDecided → BelongingStoresAreOpened → (rules : DealingRules) (settings : Settings)
-    (given : InputBytes) (AsBefore : Type 0) (fault : OpenFault) → AreLimitedSettings settings
-    → HasKnownInputCapture given.capture → (settings.store ≡ true → HasKnownInputStore settings rules given)
-    → IsShownByOpening fault → RefusesStoreAtEnding settings rules given.capture given.store AsBefore fault → ⊥
+status_is_never_refusal : AreDecided → BelongingOpen → (rules : DealingRules) (settings : Settings)
+    (given : InputBytes) (AsBefore : Type 0) (fault : OpenFault) → AreLimited settings
+    → HasCapture given.capture → (settings.store ≡ true → HasStore settings rules given)
+    → IsShown fault → EndsRefusing settings rules given.capture given.store AsBefore fault → ⊥
 status_is_never_refusal decided opened rules settings given AsBefore fault limited capture can shown refuses =
     let is_store = can refuses.0 in
-    let is = status_of_known_file given.capture capture.file (λ f. IsRefusedStoreAtEnding settings rules given.store f fault) capture.told refuses.2 in
+    let is = status_of_known_file given.capture capture.file (λ f. IsRefusedStore settings rules given.store f fault) capture.told refuses.2 in
     let belongs = is_store.belongs capture.file is.records is.lists capture.told is.dealt in
-    (decided (store_settings_for_saves settings) is.lists is_store.image (store_settings_for_saves-allowed settings limited)).not_both _ fault
-    (opened (store_settings_for_saves settings) is.lists is_store.image belongs.0 belongs.1 belongs.2 belongs.3) shown
+    (decided (saves_settings settings) is.lists is_store.image (saves_settings-allowed settings limited)).not_both _ fault
+    (opened (saves_settings settings) is.lists is_store.image belongs.0 belongs.1 belongs.2 belongs.3) shown
     (is.refused is_store.image is_store.told)
 
-command_status_is_never_refusal : OpeningsAreDecided → BelongingStoresAreOpened → (rules : DealingRules) (command : Command)
+command_status_is_never_refusal : AreDecided → BelongingOpen → (rules : DealingRules) (command : Command)
     (given : InputBytes) (AsBefore : Type 0) (fault : OpenFault) → IsLimitedCommand command
-    → InputsCanBeAnswered rules command given → IsShownByOpening fault
-    → RefusesAtEnding command rules given AsBefore fault → ⊥
+    → CanBeAnswered rules command given → IsShown fault
+    → Refuses command rules given AsBefore fault → ⊥
 command_status_is_never_refusal decided opened rules (Weigh prefix settings) given AsBefore fault limited can shown refuses =
     refuses
 command_status_is_never_refusal decided opened rules (Report settings) given AsBefore fault limited can shown refuses =
@@ -192,12 +192,12 @@ command_status_is_never_refusal decided opened rules (Demo seed frames settings)
 -- no text of a session that is not too long has a fault
 abbrev pub SessionStatusIsFaultless : Type 0
 SessionStatusIsFaultless =
-    (text : List ℕ) (session : Session) (fault : TextFault) → IsSessionText text session → length text ≤ longest_session_text_length
-    → ¬ HasSessionTextFault text fault
+    (text : List ℕ) (session : Session) (fault : TextFault) → IsSessionText text session → length text ≤ longest_session
+    → ¬ HasSessionFault text fault
 
 -- the text of a session is not refused
 status_is_never_bad_report : SessionStatusIsFaultless → (rules : DealingRules) (command : Command) (given : InputBytes) (old new : Option (List ℕ))
-    (fault : TextFault) → InputsCanBeAnswered rules command given → AuditFindsAtEnding command rules given old new (BadReport fault) → ⊥
+    (fault : TextFault) → CanBeAnswered rules command given → AuditFinds command rules given old new (BadReport fault) → ⊥
 status_is_never_bad_report no_fault rules (Weigh prefix settings) given old new fault can finds = finds
 status_is_never_bad_report no_fault rules (Report settings) given old new fault can finds = finds
 status_is_never_bad_report no_fault rules (Format settings) given old new fault can finds = finds
@@ -206,7 +206,7 @@ status_is_never_bad_report no_fault rules (Demo seed frames settings) given old 
 status_is_never_bad_report no_fault rules (Audit settings) given old new fault can finds =
     let known = can.1 in
     no_fault known.text known.session fault known.is_session known.not_long
-    (status_of_known_file given.text known.text (λ t. HasSessionTextFault t fault) known.told finds.first_fault)
+    (status_of_known_file given.text known.text (λ t. HasSessionFault t fault) known.told finds.first_fault)
 
 -- a command whose text was written was answered
 status_done_answers : (command : Command) → EndsAnswered command Done
@@ -219,7 +219,7 @@ status_done_answers (Audit settings) = inl refl
 
 -- and so was one that found a report that is not sound
 status_found_answers : (rules : DealingRules) (command : Command) (given : InputBytes) (old new : Option (List ℕ)) (report : ℕ)
-    (verdict : Verdict) → AuditFindsAtEnding command rules given old new (AuditNo report verdict)
+    (verdict : Verdict) → AuditFinds command rules given old new (AuditNo report verdict)
     → EndsAnswered command (AuditNo report verdict)
 status_found_answers rules (Weigh prefix settings) given old new report verdict finds = absurd finds
 status_found_answers rules (Report settings) given old new report verdict finds = absurd finds
@@ -229,32 +229,32 @@ status_found_answers rules (Demo seed frames settings) given old new report verd
 status_found_answers rules (Audit settings) given old new report verdict finds = inr (report, verdict, refl)
 
 -- the session over a capture whose store is refused however its records are dealt
-status_never_of_begun_session : OpeningsAreDecided → (rules : DealingRules) (settings : Settings) (store : Option (List ℕ))
+status_never_of_begun_session : AreDecided → (rules : DealingRules) (settings : Settings) (store : Option (List ℕ))
     (file image : List ℕ) (fault : OpenFault) (records : Records) (lists : List (List RecordValue))
-    (base : Option CutValue) → AreLimitedSettings settings → settings.store ≡ true → store ≡ Some image → IsShownByOpening fault
+    (base : Option CutValue) → AreLimited settings → settings.store ≡ true → store ≡ Some image → IsShown fault
     → ((records : Records) (lists : List (List RecordValue)) → AreDealtRecords settings rules file records lists
-    → IsRefusedAtOpening (store_settings_for_saves settings) lists image fault)
-    → AreDealtRecords settings rules file records lists → SessionGoesOnFrom settings lists store base → ⊥
+    → RefusesOpening (saves_settings settings) lists image fault)
+    → AreDealtRecords settings rules file records lists → GoesOnFrom settings lists store base → ⊥
 status_never_of_begun_session decided rules settings store file image fault records lists base limited used known shown refused dealt
     begins =
-    (decided (store_settings_for_saves settings) lists image (store_settings_for_saves-allowed settings limited)).not_both base fault
+    (decided (saves_settings settings) lists image (saves_settings-allowed settings limited)).not_both base fault
     (begins.opens used image known) shown (refused records lists dealt)
 
 -- the fault for which such a store is refused
-status_names_same_refusal : OpeningsAreDecided → (rules : DealingRules) (settings : Settings) (given : InputBytes) (AsBefore : Type 0)
-    (file image : List ℕ) (fault other : OpenFault) → AreLimitedSettings settings → given.capture ≡ Some file → given.store ≡ Some image
-    → IsShownByOpening fault → IsShownByOpening other
+status_names_same_refusal : AreDecided → (rules : DealingRules) (settings : Settings) (given : InputBytes) (AsBefore : Type 0)
+    (file image : List ℕ) (fault other : OpenFault) → AreLimited settings → given.capture ≡ Some file → given.store ≡ Some image
+    → IsShown fault → IsShown other
     → ((records : Records) (lists : List (List RecordValue)) → AreDealtRecords settings rules file records lists
-    → IsRefusedAtOpening (store_settings_for_saves settings) lists image fault)
-    → RefusesStoreAtEnding settings rules given.capture given.store AsBefore other → other ≡ fault
+    → RefusesOpening (saves_settings settings) lists image fault)
+    → EndsRefusing settings rules given.capture given.store AsBefore other → other ≡ fault
 status_names_same_refusal decided rules settings given AsBefore file image fault other limited known is_store shown is_shown
     refused refuses =
-    let is = status_of_known_file given.capture file (λ f. IsRefusedStoreAtEnding settings rules given.store f other) known refuses.2 in
-    (decided (store_settings_for_saves settings) is.lists image (store_settings_for_saves-allowed settings limited)).one_fault other fault is_shown
+    let is = status_of_known_file given.capture file (λ f. IsRefusedStore settings rules given.store f other) known refuses.2 in
+    (decided (saves_settings settings) is.lists image (saves_settings-allowed settings limited)).one_fault other fault is_shown
     shown (is.refused image is_store) (refused is.records is.lists is.dealt)
 
 -- arguments that are refused name no fault of a store
-pub argument_status_is_no_refusal : {A : Type 0} (refusal : WordsRefusal) (status : Status) (fault : OpenFault) → IsShownByOpening fault
+pub argument_status_is_no_refusal : {A : Type 0} (refusal : WordsRefusal) (status : Status) (fault : OpenFault) → IsShown fault
     → status ≡ status_of_words refusal → status ≡ status_of_opening fault → A
 argument_status_is_no_refusal (words.Bad kind) status opening.NotFormatted shown is was = cc (is, was)
 argument_status_is_no_refusal words.OutOfMemory status opening.NotFormatted shown is was = cc (is, was)
@@ -289,7 +289,7 @@ status_beside_disk task c DiskSame StoreSame OutOfMemory unused same before ends
     (⊎_elim (λ unwritten. inl (unwritten.0, before)) (λ part. inr part) ends.0, ends.1, ends.2)
 
 -- what happened to the disk of a command happened
-pub status_tells_disk_happening : (command : Command) (Happened : Type 0) → HappenedToDiskAtEnding command Happened → Happened
+pub status_tells_disk_happening : (command : Command) (Happened : Type 0) → DiskHappened command Happened → Happened
 status_tells_disk_happening (Weigh prefix settings) Happened none = absurd none
 status_tells_disk_happening (Report settings) Happened happened = happened
 status_tells_disk_happening (Format settings) Happened happened = happened
@@ -308,7 +308,7 @@ module _ {S T K D : Type 0} (s : SourceOf S) (t : SourceOf T) (k : SinkOf K) (d 
   keeping = run_keeping s t k d old new
 
   abbrev AsBefore : Type 0
-  AsBefore = IsAsBeforeSaves d old.disk new.disk
+  AsBefore = IsAsBefore d old.disk new.disk
 
   abbrev Ended : Command → Status → Type 0
   Ended = CommandEnds s t k d old new rules
@@ -316,7 +316,7 @@ module _ {S T K D : Type 0} (s : SourceOf S) (t : SourceOf T) (k : SinkOf K) (d 
   -- a command that reads a capture over a file with a fault is refused for it, unless the source fails or memory runs out
   pub status_of_refused_capture : CaptureStatusIsFaultless → FaultStatusIsUnique
       → (command : Command) (status : Status) (file : List ℕ)
-      (fault : CaptureFault) → UsesInputCapture command → given.capture ≡ Some file → IsRefusedCaptureFile file fault
+      (fault : CaptureFault) → UsesCapture command → given.capture ≡ Some file → IsRefusedFile file fault
       → Ended command status
       → (status ≡ BadCapture fault) ⊎ ((status ≡ ReadFault) ⊎ (status ≡ OutOfMemory))
   status_of_refused_capture never_both one_fault command Done file fault reads known has ends =
@@ -325,7 +325,7 @@ module _ {S T K D : Type 0} (s : SourceOf S) (t : SourceOf T) (k : SinkOf K) (d 
   status_of_refused_capture never_both one_fault command (BadWords kind) file fault reads known has ends =
       absurd ends
   status_of_refused_capture never_both one_fault command (BadCapture other) file fault reads known has ends =
-      inl (ap BadCapture (one_fault file fault other has (status_of_known_file given.capture file (λ f. IsRefusedCaptureFile f other) known ends.0)))
+      inl (ap BadCapture (one_fault file fault other has (status_of_known_file given.capture file (λ f. IsRefusedFile f other) known ends.0)))
   status_of_refused_capture never_both one_fault command ReadFault file fault reads known has ends =
       inr (inl refl)
   status_of_refused_capture never_both one_fault command WriteFault file fault reads known has ends =
@@ -357,11 +357,11 @@ module _ {S T K D : Type 0} (s : SourceOf S) (t : SourceOf T) (k : SinkOf K) (d 
 
   -- over known inputs in their formats and with no fault of source, sink or disk, a command is answered unless memory runs
   -- out. BadCapture comes of commands alone that read a capture
-  status_of_answered_command : CaptureStatusIsFaultless → OpeningsAreDecided → BelongingStoresAreOpened → SessionStatusIsFaultless
-      → (command : Command) (status : Status) → IsLimitedCommand command → InputsCanBeAnswered rules command given
-      → (SourceFaultsRoseAtEnding (faults_before s t k d old new) (faults_after s t k d old new) → ⊥)
-      → (FaultCountRose (k.faults old.sink) (k.faults new.sink) → ⊥) → (FaultCountRose (d.faults old.disk) (d.faults new.disk) → ⊥)
-      → ((fault : CaptureFault) → status ≡ BadCapture fault → UsesInputCapture command)
+  status_of_answered_command : CaptureStatusIsFaultless → AreDecided → BelongingOpen → SessionStatusIsFaultless
+      → (command : Command) (status : Status) → IsLimitedCommand command → CanBeAnswered rules command given
+      → (SourceFaultsRose (faults_before s t k d old new) (faults_after s t k d old new) → ⊥)
+      → (FaultRose (k.faults old.sink) (k.faults new.sink) → ⊥) → (FaultRose (d.faults old.disk) (d.faults new.disk) → ⊥)
+      → ((fault : CaptureFault) → status ≡ BadCapture fault → UsesCapture command)
       → Ended command status
       → EndsAnswered command status ⊎ (status ≡ OutOfMemory)
   status_of_answered_command never_both decided opened no_fault command Done limited can no_read no_write no_disk reads ends =
@@ -397,7 +397,7 @@ module _ {S T K D : Type 0} (s : SourceOf S) (t : SourceOf T) (k : SinkOf K) (d 
 
   -- a report whose store is refused
   status_of_refused_opening : (words : List (List ℕ)) (command : Command) (fault : OpenFault) → AskForCommand words command
-      → InputsWereRead command given → RefusesAtEnding command rules given AsBefore fault → new.sink ≡ old.sink
+      → WereRead command given → Refuses command rules given AsBefore fault → new.sink ≡ old.sink
       → RefusesStore s t k d old new words rules fault
   status_of_refused_opening words (Weigh prefix settings) fault asked read refuses same = absurd refuses
   status_of_refused_opening words (Report settings) fault asked read refuses same = record {
@@ -415,7 +415,7 @@ module _ {S T K D : Type 0} (s : SourceOf S) (t : SourceOf T) (k : SinkOf K) (d 
 
   -- what a status that names a fault of a store says
   pub status_names_refusal : (words : List (List ℕ)) (command : Command) (status : Status) (fault : OpenFault)
-      → AskForCommand words command → IsShownByOpening fault → status ≡ status_of_opening fault → Ended command status
+      → AskForCommand words command → IsShown fault → status ≡ status_of_opening fault → Ended command status
       → RefusesStore s t k d old new words rules fault
   status_names_refusal words command status opening.NotFormatted asked shown is ends =
       let now = subst (Ended command) is ends in
@@ -433,12 +433,12 @@ module _ {S T K D : Type 0} (s : SourceOf S) (t : SourceOf T) (k : SinkOf K) (d 
   status_names_refusal words command status opening.OutOfMemory asked shown is ends = absurd (shown.not_of_memory refl)
 
   -- a report whose store is refused, however the records are dealt, ends so, unless source or disk fail or memory runs out
-  pub status_is_store_refusal : CaptureStatusIsFaultless → OpeningsAreDecided
+  pub status_is_store_refusal : CaptureStatusIsFaultless → AreDecided
       → (settings : Settings) (status : Status)
-      (file image : List ℕ) (frames : List FrameValue) (fault : OpenFault) → AreLimitedSettings settings → settings.store ≡ true
-      → given.capture ≡ Some file → CaptureFileHasFrames file frames → given.store ≡ Some image → IsShownByOpening fault
+      (file image : List ℕ) (frames : List FrameValue) (fault : OpenFault) → AreLimited settings → settings.store ≡ true
+      → given.capture ≡ Some file → FileHasFrames file frames → given.store ≡ Some image → IsShown fault
       → ((records : Records) (lists : List (List RecordValue)) → AreDealtRecords settings rules file records lists
-      → IsRefusedAtOpening (store_settings_for_saves settings) lists image fault)
+      → RefusesOpening (saves_settings settings) lists image fault)
       → Ended (Report settings) status
       → (status ≡ status_of_opening fault)
       ⊎ ((status ≡ ReadFault) ⊎ ((status ≡ DiskFault) ⊎ (status ≡ OutOfMemory)))
@@ -452,7 +452,7 @@ module _ {S T K D : Type 0} (s : SourceOf S) (t : SourceOf T) (k : SinkOf K) (d 
       absurd ends
   status_is_store_refusal never_both decided settings (BadCapture other) file image frames fault limited used known
       capture is_store shown refused ends =
-      absurd (never_both file frames other capture (status_of_known_file given.capture file (λ f. IsRefusedCaptureFile f other) known ends.0))
+      absurd (never_both file frames other capture (status_of_known_file given.capture file (λ f. IsRefusedFile f other) known ends.0))
   status_is_store_refusal never_both decided settings ReadFault file image frames fault limited used known
       capture is_store shown refused ends =
       inr (inl refl)
@@ -495,19 +495,19 @@ module _ {S T K D : Type 0} (s : SourceOf S) (t : SourceOf T) (k : SinkOf K) (d 
       (record { not_of_disk = λ is. cc is; not_of_memory = λ is. cc is }) refused ends.0))
 
   -- the same of the command that was asked for
-  pub status_of_asked_command : CaptureStatusIsFaultless → OpeningsAreDecided → BelongingStoresAreOpened → SessionStatusIsFaultless
+  pub status_of_asked_command : CaptureStatusIsFaultless → AreDecided → BelongingOpen → SessionStatusIsFaultless
       → (command read : Command) (status : Status) → read ≡ command → IsLimitedCommand read
-      → InputsCanBeAnswered rules command given
-      → (SourceFaultsRoseAtEnding (faults_before s t k d old new) (faults_after s t k d old new) → ⊥)
-      → (FaultCountRose (k.faults old.sink) (k.faults new.sink) → ⊥) → (FaultCountRose (d.faults old.disk) (d.faults new.disk) → ⊥)
-      → ((fault : CaptureFault) → status ≡ BadCapture fault → UsesInputCapture read)
+      → CanBeAnswered rules command given
+      → (SourceFaultsRose (faults_before s t k d old new) (faults_after s t k d old new) → ⊥)
+      → (FaultRose (k.faults old.sink) (k.faults new.sink) → ⊥) → (FaultRose (d.faults old.disk) (d.faults new.disk) → ⊥)
+      → ((fault : CaptureFault) → status ≡ BadCapture fault → UsesCapture read)
       → Ended read status
       → EndsAnswered command status ⊎ (status ≡ OutOfMemory)
   status_of_asked_command never_both decided opened no_fault command read status same limited can no_read no_write no_disk reads
       ends =
       subst (λ c. EndsAnswered c status ⊎ (status ≡ OutOfMemory)) same
       (status_of_answered_command never_both decided opened no_fault read status limited
-      (subst (λ c. InputsCanBeAnswered rules c given) (sym same) can) no_read no_write no_disk reads ends)
+      (subst (λ c. CanBeAnswered rules c given) (sym same) can) no_read no_write no_disk reads ends)
 
   -- how a command ended, by how the command that it is equal to ended
   pub status_as_named_command : (command named : Command) (status : Status) → command ≡ named → Ended named status

@@ -1,6 +1,6 @@
 -- A text that is made part by part.
 use Rattle.std.proofs.Common.{◌≡◌, ℕ, List, [], ◌++◌, codes, decimal, ap, ◌∙◌, append_assoc}
-use Rattle.hhh_engine.specs.WeightText.{weight_text}
+use Rattle.hhh_engine.specs.Weigh.{weight_text}
 
 -- parts that follow one another, as one text
 weight_text_is_grouped : (low-name low high-name high total-name total end : List ℕ)

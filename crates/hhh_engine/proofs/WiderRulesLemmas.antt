@@ -7,7 +7,7 @@ use Rattle.deal_rules.specs.declared.deal_kind.DealKind.{DealKind}
 use Rattle.deal_rules.specs.{IsDealing}
 use Rattle.command_words.specs.declared.command.Command.{Command}
 use Rattle.command_words.specs.declared.command.Command.TheVariants.{Weigh, Report, Format, Audit, Make, Demo}
-use Rattle.hhh_engine.specs.Answer.{IsAnswer, IsAnswerInPart, IsUnfinishedAnswer, Answers, AnswersInPart}
+use Rattle.hhh_engine.specs.Answer.{IsAnswer, IsAnswerInPart, IsUnfinished, Answers, AnswersInPart}
 use Rattle.frame_records.specs.declared.records.Records.{Records}
 use Rattle.dealt_capture.specs.{AreDealtRecords, DealingRules}
 use Rattle.report_session.specs.{IsSession, IsSessionInPart, SessionKeeping}
@@ -17,11 +17,11 @@ use Rattle.hhh_engine.specs.Demo.{IsDemoText}
 use Rattle.outside_io.specs.declared.source.Source.{Ghosts as SourceOf}
 use Rattle.outside_io.specs.declared.sink.Sink.{Ghosts as SinkOf}
 use Rattle.slot_disk.specs.declared.disk.Disk.{Ghosts as DiskOf}
-use Rattle.hhh_engine.specs.Ending.{IsRefusedStoreAtEnding}
+use Rattle.hhh_engine.specs.Ending.{IsRefusedStore}
 use Rattle.hhh_engine.specs.TopCall.{FindsUnsound, RefusesStore, RunEnds, Streams, WritesPart, run_inputs}
 use Rattle.hhh_engine.specs.TopCall.{run_keeping}
 use Rattle.run_status.specs.declared.status.Status.{Status}
-use Rattle.hhh_engine.specs.Inputs.{InputsCanBeAnswered, HasKnownInputStore, InputBytes}
+use Rattle.hhh_engine.specs.Inputs.{CanBeAnswered, HasStore, InputBytes}
 use Rattle.hhh_engine.proofs.AuditEndLemmas.{audit_end_inputs_imply_more}
 use Rattle.hhh_engine.proofs.CaptureReportLemmas.{capture_report_if_known}
 use Rattle.command_words.specs.declared.settings.Settings.{Settings}
@@ -127,7 +127,7 @@ wider_rules_allow_unsound_session narrow wide settings file text report verdict 
 wider_rules_allow_audit_part : (narrow wide : DealingRules) (settings : Settings) (file text front : List ℕ)
     → ((kind : DealKind) (place : ℕ) (rec : RecordValue) (shards number : ℕ) → narrow kind place rec shards number
     → wide kind place rec shards number)
-    → IsUnfinishedAnswer (IsAuditText settings narrow file text) front → IsUnfinishedAnswer (IsAuditText settings wide file text) front
+    → IsUnfinished (IsAuditText settings narrow file text) front → IsUnfinished (IsAuditText settings wide file text) front
 wider_rules_allow_audit_part narrow wide settings file text front widen short = record {
   text = short.text;
   is_text = ⊎_elim
@@ -179,8 +179,8 @@ wider_rules_allow_answer_part narrow wide keeping (Report settings) read front w
     (λ file session. wider_rules_allow_partial_session narrow wide keeping settings read.store file front widen session) answer
 wider_rules_allow_answer_part narrow wide keeping (Format settings) read front widen answer = answer
 wider_rules_allow_answer_part narrow wide keeping (Audit settings) read front widen answer =
-    audit_end_inputs_imply_more read (λ file session. IsUnfinishedAnswer (IsAuditText settings narrow file session) front)
-    (λ file session. IsUnfinishedAnswer (IsAuditText settings wide file session) front)
+    audit_end_inputs_imply_more read (λ file session. IsUnfinished (IsAuditText settings narrow file session) front)
+    (λ file session. IsUnfinished (IsAuditText settings wide file session) front)
     (λ file session is. wider_rules_allow_audit_part narrow wide settings file session front widen is) answer
 wider_rules_allow_answer_part narrow wide keeping (Make seed frames) read front widen answer = answer
 wider_rules_allow_answer_part narrow wide keeping (Demo seed frames settings) read front widen answer = record {
@@ -225,7 +225,7 @@ wider_rules_allow_partial_answers narrow wide keeping words read old new widen a
 wider_rules_allow_refusal : (narrow wide : DealingRules) (settings : Settings) (store : Option (List ℕ)) (file : List ℕ) (fault : OpenFault)
     → ((kind : DealKind) (place : ℕ) (rec : RecordValue) (shards number : ℕ) → narrow kind place rec shards number
     → wide kind place rec shards number)
-    → IsRefusedStoreAtEnding settings narrow store file fault → IsRefusedStoreAtEnding settings wide store file fault
+    → IsRefusedStore settings narrow store file fault → IsRefusedStore settings wide store file fault
 wider_rules_allow_refusal narrow wide settings store file fault widen is = record {
   records = is.records;
   lists = is.lists;
@@ -236,7 +236,7 @@ wider_rules_allow_refusal narrow wide settings store file fault widen is = recor
 wider_rules_imply_known_store : (narrow wide : DealingRules) (settings : Settings) (read : InputBytes)
     → ((kind : DealKind) (place : ℕ) (rec : RecordValue) (shards number : ℕ) → narrow kind place rec shards number
     → wide kind place rec shards number)
-    → HasKnownInputStore settings wide read → HasKnownInputStore settings narrow read
+    → HasStore settings wide read → HasStore settings narrow read
 wider_rules_imply_known_store narrow wide settings read widen store = record {
   image = store.image;
   told = store.told;
@@ -248,7 +248,7 @@ wider_rules_imply_known_store narrow wide settings read widen store = record {
 wider_rules_imply_answerable : (narrow wide : DealingRules) (command : Command) (read : InputBytes)
     → ((kind : DealKind) (place : ℕ) (rec : RecordValue) (shards number : ℕ) → narrow kind place rec shards number
     → wide kind place rec shards number)
-    → InputsCanBeAnswered wide command read → InputsCanBeAnswered narrow command read
+    → CanBeAnswered wide command read → CanBeAnswered narrow command read
 wider_rules_imply_answerable narrow wide (Weigh prefix settings) read widen can = can
 wider_rules_imply_answerable narrow wide (Report settings) read widen can =
     (can.0, λ used. wider_rules_imply_known_store narrow wide settings read widen (can.1 used))
@@ -283,8 +283,8 @@ module _ {S T K D : Type 0} (s : SourceOf S) (t : SourceOf T) (k : SinkOf K) (d 
     used = refused.used;
     read_to_end = refused.read_to_end;
     refused = capture_report_if_known (s.left old.capture)
-        (λ file. IsRefusedStoreAtEnding refused.settings narrow (d.reads old.disk) file fault)
-        (λ file. IsRefusedStoreAtEnding refused.settings wide (d.reads old.disk) file fault)
+        (λ file. IsRefusedStore refused.settings narrow (d.reads old.disk) file fault)
+        (λ file. IsRefusedStore refused.settings wide (d.reads old.disk) file fault)
         (λ file is. wider_rules_allow_refusal narrow wide refused.settings (d.reads old.disk) file fault widen is) refused.refused;
     nothing = refused.nothing;
   }

@@ -9,8 +9,8 @@ use Rattle.prefix_lattice.specs.{PrefixValue}
 use Rattle.session_audit.specs.{IsAuditText, IsSoundAudit}
 use Rattle.traffic_maker.specs.{made_capture}
 use Rattle.hhh_engine.specs.Demo.{IsDemoText}
-use Rattle.hhh_engine.specs.Inputs.{InputBytes, HoldsOfAuditInputs, InputsWereRead}
-use Rattle.hhh_engine.specs.WeightText.{IsWeightText}
+use Rattle.hhh_engine.specs.Inputs.{InputBytes, HoldsOfAudit, WereRead}
+use Rattle.hhh_engine.specs.Weigh.{IsWeightText}
 use Rattle.report_session.specs.{SessionKeeping, IsSession, IsSessionInPart}
 use Rattle.dealt_capture.specs.{DealingRules}
 use Rattle.report_session.specs.{WritesAnswer}
@@ -27,39 +27,39 @@ IsAnswer rules keeping (Report settings) read text =
     IfSome read.capture (λ file. IsSession settings rules keeping read.store file text)
 IsAnswer rules keeping (Format settings) read text = text ≡ formatted_answer
 IsAnswer rules keeping (Audit settings) read text =
-    HoldsOfAuditInputs read (λ file session. IsSoundAudit settings rules file session text)
+    HoldsOfAudit read (λ file session. IsSoundAudit settings rules file session text)
 IsAnswer rules keeping (Make seed frames) read text = text ≡ made_capture seed frames
 IsAnswer rules keeping (Demo seed frames settings) read text = IsDemoText settings rules seed frames text
 
 -- a strict prefix of a text
-pub record IsUnfinishedAnswer (IsText : List ℕ → Type 0) (front : List ℕ) : Type 0 where
+pub record IsUnfinished (IsText : List ℕ → Type 0) (front : List ℕ) : Type 0 where
   pub text : List ℕ
   pub is_text : IsText text
   pub begins : IsBeginning front text
   pub cut : length front < length text
 
 -- a strict prefix of the text with the weight of a prefix
-abbrev pub IsWeighAnswerInPart : PrefixValue → Weighing → List ℕ → List ℕ → Type 0
-IsWeighAnswerInPart prefix weigh file front = IsUnfinishedAnswer (IsWeightText prefix weigh file) front
+abbrev pub IsWeighInPart : PrefixValue → Weighing → List ℕ → List ℕ → Type 0
+IsWeighInPart prefix weigh file front = IsUnfinished (IsWeightText prefix weigh file) front
 
 -- a strict prefix of the text of a command
 abbrev pub IsAnswerInPart : DealingRules → SessionKeeping → Command → InputBytes → List ℕ → Type 0
 IsAnswerInPart rules keeping (Weigh prefix settings) read front =
-    IfSome read.capture (λ file. IsWeighAnswerInPart prefix settings.weigh file front)
+    IfSome read.capture (λ file. IsWeighInPart prefix settings.weigh file front)
 IsAnswerInPart rules keeping (Report settings) read front =
     IfSome read.capture (λ file. IsSessionInPart settings rules keeping read.store file front)
-IsAnswerInPart rules keeping (Format settings) read front = IsUnfinishedAnswer (λ text. text ≡ formatted_answer) front
+IsAnswerInPart rules keeping (Format settings) read front = IsUnfinished (λ text. text ≡ formatted_answer) front
 IsAnswerInPart rules keeping (Audit settings) read front =
-    HoldsOfAuditInputs read (λ file session. IsUnfinishedAnswer (IsAuditText settings rules file session) front)
-IsAnswerInPart rules keeping (Make seed frames) read front = IsUnfinishedAnswer (λ text. text ≡ made_capture seed frames) front
-IsAnswerInPart rules keeping (Demo seed frames settings) read front = IsUnfinishedAnswer (IsDemoText settings rules seed frames) front
+    HoldsOfAudit read (λ file session. IsUnfinished (IsAuditText settings rules file session) front)
+IsAnswerInPart rules keeping (Make seed frames) read front = IsUnfinished (λ text. text ≡ made_capture seed frames) front
+IsAnswerInPart rules keeping (Demo seed frames settings) read front = IsUnfinished (IsDemoText settings rules seed frames) front
 
 -- the text of the command that the arguments ask for was written, for its inputs, which were read to their ends
 pub record Answers (rules : DealingRules) (keeping : SessionKeeping) (words : List (List ℕ)) (read : InputBytes)
     (old new : Option (List ℕ)) : Type 0 where
   pub command : Command
   pub asked : AskForCommand words command
-  pub read_to_end : InputsWereRead command read
+  pub read_to_end : WereRead command read
   pub answer : WritesAnswer (IsAnswer rules keeping command read) old new
 
 -- bytes with which such a text may begin were written, and not all of it, after the inputs were read to their ends
@@ -67,5 +67,5 @@ pub record AnswersInPart (rules : DealingRules) (keeping : SessionKeeping) (word
     (old new : Option (List ℕ)) : Type 0 where
   pub command : Command
   pub asked : AskForCommand words command
-  pub read_to_end : InputsWereRead command read
+  pub read_to_end : WereRead command read
   pub answer : WritesAnswer (IsAnswerInPart rules keeping command read) old new

@@ -3,18 +3,18 @@ use Rattle.std.specs.Prelude.{⊤, ℕ, ◌≡◌, ◌≤◌, true, List, length
 use Rattle.std.specs.Io.KnownBytes.{IsAtEnd}
 use Rattle.prefix_lattice.specs.{RecordValue}
 use Rattle.pcap_frames.specs.{FrameValue}
-use Rattle.frame_records.specs.{CaptureFileHasFrames}
+use Rattle.frame_records.specs.{FileHasFrames}
 use Rattle.frame_records.specs.declared.records.Records.{Records}
-use Rattle.checkpoint.specs.{IsStoreOfLists, StoreOpensTo, SavedValue, store_sequence}
+use Rattle.checkpoint.specs.{IsStoreOf, StoreOpensTo, SavedValue, store_sequence}
 use Rattle.checkpoint.specs.declared.settings.StoreSettings.{StoreSettings}
-use Rattle.recovery.specs.{greatest_opened_sequence}
-use Rattle.report_text.specs.{IsSessionText, longest_session_text_length}
+use Rattle.recovery.specs.{greatest_opened}
+use Rattle.report_text.specs.{IsSessionText, longest_session}
 use Rattle.report_text.specs.declared.session.Session.{Session}
 use Rattle.command_words.specs.{AskForCommand}
 use Rattle.command_words.specs.declared.command.Command.{Command}
 use Rattle.command_words.specs.declared.command.Command.TheVariants.{Weigh, Report, Format, Audit, Make, Demo}
 use Rattle.command_words.specs.declared.settings.Settings.{Settings}
-use Rattle.report_session.specs.{store_settings_for_saves}
+use Rattle.report_session.specs.{saves_settings}
 use Rattle.dealt_capture.specs.{AreDealtRecords, DealingRules}
 use Rattle.dealt_capture.specs.{IsCaptureFile}
 
@@ -39,109 +39,109 @@ inputs capture capture_left text text_left store = record {
 }
 
 -- this command reads a capture
-abbrev pub UsesInputCapture : Command → Type 0
-UsesInputCapture (Weigh prefix settings) = ⊤
-UsesInputCapture (Report settings) = ⊤
-UsesInputCapture (Format settings) = ⊥
-UsesInputCapture (Audit settings) = ⊤
-UsesInputCapture (Make seed frames) = ⊥
-UsesInputCapture (Demo seed frames settings) = ⊥
+abbrev pub UsesCapture : Command → Type 0
+UsesCapture (Weigh prefix settings) = ⊤
+UsesCapture (Report settings) = ⊤
+UsesCapture (Format settings) = ⊥
+UsesCapture (Audit settings) = ⊤
+UsesCapture (Make seed frames) = ⊥
+UsesCapture (Demo seed frames settings) = ⊥
 
 -- this command reads the text of a session
-abbrev pub UsesInputSession : Command → Type 0
-UsesInputSession (Weigh prefix settings) = ⊥
-UsesInputSession (Report settings) = ⊥
-UsesInputSession (Format settings) = ⊥
-UsesInputSession (Audit settings) = ⊤
-UsesInputSession (Make seed frames) = ⊥
-UsesInputSession (Demo seed frames settings) = ⊥
+abbrev pub UsesSession : Command → Type 0
+UsesSession (Weigh prefix settings) = ⊥
+UsesSession (Report settings) = ⊥
+UsesSession (Format settings) = ⊥
+UsesSession (Audit settings) = ⊤
+UsesSession (Make seed frames) = ⊥
+UsesSession (Demo seed frames settings) = ⊥
 
 -- this command uses the disk of a store
-abbrev pub UsesInputStore : Command → Type 0
-UsesInputStore (Weigh prefix settings) = ⊥
-UsesInputStore (Report settings) = settings.store ≡ true
-UsesInputStore (Format settings) = ⊤
-UsesInputStore (Audit settings) = ⊥
-UsesInputStore (Make seed frames) = ⊥
-UsesInputStore (Demo seed frames settings) = ⊥
+abbrev pub UsesStore : Command → Type 0
+UsesStore (Weigh prefix settings) = ⊥
+UsesStore (Report settings) = settings.store ≡ true
+UsesStore (Format settings) = ⊤
+UsesStore (Audit settings) = ⊥
+UsesStore (Make seed frames) = ⊥
+UsesStore (Demo seed frames settings) = ⊥
 
 -- this command uses the disk of a store if its settings name one
-abbrev pub MayUseInputStore : Command → Type 0
-MayUseInputStore (Weigh prefix settings) = ⊥
-MayUseInputStore (Report settings) = ⊤
-MayUseInputStore (Format settings) = ⊤
-MayUseInputStore (Audit settings) = ⊥
-MayUseInputStore (Make seed frames) = ⊥
-MayUseInputStore (Demo seed frames settings) = ⊥
+abbrev pub MayUseStore : Command → Type 0
+MayUseStore (Weigh prefix settings) = ⊥
+MayUseStore (Report settings) = ⊤
+MayUseStore (Format settings) = ⊤
+MayUseStore (Audit settings) = ⊥
+MayUseStore (Make seed frames) = ⊥
+MayUseStore (Demo seed frames settings) = ⊥
 
 -- what a command reads was read to its end
-abbrev pub InputsWereRead : Command → InputBytes → Type 0
-InputsWereRead (Weigh prefix settings) read = IsAtEnd read.capture_left
-InputsWereRead (Report settings) read = IsAtEnd read.capture_left
-InputsWereRead (Format settings) read = ⊤
-InputsWereRead (Audit settings) read = IsAtEnd read.capture_left × IsAtEnd read.text_left
-InputsWereRead (Make seed frames) read = ⊤
-InputsWereRead (Demo seed frames settings) read = ⊤
+abbrev pub WereRead : Command → InputBytes → Type 0
+WereRead (Weigh prefix settings) read = IsAtEnd read.capture_left
+WereRead (Report settings) read = IsAtEnd read.capture_left
+WereRead (Format settings) read = ⊤
+WereRead (Audit settings) read = IsAtEnd read.capture_left × IsAtEnd read.text_left
+WereRead (Make seed frames) read = ⊤
+WereRead (Demo seed frames settings) read = ⊤
 
 -- what holds of the capture and the text of an audit, where their bytes are known; the capture is one in any case
-abbrev pub HoldsOfAuditInputs : InputBytes → (List ℕ → List ℕ → Type 0) → Type 0
-HoldsOfAuditInputs read Holds = IfSome read.capture (λ file. IsCaptureFile file × IfSome read.text (Holds file))
+abbrev pub HoldsOfAudit : InputBytes → (List ℕ → List ℕ → Type 0) → Type 0
+HoldsOfAudit read Holds = IfSome read.capture (λ file. IsCaptureFile file × IfSome read.text (Holds file))
 
 -- what a command reads was accepted: its capture is one, where its bytes are known
-abbrev pub InputsWereAccepted : Command → InputBytes → Type 0
-InputsWereAccepted (Weigh prefix settings) read = IfSome read.capture IsCaptureFile
-InputsWereAccepted (Report settings) read = IfSome read.capture IsCaptureFile
-InputsWereAccepted (Format settings) read = ⊤
-InputsWereAccepted (Audit settings) read = IfSome read.capture IsCaptureFile
-InputsWereAccepted (Make seed frames) read = ⊤
-InputsWereAccepted (Demo seed frames settings) read = ⊤
+abbrev pub WereAccepted : Command → InputBytes → Type 0
+WereAccepted (Weigh prefix settings) read = IfSome read.capture IsCaptureFile
+WereAccepted (Report settings) read = IfSome read.capture IsCaptureFile
+WereAccepted (Format settings) read = ⊤
+WereAccepted (Audit settings) read = IfSome read.capture IsCaptureFile
+WereAccepted (Make seed frames) read = ⊤
+WereAccepted (Demo seed frames settings) read = ⊤
 
 -- the bytes of a source are known, and they are a capture of some frames
-pub record HasKnownInputCapture (bytes : Option (List ℕ)) : Type 0 where
+pub record HasCapture (bytes : Option (List ℕ)) : Type 0 where
   pub file : List ℕ
   pub told : bytes ≡ Some file
   pub frames : List FrameValue
-  pub capture : CaptureFileHasFrames file frames
+  pub capture : FileHasFrames file frames
 
 -- the bytes of a text are known, and they are those of a session, and not too many
-pub record HasKnownInputSession (bytes : Option (List ℕ)) : Type 0 where
+pub record HasSession (bytes : Option (List ℕ)) : Type 0 where
   pub text : List ℕ
   pub told : bytes ≡ Some text
   pub session : Session
   pub is_session : IsSessionText text session
-  pub not_long : length text ≤ longest_session_text_length
+  pub not_long : length text ≤ longest_session
 
 -- the bytes are a sound store that belongs to these dealt lists, and its sequence leaves room for the saves of a run
 abbrev pub IsInputStore : StoreSettings → List (List RecordValue) → List ℕ → Type 0
 IsInputStore settings lists image =
-    (opened : Option SavedValue) × StoreOpensTo settings image opened × IsStoreOfLists settings lists opened
-    × (store_sequence opened ≤ greatest_opened_sequence)
+    (opened : Option SavedValue) × StoreOpensTo settings image opened × IsStoreOf settings lists opened
+    × (store_sequence opened ≤ greatest_opened)
 
 -- the bytes of the disk are known, and they are a store of the records of the capture, however these may be dealt
-pub record HasKnownInputStore (settings : Settings) (rules : DealingRules) (read : InputBytes) : Type 0 where
+pub record HasStore (settings : Settings) (rules : DealingRules) (read : InputBytes) : Type 0 where
   pub image : List ℕ
   pub told : read.store ≡ Some image
   pub belongs : (file : List ℕ) (records : Records) (lists : List (List RecordValue)) → read.capture ≡ Some file
-      → AreDealtRecords settings rules file records lists → IsInputStore (store_settings_for_saves settings) lists image
+      → AreDealtRecords settings rules file records lists → IsInputStore (saves_settings settings) lists image
 
 -- what a command reads is known, and each input is in its format
-abbrev pub InputsCanBeAnswered : DealingRules → Command → InputBytes → Type 0
-InputsCanBeAnswered rules (Weigh prefix settings) read = HasKnownInputCapture read.capture
-InputsCanBeAnswered rules (Report settings) read =
-    HasKnownInputCapture read.capture × (settings.store ≡ true → HasKnownInputStore settings rules read)
-InputsCanBeAnswered rules (Format settings) read = ⊤
-InputsCanBeAnswered rules (Audit settings) read = HasKnownInputCapture read.capture × HasKnownInputSession read.text
-InputsCanBeAnswered rules (Make seed frames) read = ⊤
-InputsCanBeAnswered rules (Demo seed frames settings) read = ⊤
+abbrev pub CanBeAnswered : DealingRules → Command → InputBytes → Type 0
+CanBeAnswered rules (Weigh prefix settings) read = HasCapture read.capture
+CanBeAnswered rules (Report settings) read =
+    HasCapture read.capture × (settings.store ≡ true → HasStore settings rules read)
+CanBeAnswered rules (Format settings) read = ⊤
+CanBeAnswered rules (Audit settings) read = HasCapture read.capture × HasSession read.text
+CanBeAnswered rules (Make seed frames) read = ⊤
+CanBeAnswered rules (Demo seed frames settings) read = ⊤
 
 -- the arguments ask for a command that uses something
-pub record AskedCommandUsesInput (Uses : Command → Type 0) (words : List (List ℕ)) : Type 0 where
+pub record CommandUses (Uses : Command → Type 0) (words : List (List ℕ)) : Type 0 where
   pub command : Command
   pub asked : AskForCommand words command
   pub uses : Uses command
 
 -- the arguments ask for a command that doesn't use something
-pub record AskedCommandAvoidsInput (Uses : Command → Type 0) (words : List (List ℕ)) : Type 0 where
+pub record CommandAvoids (Uses : Command → Type 0) (words : List (List ℕ)) : Type 0 where
   pub command : Command
   pub asked : AskForCommand words command
   pub unused : Uses command → ⊥

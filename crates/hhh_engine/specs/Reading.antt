@@ -1,34 +1,34 @@
 -- Why a command returns no text, which no public contract cites.
 use Rattle.std.specs.Prelude.{⊤, ℕ, List, Option, IfSome}
-use Rattle.outside_io.specs.{FaultCountRose}
-use Rattle.frame_records.specs.{IsRefusedCaptureFile}
+use Rattle.outside_io.specs.{FaultRose}
+use Rattle.frame_records.specs.{IsRefusedFile}
 use Rattle.run_status.specs.declared.status.Status.{Status}
 use Rattle.run_status.specs.declared.status.Status.TheVariants.{BadCapture, ReadFault, OutOfMemory}
 use Rattle.run_status.specs.declared.status.Status.TheVariants.{BadReport}
 use Rattle.command_words.specs.declared.settings.Settings.{Settings}
 use Rattle.dealt_capture.specs.{DealingRules}
 use Rattle.session_audit.specs.{AreAudited}
-use Rattle.hhh_engine.specs.Ending.{SourceFaultsRoseAtEnding, EndingSourceFaults, TextRefusedAtEnding}
-use Rattle.hhh_engine.specs.Inputs.{InputBytes, HoldsOfAuditInputs}
+use Rattle.hhh_engine.specs.Ending.{SourceFaultsRose, SourceFaults, TextRefused}
+use Rattle.hhh_engine.specs.Inputs.{InputBytes, HoldsOfAudit}
 use Rattle.session_audit.specs.declared.audit.Audited.{Audited}
 
 -- why a command returns no text: its capture has this first fault, the source's count of faults rose, or memory ran out
 abbrev pub HasNoText : Option (List ℕ) → ℕ → ℕ → Status → Type 0
-HasNoText left before now (BadCapture fault) = IfSome left (λ file. IsRefusedCaptureFile file fault)
-HasNoText left before now ReadFault = FaultCountRose before now
+HasNoText left before now (BadCapture fault) = IfSome left (λ file. IsRefusedFile file fault)
+HasNoText left before now ReadFault = FaultRose before now
 HasNoText left before now OutOfMemory = ⊤
 HasNoText left before now _ = ⊥
 
 -- why the inputs of an audit were not accepted: a fault of the capture or of the text, or a source failed, or memory
 -- ran out
-abbrev pub HasNoAudit : InputBytes → (before now : EndingSourceFaults) → Status → Type 0
-HasNoAudit read before now (BadCapture fault) = IfSome read.capture (λ file. IsRefusedCaptureFile file fault)
-HasNoAudit read before now ReadFault = SourceFaultsRoseAtEnding before now
-HasNoAudit read before now (BadReport fault) = TextRefusedAtEnding read fault
+abbrev pub HasNoAudit : InputBytes → (before now : SourceFaults) → Status → Type 0
+HasNoAudit read before now (BadCapture fault) = IfSome read.capture (λ file. IsRefusedFile file fault)
+HasNoAudit read before now ReadFault = SourceFaultsRose before now
+HasNoAudit read before now (BadReport fault) = TextRefused read fault
 HasNoAudit read before now OutOfMemory = ⊤
 HasNoAudit read before now _ = ⊥
 
 -- the inputs of an audit, where their bytes are known
-abbrev pub AreAuditingInputs : Settings → DealingRules → InputBytes → Audited → Type 0
-AreAuditingInputs settings rules read audited =
-    HoldsOfAuditInputs read (λ file text. AreAudited settings rules file text audited.dealt audited.session)
+abbrev pub AreAuditing : Settings → DealingRules → InputBytes → Audited → Type 0
+AreAuditing settings rules read audited =
+    HoldsOfAudit read (λ file text. AreAudited settings rules file text audited.dealt audited.session)

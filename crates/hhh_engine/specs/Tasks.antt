@@ -1,17 +1,17 @@
 -- Within the crate: what each command owes, over what it read.
 use Rattle.std.specs.Prelude.{⊤, ℕ, ◌≡◌, List, Option, IfSome}
 use Rattle.std.specs.Io.KnownBytes.{IsAtEnd}
-use Rattle.outside_io.specs.{FaultCountRose}
+use Rattle.outside_io.specs.{FaultRose}
 use Rattle.prefix_lattice.specs.{PrefixValue}
 use Rattle.slot_disk.specs.declared.disk.Disk.{Ghosts as DiskOf}
 use Rattle.command_words.specs.declared.settings.Settings.{Settings}
 use Rattle.dealt_capture.specs.{IsCaptureFile, DealingRules}
-use Rattle.report_session.specs.{IsAsBeforeSaves, IsSession, IsSessionInPart, SavesAreKeptOnDisk}
+use Rattle.report_session.specs.{IsAsBefore, IsSession, IsSessionInPart, AreKeptOnDisk}
 use Rattle.session_audit.specs.{IsAuditText, IsSoundAudit}
-use Rattle.hhh_engine.specs.Answer.{IsUnfinishedAnswer, IsWeighAnswerInPart, formatted_answer}
-use Rattle.hhh_engine.specs.Ending.{EndsByAuditFinding, RefusesStoreAtEnding, Task}
-use Rattle.hhh_engine.specs.Inputs.{InputBytes, HoldsOfAuditInputs}
-use Rattle.hhh_engine.specs.WeightText.{IsWeightText}
+use Rattle.hhh_engine.specs.Answer.{IsUnfinished, IsWeighInPart, formatted_answer}
+use Rattle.hhh_engine.specs.Ending.{EndsByFinding, EndsRefusing, Task}
+use Rattle.hhh_engine.specs.Inputs.{InputBytes, HoldsOfAudit}
+use Rattle.hhh_engine.specs.Weigh.{IsWeightText}
 
 -- a task without a store and without an audit
 abbrev pub plain_task : (is_text is_part : List ℕ → Type 0) → (read accepted : Type 0) → Task
@@ -29,26 +29,26 @@ plain_task is_text is_part read accepted = record {
 
 -- one that reads nothing, and whose text is one of these
 abbrev pub made_task : (List ℕ → Type 0) → Task
-made_task IsText = plain_task IsText (IsUnfinishedAnswer IsText) ⊤ ⊤
+made_task IsText = plain_task IsText (IsUnfinished IsText) ⊤ ⊤
 
 -- that of `weigh`, over a capture with these remaining bytes before and now, where they are known
 abbrev pub weigh_task : PrefixValue → Settings → (left left_now : Option (List ℕ)) → Task
 weigh_task prefix settings left left_now =
     plain_task (λ text. IfSome left (λ file. IsWeightText prefix settings.weigh file text))
-    (λ front. IfSome left (λ file. IsWeighAnswerInPart prefix settings.weigh file front)) (IsAtEnd left_now)
+    (λ front. IfSome left (λ file. IsWeighInPart prefix settings.weigh file front)) (IsAtEnd left_now)
     (IfSome left IsCaptureFile)
 
 -- that of `report`, over such a capture, and the disk of a store
 abbrev pub report_task : {D : Type 0} → DiskOf D → Settings → DealingRules → (left left_now : Option (List ℕ)) → (old new : D) → Task
 report_task d settings rules left left_now old new = record {
-  is_text = λ text. IfSome left (λ file. IsSession settings rules (SavesAreKeptOnDisk d old new) (d.reads old) file text);
-  is_part = λ front. IfSome left (λ file. IsSessionInPart settings rules (SavesAreKeptOnDisk d old new) (d.reads old) file front);
+  is_text = λ text. IfSome left (λ file. IsSession settings rules (AreKeptOnDisk d old new) (d.reads old) file text);
+  is_part = λ front. IfSome left (λ file. IsSessionInPart settings rules (AreKeptOnDisk d old new) (d.reads old) file front);
   read = IsAtEnd left_now;
   accepted = IfSome left IsCaptureFile;
-  disk_failed = FaultCountRose (d.faults old) (d.faults new);
+  disk_failed = FaultRose (d.faults old) (d.faults new);
   disk_same = new ≡ old;
-  store_same = IsAsBeforeSaves d old new;
-  refuses = RefusesStoreAtEnding settings rules left (d.reads old) (IsAsBeforeSaves d old new);
+  store_same = IsAsBefore d old new;
+  refuses = EndsRefusing settings rules left (d.reads old) (IsAsBefore d old new);
   finds = λ status. ⊥;
 }
 
@@ -56,15 +56,15 @@ report_task d settings rules left left_now old new = record {
 abbrev pub format_task : {D : Type 0} → DiskOf D → (old new : D) → Task
 format_task d old new =
     record (made_task (λ text. text ≡ formatted_answer)) {
-      disk_failed = FaultCountRose (d.faults old) (d.faults new);
+      disk_failed = FaultRose (d.faults old) (d.faults new);
       disk_same = new ≡ old;
     }
 
 -- that of `audit`, over its inputs; what it found says what a sink took that held `old` and now holds `new`
 abbrev pub audit_task : Settings → DealingRules → InputBytes → (old new : Option (List ℕ)) → Task
 audit_task settings rules read old new =
-    record (plain_task (λ answer. HoldsOfAuditInputs read (λ file session. IsSoundAudit settings rules file session answer))
-    (λ front. HoldsOfAuditInputs read (λ file session. IsUnfinishedAnswer (IsAuditText settings rules file session) front))
+    record (plain_task (λ answer. HoldsOfAudit read (λ file session. IsSoundAudit settings rules file session answer))
+    (λ front. HoldsOfAudit read (λ file session. IsUnfinished (IsAuditText settings rules file session) front))
     (IsAtEnd read.capture_left × IsAtEnd read.text_left) (IfSome read.capture IsCaptureFile)) {
-      finds = EndsByAuditFinding settings rules read old new;
+      finds = EndsByFinding settings rules read old new;
     }

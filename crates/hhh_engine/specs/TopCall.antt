@@ -1,18 +1,18 @@
 -- What a run promises: what each status says of the arguments, of what was read and written, and of the store's disk.
 use Rattle.std.specs.Prelude.{ℕ, ◌≡◌, ◌⊎◌, ◌≤◌, true, List, length, All, Some, IfSome}
 use Rattle.std.specs.Io.KnownBytes.{Appends, IsAtEnd}
-use Rattle.outside_io.specs.{FaultCountRose}
+use Rattle.outside_io.specs.{FaultRose}
 use Rattle.outside_io.specs.declared.source.Source.{Ghosts as SourceOf}
 use Rattle.outside_io.specs.declared.sink.Sink.{Ghosts as SinkOf}
 use Rattle.prefix_lattice.specs.{RecordValue}
 use Rattle.pcap_frames.specs.{FrameValue}
 use Rattle.pcap_frames.specs.declared.fault.CaptureFault.{CaptureFault}
-use Rattle.frame_records.specs.{CaptureFileHasFrames, IsRefusedCaptureFile}
+use Rattle.frame_records.specs.{FileHasFrames, IsRefusedFile}
 use Rattle.frame_records.specs.declared.records.Records.{Records}
 use Rattle.slot_disk.specs.declared.disk.Disk.{Ghosts as DiskOf}
-use Rattle.recovery.specs.{IsRefusedAtOpening, IsShownByOpening}
+use Rattle.recovery.specs.{RefusesOpening, IsShown}
 use Rattle.recovery.specs.declared.fault.OpenFault.{OpenFault}
-use Rattle.report_text.specs.{HasSessionTextFault, IsSessionText, longest_session_text_length}
+use Rattle.report_text.specs.{HasSessionFault, IsSessionText, longest_session}
 use Rattle.report_text.specs.declared.session.Session.{Session}
 use Rattle.report_text.specs.declared.session_fault.TextFault.{TextFault}
 use Rattle.exact_audit.specs.declared.verdict.Verdict.{Verdict}
@@ -22,14 +22,14 @@ use Rattle.command_words.specs.declared.command.Command.TheVariants as command
 use Rattle.command_words.specs.declared.settings.Settings.{Settings}
 use Rattle.command_words.specs.declared.words_kind.WordsKind.{WordsKind}
 use Rattle.hhh_engine.specs.Answer.{Answers, AnswersInPart}
-use Rattle.session_audit.specs.{AreAudited, IsAuditedAsFirstUnsound, IsAuditedAsSound, IsUnsoundAudit}
-use Rattle.session_audit.specs.{unsound_audit_text}
-use Rattle.hhh_engine.specs.Ending.{EndingSourceFaults, EndsAnswered, EndsAsBeforeUnlessFormat, EndsAtFailedSource}
-use Rattle.hhh_engine.specs.Ending.{FormatEnds, IsRefusedStoreAtEnding, TextRefusedAtEnding, ending_source_faults}
-use Rattle.hhh_engine.specs.Inputs.{AskedCommandAvoidsInput, AskedCommandUsesInput, HoldsOfAuditInputs, InputBytes}
-use Rattle.hhh_engine.specs.Inputs.{InputsCanBeAnswered, InputsWereRead, MayUseInputStore, UsesInputCapture}
-use Rattle.hhh_engine.specs.Inputs.{UsesInputSession, UsesInputStore, inputs}
-use Rattle.report_session.specs.{IsAsBeforeSaves, SavesAreKeptOnDisk, store_settings_for_saves, SessionKeeping}
+use Rattle.session_audit.specs.{AreAudited, IsFirstUnsound, IsAuditedSound, IsUnsoundAudit}
+use Rattle.session_audit.specs.{unsound_audit}
+use Rattle.hhh_engine.specs.Ending.{SourceFaults, EndsAnswered, EndsAsBefore, FailsAtSource}
+use Rattle.hhh_engine.specs.Ending.{FormatEnds, IsRefusedStore, TextRefused, faults_of_source}
+use Rattle.hhh_engine.specs.Inputs.{CommandAvoids, CommandUses, HoldsOfAudit, InputBytes}
+use Rattle.hhh_engine.specs.Inputs.{CanBeAnswered, WereRead, MayUseStore, UsesCapture}
+use Rattle.hhh_engine.specs.Inputs.{UsesSession, UsesStore, inputs}
+use Rattle.report_session.specs.{IsAsBefore, AreKeptOnDisk, saves_settings, SessionKeeping}
 use Rattle.dealt_capture.specs.{AreDealtRecords, DealingRules}
 use Rattle.run_status.specs.{status_of_opening}
 use Rattle.run_status.specs.declared.status.Status.{Status}
@@ -56,19 +56,19 @@ module _ {S T K D : Type 0} (s : SourceOf S) (t : SourceOf T) (k : SinkOf K) (d 
   run_inputs = inputs (s.left old.capture) (s.left new.capture) (t.left old.text) (t.left new.text) (d.reads old.disk)
 
   -- the faults of its sources, before it and after it
-  abbrev pub faults_before : EndingSourceFaults
-  faults_before = ending_source_faults (s.faults old.capture) (t.faults old.text)
+  abbrev pub faults_before : SourceFaults
+  faults_before = faults_of_source (s.faults old.capture) (t.faults old.text)
 
-  abbrev pub faults_after : EndingSourceFaults
-  faults_after = ending_source_faults (s.faults new.capture) (t.faults new.text)
+  abbrev pub faults_after : SourceFaults
+  faults_after = faults_of_source (s.faults new.capture) (t.faults new.text)
 
   -- what it kept of the cuts that it saved
   abbrev pub run_keeping : SessionKeeping
-  run_keeping = SavesAreKeptOnDisk d old.disk new.disk
+  run_keeping = AreKeptOnDisk d old.disk new.disk
 
   -- nothing was written, and the disk reads, and will read after a crash, as before
   abbrev pub WritesNothing : Type 0
-  WritesNothing = (new.sink ≡ old.sink) × IsAsBeforeSaves d old.disk new.disk
+  WritesNothing = (new.sink ≡ old.sink) × IsAsBefore d old.disk new.disk
 
   -- nothing was written, and the disk is untouched
   pub record LeavesUnwritten : Type 0 where
@@ -85,8 +85,8 @@ module _ {S T K D : Type 0} (s : SourceOf S) (t : SourceOf T) (k : SinkOf K) (d 
     -- BadCapture: the command reads a capture; this is the first fault of the file, where its bytes are known; no text of a
     -- session was read before
     pub record RefusesCapture (fault : CaptureFault) : Type 0 where
-      pub asked : AskedCommandUsesInput UsesInputCapture words
-      pub first_fault : IfSome (s.left old.capture) (λ file. IsRefusedCaptureFile file fault)
+      pub asked : CommandUses UsesCapture words
+      pub first_fault : IfSome (s.left old.capture) (λ file. IsRefusedFile file fault)
       pub text_unread : new.text ≡ old.text
       pub nothing : LeavesUnwritten
 
@@ -94,12 +94,12 @@ module _ {S T K D : Type 0} (s : SourceOf S) (t : SourceOf T) (k : SinkOf K) (d 
     pub record RefusesText (fault : TextFault) : Type 0 where
       pub settings : Settings
       pub asked : AskForCommand words (command.Audit settings)
-      pub refusal : TextRefusedAtEnding run_inputs fault
+      pub refusal : TextRefused run_inputs fault
       pub nothing : LeavesUnwritten
 
     -- ReadFault: a source failed, the capture's first; nothing was written
     pub record FailsToRead : Type 0 where
-      pub failed : EndsAtFailedSource (AskedCommandUsesInput UsesInputCapture words) (AskedCommandUsesInput UsesInputSession words) run_inputs
+      pub failed : FailsAtSource (CommandUses UsesCapture words) (CommandUses UsesSession words) run_inputs
           faults_before faults_after old.text new.text
       pub nothing : LeavesUnwritten
 
@@ -111,16 +111,16 @@ module _ {S T K D : Type 0} (s : SourceOf S) (t : SourceOf T) (k : SinkOf K) (d 
     -- a capture with a fault is refused for it, unless the source fails or memory runs out first
     abbrev pub MustRefuseCapture : Status → Type 0
     MustRefuseCapture status =
-        (file : List ℕ) (fault : CaptureFault) → AskedCommandUsesInput UsesInputCapture words → s.left old.capture ≡ Some file
-        → IsRefusedCaptureFile file fault → (status ≡ BadCapture fault) ⊎ ((status ≡ ReadFault) ⊎ (status ≡ OutOfMemory))
+        (file : List ℕ) (fault : CaptureFault) → CommandUses UsesCapture words → s.left old.capture ≡ Some file
+        → IsRefusedFile file fault → (status ≡ BadCapture fault) ⊎ ((status ≡ ReadFault) ⊎ (status ≡ OutOfMemory))
 
     -- the text of a session with a fault is refused for it, once the capture was accepted, unless a source fails or memory
     -- runs out first
     abbrev pub MustRefuseText : Status → Type 0
     MustRefuseText status =
         (settings : Settings) (file bytes : List ℕ) (frames : List FrameValue) (fault : TextFault)
-        → AskForCommand words (command.Audit settings) → s.left old.capture ≡ Some file → CaptureFileHasFrames file frames
-        → t.left old.text ≡ Some bytes → HasSessionTextFault bytes fault
+        → AskForCommand words (command.Audit settings) → s.left old.capture ≡ Some file → FileHasFrames file frames
+        → t.left old.text ≡ Some bytes → HasSessionFault bytes fault
         → (status ≡ BadReport fault) ⊎ ((status ≡ ReadFault) ⊎ (status ≡ OutOfMemory))
 
     -- by `rules`, which say to which shards the dealers may deal
@@ -140,7 +140,7 @@ module _ {S T K D : Type 0} (s : SourceOf S) (t : SourceOf T) (k : SinkOf K) (d 
         pub asked : AskForCommand words (command.Report settings)
         pub used : settings.store ≡ true
         pub read_to_end : IsAtEnd (s.left new.capture)
-        pub refused : IfSome (s.left old.capture) (λ file. IsRefusedStoreAtEnding settings rules (d.reads old.disk) file fault)
+        pub refused : IfSome (s.left old.capture) (λ file. IsRefusedStore settings rules (d.reads old.disk) file fault)
         pub nothing : WritesNothing
 
       -- AuditNo: an audit was asked for, and the inputs were read to their ends; this report is the first of the session that
@@ -148,13 +148,13 @@ module _ {S T K D : Type 0} (s : SourceOf S) (t : SourceOf T) (k : SinkOf K) (d 
       pub record FindsUnsound (report : ℕ) (verdict : Verdict) : Type 0 where
         pub settings : Settings
         pub asked : AskForCommand words (command.Audit settings)
-        pub read_to_end : InputsWereRead (command.Audit settings) run_inputs
-        pub found : HoldsOfAuditInputs run_inputs (λ file text. IsUnsoundAudit settings rules file text report verdict)
-        pub written : Appends (k.taken old.sink) (k.taken new.sink) (unsound_audit_text report verdict)
+        pub read_to_end : WereRead (command.Audit settings) run_inputs
+        pub found : HoldsOfAudit run_inputs (λ file text. IsUnsoundAudit settings rules file text report verdict)
+        pub written : Appends (k.taken old.sink) (k.taken new.sink) (unsound_audit report verdict)
 
       -- WriteFault: the sink failed, after bytes with which the text of the command begins
       pub record FailsToWrite : Type 0 where
-        pub rose : FaultCountRose (k.faults old.sink) (k.faults new.sink)
+        pub rose : FaultRose (k.faults old.sink) (k.faults new.sink)
         pub in_part : WritesPart
 
       -- DiskFault: the command may use a store, whose disk failed. Either nothing was written, and a store that was to be opened
@@ -162,9 +162,9 @@ module _ {S T K D : Type 0} (s : SourceOf S) (t : SourceOf T) (k : SinkOf K) (d 
       pub record FailsToStore : Type 0 where
         pub command : Command
         pub asked : AskForCommand words command
-        pub may_use : MayUseInputStore command
-        pub rose : FaultCountRose (d.faults old.disk) (d.faults new.disk)
-        pub in_part : ((new.sink ≡ old.sink) × EndsAsBeforeUnlessFormat command (IsAsBeforeSaves d old.disk new.disk)) ⊎ WritesPart
+        pub may_use : MayUseStore command
+        pub rose : FaultRose (d.faults old.disk) (d.faults new.disk)
+        pub in_part : ((new.sink ≡ old.sink) × EndsAsBefore command (IsAsBefore d old.disk new.disk)) ⊎ WritesPart
 
       -- a store that is refused for a fault however the records of the capture are dealt is refused for it, unless the source or
       -- the disk fails or memory runs out first
@@ -172,9 +172,9 @@ module _ {S T K D : Type 0} (s : SourceOf S) (t : SourceOf T) (k : SinkOf K) (d 
       MustRefuseStore status =
           (settings : Settings) (file image : List ℕ) (frames : List FrameValue) (fault : OpenFault)
           → AskForCommand words (command.Report settings) → settings.store ≡ true → s.left old.capture ≡ Some file
-          → CaptureFileHasFrames file frames → d.reads old.disk ≡ Some image → IsShownByOpening fault
+          → FileHasFrames file frames → d.reads old.disk ≡ Some image → IsShown fault
           → ((records : Records) (lists : List (List RecordValue)) → AreDealtRecords settings rules file records lists
-          → IsRefusedAtOpening (store_settings_for_saves settings) lists image fault)
+          → RefusesOpening (saves_settings settings) lists image fault)
           → (status ≡ status_of_opening fault) ⊎ ((status ≡ ReadFault) ⊎ ((status ≡ DiskFault) ⊎ (status ≡ OutOfMemory)))
 
       -- a session is found unsound at the report that is the first that is not sound however the records are dealt, unless a
@@ -182,10 +182,10 @@ module _ {S T K D : Type 0} (s : SourceOf S) (t : SourceOf T) (k : SinkOf K) (d 
       abbrev pub MustFindUnsound : Status → Type 0
       MustFindUnsound status =
           (settings : Settings) (file bytes : List ℕ) (frames : List FrameValue) (known : Session) (report : ℕ) (verdict : Verdict)
-          → AskForCommand words (command.Audit settings) → s.left old.capture ≡ Some file → CaptureFileHasFrames file frames
-          → t.left old.text ≡ Some bytes → IsSessionText bytes known → length bytes ≤ longest_session_text_length
+          → AskForCommand words (command.Audit settings) → s.left old.capture ≡ Some file → FileHasFrames file frames
+          → t.left old.text ≡ Some bytes → IsSessionText bytes known → length bytes ≤ longest_session
           → ((lists : List (List RecordValue)) (session : Session) → AreAudited settings rules file bytes lists session
-          → IsAuditedAsFirstUnsound settings lists session.reports report verdict)
+          → IsFirstUnsound settings lists session.reports report verdict)
           → (status ≡ AuditNo report verdict) ⊎ ((status ≡ ReadFault) ⊎ ((status ≡ WriteFault) ⊎ (status ≡ OutOfMemory)))
 
       -- a session whose reports are all sound however the records are dealt is found so, unless a source or the sink fails or
@@ -193,19 +193,19 @@ module _ {S T K D : Type 0} (s : SourceOf S) (t : SourceOf T) (k : SinkOf K) (d 
       abbrev pub MustFindSound : Status → Type 0
       MustFindSound status =
           (settings : Settings) (file bytes : List ℕ) (frames : List FrameValue) (known : Session)
-          → AskForCommand words (command.Audit settings) → s.left old.capture ≡ Some file → CaptureFileHasFrames file frames
-          → t.left old.text ≡ Some bytes → IsSessionText bytes known → length bytes ≤ longest_session_text_length
+          → AskForCommand words (command.Audit settings) → s.left old.capture ≡ Some file → FileHasFrames file frames
+          → t.left old.text ≡ Some bytes → IsSessionText bytes known → length bytes ≤ longest_session
           → ((lists : List (List RecordValue)) (session : Session) → AreAudited settings rules file bytes lists session
-          → All (IsAuditedAsSound settings lists) session.reports)
+          → All (IsAuditedSound settings lists) session.reports)
           → (status ≡ Done) ⊎ ((status ≡ ReadFault) ⊎ ((status ≡ WriteFault) ⊎ (status ≡ OutOfMemory)))
 
       -- with arguments that ask for a command, inputs that are known and in their formats, and no fault of a source, the sink or
       -- the disk, the command is answered, unless memory runs out
       abbrev pub MustAnswer : Status → Type 0
       MustAnswer status =
-          (command : Command) → AskForCommand words command → InputsCanBeAnswered rules command run_inputs
-          → (FaultCountRose (s.faults old.capture) (s.faults new.capture) → ⊥) → (FaultCountRose (t.faults old.text) (t.faults new.text) → ⊥)
-          → (FaultCountRose (k.faults old.sink) (k.faults new.sink) → ⊥) → (FaultCountRose (d.faults old.disk) (d.faults new.disk) → ⊥)
+          (command : Command) → AskForCommand words command → CanBeAnswered rules command run_inputs
+          → (FaultRose (s.faults old.capture) (s.faults new.capture) → ⊥) → (FaultRose (t.faults old.text) (t.faults new.text) → ⊥)
+          → (FaultRose (k.faults old.sink) (k.faults new.sink) → ⊥) → (FaultRose (d.faults old.disk) (d.faults new.disk) → ⊥)
           → EndsAnswered command status ⊎ (status ≡ OutOfMemory)
 
       -- the run ended with this status
@@ -221,7 +221,7 @@ module _ {S T K D : Type 0} (s : SourceOf S) (t : SourceOf T) (k : SinkOf K) (d 
         -- a capture, a store and the text of a session are refused for their first fault, and nothing is written
         pub bad_capture : (fault : CaptureFault) → status ≡ BadCapture fault → RefusesCapture fault
         pub refuses_capture : MustRefuseCapture status
-        pub bad_store : (fault : OpenFault) → IsShownByOpening fault → status ≡ status_of_opening fault → RefusesStore fault
+        pub bad_store : (fault : OpenFault) → IsShown fault → status ≡ status_of_opening fault → RefusesStore fault
         pub refuses_store : MustRefuseStore status
         pub bad_text : (fault : TextFault) → status ≡ BadReport fault → RefusesText fault
         pub refuses_text : MustRefuseText status
@@ -239,10 +239,10 @@ module _ {S T K D : Type 0} (s : SourceOf S) (t : SourceOf T) (k : SinkOf K) (d 
         -- `format` leaves an empty store where its line was written, or began to be; where the disk failed, no more than its
         -- first 64 bytes, and what is past its old end, have changed. What the command doesn't use is untouched
         pub formats : (settings : Settings) → AskForCommand words (command.Format settings)
-            → FormatEnds d (store_settings_for_saves settings) old.sink new.sink old.disk new.disk status
-        pub unused_capture : AskedCommandAvoidsInput UsesInputCapture words → new.capture ≡ old.capture
-        pub unused_text : AskedCommandAvoidsInput UsesInputSession words → new.text ≡ old.text
-        pub unused_disk : AskedCommandAvoidsInput UsesInputStore words → new.disk ≡ old.disk
+            → FormatEnds d (saves_settings settings) old.sink new.sink old.disk new.disk status
+        pub unused_capture : CommandAvoids UsesCapture words → new.capture ≡ old.capture
+        pub unused_text : CommandAvoids UsesSession words → new.text ≡ old.text
+        pub unused_disk : CommandAvoids UsesStore words → new.disk ≡ old.disk
         -- memory may run out at any time: then a part of the text was written, which may be empty; or nothing was, and the disk
         -- is as before
         pub out_of_memory : status ≡ OutOfMemory → WritesNothing ⊎ WritesPart

@@ -4,23 +4,23 @@ ghost use Rattle.std.specs.Prelude.{◌≡◌, ℕ, ◌+◌, ◌*◌, ◌≤◌,
 ghost use Rattle.prefix_lattice.specs.{RecordValue};
 ghost use Rattle.deal_rules.specs.{dealer_of};
 ghost use Rattle.deal_rules.specs.declared.deal_kind.DealKind.{DealKind};
-ghost use Rattle.session_audit.specs.{IsSoundAudit, sound_audit_text};
+ghost use Rattle.session_audit.specs.{IsSoundAudit, sound_audit};
 ghost use Rattle.hhh_engine.specs.Demo.{IsDemoText};
 ghost use Rattle.hhh_engine.specs.TopCall.{RunEnds, Streams};
 ghost use Rattle.run_status.specs.declared.status.Status.{Status};
 ghost use Rattle.pcap_frames.specs.{FrameValue};
-ghost use Rattle.frame_records.specs.{CaptureFileHasFrames};
-ghost use Rattle.traffic_maker.specs.{made_capture, most_made_capture_frames};
+ghost use Rattle.frame_records.specs.{FileHasFrames};
+ghost use Rattle.traffic_maker.specs.{made_capture, most_frames};
 ghost use Rattle.exact_audit.specs.{IsVerdict};
 ghost use Rattle.exact_audit.specs.declared.verdict.Verdict.{Verdict};
 ghost use Rattle.exact_audit.specs.declared.verdict.Verdict.TheVariants.{Good};
-ghost use Rattle.command_words.specs.{AreLimitedSettings};
+ghost use Rattle.command_words.specs.{AreLimited};
 ghost use Rattle.command_words.specs.declared.settings.Settings.{Settings};
-ghost use Rattle.report_text.specs.{IsSessionText, longest_session_text_length};
+ghost use Rattle.report_text.specs.{IsSessionText, longest_session};
 ghost use Rattle.report_text.specs.declared.session.Session.{Session};
 ghost use Rattle.shard_state.specs.{CutRepresents};
-ghost use Rattle.report_session.specs.{IsSession, session_reports_in, SavesAreKeptOnDisk};
-ghost use Rattle.dealt_capture.specs.{rules_by_formula};
+ghost use Rattle.report_session.specs.{IsSession, reports_in, AreKeptOnDisk};
+ghost use Rattle.dealt_capture.specs.{rules_by};
 
 use deal_rules::{Dealer, Dealers, Deals};
 use dealt_capture::captures_are_dealt_in_one_way;
@@ -37,16 +37,16 @@ pub fn runs_follow_formulas<S: Source, T: Source, K: Sink, D: Disk>(dealers: &De
         → ((kind : DealKind) (place : ℕ) (rec : RecordValue) (shards number : ℕ)
         → ⟦<Dealer as Deals>⟧.may_answer (dealer_of kind dealers.now) place rec shards number → number ≡ formula kind place rec shards)
         → RunEnds S.Source T.Source K.Sink D.Disk old new words (λ kind. ⟦<Dealer as Deals>⟧.may_answer (dealer_of kind dealers.now)) status
-        → RunEnds S.Source T.Source K.Sink D.Disk old new words (rules_by_formula formula) status }
+        → RunEnds S.Source T.Source K.Sink D.Disk old new words (rules_by formula) status }
 {}
 
 /// An audit of a session's reports over the dealt records finds each of them good, for the capacity and the share of the
 /// session, also where the session went on from a saved cut, if the tables of this were those of its records.
 pub fn own_reports_are_good<D: Disk>()
     ensures { (formula : DealKind → ℕ → RecordValue → ℕ → ℕ) (before now : D) (settings : Settings) (store : Option (List ℕ)) (file text : List ℕ)
-        (is : IsSession settings (rules_by_formula formula) (SavesAreKeptOnDisk D.Disk before now) store file text)
+        (is : IsSession settings (rules_by formula) (AreKeptOnDisk D.Disk before now) store file text)
         (verdict : Verdict) → IfSome is.base (λ cut. CutRepresents cut is.lists)
-        → All (λ reported. IsVerdict is.lists settings.capacity settings.phi reported.report verdict → verdict ≡ Good) (session_reports_in is.spelled.reports) }
+        → All (λ reported. IsVerdict is.lists settings.capacity settings.phi reported.report verdict → verdict ≡ Good) (reports_in is.spelled.reports) }
 {
     own_reports_are_sound::<D>();
     a_report_has_one_verdict();
@@ -59,22 +59,22 @@ pub fn own_reports_are_good<D: Disk>()
 /// to be those of its records.
 pub fn own_sessions_are_audited_good<D: Disk>()
     ensures is_text { (formula : DealKind → ℕ → RecordValue → ℕ → ℕ) (before now : D) (settings : Settings) (store : Option (List ℕ)) (file text : List ℕ)
-        (is : IsSession settings (rules_by_formula formula) (SavesAreKeptOnDisk D.Disk before now) store file text)
-        → AreLimitedSettings settings → IfSome is.base (λ cut. CutRepresents cut is.lists) → (known : Session) × IsSessionText text known }
+        (is : IsSession settings (rules_by formula) (AreKeptOnDisk D.Disk before now) store file text)
+        → AreLimited settings → IfSome is.base (λ cut. CutRepresents cut is.lists) → (known : Session) × IsSessionText text known }
     ensures good { (formula : DealKind → ℕ → RecordValue → ℕ → ℕ) (before now : D) (settings other : Settings) (store : Option (List ℕ)) (file text : List ℕ)
-        (is : IsSession settings (rules_by_formula formula) (SavesAreKeptOnDisk D.Disk before now) store file text)
-        → AreLimitedSettings settings → settings.shards ≡ other.shards → settings.capacity ≡ other.capacity → settings.phi ≡ other.phi
-        → settings.deal ≡ other.deal → settings.weigh ≡ other.weigh → length text ≤ longest_session_text_length
+        (is : IsSession settings (rules_by formula) (AreKeptOnDisk D.Disk before now) store file text)
+        → AreLimited settings → settings.shards ≡ other.shards → settings.capacity ≡ other.capacity → settings.phi ≡ other.phi
+        → settings.deal ≡ other.deal → settings.weigh ≡ other.weigh → length text ≤ longest_session
         → IfSome is.base (λ cut. CutRepresents cut is.lists)
-        → IsSoundAudit other (rules_by_formula formula) file text (sound_audit_text ((settings.callers + 1) * settings.rounds + 1)) }
+        → IsSoundAudit other (rules_by formula) file text (sound_audit ((settings.callers + 1) * settings.rounds + 1)) }
 {
     sessions_read_back::<D>();
 }
 
 /// A made capture is a capture of its frames.
 pub fn made_captures_are_captures()
-    ensures { (seed count : ℕ) → count ≤ most_made_capture_frames
-        → (frames : List FrameValue) × CaptureFileHasFrames (made_capture seed count) frames × (length frames ≡ count) }
+    ensures { (seed count : ℕ) → count ≤ most_frames
+        → (frames : List FrameValue) × FileHasFrames (made_capture seed count) frames × (length frames ≡ count) }
 {}
 
 /// The text of a demonstration depends on the seed, the number of frames, the shards, the capacity, the share, the dealing
@@ -84,7 +84,7 @@ pub fn demos_have_one_text()
     ensures { (formula : DealKind → ℕ → RecordValue → ℕ → ℕ) (settings other : Settings) (seed frames : ℕ) (text other_text : List ℕ)
         → settings.shards ≡ other.shards → settings.capacity ≡ other.capacity → settings.phi ≡ other.phi
         → settings.deal ≡ other.deal → settings.weigh ≡ other.weigh
-        → IsDemoText settings (rules_by_formula formula) seed frames text → IsDemoText other (rules_by_formula formula) seed frames other_text
+        → IsDemoText settings (rules_by formula) seed frames text → IsDemoText other (rules_by formula) seed frames other_text
         → text ≡ other_text }
 {
     captures_are_dealt_in_one_way();

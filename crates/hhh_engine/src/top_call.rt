@@ -6,11 +6,11 @@ ghost use Rattle.deal_rules.specs.{dealer_of};
 ghost use Rattle.command_words.specs.{argument_texts, IsLimitedCommand};
 ghost use Rattle.command_words.specs.declared.command.Command.TheVariants.{Format};
 ghost use Rattle.command_words.specs.declared.settings.Settings.{Settings};
-ghost use Rattle.hhh_engine.specs.CommandEnding.{CommandEnds, CommandEndsInOrder};
+ghost use Rattle.hhh_engine.specs.Commands.{CommandEnds, CommandInOrder};
 ghost use Rattle.hhh_engine.specs.Ending.{FormatEnds};
-ghost use Rattle.hhh_engine.specs.Inputs.{UsesInputCapture, UsesInputSession, UsesInputStore};
+ghost use Rattle.hhh_engine.specs.Inputs.{UsesCapture, UsesSession, UsesStore};
 ghost use Rattle.hhh_engine.specs.TopCall.{RunEnds, streams};
-ghost use Rattle.report_session.specs.{store_settings_for_saves};
+ghost use Rattle.report_session.specs.{saves_settings};
 ghost use Rattle.run_status.specs.declared.status.Status.TheVariants.{BadCapture, DiskFault};
 
 use crate::Status;
@@ -102,16 +102,16 @@ fn answer<R: Threads + Wait + Sync, S: Source, T: Source, K: Sink, D: Disk, G: G
     ensures ends { CommandEnds S.Source T.Source K.Sink D.Disk (streams capture.old text.old sink.old disk.old)
         (streams capture.new text.new sink.new disk.new) (λ kind. ⟦<Dealer as Deals>⟧.may_answer (dealer_of kind dealers.now))
         command.now result }
-    ensures order { CommandEndsInOrder S.Source T.Source K.Sink D.Disk (streams capture.old text.old sink.old disk.old)
+    ensures order { CommandInOrder S.Source T.Source K.Sink D.Disk (streams capture.old text.old sink.old disk.old)
         (streams capture.new text.new sink.new disk.new) (λ kind. ⟦<Dealer as Deals>⟧.may_answer (dealer_of kind dealers.now))
         command.now result }
     ensures told { (result ≡ DiskFault → ⊥) → D.faults disk.new ≡ D.faults disk.old }
-    ensures unused { (UsesInputStore command.now → ⊥) → disk.new ≡ disk.old }
-    ensures reads { (fault : CaptureFault) → result ≡ BadCapture fault → UsesInputCapture command.now }
-    ensures unread { (UsesInputCapture command.now → ⊥) → capture.new ≡ capture.old }
-    ensures text_unread { (UsesInputSession command.now → ⊥) → text.new ≡ text.old }
+    ensures unused { (UsesStore command.now → ⊥) → disk.new ≡ disk.old }
+    ensures reads { (fault : CaptureFault) → result ≡ BadCapture fault → UsesCapture command.now }
+    ensures unread { (UsesCapture command.now → ⊥) → capture.new ≡ capture.old }
+    ensures text_unread { (UsesSession command.now → ⊥) → text.new ≡ text.old }
     ensures formats { (settings : Settings) → command.now ≡ Format settings
-        → FormatEnds D.Disk (store_settings_for_saves settings) sink.old sink.new disk.old disk.new result }
+        → FormatEnds D.Disk (saves_settings settings) sink.old sink.new disk.old disk.new result }
 {
     match command {
         Command::Weigh { prefix, settings } => weigh(alloc, prefix, settings, capture, sink),

@@ -9,7 +9,7 @@ use Rattle.prefix_lattice.specs.{PrefixValue}
 use Rattle.conditioned_bounds.specs.{member_limit}
 use Rattle.hhh_report.specs.declared.line.Line.{Line}
 use Rattle.hhh_report.specs.{prefixes_of_lines}
-use Rattle.hhh_output.specs.Selecting.{selecting_nodes_down, most_candidates_to_select}
+use Rattle.hhh_output.specs.Selecting.{nodes_down, most_candidates}
 
 -- no prefix before an index is the one at the index
 pub appended_line_has_new_prefix : (old : List PrefixValue) (found : List Line) (at : ℕ) (line : Line)
@@ -41,7 +41,7 @@ appended_line_has_new_prefix old found at line distinct within is there =
     (Contains-append_cases old (prefixes_of_lines (take at found)) line.prefix there)
 
 -- some levels have no more nodes than all
-appended_line_levels-few : (levels : ℕ) → levels ≤ 9 → selecting_nodes_down levels ≤ 25
+appended_line_levels-few : (levels : ℕ) → levels ≤ 9 → nodes_down levels ≤ 25
 appended_line_levels-few zero within = omega arith
 appended_line_levels-few (suc zero) within = omega arith
 appended_line_levels-few (suc (suc zero)) within = omega arith
@@ -55,6 +55,6 @@ appended_line_levels-few (suc (suc (suc (suc (suc (suc (suc (suc (suc zero))))))
 appended_line_levels-few (suc (suc (suc (suc (suc (suc (suc (suc (suc (suc levels)))))))))) within = absurd (omega arith)
 
 -- so there is room for the lines of each level
-pub appended_lines-few : (levels lines : ℕ) → levels ≤ 9 → lines ≤ selecting_nodes_down levels * most_candidates_to_select
+pub appended_lines-few : (levels lines : ℕ) → levels ≤ 9 → lines ≤ nodes_down levels * most_candidates
     → lines < member_limit
 appended_lines-few levels lines within few = omega (arith, few, appended_line_levels-few levels within)

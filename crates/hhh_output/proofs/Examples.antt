@@ -8,10 +8,10 @@ use Rattle.prefix_lattice.specs.{RecordValue, node_index, PrefixValue, IsPrefix,
 use Rattle.hhh_report.specs.{AreReportLines}
 use Rattle.hhh_report.specs.declared.line.Line.{Line}
 use Rattle.hhh_report.specs.declared.report.Report.{Report}
-use Rattle.shard_state.specs.{fold_snapshot_from, no_snapshot_entries, empty_snapshot, CutValue}
-use Rattle.cut_merge.specs.{keys_monitored_in_tables}
-use Rattle.hhh_output.specs.Report.{IsMonitoredInReport, report_low_in, report_high_in, IsUnexplainedInReport}
-use Rattle.hhh_output.specs.Report.{IsLineOfReport, IsReportOf, IsWideShare}
+use Rattle.shard_state.specs.{fold_from, no_entries, empty_snapshot, CutValue}
+use Rattle.cut_merge.specs.{monitored_in}
+use Rattle.hhh_output.specs.Reporting.{IsMonitored, low_in, high_in, IsUnexplained}
+use Rattle.hhh_output.specs.Reporting.{IsLineOf, IsReportOf, IsWideShare}
 
 -- tables of 512 entries can't hide a hundredth, those of 199 can
 pub tables_for_a_hundredth : IsWideShare 10000 512
@@ -32,15 +32,15 @@ prefix = record { source = 10 ∷ []; dest = 20 ∷ [] }
 abbrev cut : CutValue
 cut = record {
   capacity = 4;
-  shards = record { capacity = 4; position = 1; tables = fold_snapshot_from 0 4 no_snapshot_entries (packet ∷ []) } ∷ [];
+  shards = record { capacity = 4; position = 1; tables = fold_from 0 4 no_entries (packet ∷ []) } ∷ [];
 }
 
-pub low_of_the_prefix : report_low_in cut prefix ≡ 100
-unfolding no_snapshot_entries
+pub low_of_the_prefix : low_in cut prefix ≡ 100
+unfolding no_entries
 low_of_the_prefix = refl
 
-pub high_of_the_prefix : report_high_in cut prefix ≡ 100
-unfolding no_snapshot_entries
+pub high_of_the_prefix : high_in cut prefix ≡ 100
+unfolding no_entries
 high_of_the_prefix = refl
 
 -- 0.0.0.0/0 0.0.0.0/0
@@ -86,8 +86,8 @@ no_lines = record {
 }
 
 -- the packet's own prefix is a line, whether or not it is among the lines already
-pub own_line_of_the_cut : IsLineOfReport cut 1 [] own
-unfolding no_snapshot_entries
+pub own_line_of_the_cut : IsLineOf cut 1 [] own
+unfolding no_entries
 own_line_of_the_cut =
     let unexplained : pos 1 ≤ℤ pos 100 = omega (arith, ints) in
     record {
@@ -99,19 +99,19 @@ own_line_of_the_cut =
       unexplained = unexplained;
     }
 
-pub no_line_above_all_weight : ¬ IsLineOfReport cut 101 [] own
+pub no_line_above_all_weight : ¬ IsLineOf cut 101 [] own
 no_line_above_all_weight line = omega (arith, line.heavy)
 
-pub root_is_monitored : IsMonitoredInReport cut root
-unfolding no_snapshot_entries
+pub root_is_monitored : IsMonitored cut root
+unfolding no_entries
 root_is_monitored = (0, omega arith, refl)
 
 -- 11.0.0.0/8 0.0.0.0/0
 abbrev elsewhere : PrefixValue
 elsewhere = record { source = 11 ∷ []; dest = [] }
 
-pub another_network_is_not : ¬ IsMonitoredInReport cut elsewhere
-unfolding no_snapshot_entries
+pub another_network_is_not : ¬ IsMonitored cut elsewhere
+unfolding no_entries
 another_network_is_not monitored = other monitored.0 monitored.1 monitored.2
   where
     other : (place : ℕ) → place < 1
@@ -121,12 +121,12 @@ another_network_is_not monitored = other monitored.0 monitored.1 monitored.2
     other (suc place) within is = omega arith
 
 -- the bound is 100, less the 100 of the line below
-pub root_is_explained_by_the_line : ¬ IsUnexplainedInReport cut 1 (whole ∷ []) root
-unfolding no_snapshot_entries
+pub root_is_explained_by_the_line : ¬ IsUnexplained cut 1 (whole ∷ []) root
+unfolding no_entries
 root_is_explained_by_the_line unexplained = let most : pos 1 ≤ℤ pos 0 = unexplained in omega (arith, ints, most)
 
-pub and_unexplained_without_it : IsUnexplainedInReport cut 1 [] root
-unfolding no_snapshot_entries
+pub and_unexplained_without_it : IsUnexplained cut 1 [] root
+unfolding no_entries
 and_unexplained_without_it = let most : pos 1 ≤ℤ pos 100 = omega (arith, ints) in most
 
 abbrev silent : Report
@@ -150,7 +150,7 @@ alike x (suc length) zero = refl
 alike x (suc length) (suc place) = alike x length place
 
 pub nothing_is_told_of_nothing : IsReportOf nothing_counted 500000 nothing_told
-unfolding no_snapshot_entries
+unfolding no_entries
 nothing_is_told_of_nothing = record {
   positions = refl;
   total = refl;
@@ -159,7 +159,7 @@ nothing_is_told_of_nothing = record {
     (λ inside. absurd (omega (arith, inside.1))),
     (λ asked.
         let none = subst (λ keys. Contains keys (prefix_key line.prefix))
-        (ap (λ entries. keys_monitored_in_tables (record { capacity = 4; entries = entries } ∷ []))
+        (ap (λ entries. monitored_in (record { capacity = 4; entries = entries } ∷ []))
         (alike [] 25 (node_index (node_of_prefix line.prefix)))) asked.monitored in
         absurd (omega (arith, none.1))),
   );

@@ -7,34 +7,34 @@ use Rattle.std.proofs.lemmas.List.Elements.{All-nil, All-cons}
 use Rattle.std.proofs.lemmas.List.Kept.{AllPairs-cons}
 use Rattle.prefix_lattice.specs.{NodeValue, node_index, PrefixValue, node_of_prefix, prefix_key, IsPrefixKey}
 use Rattle.prefix_lattice.specs.{node_count}
-use Rattle.cut_merge.specs.{NodeMergeValue, MergedValue, nothing_merged, merged_candidates_at}
+use Rattle.cut_merge.specs.{NodeMergeValue, MergedValue, nothing_merged, candidates_at}
 use Rattle.hhh_report.specs.declared.line.Line.{Line}
 use Rattle.hhh_report.specs.{line_limit}
-use Rattle.hhh_output.specs.Selecting.{selecting_low, selecting_high, CanSelectLine, IsSelected}
-use Rattle.hhh_output.specs.Selecting.{most_candidates_to_select}
-use Rattle.hhh_output.specs.Selecting.{AreCandidatesToSelect, selecting_nodes_before, selecting_nodes_down}
-use Rattle.hhh_output.specs.Selecting.{SelectedAreDistinct, AreSelectedOfLevel, AreSelectedDownTo}
+use Rattle.hhh_output.specs.Selecting.{low_of, high_of, CanSelect, IsSelected}
+use Rattle.hhh_output.specs.Selecting.{most_candidates}
+use Rattle.hhh_output.specs.Selecting.{AreCandidates, nodes_before, nodes_down}
+use Rattle.hhh_output.specs.Selecting.{AreDistinct, AreOfLevel, AreDownTo}
 use Rattle.hhh_output.proofs.Examples.{root, whole, whole_is_prefix, own, of_all, alike}
 use Rattle.conditioned_bounds.specs.{member_limit}
 
 -- of the nodes one has level 8, and two have level 7
-pub nodes_of_the_first_levels : selecting_nodes_down 2 ≡ 3
+pub nodes_of_the_first_levels : nodes_down 2 ≡ 3
 nodes_of_the_first_levels = refl
 
-pub nodes_of_level_4 : selecting_nodes_before 4 25 ≡ 5
+pub nodes_of_level_4 : nodes_before 4 25 ≡ 5
 nodes_of_level_4 = refl
 
-pub a_node_has_the_entries_of_128_tables_at_most : most_candidates_to_select ≡ 128 * 4096
+pub a_node_has_the_entries_of_128_tables_at_most : most_candidates ≡ 128 * 4096
 a_node_has_the_entries_of_128_tables_at_most = refl
 
-pub candidates_of_all_nodes_are_below_the_limit : node_count * most_candidates_to_select < member_limit
+pub candidates_of_all_nodes_are_below_the_limit : node_count * most_candidates < member_limit
 candidates_of_all_nodes_are_below_the_limit = omega arith
 
 -- the index of lines, by which they are selected, has room for all lines of a report
 pub limit_of_an_index_is_that_of_lines : member_limit ≡ line_limit
 limit_of_an_index_is_that_of_lines = refl
 
-pub lines_of_two_prefixes_are_distinct : SelectedAreDistinct (own ∷ of_all ∷ [])
+pub lines_of_two_prefixes_are_distinct : AreDistinct (own ∷ of_all ∷ [])
 lines_of_two_prefixes_are_distinct =
     let Other : Line → Line → Type 0 = λ line other. line.prefix ≢ other.prefix in
     AllPairs-cons Other own (of_all ∷ [])
@@ -44,7 +44,7 @@ lines_of_two_prefixes_are_distinct =
     (All-nil (Other own)))
     (AllPairs-cons Other of_all [] (All-nil (Other of_all)) (λ place later other before within. absurd (omega arith)))
 
-pub a_prefix_has_one_line : ¬ SelectedAreDistinct (own ∷ own ∷ [])
+pub a_prefix_has_one_line : ¬ AreDistinct (own ∷ own ∷ [])
 a_prefix_has_one_line distinct = distinct 0 1 own (omega arith) (omega arith) refl
 
 -- merged tables that know the packet's own prefix, 100 to 100, at the last of the 25 nodes, and nothing elsewhere
@@ -64,21 +64,21 @@ merged = record {
 abbrev nothing : MergedValue
 nothing = record { capacity = 4; total = 0; nodes = replicate 25 nothing_merged }
 
-pub low_of_the_own_prefix : selecting_low merged whole ≡ 100
+pub low_of_the_own_prefix : low_of merged whole ≡ 100
 low_of_the_own_prefix = refl
 
-pub high_of_the_unknown_root : selecting_high merged root ≡ 0
+pub high_of_the_unknown_root : high_of merged root ≡ 0
 high_of_the_unknown_root = refl
 
-pub line_that_is_asked_for : CanSelectLine merged 100 [] own
+pub line_that_is_asked_for : CanSelect merged 100 [] own
 line_that_is_asked_for =
     let unexplained : pos 100 ≤ℤ pos 100 = omega (arith, ints) in
     record { low = refl; high = refl; heavy = omega arith; unexplained = unexplained }
 
-pub line_below_the_threshold : ¬ CanSelectLine merged 101 [] own
+pub line_below_the_threshold : ¬ CanSelect merged 101 [] own
 line_below_the_threshold asked = omega (arith, asked.heavy)
 
-pub line_with_another_interval : ¬ CanSelectLine merged 0 [] of_all
+pub line_with_another_interval : ¬ CanSelect merged 0 [] of_all
 line_with_another_interval asked = let low : 100 ≡ 0 = asked.low in omega (arith, low)
 
 pub selected_line : IsSelected merged 100 [] own
@@ -88,21 +88,21 @@ selected_line = record {
   asked = line_that_is_asked_for;
 }
 
-no_candidates : (node : NodeValue) → merged_candidates_at nothing node ≡ []
+no_candidates : (node : NodeValue) → candidates_at nothing node ≡ []
 no_candidates node = ap (λ (merge : NodeMergeValue). merge.keys) (alike nothing_merged 25 (node_index node))
 
-pub nothing_has_no_candidates : AreCandidatesToSelect nothing
+pub nothing_has_no_candidates : AreCandidates nothing
 nothing_has_no_candidates = record {
   keyed = λ node is_node. subst (All (IsPrefixKey node)) (sym (no_candidates node)) (All-nil (IsPrefixKey node));
   distinct = λ node is_node.
       subst (AllPairs (λ key other. key ≢ other)) (sym (no_candidates node))
       (λ place later other before within. absurd (omega arith));
   few = λ node is_node.
-      subst (λ (keys : List ℕ). length keys ≤ most_candidates_to_select) (sym (no_candidates node)) (omega arith);
+      subst (λ (keys : List ℕ). length keys ≤ most_candidates) (sym (no_candidates node)) (omega arith);
 }
 
 -- the root keeps no bit, so its only key is 0
-pub root_has_no_key_1 : ¬ AreCandidatesToSelect
+pub root_has_no_key_1 : ¬ AreCandidates
     (record nothing { nodes = record { runs = []; keys = 1 ∷ [] } ∷ [] })
 root_has_no_key_1 candidates =
     let loose : 1 ≡ 0 =
@@ -117,7 +117,7 @@ none_selected threshold lines line selected =
     subst (λ keys. Contains keys (prefix_key line.prefix)) (no_candidates (node_of_prefix line.prefix)) selected.candidate in
     omega (arith, none.1)
 
-pub nothing_has_no_line_of_level_8 : AreSelectedOfLevel nothing 1 [] 8 []
+pub nothing_has_no_line_of_level_8 : AreOfLevel nothing 1 [] 8 []
 nothing_has_no_line_of_level_8 = record {
   members = λ line.
       ((λ inside. absurd (omega (arith, inside.1))), (λ selected. absurd (none_selected 1 [] line selected.1)));
@@ -125,11 +125,11 @@ nothing_has_no_line_of_level_8 = record {
   few = omega arith;
 }
 
-pub a_selected_line_is_not_left_out : ¬ AreSelectedOfLevel merged 100 [] 8 []
+pub a_selected_line_is_not_left_out : ¬ AreOfLevel merged 100 [] 8 []
 a_selected_line_is_not_left_out level =
     let inside = (level.members own).1 (refl, selected_line) in omega (arith, inside.1)
 
-pub nothing_has_no_line_of_any_level : AreSelectedDownTo nothing 1 9 []
+pub nothing_has_no_line_of_any_level : AreDownTo nothing 1 9 []
 nothing_has_no_line_of_any_level = record {
   above = λ line inside. absurd (omega (arith, inside.1));
   members = λ line of_level.
@@ -139,7 +139,7 @@ nothing_has_no_line_of_any_level = record {
 }
 
 -- before level 8 no line is found, whatever is merged
-pub no_level_has_no_line : AreSelectedDownTo merged 100 0 []
+pub no_level_has_no_line : AreDownTo merged 100 0 []
 no_level_has_no_line = record {
   above = λ line inside. absurd (omega (arith, inside.1));
   members = λ line above. (
@@ -150,5 +150,5 @@ no_level_has_no_line = record {
   few = omega arith;
 }
 
-pub level_8_is_not_left_out : ¬ AreSelectedDownTo merged 100 1 []
+pub level_8_is_not_left_out : ¬ AreDownTo merged 100 1 []
 level_8_is_not_left_out down = let inside = (down.members own (omega arith)).1 selected_line in omega (arith, inside.1)

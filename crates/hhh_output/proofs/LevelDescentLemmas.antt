@@ -12,9 +12,9 @@ use Rattle.prefix_lattice.specs.{address_of, PrefixValue, closest, kept_pairs}
 use Rattle.cut_merge.specs.{MergedValue}
 use Rattle.hhh_report.specs.declared.line.Line.{Line}
 use Rattle.hhh_report.specs.{prefixes_of_lines}
-use Rattle.hhh_output.specs.Selecting.{selecting_low, selecting_high, IsSelected, AreSelectedOfLevel, AreSelectedDownTo}
-use Rattle.hhh_output.specs.Selecting.{selecting_nodes_before}
-use Rattle.hhh_output.specs.Selecting.{selecting_nodes_down}
+use Rattle.hhh_output.specs.Selecting.{low_of, high_of, IsSelected, AreOfLevel, AreDownTo}
+use Rattle.hhh_output.specs.Selecting.{nodes_before}
+use Rattle.hhh_output.specs.Selecting.{nodes_down}
 use Rattle.hhh_output.proofs.OneReportLemmas.{BeforeInOneReport}
 use Rattle.hhh_output.proofs.NearLineLemmas.{near_line_level, NearLineLevelsFall, near_lines-append}
 
@@ -32,8 +32,8 @@ level_descent_asks_by_closest merged threshold lines other line same is = record
     unexplained =
         subst (λ near.
         pos threshold
-        ≤ℤ (pos (selecting_high merged line.prefix + sum_by (selecting_high merged) (kept_pairs near))
-        -ℤ pos (sum_by (selecting_low merged) near))) same is.asked.unexplained;
+        ≤ℤ (pos (high_of merged line.prefix + sum_by (high_of merged) (kept_pairs near))
+        -ℤ pos (sum_by (low_of merged) near))) same is.asked.unexplained;
   };
 }
 
@@ -75,7 +75,7 @@ level_descent_pairs-append {X} R xs ys first second across = λ i j d before bel
     ]
 
 -- at first no level is searched
-pub level_descent_starts_empty : (merged : MergedValue) (threshold : ℕ) → AreSelectedDownTo merged threshold 0 []
+pub level_descent_starts_empty : (merged : MergedValue) (threshold : ℕ) → AreDownTo merged threshold 0 []
 level_descent_starts_empty merged threshold = record {
   above = λ line there. absurd (no_line line there);
   members = λ line high. (
@@ -94,8 +94,8 @@ level_descent_starts_empty merged threshold = record {
 
 -- one more level
 module _ (merged : MergedValue) (threshold levels : ℕ) (lines found : List Line) (law : NearLineLevelsFall) (some : levels < 9)
-    (down : AreSelectedDownTo merged threshold levels lines)
-    (of_level : AreSelectedOfLevel merged threshold (prefixes_of_lines lines) (8 - levels) found) where
+    (down : AreDownTo merged threshold levels lines)
+    (of_level : AreOfLevel merged threshold (prefixes_of_lines lines) (8 - levels) found) where
   level_descent_reaches_level : (line : Line) → Contains found line → near_line_level line.prefix ≡ 8 - levels
   level_descent_reaches_level line there = ((of_level.members line).0 there).0
 
@@ -109,7 +109,7 @@ module _ (merged : MergedValue) (threshold levels : ℕ) (lines found : List Lin
       (All-weaker (Contains found) (λ (l : Line). near_line_level l.prefix ≤ near_line_level line.prefix)
       (λ other there. omega (arith, level_descent_reaches_level other there, high)) found (All-contains_itself found)))
 
-  pub level_descent_goes_on : AreSelectedDownTo merged threshold (levels + 1) (lines ++ found)
+  pub level_descent_goes_on : AreDownTo merged threshold (levels + 1) (lines ++ found)
   level_descent_goes_on = record {
     above = λ line there. elim (Contains-append_cases lines found line there) [
       | inl earlier ↦ let high : 8 < near_line_level line.prefix + levels = down.above line earlier in omega arith
@@ -136,7 +136,7 @@ module _ (merged : MergedValue) (threshold levels : ℕ) (lines found : List Lin
         let high : 8 < near_line_level line.prefix + levels = down.above line earlier in
         level_descent_puts_greater_first line later (omega (arith, level_descent_reaches_level later new)));
     few =
-        let more : selecting_nodes_down (levels + 1) ≡ selecting_nodes_down levels + selecting_nodes_before (8 - levels) 25 =
-        ap selecting_nodes_down (add-one levels) in
+        let more : nodes_down (levels + 1) ≡ nodes_down levels + nodes_before (8 - levels) 25 =
+        ap nodes_down (add-one levels) in
         omega (arith, more, down.few, of_level.few, length-append lines found);
   }

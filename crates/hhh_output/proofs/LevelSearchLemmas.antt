@@ -16,12 +16,12 @@ use Rattle.std.proofs.lemmas.List.Sorted.{length_permutation}
 use Rattle.std.proofs.lemmas.Map.Keys.{IsDistinct-IsPermutation, IsDistinct-from_apart, apart_from_distinct}
 use Rattle.prefix_lattice.specs.{NodeValue, node_index, node_at, node_level, PrefixValue, IsPrefix, node_of_prefix}
 use Rattle.prefix_lattice.specs.{under}
-use Rattle.prefix_lattice.specs.{same_in_lattice, report_order}
+use Rattle.prefix_lattice.specs.{same_as, report_order}
 use Rattle.prefix_lattice.proofs.NodePlaceLemmas.{node_at_own_place}
 use Rattle.cut_merge.specs.{MergedValue}
 use Rattle.hhh_report.specs.declared.line.Line.{Line}
-use Rattle.hhh_output.specs.Selecting.{IsSelected, SelectedAreDistinct, AreSelectedOfLevel, selecting_nodes_before}
-use Rattle.hhh_output.specs.Selecting.{most_candidates_to_select}
+use Rattle.hhh_output.specs.Selecting.{IsSelected, AreDistinct, AreOfLevel, nodes_before}
+use Rattle.hhh_output.specs.Selecting.{most_candidates}
 use Rattle.hhh_output.proofs.OneReportLemmas.{BeforeInOneReport}
 
 -- the nodes before an index are searched
@@ -31,8 +31,8 @@ pub record IsLevelSearch (merged : MergedValue) (threshold : ℕ) (reported : Li
       → Contains found line
       ↔ ((node_index (node_of_prefix line.prefix) < place) × (node_level (node_of_prefix line.prefix) ≡ level)
       × IsSelected merged threshold reported line)
-  pub distinct : SelectedAreDistinct found
-  pub few : length found ≤ selecting_nodes_before level place * most_candidates_to_select
+  pub distinct : AreDistinct found
+  pub few : length found ≤ nodes_before level place * most_candidates
 
 -- none at first
 pub level_search_starts_empty : (merged : MergedValue) (threshold : ℕ) (reported : List PrefixValue) (level : ℕ)
@@ -57,9 +57,9 @@ level_search_is_at_node prefix node place is_prefix is same =
     ∙ ap node_at same ∙ sym is
 
 level_search_nodes_grow : (level place : ℕ)
-    → selecting_nodes_before level (place + 1)
-    ≡ selecting_nodes_before level place + (if eqb (node_level (node_at place)) level then 1 else 0)
-level_search_nodes_grow level place = ap (selecting_nodes_before level) (add-one place)
+    → nodes_before level (place + 1)
+    ≡ nodes_before level place + (if eqb (node_level (node_at place)) level then 1 else 0)
+level_search_nodes_grow level place = ap (nodes_before level) (add-one place)
 
 module _ (merged : MergedValue) (threshold : ℕ) (reported : List PrefixValue) (level : ℕ) (found : List Line)
     (place : ℕ) (node : NodeValue)
@@ -88,7 +88,7 @@ module _ (merged : MergedValue) (threshold : ℕ) (reported : List PrefixValue) 
           λ same. other (ap node_level (sym (level_search_is_at_node line.prefix node place part.2.is_prefix is same)) ∙ part.1) in
           omega (arith, apart)
 
-      fewer : selecting_nodes_before level place ≤ selecting_nodes_before level (place + 1)
+      fewer : nodes_before level place ≤ nodes_before level (place + 1)
       fewer = omega (arith, level_search_nodes_grow level place)
 
   -- the lines found before are of other nodes
@@ -100,10 +100,10 @@ module _ (merged : MergedValue) (threshold : ℕ) (reported : List PrefixValue) 
       found (All-contains_itself found)
 
   -- a node of the level adds its lines
-  pub level_search_takes_node : node_level node ≡ level → (after : List Line) (candidates : ℕ) → candidates ≤ most_candidates_to_select
+  pub level_search_takes_node : node_level node ≡ level → (after : List Line) (candidates : ℕ) → candidates ≤ most_candidates
       → ((line : Line) → Contains after line
       ↔ (Contains found line ⊎ ((node_of_prefix line.prefix ≡ node) × IsSelected merged threshold reported line)))
-      → SelectedAreDistinct after → length after ≤ length found + candidates
+      → AreDistinct after → length after ≤ length found + candidates
       → IsLevelSearch merged threshold reported level after (place + 1)
   level_search_takes_node same after candidates few_candidates members distinct few = record {
     members = λ line. (
@@ -153,11 +153,11 @@ pub record LevelSearchIsOrdered : Type 0 where
 
 -- whether two lines have the same prefix
 abbrev level_search_same_line : Line → Line → Bool
-level_search_same_line line other = same_in_lattice line.prefix other.prefix
+level_search_same_line line other = same_as line.prefix other.prefix
 
 -- lines of distinct prefixes stay so in another order
-level_search_stays_distinct : LevelSearchIsOrdered → (lines moved : List Line) → IsPermutation lines moved → SelectedAreDistinct lines
-    → SelectedAreDistinct moved
+level_search_stays_distinct : LevelSearchIsOrdered → (lines moved : List Line) → IsPermutation lines moved → AreDistinct lines
+    → AreDistinct moved
 level_search_stays_distinct order lines moved moves distinct =
     let differ : (line other : Line) → line.prefix ≢ other.prefix → level_search_same_line line other ≡ false =
     λ line other apart. by line other apart (level_search_same_line line other) refl in
@@ -169,7 +169,7 @@ level_search_stays_distinct order lines moved moves distinct =
     (λ line other. and_comm (under line.prefix other.prefix) (under other.prefix line.prefix)) lines moved moves
     apart in
     λ i j d before below same. false≢true (sym (apart_from_distinct level_search_same_line moved i j d still before below)
-    ∙ subst (λ p. same_in_lattice (get_or moved i d).prefix p ≡ true) same
+    ∙ subst (λ p. same_as (get_or moved i d).prefix p ≡ true) same
     (ap (λ b. b && b) (order.reflexive (get_or moved i d).prefix)))
   where
     by : (line other : Line) → line.prefix ≢ other.prefix → (b : Bool) → level_search_same_line line other ≡ b
@@ -197,7 +197,7 @@ pub level_search_is_sorted : (merged : MergedValue) (threshold : ℕ) (reported 
     (found sorted : List Line) → LevelSearchIsOrdered
     → IsLevelSearch merged threshold reported level found 25 → IsPermutation found sorted
     → IsSortedBy (λ line other. is_lt (report_order line.prefix other.prefix)) sorted
-    → AreSelectedOfLevel merged threshold reported level sorted
+    → AreOfLevel merged threshold reported level sorted
 level_search_is_sorted merged threshold reported level found sorted order looks moves rises =
     let lt : Line → Line → Bool = λ line other. is_lt (report_order line.prefix other.prefix) in
     let selected : (line : Line) → Contains sorted line

@@ -10,7 +10,7 @@ use Rattle.prefix_lattice.specs.{kept_pairs}
 use Rattle.shard_state.specs.{CutValue}
 use Rattle.hhh_report.specs.declared.line.Line.{Line}
 use Rattle.hhh_report.specs.{prefixes_of_lines}
-use Rattle.hhh_output.specs.Report.{report_low_in, report_high_in, IsLineOfReport}
+use Rattle.hhh_output.specs.Reporting.{low_in, high_in, IsLineOf}
 
 -- the level of a prefix
 abbrev pub near_line_level : PrefixValue → ℕ
@@ -85,7 +85,7 @@ near_lines_above_suffice prefix lines law = ap greatest_lines (near_lines_above-
 -- whether a prefix has a line depends only on its closest lines
 pub near_lines_decide_line : (cut : CutValue) (threshold : ℕ) (lines other : List PrefixValue) (line : Line)
     → closest line.prefix lines ≡ closest line.prefix other
-    → IsLineOfReport cut threshold lines line → IsLineOfReport cut threshold other line
+    → IsLineOf cut threshold lines line → IsLineOf cut threshold other line
 near_lines_decide_line cut threshold lines other line same is = record {
   is_prefix = is.is_prefix;
   low = is.low;
@@ -95,6 +95,6 @@ near_lines_decide_line cut threshold lines other line same is = record {
   unexplained =
       subst (λ near.
       pos threshold
-      ≤ℤ (pos (report_high_in cut line.prefix + sum_by (report_high_in cut) (kept_pairs near))
-      -ℤ pos (sum_by (report_low_in cut) near))) same is.unexplained;
+      ≤ℤ (pos (high_in cut line.prefix + sum_by (high_in cut) (kept_pairs near))
+      -ℤ pos (sum_by (low_in cut) near))) same is.unexplained;
 }

@@ -7,28 +7,28 @@ use Rattle.std.proofs.lemmas.List.Elements.{Contains-push, Contains-push_cases, 
 use Rattle.std.proofs.lemmas.List.Elements.{Contains-get_or}
 use Rattle.std.proofs.lemmas.List.Quantifiers.{all_pairs_push}
 use Rattle.prefix_lattice.specs.{NodeValue, PrefixValue, node_of_prefix, prefix_key, HasPrefixKey}
-use Rattle.cut_merge.specs.{MergedValue, merged_candidates_at}
+use Rattle.cut_merge.specs.{MergedValue, candidates_at}
 use Rattle.hhh_report.specs.declared.line.Line.{Line}
-use Rattle.hhh_output.specs.Selecting.{CanSelectLine, IsSelected, SelectedAreDistinct}
+use Rattle.hhh_output.specs.Selecting.{CanSelect, IsSelected, AreDistinct}
 
 -- the line of a prefix of this node that has one of these keys, if merged tables give it
 pub record IsNodeLineAmong (merged : MergedValue) (threshold : ℕ) (reported : List PrefixValue) (node : NodeValue)
     (keys : List ℕ) (line : Line) : Type 0 where
   pub has_key : HasPrefixKey node (prefix_key line.prefix) line.prefix
   pub key : Contains keys (prefix_key line.prefix)
-  pub asked : CanSelectLine merged threshold reported line
+  pub asked : CanSelect merged threshold reported line
 
 -- the candidates before an index are judged
 pub record HasJudgedNodeLines (merged : MergedValue) (threshold : ℕ) (reported : List PrefixValue) (node : NodeValue)
     (keys : List ℕ) (old now : List Line) (place : ℕ) : Type 0 where
   pub members : (line : Line)
       → Contains now line ↔ (Contains old line ⊎ IsNodeLineAmong merged threshold reported node (take place keys) line)
-  pub distinct : SelectedAreDistinct now
+  pub distinct : AreDistinct now
   pub few : length now ≤ length old + place
 
 -- none is judged at first
 pub no_node_line_judged : (merged : MergedValue) (threshold : ℕ) (reported : List PrefixValue) (node : NodeValue)
-    (keys : List ℕ) (old : List Line) → SelectedAreDistinct old
+    (keys : List ℕ) (old : List Line) → AreDistinct old
     → HasJudgedNodeLines merged threshold reported node keys old old 0
 no_node_line_judged merged threshold reported node keys old distinct = record {
   members = λ line. (
@@ -65,7 +65,7 @@ module _ (merged : MergedValue) (threshold : ℕ) (reported : List PrefixValue) 
     (distinct : AllPairs (λ k other. k ≢ other) keys) (within : place < length keys)
     (read : key ≡ get_or keys place key)
     (only : (other : PrefixValue) → (Some prefix ≡ Some other) ↔ HasPrefixKey node key other)
-    (asked : (line : Line) → line.prefix ≡ prefix → (found ≡ Some line) ↔ CanSelectLine merged threshold reported line)
+    (asked : (line : Line) → line.prefix ≡ prefix → (found ≡ Some line) ↔ CanSelect merged threshold reported line)
     (its_prefix : (line : Line) → found ≡ Some line → line.prefix ≡ prefix) where
   node_line_belongs_to_node : HasPrefixKey node key prefix
   node_line_belongs_to_node = (only prefix).0 refl
@@ -162,13 +162,13 @@ module _ (merged : MergedValue) (threshold : ℕ) (reported : List PrefixValue) 
 -- all candidates judged
 pub all_node_lines_judged : (merged : MergedValue) (threshold : ℕ) (reported : List PrefixValue) (node : NodeValue)
     (old now : List Line) (place : ℕ)
-    → length (merged_candidates_at merged node) ≤ place
-    → HasJudgedNodeLines merged threshold reported node (merged_candidates_at merged node) old now place
+    → length (candidates_at merged node) ≤ place
+    → HasJudgedNodeLines merged threshold reported node (candidates_at merged node) old now place
     → (line : Line) → Contains now line
     ↔ (Contains old line ⊎ ((node_of_prefix line.prefix ≡ node) × IsSelected merged threshold reported line))
 all_node_lines_judged merged threshold reported node old now place done judged line =
-    let all : take place (merged_candidates_at merged node) ≡ merged_candidates_at merged node =
-    take_all place (merged_candidates_at merged node) done in (
+    let all : take place (candidates_at merged node) ≡ candidates_at merged node =
+    take_all place (candidates_at merged node) done in (
       λ there. elim ((judged.members line).0 there) [
         | inl old_one ↦ inl old_one
         | inr among ↦ inr (
@@ -176,7 +176,7 @@ all_node_lines_judged merged threshold reported node old now place done judged l
           record {
             is_prefix = among.has_key.is_prefix;
             candidate =
-                subst (λ n. Contains (merged_candidates_at merged n) (prefix_key line.prefix)) (sym among.has_key.of_node)
+                subst (λ n. Contains (candidates_at merged n) (prefix_key line.prefix)) (sym among.has_key.of_node)
                 (subst (λ ks. Contains ks (prefix_key line.prefix)) all among.key);
             asked = among.asked;
           },
@@ -188,7 +188,7 @@ all_node_lines_judged merged threshold reported node old now place done judged l
           has_key = record { is_prefix = selected.1.is_prefix; of_node = selected.0; of_key = refl };
           key =
               subst (λ ks. Contains ks (prefix_key line.prefix)) (sym all)
-              (subst (λ n. Contains (merged_candidates_at merged n) (prefix_key line.prefix)) selected.0
+              (subst (λ n. Contains (candidates_at merged n) (prefix_key line.prefix)) selected.0
               selected.1.candidate);
           asked = selected.1.asked;
         }))
@@ -204,7 +204,7 @@ module _ (merged : MergedValue) (threshold : ℕ) (reported : List PrefixValue) 
     (read : key ≡ get_or keys place key)
     (only : (other : PrefixValue) → (Some prefix ≡ Some other) ↔ HasPrefixKey node key other) where
   pub next_node_line_judged : (found : Option Line)
-      → ((line : Line) → line.prefix ≡ prefix → (found ≡ Some line) ↔ CanSelectLine merged threshold reported line)
+      → ((line : Line) → line.prefix ≡ prefix → (found ≡ Some line) ↔ CanSelect merged threshold reported line)
       → ((line : Line) → found ≡ Some line → line.prefix ≡ prefix)
       → HasJudgedNodeLines merged threshold reported node keys old (now ++ option_to_list found) (place + 1)
   next_node_line_judged None asked its_prefix =

@@ -10,7 +10,7 @@ use Rattle.prefix_lattice.specs.{PrefixValue, IsPrefix, report_order, closest}
 use Rattle.shard_state.specs.{CutValue}
 use Rattle.hhh_report.specs.declared.line.Line.{Line}
 use Rattle.hhh_report.specs.{IsThreshold, prefixes_of_lines, AreReportLines}
-use Rattle.hhh_output.specs.Report.{IsLineOfReport}
+use Rattle.hhh_output.specs.Reporting.{IsLineOf}
 use Rattle.prefix_lattice.proofs.ListLemmas.{Contains-list_cons, Contains-list_head, Contains-list_tail}
 use Rattle.prefix_lattice.proofs.ListLemmas.{Contains-empty_list}
 use Rattle.hhh_output.proofs.StrictOrderLemmas.{same_in_strict_order}
@@ -78,7 +78,7 @@ one_report_same_above order least lines other kept other_kept there back =
 -- what makes the lines of a report, seen from the lists alone
 pub record MakesOneReport (cut : CutValue) (threshold : ℕ) (lines : List Line) : Type 0 where
   pub kept : AreReportLines lines
-  pub asked : (line : Line) → Contains lines line ↔ IsLineOfReport cut threshold (prefixes_of_lines lines) line
+  pub asked : (line : Line) → Contains lines line ↔ IsLineOf cut threshold (prefixes_of_lines lines) line
 
 -- a prefix keeps at most four bytes of each address
 one_report_level-few : (prefix : PrefixValue) → IsPrefix prefix → near_line_level prefix ≤ 8
@@ -92,7 +92,7 @@ one_report_same_from_level cut threshold lines other order law makes other_makes
     let none : (xs : List Line) → MakesOneReport cut threshold xs → (line : Line) → least ≤ near_line_level line.prefix
     → Contains xs line → ⊥ =
     λ xs made line high there.
-    let is : IsLineOfReport cut threshold (prefixes_of_lines xs) line = (made.asked line).0 there in
+    let is : IsLineOf cut threshold (prefixes_of_lines xs) line = (made.asked line).0 there in
     let few : near_line_level line.prefix ≤ 8 = one_report_level-few line.prefix is.is_prefix in omega arith in (
       λ line high there. absurd (none lines makes line high there),
       λ line high there. absurd (none other other_makes line high there),
@@ -103,7 +103,7 @@ one_report_same_from_level cut threshold lines other order law makes other_makes
     λ xs ys made other_made rest line high there.
     let here = near_line_level line.prefix in
     let above = rest (suc here) (omega arith) in
-    let is : IsLineOfReport cut threshold (prefixes_of_lines xs) line = (made.asked line).0 there in
+    let is : IsLineOf cut threshold (prefixes_of_lines xs) line = (made.asked line).0 there in
     let same : closest line.prefix (prefixes_of_lines xs) ≡ closest line.prefix (prefixes_of_lines ys) =
     sym (near_lines_above_suffice line.prefix xs law)
     ∙ ap (λ l. closest line.prefix (prefixes_of_lines l))

@@ -9,24 +9,24 @@ use Rattle.prefix_lattice.specs.{NodeValue, IsNode, PrefixValue, IsPrefix, node_
 use Rattle.prefix_lattice.specs.{closest}
 use Rattle.prefix_lattice.specs.{kept_pairs}
 use Rattle.shard_state.specs.{CutValue, IsCut, total_of_cut}
-use Rattle.cut_merge.specs.{MergedValue, MergedRepresentsCut, interval_in_cut, keys_monitored_in_cut}
-use Rattle.cut_merge.specs.{IsTableIntervalWithinTotal, TableInterval}
-use Rattle.conditioned_bounds.specs.{bound_of, prefixes_asked_for_bound}
+use Rattle.cut_merge.specs.{MergedValue, RepresentsCut, interval_in_cut, monitored_in_cut}
+use Rattle.cut_merge.specs.{FitsTotal, TableInterval}
+use Rattle.conditioned_bounds.specs.{bound_of, prefixes_asked}
 use Rattle.hhh_report.specs.declared.line.Line.{Line}
 use Rattle.hhh_report.specs.{prefixes_of_lines, AreReportLines}
-use Rattle.hhh_output.specs.Report.{report_low_in, report_high_in, IsLineOfReport}
-use Rattle.hhh_output.specs.Selecting.{selecting_low, selecting_high, IsSelected, AreCandidatesToSelect}
-use Rattle.hhh_output.specs.Selecting.{AreSelectedDownTo}
+use Rattle.hhh_output.specs.Reporting.{low_in, high_in, IsLineOf}
+use Rattle.hhh_output.specs.Selecting.{low_of, high_of, IsSelected, AreCandidates}
+use Rattle.hhh_output.specs.Selecting.{AreDownTo}
 
 -- the laws of monitored keys
 pub record SelectionHasFewCandidates (cut : CutValue) : Type 0 where
-  pub keyed : (node : NodeValue) → IsNode node → All (IsPrefixKey node) (keys_monitored_in_cut cut node)
-  pub distinct : (node : NodeValue) → AllPairs (λ key other. key ≢ other) (keys_monitored_in_cut cut node)
-  pub few : (node : NodeValue) → IsNode node → length (keys_monitored_in_cut cut node) ≤ length cut.shards * cut.capacity
+  pub keyed : (node : NodeValue) → IsNode node → All (IsPrefixKey node) (monitored_in_cut cut node)
+  pub distinct : (node : NodeValue) → AllPairs (λ key other. key ≢ other) (monitored_in_cut cut node)
+  pub few : (node : NodeValue) → IsNode node → length (monitored_in_cut cut node) ≤ length cut.shards * cut.capacity
 
 -- so are the candidates of merged tables that represent a cut
-pub selection_has_candidates : (merged : MergedValue) (cut : CutValue) → IsCut cut → MergedRepresentsCut merged cut
-    → SelectionHasFewCandidates cut → AreCandidatesToSelect merged
+pub selection_has_candidates : (merged : MergedValue) (cut : CutValue) → IsCut cut → RepresentsCut merged cut
+    → SelectionHasFewCandidates cut → AreCandidates merged
 selection_has_candidates merged cut kept stands law = record {
   keyed = λ node is_node. subst (All (IsPrefixKey node)) (sym (stands.candidates node is_node)) (law.keyed node is_node);
   distinct = λ node is_node.
@@ -52,39 +52,39 @@ selection_all_of_right : {X : Type 0} (P : X → Type 0) (xs ys : List X) → Al
 selection_all_of_right P xs ys all = λ k d below.
     subst P (get_or-append-add xs ys k d) (all (length xs + k) d (omega (arith, length-append xs ys)))
 
-module _ (merged : MergedValue) (cut : CutValue) (stands : MergedRepresentsCut merged cut)
+module _ (merged : MergedValue) (cut : CutValue) (stands : RepresentsCut merged cut)
     (asked : (prefix : PrefixValue) (lines : List PrefixValue) → IsPrefix prefix → All IsPrefix lines
-    → All IsPrefix (prefixes_asked_for_bound prefix lines)) where
-  selection_low_is_same : (prefix : PrefixValue) → IsPrefix prefix → selecting_low merged prefix ≡ report_low_in cut prefix
+    → All IsPrefix (prefixes_asked prefix lines)) where
+  selection_low_is_same : (prefix : PrefixValue) → IsPrefix prefix → low_of merged prefix ≡ low_in cut prefix
   selection_low_is_same prefix is_prefix = ap (λ (i : TableInterval). i.low) (stands.intervals prefix is_prefix)
 
-  selection_high_is_same : (prefix : PrefixValue) → IsPrefix prefix → selecting_high merged prefix ≡ report_high_in cut prefix
+  selection_high_is_same : (prefix : PrefixValue) → IsPrefix prefix → high_of merged prefix ≡ high_in cut prefix
   selection_high_is_same prefix is_prefix = ap (λ (i : TableInterval). i.high) (stands.intervals prefix is_prefix)
 
   -- a bound from merged tables is that from the cut
   selection_bound_is_same : (prefix : PrefixValue) (lines : List PrefixValue) → IsPrefix prefix → All IsPrefix lines
-      → bound_of (selecting_low merged) (selecting_high merged) prefix lines
-      ≡ bound_of (report_low_in cut) (report_high_in cut) prefix lines
+      → bound_of (low_of merged) (high_of merged) prefix lines
+      ≡ bound_of (low_in cut) (high_in cut) prefix lines
   selection_bound_is_same prefix lines is_prefix are_prefixes =
       let near = closest prefix lines in
       let parts : All IsPrefix (near ++ kept_pairs near) =
       All-tail IsPrefix prefix (near ++ kept_pairs near) (asked prefix lines is_prefix are_prefixes) in
-      let lows : sum_by (selecting_low merged) near ≡ sum_by (report_low_in cut) near =
-      selection_sums-agree (selecting_low merged) (report_low_in cut) near
-      (All-weaker IsPrefix (λ p. selecting_low merged p ≡ report_low_in cut p) selection_low_is_same near
+      let lows : sum_by (low_of merged) near ≡ sum_by (low_in cut) near =
+      selection_sums-agree (low_of merged) (low_in cut) near
+      (All-weaker IsPrefix (λ p. low_of merged p ≡ low_in cut p) selection_low_is_same near
       (selection_all_of_left IsPrefix near (kept_pairs near) parts)) in
-      let highs : sum_by (selecting_high merged) (kept_pairs near) ≡ sum_by (report_high_in cut) (kept_pairs near) =
-      selection_sums-agree (selecting_high merged) (report_high_in cut) (kept_pairs near)
-      (All-weaker IsPrefix (λ p. selecting_high merged p ≡ report_high_in cut p) selection_high_is_same (kept_pairs near)
+      let highs : sum_by (high_of merged) (kept_pairs near) ≡ sum_by (high_in cut) (kept_pairs near) =
+      selection_sums-agree (high_of merged) (high_in cut) (kept_pairs near)
+      (All-weaker IsPrefix (λ p. high_of merged p ≡ high_in cut p) selection_high_is_same (kept_pairs near)
       (selection_all_of_right IsPrefix near (kept_pairs near) parts)) in
-      ap (λ n. pos (n + sum_by (selecting_high merged) (kept_pairs near)) -ℤ pos (sum_by (selecting_low merged) near))
+      ap (λ n. pos (n + sum_by (high_of merged) (kept_pairs near)) -ℤ pos (sum_by (low_of merged) near))
       (selection_high_is_same prefix is_prefix)
-      ∙ ap (λ n. pos (report_high_in cut prefix + n) -ℤ pos (sum_by (selecting_low merged) near)) highs
-      ∙ ap (λ n. pos (report_high_in cut prefix + sum_by (report_high_in cut) (kept_pairs near)) -ℤ pos n) lows
+      ∙ ap (λ n. pos (high_in cut prefix + n) -ℤ pos (sum_by (low_of merged) near)) highs
+      ∙ ap (λ n. pos (high_in cut prefix + sum_by (high_in cut) (kept_pairs near)) -ℤ pos n) lows
 
   -- a line that merged tables select over others is a line of the cut's report over them
   selection_gives_line : (threshold : ℕ) (lines : List PrefixValue) (line : Line) → All IsPrefix lines
-      → IsSelected merged threshold lines line → IsLineOfReport cut threshold lines line
+      → IsSelected merged threshold lines line → IsLineOf cut threshold lines line
   selection_gives_line threshold lines line are_prefixes is = record {
     is_prefix = is.is_prefix;
     low = is.asked.low ∙ selection_low_is_same line.prefix is.is_prefix;
@@ -100,7 +100,7 @@ module _ (merged : MergedValue) (cut : CutValue) (stands : MergedRepresentsCut m
   }
 
   selection_takes_line : (threshold : ℕ) (lines : List PrefixValue) (line : Line) → All IsPrefix lines
-      → IsLineOfReport cut threshold lines line → IsSelected merged threshold lines line
+      → IsLineOf cut threshold lines line → IsSelected merged threshold lines line
   selection_takes_line threshold lines line are_prefixes is = record {
     is_prefix = is.is_prefix;
     candidate =
@@ -118,14 +118,14 @@ module _ (merged : MergedValue) (cut : CutValue) (stands : MergedRepresentsCut m
   }
 
   -- the lines down to level 0 are those of the cut's report
-  module _ (threshold : ℕ) (lines : List Line) (down : AreSelectedDownTo merged threshold 9 lines) where
+  module _ (threshold : ℕ) (lines : List Line) (down : AreDownTo merged threshold 9 lines) where
     selection_has_prefixes : All IsPrefix (prefixes_of_lines lines)
     selection_has_prefixes =
         All-map IsPrefix (λ (l : Line). l.prefix) lines
         (All-weaker (Contains lines) (λ (l : Line). IsPrefix l.prefix)
         (λ line there. ((down.members line (omega arith)).0 there).is_prefix) lines (All-contains_itself lines))
 
-    pub selection_gives_all_lines : (line : Line) → Contains lines line ↔ IsLineOfReport cut threshold (prefixes_of_lines lines) line
+    pub selection_gives_all_lines : (line : Line) → Contains lines line ↔ IsLineOf cut threshold (prefixes_of_lines lines) line
     selection_gives_all_lines line = (
       λ there.
           selection_gives_line threshold (prefixes_of_lines lines) line selection_has_prefixes ((down.members line (omega arith)).0 there),
@@ -134,7 +134,7 @@ module _ (merged : MergedValue) (cut : CutValue) (stands : MergedRepresentsCut m
 
     -- and they are lines of a report
     pub selection_lines_are_kept : ((prefix : PrefixValue) → IsPrefix prefix
-        → IsTableIntervalWithinTotal (total_of_cut cut) (interval_in_cut cut prefix))
+        → FitsTotal (total_of_cut cut) (interval_in_cut cut prefix))
         → AreReportLines lines
     selection_lines_are_kept within = record {
       few = omega (arith, down.few);

@@ -13,16 +13,16 @@ use Rattle.std.specs.declared.cmp.Ordering.TheVariants.{Less}
 use Rattle.std.specs.Cmp.{IsTotalOrder}
 use Rattle.prefix_lattice.specs.{RecordValue, PrefixValue, IsPrefix, covers, node_of_prefix, prefix_key, prefix_weight}
 use Rattle.prefix_lattice.specs.{total_weight, report_order, lines_under, one_line_covers, conditioned_weight, closest}
-use Rattle.prefix_lattice.specs.{kept_pairs, IntervalHoldsWeight, IsNarrowInterval}
+use Rattle.prefix_lattice.specs.{kept_pairs, HoldsWeight, IsNarrow}
 use Rattle.shard_state.specs.{SnapshotValue, SnapshotRepresents, CutValue, cut_positions, total_of_cut, CutRepresents}
-use Rattle.hhh_report.specs.{records_before_cut, IsThreshold, prefixes_of_lines, AreReportLines, IsSound}
-use Rattle.shard_state.specs.{NarrowIntervalHoldsWeight}
-use Rattle.cut_merge.specs.{interval_in_cut, keys_monitored_in_cut}
-use Rattle.conditioned_bounds.specs.{bound_of, prefixes_asked_for_bound, BoundsHoldWeights, BoundsAreNarrow}
+use Rattle.hhh_report.specs.{records_before, IsThreshold, prefixes_of_lines, AreReportLines, IsSound}
+use Rattle.shard_state.specs.{HoldsNarrowly}
+use Rattle.cut_merge.specs.{interval_in_cut, monitored_in_cut}
+use Rattle.conditioned_bounds.specs.{bound_of, prefixes_asked, HoldWeights, AreNarrow}
 use Rattle.hhh_report.specs.declared.line.Line.{Line}
 use Rattle.hhh_report.specs.declared.report.Report.{Report}
-use Rattle.hhh_report.specs.{HoldsWeightInSoundReport, IsNarrowInSoundReport, IsJustifiedInSoundReport}
-use Rattle.hhh_output.specs.Report.{IsMonitoredInReport, report_low_in, report_high_in, IsLineOfReport, IsReportOf}
+use Rattle.hhh_report.specs.{LineHoldsWeight, IsNarrowLine, IsJustified}
+use Rattle.hhh_output.specs.Reporting.{IsMonitored, low_in, high_in, IsLineOf, IsReportOf}
 use Rattle.prefix_lattice.proofs.ListLemmas.{AllPairs-list_head, AllPairs-list_tail, Contains-list_head}
 use Rattle.prefix_lattice.proofs.ListLemmas.{Contains-list_tail}
 use Rattle.prefix_lattice.proofs.ListLemmas.{Contains-list_cons, Contains-empty_list}
@@ -33,22 +33,22 @@ pub record SoundReportLawsHold (cut : CutValue) (lists : List (List RecordValue)
   pub order : IsTotalOrder report_order
   pub stands : CutRepresents cut lists
   pub intervals : (prefix : PrefixValue) → IsPrefix prefix
-      → NarrowIntervalHoldsWeight (interval_in_cut cut prefix) cut.capacity
-      (prefix_weight prefix (records_before_cut lists (cut_positions cut)))
+      → HoldsNarrowly (interval_in_cut cut prefix) cut.capacity
+      (prefix_weight prefix (records_before lists (cut_positions cut)))
       (total_of_cut cut)
-  pub light : (prefix : PrefixValue) → IsPrefix prefix → ¬ IsMonitoredInReport cut prefix
+  pub light : (prefix : PrefixValue) → IsPrefix prefix → ¬ IsMonitored cut prefix
       → (interval_in_cut cut prefix).high * cut.capacity ≤ total_of_cut cut
-  pub total : total_of_cut cut ≡ total_weight (records_before_cut lists (cut_positions cut))
+  pub total : total_of_cut cut ≡ total_weight (records_before lists (cut_positions cut))
   pub asked : (prefix : PrefixValue) (lines : List PrefixValue) → IsPrefix prefix → All IsPrefix lines
-      → All IsPrefix (prefixes_asked_for_bound prefix lines)
+      → All IsPrefix (prefixes_asked prefix lines)
   pub at_least : (low high : PrefixValue → ℕ) (prefix : PrefixValue) (lines : List PrefixValue)
       (records : List RecordValue)
-      → AllPairs (λ line other. line ≢ other) lines → BoundsHoldWeights low high records (prefixes_asked_for_bound prefix lines)
+      → AllPairs (λ line other. line ≢ other) lines → HoldWeights low high records (prefixes_asked prefix lines)
       → pos (conditioned_weight prefix lines records) ≤ℤ bound_of low high prefix lines
   pub reached : (low high : PrefixValue → ℕ) (prefix : PrefixValue) (lines : List PrefixValue)
       (records : List RecordValue) (times whole least : ℕ)
-      → AllPairs (λ line other. line ≢ other) lines → BoundsHoldWeights low high records (prefixes_asked_for_bound prefix lines)
-      → BoundsAreNarrow low high times whole (prefixes_asked_for_bound prefix lines) → pos least ≤ℤ bound_of low high prefix lines
+      → AllPairs (λ line other. line ≢ other) lines → HoldWeights low high records (prefixes_asked prefix lines)
+      → AreNarrow low high times whole (prefixes_asked prefix lines) → pos least ≤ℤ bound_of low high prefix lines
       → times * least
       ≤ times * conditioned_weight prefix lines records
       + (1 + length (closest prefix lines) + length (kept_pairs (closest prefix lines))) * whole
@@ -141,22 +141,22 @@ sound_report_key_or_not key (first ∷ keys) = by (eqb first key) refl (sound_re
 -- the intervals that a bound is made of hold the weights, and are narrow
 sound_report_intervals_hold : (cut : CutValue) (lists : List (List RecordValue)) → SoundReportLawsHold cut lists
     → (prefix : PrefixValue) (lines : List PrefixValue) → IsPrefix prefix → All IsPrefix lines
-    → BoundsHoldWeights (report_low_in cut) (report_high_in cut) (records_before_cut lists (cut_positions cut)) (prefixes_asked_for_bound prefix lines)
+    → HoldWeights (low_in cut) (high_in cut) (records_before lists (cut_positions cut)) (prefixes_asked prefix lines)
 sound_report_intervals_hold cut lists holds prefix lines is_prefix are_prefixes =
-    let records = records_before_cut lists (cut_positions cut) in
-    All-weaker IsPrefix (λ p. IntervalHoldsWeight (report_low_in cut p) (report_high_in cut p) (prefix_weight p records))
-    (λ p is. (holds.intervals p is).holds) (prefixes_asked_for_bound prefix lines)
+    let records = records_before lists (cut_positions cut) in
+    All-weaker IsPrefix (λ p. HoldsWeight (low_in cut p) (high_in cut p) (prefix_weight p records))
+    (λ p is. (holds.intervals p is).holds) (prefixes_asked prefix lines)
     (holds.asked prefix lines is_prefix are_prefixes)
 
 sound_report_intervals_are_narrow : (cut : CutValue) (lists : List (List RecordValue)) → SoundReportLawsHold cut lists
     → (prefix : PrefixValue) (lines : List PrefixValue) → IsPrefix prefix → All IsPrefix lines
-    → BoundsAreNarrow (report_low_in cut) (report_high_in cut) cut.capacity (total_weight (records_before_cut lists (cut_positions cut)))
-    (prefixes_asked_for_bound prefix lines)
+    → AreNarrow (low_in cut) (high_in cut) cut.capacity (total_weight (records_before lists (cut_positions cut)))
+    (prefixes_asked prefix lines)
 sound_report_intervals_are_narrow cut lists holds prefix lines is_prefix are_prefixes =
     All-weaker IsPrefix
-    (λ p. IsNarrowInterval (report_low_in cut p) (report_high_in cut p) cut.capacity (total_weight (records_before_cut lists (cut_positions cut))))
-    (λ p is. subst (IsNarrowInterval (report_low_in cut p) (report_high_in cut p) cut.capacity) holds.total (holds.intervals p is).narrow)
-    (prefixes_asked_for_bound prefix lines) (holds.asked prefix lines is_prefix are_prefixes)
+    (λ p. IsNarrow (low_in cut p) (high_in cut p) cut.capacity (total_weight (records_before lists (cut_positions cut))))
+    (λ p is. subst (IsNarrow (low_in cut p) (high_in cut p) cut.capacity) holds.total (holds.intervals p is).narrow)
+    (prefixes_asked prefix lines) (holds.asked prefix lines is_prefix are_prefixes)
 
 -- the report of a cut, the lists that it represents, and what holds of both
 pub record CanBeSoundReport (cut : CutValue) (lists : List (List RecordValue)) (phi : ℕ) (report : Report) : Type 0 where
@@ -176,29 +176,29 @@ sound_report_has_prefixes cut lists phi report reports =
 sound_report_leaves_out_light : (cut : CutValue) (lists : List (List RecordValue)) (phi : ℕ) (report : Report)
     → CanBeSoundReport cut lists phi report → (prefix : PrefixValue) → IsPrefix prefix
     → ¬ Contains (prefixes_of_lines report.lines) prefix
-    → conditioned_weight prefix (prefixes_of_lines report.lines) (records_before_cut lists (cut_positions cut))
+    → conditioned_weight prefix (prefixes_of_lines report.lines) (records_before lists (cut_positions cut))
     < report.threshold
 sound_report_leaves_out_light cut lists phi report reports prefix is_prefix missing =
-    elim (sound_report_key_or_not (prefix_key prefix) (keys_monitored_in_cut cut (node_of_prefix prefix))) [
+    elim (sound_report_key_or_not (prefix_key prefix) (monitored_in_cut cut (node_of_prefix prefix))) [
       | inr unknown ↦
-          let light : report_high_in cut prefix < report.threshold =
-          sound_report_light_below phi cut.capacity report.total report.threshold (report_high_in cut prefix) reports.wide
+          let light : high_in cut prefix < report.threshold =
+          sound_report_light_below phi cut.capacity report.total report.threshold (high_in cut prefix) reports.wide
           reports.is_report.threshold
-          (subst (λ n. report_high_in cut prefix * cut.capacity ≤ n) (sym reports.is_report.total)
+          (subst (λ n. high_in cut prefix * cut.capacity ≤ n) (sym reports.is_report.total)
           (holds.light prefix is_prefix unknown)) in
           omega (arith, light, few, interval_holds.holds.high)
-      | inl monitored ↦ elim (cases_lt (report_high_in cut prefix) report.threshold) [
+      | inl monitored ↦ elim (cases_lt (high_in cut prefix) report.threshold) [
         | inl light ↦ omega (arith, light, few, interval_holds.holds.high)
-        | inr heavy ↦ elim (cases_lt (report_high_in cut prefix + sum_by (report_high_in cut) (kept_pairs (closest prefix lines)))
-            (report.threshold + sum_by (report_low_in cut) (closest prefix lines))) [
+        | inr heavy ↦ elim (cases_lt (high_in cut prefix + sum_by (high_in cut) (kept_pairs (closest prefix lines)))
+            (report.threshold + sum_by (low_in cut) (closest prefix lines))) [
               | inl explained ↦
-                  let least = holds.at_least (report_low_in cut) (report_high_in cut) prefix lines records
+                  let least = holds.at_least (low_in cut) (high_in cut) prefix lines records
                   (sound_report_prefixes_differ holds.order report.lines reports.kept.rising)
                   (sound_report_intervals_hold cut lists holds prefix lines is_prefix (sound_report_has_prefixes cut lists phi report reports)) in
                   omega (arith, ints, least, explained)
               | inr unexplained ↦
-                  let line : Line = record { prefix = prefix; lo = report_low_in cut prefix; hi = report_high_in cut prefix } in
-                  let is : IsLineOfReport cut report.threshold lines line = record {
+                  let line : Line = record { prefix = prefix; lo = low_in cut prefix; hi = high_in cut prefix } in
+                  let is : IsLineOf cut report.threshold lines line = record {
                     is_prefix = is_prefix;
                     low = refl;
                     high = refl;
@@ -215,12 +215,12 @@ sound_report_leaves_out_light cut lists phi report reports prefix is_prefix miss
     lines = prefixes_of_lines report.lines
 
     records : List RecordValue
-    records = records_before_cut lists (cut_positions cut)
+    records = records_before lists (cut_positions cut)
 
     holds : SoundReportLawsHold cut lists
     holds = reports.holds
 
-    interval_holds : NarrowIntervalHoldsWeight (interval_in_cut cut prefix) cut.capacity (prefix_weight prefix records)
+    interval_holds : HoldsNarrowly (interval_in_cut cut prefix) cut.capacity (prefix_weight prefix records)
         (total_of_cut cut)
     interval_holds = holds.intervals prefix is_prefix
 
@@ -242,11 +242,11 @@ pub report_is_sound : (cut : CutValue) (lists : List (List RecordValue)) (phi : 
 report_is_sound cut lists phi report reports =
     let holds = reports.holds in
     let is = reports.is_report in
-    let records = records_before_cut lists (cut_positions cut) in
-    let at : records_before_cut lists report.positions ≡ records = ap (records_before_cut lists) is.positions in
+    let records = records_before lists (cut_positions cut) in
+    let at : records_before lists report.positions ≡ records = ap (records_before lists) is.positions in
     let prefixes = sound_report_has_prefixes cut lists phi report reports in
     let line_of : (line : Line) → Contains report.lines line
-    → IsLineOfReport cut report.threshold (prefixes_of_lines report.lines) line =
+    → IsLineOf cut report.threshold (prefixes_of_lines report.lines) line =
     λ line there. (is.lines line).0 there in
     record {
       positions =
@@ -254,8 +254,8 @@ report_is_sound cut lists phi report reports =
           (sound_report_within_lists cut.shards lists holds.stands.shards);
       total = is.total ∙ holds.total ∙ ap total_weight (sym at);
       threshold = is.threshold;
-      interval = subst (λ rs. All (HoldsWeightInSoundReport rs) report.lines) (sym at)
-          (each_sound_report_line (HoldsWeightInSoundReport records) report.lines (λ line there.
+      interval = subst (λ rs. All (LineHoldsWeight rs) report.lines) (sym at)
+          (each_sound_report_line (LineHoldsWeight records) report.lines (λ line there.
           let l = line_of line there in
           let interval_holds = holds.intervals line.prefix l.is_prefix in
           record {
@@ -263,20 +263,20 @@ report_is_sound cut lists phi report reports =
             high =
                 omega (arith, l.high, interval_holds.holds.high);
           }));
-      width = each_sound_report_line (IsNarrowInSoundReport cut.capacity report.total) report.lines (λ line there.
+      width = each_sound_report_line (IsNarrowLine cut.capacity report.total) report.lines (λ line there.
           let l = line_of line there in
           subst (λ n. (n - line.lo) * cut.capacity ≤ report.total) (sym l.high)
-          (subst (λ n. (report_high_in cut line.prefix - n) * cut.capacity ≤ report.total) (sym l.low)
-          (subst (λ n. (report_high_in cut line.prefix - report_low_in cut line.prefix) * cut.capacity ≤ n) (sym is.total)
+          (subst (λ n. (high_in cut line.prefix - n) * cut.capacity ≤ report.total) (sym l.low)
+          (subst (λ n. (high_in cut line.prefix - low_in cut line.prefix) * cut.capacity ≤ n) (sym is.total)
           (holds.intervals line.prefix l.is_prefix).narrow)));
       heavy = each_sound_report_line (λ line. report.threshold ≤ line.hi) report.lines (λ line there. (line_of line there).heavy);
       justified =
-          subst (λ rs. All (IsJustifiedInSoundReport cut.capacity report.threshold (prefixes_of_lines report.lines) rs) report.lines)
+          subst (λ rs. All (IsJustified cut.capacity report.threshold (prefixes_of_lines report.lines) rs) report.lines)
           (sym at)
-          (each_sound_report_line (IsJustifiedInSoundReport cut.capacity report.threshold (prefixes_of_lines report.lines) records) report.lines
+          (each_sound_report_line (IsJustified cut.capacity report.threshold (prefixes_of_lines report.lines) records) report.lines
           (λ line there.
           let l = line_of line there in
-          holds.reached (report_low_in cut) (report_high_in cut) line.prefix (prefixes_of_lines report.lines) records cut.capacity
+          holds.reached (low_in cut) (high_in cut) line.prefix (prefixes_of_lines report.lines) records cut.capacity
           (total_weight records) report.threshold
           (sound_report_prefixes_differ holds.order report.lines reports.kept.rising)
           (sound_report_intervals_hold cut lists holds line.prefix (prefixes_of_lines report.lines) l.is_prefix prefixes)

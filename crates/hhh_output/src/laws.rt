@@ -3,12 +3,12 @@
 ghost use Rattle.std.specs.Prelude.{◌≡◌, ℕ, ◌≤◌, List, All, Some, length, slice_get};
 ghost use Rattle.prefix_lattice.specs.{RecordValue};
 ghost use Rattle.shard_state.specs.{CutValue, IsCut, cut_positions, CutRepresents, CoreValue, HasCoreShape};
-ghost use Rattle.hhh_report.specs.{records_before_cut, AreCutPositionsNotPast, AreReportLines, IsSameReport, IsSound};
-ghost use Rattle.shard_state.specs.{IsCore, core_capacity, core_after_run, CoreBasesRepresent};
-ghost use Rattle.shard_state.specs.{ReadsEachCoreShard, core_lists};
+ghost use Rattle.hhh_report.specs.{records_before, AreNotPast, AreReportLines, IsSameReport, IsSound};
+ghost use Rattle.shard_state.specs.{IsCore, core_capacity, core_after_run, BasesRepresent};
+ghost use Rattle.shard_state.specs.{ReadsEachShard, core_lists};
 ghost use Rattle.shard_state.specs.declared.event.Event.{Event};
 ghost use Rattle.hhh_report.specs.declared.report.Report.{Report};
-ghost use Rattle.hhh_output.specs.Report.{IsReportOf, IsWideShare};
+ghost use Rattle.hhh_output.specs.Reporting.{IsReportOf, IsWideShare};
 
 use conditioned_bounds::{bounds_hold, only_prefixes_are_asked};
 use cut_merge::{merged_intervals_are_narrow, merged_intervals_hold_weights};
@@ -54,9 +54,9 @@ pub fn reports_are_sound()
 /// shards' lists, if the base of each shard represents its list.
 pub fn reports_of_the_core_are_sound()
     ensures { (core : CoreValue) (events : List Event) (caller : ℕ) (cut : CutValue) (phi : ℕ) (report : Report) → IsCore core.shards
-        → All (HasCoreShape (length core.shards) (core_capacity core.shards)) core.cuts → CoreBasesRepresent core.shards
+        → All (HasCoreShape (length core.shards) (core_capacity core.shards)) core.cuts → BasesRepresent core.shards
         → All (λ list. All (λ rec. 1 ≤ rec.weight) list) (core_lists core.shards)
-        → slice_get (core_after_run core events).cuts caller ≡ Some cut → ReadsEachCoreShard caller core events → IsCut cut
+        → slice_get (core_after_run core events).cuts caller ≡ Some cut → ReadsEachShard caller core events → IsCut cut
         → IsWideShare phi cut.capacity → AreReportLines report.lines → IsReportOf cut phi report
         → IsSound report (core_lists core.shards) cut.capacity phi }
 {

@@ -11,11 +11,11 @@ pub(crate) struct MergedIntervals<'a> {
 }
 
 impl Intervals for MergedIntervals<'_> {
-    ghost use Rattle.hhh_output.specs.Selecting.{selecting_low, selecting_high};
+    ghost use Rattle.hhh_output.specs.Selecting.{low_of, high_of};
 
-    ghost low = { λ s. selecting_low s.merged.now };
+    ghost low = { λ s. low_of s.merged.now };
 
-    ghost high = { λ s. selecting_high s.merged.now };
+    ghost high = { λ s. high_of s.merged.now };
 
     fn interval(&self, prefix: &Prefix) -> (u64, u64) {
         self.merged.interval(prefix)

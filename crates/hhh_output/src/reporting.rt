@@ -3,8 +3,8 @@
 ghost use Rattle.std.specs.Prelude.{◌≡◌, ◌≤◌, ◌<◌, List, All, IfOk};
 ghost use Rattle.prefix_lattice.specs.{RecordValue, total_limit};
 ghost use Rattle.shard_state.specs.{total_of_cut, CutRepresents};
-ghost use Rattle.hhh_report.specs.{IsSound, threshold_million};
-ghost use Rattle.hhh_output.specs.Report.{IsReportOf, IsWideShare};
+ghost use Rattle.hhh_report.specs.{IsSound, million};
+ghost use Rattle.hhh_output.specs.Reporting.{IsReportOf, IsWideShare};
 
 use crate::reports_are_sound;
 use crate::selecting::select_lines;
@@ -26,7 +26,7 @@ use std::alloc::{AllocError, Global};
 /// tables counted is below 2^60. The only error is that memory runs out.
 pub fn report_of(alloc: Global, cut: &Cut, phi: u32) -> Result<Report, AllocError>
     requires some { 1 ≤ phi }
-    requires most { phi ≤ threshold_million }
+    requires most { phi ≤ million }
     requires wide { IsWideShare phi cut.now.capacity }
     requires bounded { total_of_cut cut.now < total_limit }
     ensures report { IfOk result (IsReportOf cut.now phi) }

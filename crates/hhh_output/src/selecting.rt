@@ -4,13 +4,13 @@
 ghost use Rattle.std.specs.Prelude.{◌≡◌, ◌≢◌, ◌+◌, ◌≤◌, ◌<◌, ◌^◌, ◌↔◌, ◌⊎◌, [], ◌++◌, length, All, AllPairs, Contains};
 ghost use Rattle.std.specs.Prelude.{IfOk, OnOk, Some};
 ghost use Rattle.std.specs.Option.{option_to_list};
-ghost use Rattle.prefix_lattice.specs.{IsNode, deepest_node_level, node_level, node_of_prefix};
-ghost use Rattle.cut_merge.specs.{merged_candidates_at};
+ghost use Rattle.prefix_lattice.specs.{IsNode, deepest_level, node_level, node_of_prefix};
+ghost use Rattle.cut_merge.specs.{candidates_at};
 ghost use Rattle.conditioned_bounds.specs.{member_limit};
 ghost use Rattle.hhh_report.specs.declared.line.Line.{Line as LineValue};
 ghost use Rattle.hhh_report.specs.{prefixes_of_lines};
-ghost use Rattle.hhh_output.specs.Selecting.{CanSelectLine, IsSelected, AreCandidatesToSelect, SelectedAreDistinct};
-ghost use Rattle.hhh_output.specs.Selecting.{AreSelectedOfLevel, AreSelectedDownTo};
+ghost use Rattle.hhh_output.specs.Selecting.{CanSelect, IsSelected, AreCandidates, AreDistinct};
+ghost use Rattle.hhh_output.specs.Selecting.{AreOfLevel, AreDownTo};
 
 use crate::merged_intervals::MergedIntervals;
 use conditioned_bounds::LineIndex;
@@ -27,8 +27,8 @@ pub(crate) fn select_lines(
     merged: &Merged,
     threshold: u64,
 ) -> Result<Lines, AllocError>
-    requires { AreCandidatesToSelect merged.now }
-    ensures { IfOk result (λ lines. AreSelectedDownTo merged.now threshold (deepest_node_level + 1) lines) }
+    requires { AreCandidates merged.now }
+    ensures { IfOk result (λ lines. AreDownTo merged.now threshold (deepest_level + 1) lines) }
 {
     prefixes_are_ordered();
     report_order_is_total();
@@ -63,8 +63,8 @@ fn select_level(
     reported: &LineIndex,
     level: u8,
 ) -> Result<Vec<Line>, AllocError>
-    requires { AreCandidatesToSelect merged.now }
-    ensures { IfOk result (λ found. AreSelectedOfLevel merged.now threshold reported.now level found.items) }
+    requires { AreCandidates merged.now }
+    ensures { IfOk result (λ found. AreOfLevel merged.now threshold reported.now level found.items) }
 {
     prefixes_are_ordered();
     report_order_is_total();
@@ -89,13 +89,13 @@ fn select_at(
     found: &mut Vec<Line>,
 ) -> Result<(), AllocError>
     requires is_node { IsNode node }
-    requires candidates { AreCandidatesToSelect merged.now }
+    requires candidates { AreCandidates merged.now }
     requires apart { All (λ line. node_of_prefix line.prefix ≢ node) found.old.items }
-    requires distinct { SelectedAreDistinct found.old.items }
+    requires distinct { AreDistinct found.old.items }
     ensures members { OnOk result ((line : LineValue) → Contains found.new.items line
         ↔ (Contains found.old.items line ⊎ ((node_of_prefix line.prefix ≡ node) × IsSelected merged.now threshold reported.now line))) }
-    ensures distinct { OnOk result (SelectedAreDistinct found.new.items) }
-    ensures few { OnOk result (length found.new.items ≤ length found.old.items + length (merged_candidates_at merged.now node)) }
+    ensures distinct { OnOk result (AreDistinct found.new.items) }
+    ensures few { OnOk result (length found.new.items ≤ length found.old.items + length (candidates_at merged.now node)) }
 {
     for key in merged.candidates(node) {
         let prefix = Prefix::from_key(*key, node).unwrap();
@@ -123,7 +123,7 @@ fn line_for(
     prefix: Prefix,
 ) -> Result<Option<Line>, AllocError>
     ensures asked { IfOk result (λ found. (line : LineValue) → line.prefix ≡ prefix
-        → (found ≡ Some line) ↔ CanSelectLine merged.now threshold reported.now line) }
+        → (found ≡ Some line) ↔ CanSelect merged.now threshold reported.now line) }
     ensures prefix { IfOk result (λ found. (line : LineValue) → found ≡ Some line → line.prefix ≡ prefix) }
 {
     if merged.at_most(&prefix) < threshold {

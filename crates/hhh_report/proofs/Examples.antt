@@ -7,14 +7,14 @@ use Rattle.std.proofs.lemmas.List.Kept.{AllPairs-cons}
 use Rattle.std.specs.Prelude.{slice_index}
 use Rattle.std.specs.declared.cmp.Ordering.{Ordering}
 use Rattle.std.specs.declared.cmp.Ordering.TheVariants.{Less, Equal, Greater}
-use Rattle.prefix_lattice.specs.{RecordValue, kept_bytes_begin_with, PrefixValue, IsPrefix, covers}
+use Rattle.prefix_lattice.specs.{RecordValue, begins_with, PrefixValue, IsPrefix, covers}
 use Rattle.prefix_lattice.specs.{prefix_weight, under, report_order, conditioned_weight}
-use Rattle.hhh_report.specs.Positions.{AreCutPositionsNotPast, records_before_cut}
-use Rattle.hhh_report.specs.ReportLines.{prefixes_of_lines, line_limit, AreReportLines}
-use Rattle.hhh_report.specs.SameReport.{IsSameReport}
-use Rattle.hhh_report.specs.SoundReport.{HoldsWeightInSoundReport, IsNarrowInSoundReport, IsJustifiedInSoundReport}
+use Rattle.hhh_report.specs.Positions.{AreNotPast, records_before}
+use Rattle.hhh_report.specs.Lines.{prefixes_of_lines, line_limit, AreReportLines}
+use Rattle.hhh_report.specs.Report.{IsSameReport}
+use Rattle.hhh_report.specs.SoundReport.{LineHoldsWeight, IsNarrowLine, IsJustified}
 use Rattle.hhh_report.specs.SoundReport.{IsSound}
-use Rattle.hhh_report.specs.Threshold.{IsHeavy, IsThreshold, threshold_million}
+use Rattle.hhh_report.specs.Thresholds.{IsHeavy, IsThreshold, million}
 use Rattle.hhh_report.specs.declared.line.Line.{Line}
 use Rattle.hhh_report.specs.declared.report.Report.{Report}
 
@@ -25,13 +25,13 @@ x = record { src = 0x01000001; dst = 0x65000001; weight = 1 }
 abbrev u : RecordValue
 u = record { src = 0x02000001; dst = 0x66000001; weight = 1 }
 
-pub before_two_and_one : records_before_cut ((x ∷ x ∷ x ∷ u ∷ []) ∷ (u ∷ u ∷ []) ∷ []) (2 ∷ 1 ∷ []) ≡ x ∷ x ∷ u ∷ []
+pub before_two_and_one : records_before ((x ∷ x ∷ x ∷ u ∷ []) ∷ (u ∷ u ∷ []) ∷ []) (2 ∷ 1 ∷ []) ≡ x ∷ x ∷ u ∷ []
 before_two_and_one = refl
 
-pub positions_of_two_shards_not_past : AreCutPositionsNotPast (1 ∷ 2 ∷ []) (1 ∷ 3 ∷ [])
+pub positions_of_two_shards_not_past : AreNotPast (1 ∷ 2 ∷ []) (1 ∷ 3 ∷ [])
 positions_of_two_shards_not_past = (omega arith, omega arith)
 
-pub one_shard_past : ¬ AreCutPositionsNotPast (1 ∷ 3 ∷ []) (2 ∷ 2 ∷ [])
+pub one_shard_past : ¬ AreNotPast (1 ∷ 3 ∷ []) (2 ∷ 2 ∷ [])
 one_shard_past order = omega (arith, order.1.0)
 
 -- 25 nodes with 128 * 4096 lines each
@@ -59,7 +59,7 @@ threshold_of_nothing = record {
 }
 
 -- the whole, in parts per million
-pub whole_in_parts : IsHeavy threshold_million 7 7
+pub whole_in_parts : IsHeavy million 7 7
 whole_in_parts = record { some = omega arith; share = omega arith }
 
 -- for a share of the whole the threshold is the total
@@ -84,12 +84,12 @@ pub prefixes_of_a_line : prefixes_of_lines (line ∷ []) ≡ prefix ∷ []
 prefixes_of_a_line = refl
 
 -- the interval of the line holds the weight of its prefix, and its width is 0
-pub weight_that_is_held : HoldsWeightInSoundReport (packet ∷ []) line
+pub weight_that_is_held : LineHoldsWeight (packet ∷ []) line
 weight_that_is_held =
     let weight : prefix_weight prefix (packet ∷ []) ≡ 100 = refl in
     record { low = omega (arith, weight); high = omega (arith, weight) }
 
-pub narrow_line : IsNarrowInSoundReport 512 100 line
+pub narrow_line : IsNarrowLine 512 100 line
 narrow_line = omega arith
 
 -- what the line explains no longer counts for the prefixes above it
@@ -185,13 +185,13 @@ pub reports_with_other_lines : ¬ IsSameReport told silent
 reports_with_other_lines same = let count : 1 ≡ 0 = ap length same.lines in omega (arith, count)
 
 -- two lists that begin each other are the same
-both_begin : (bytes other : List ℕ) → kept_bytes_begin_with bytes other ≡ true → kept_bytes_begin_with other bytes ≡ true → bytes ≡ other
+both_begin : (bytes other : List ℕ) → begins_with bytes other ≡ true → begins_with other bytes ≡ true → bytes ≡ other
 both_begin [] [] begins begun = refl
 both_begin [] (first ∷ rest) begins begun = absurd (false≢true begins)
 both_begin (byte ∷ bytes) [] begins begun = absurd (false≢true begun)
 both_begin (byte ∷ bytes) (first ∷ rest) begins begun =
-    let parts = and_parts (eqb byte first) (kept_bytes_begin_with bytes rest) begins in
-    let other = and_parts (eqb first byte) (kept_bytes_begin_with rest bytes) begun in
+    let parts = and_parts (eqb byte first) (begins_with bytes rest) begins in
+    let other = and_parts (eqb first byte) (begins_with rest bytes) begun in
     ap (λ head. head ∷ bytes) (eqb-true byte first parts.0)
     ∙ ap (λ tail. first ∷ tail) (both_begin bytes rest parts.1 other.1)
 
@@ -205,8 +205,8 @@ explained prefix missing = by_cover (covers prefix packet) refl (under prefix wh
     by_cover false covered below is = rw covered (omega arith)
     by_cover true covered false is = rw (covered, is) (omega arith)
     by_cover true covered true is =
-        let above = and_parts (kept_bytes_begin_with whole.source prefix.source) (kept_bytes_begin_with whole.dest prefix.dest) covered in
-        let below = and_parts (kept_bytes_begin_with prefix.source whole.source) (kept_bytes_begin_with prefix.dest whole.dest) is in
+        let above = and_parts (begins_with whole.source prefix.source) (begins_with whole.dest prefix.dest) covered in
+        let below = and_parts (begins_with prefix.source whole.source) (begins_with prefix.dest whole.dest) is in
         let same : whole ≡ prefix =
         ap (λ source. record { source = source; dest = whole.dest })
         (both_begin whole.source prefix.source above.0 below.0)
@@ -214,11 +214,11 @@ explained prefix missing = by_cover (covers prefix packet) refl (under prefix wh
         (both_begin whole.dest prefix.dest above.1 below.1) in
         absurd (missing (0, omega arith, same))
 
-pub justified_by_its_weight : IsJustifiedInSoundReport 4 1 (whole ∷ []) (packet ∷ []) own
+pub justified_by_its_weight : IsJustified 4 1 (whole ∷ []) (packet ∷ []) own
 justified_by_its_weight = let enough : 4 ≤ 500 = omega arith in enough
 
 -- the root's conditioned weight is 0, and two intervals of width at most 100/512 don't reach a threshold of 1
-pub not_justified_beside_the_line : ¬ IsJustifiedInSoundReport 512 1 (whole ∷ root ∷ []) (packet ∷ []) of_all
+pub not_justified_beside_the_line : ¬ IsJustified 512 1 (whole ∷ root ∷ []) (packet ∷ []) of_all
 not_justified_beside_the_line justified = let most : 512 ≤ 200 = justified in omega (arith, most)
 
 pub told_is_sound : IsSound told ((packet ∷ []) ∷ []) 4 10000
@@ -228,14 +228,14 @@ told_is_sound = record {
   threshold = record { heavy = record { some = omega arith; share = omega arith }; least = λ weight heavy. heavy.some };
   interval =
       let weight : prefix_weight whole (packet ∷ []) ≡ 100 = refl in
-      All-cons (HoldsWeightInSoundReport (packet ∷ [])) own []
+      All-cons (LineHoldsWeight (packet ∷ [])) own []
       (record { low = omega (arith, weight); high = omega (arith, weight) })
-      (All-nil (HoldsWeightInSoundReport (packet ∷ [])));
-  width = All-cons (IsNarrowInSoundReport 4 100) own [] (omega arith) (All-nil (IsNarrowInSoundReport 4 100));
+      (All-nil (LineHoldsWeight (packet ∷ [])));
+  width = All-cons (IsNarrowLine 4 100) own [] (omega arith) (All-nil (IsNarrowLine 4 100));
   heavy = All-cons (λ (line : Line). 1 ≤ line.hi) own [] (omega arith) (All-nil (λ (line : Line). 1 ≤ line.hi));
   justified =
-      All-cons (IsJustifiedInSoundReport 4 1 (whole ∷ []) (packet ∷ [])) own [] justified_by_its_weight
-      (All-nil (IsJustifiedInSoundReport 4 1 (whole ∷ []) (packet ∷ [])));
+      All-cons (IsJustified 4 1 (whole ∷ []) (packet ∷ [])) own [] justified_by_its_weight
+      (All-nil (IsJustified 4 1 (whole ∷ []) (packet ∷ [])));
   complete = λ prefix is_prefix missing. explained prefix missing;
 }
 

@@ -4,7 +4,7 @@ use Rattle.std.specs.List.{sum_by}
 use Rattle.std.proofs.lemmas.List.Elements.{filter-append}
 use Rattle.std.proofs.lemmas.List.Sums.{sum_by-append}
 use Rattle.prefix_lattice.specs.{PrefixValue, RecordValue, covers, prefix_weight}
-use Rattle.hhh_report.specs.Positions.{AreCutPositionsNotPast, records_before_cut}
+use Rattle.hhh_report.specs.Positions.{AreNotPast, records_before}
 
 weight_rise-append : (prefix : PrefixValue) (first second : List RecordValue)
     → prefix_weight prefix (first ++ second) ≡ prefix_weight prefix first + prefix_weight prefix second
@@ -27,8 +27,8 @@ weight_rises_in_list prefix (rec ∷ rest) (suc earlier) (suc later) order =
 
 -- over lists, position by position
 pub weight_rises : (prefix : PrefixValue) (lists : List (List RecordValue)) (earlier later : List ℕ)
-    → AreCutPositionsNotPast earlier later
-    → prefix_weight prefix (records_before_cut lists earlier) ≤ prefix_weight prefix (records_before_cut lists later)
+    → AreNotPast earlier later
+    → prefix_weight prefix (records_before lists earlier) ≤ prefix_weight prefix (records_before lists later)
 weight_rises prefix [] earlier later order = omega arith
 weight_rises prefix (list ∷ lists) [] [] order = omega arith
 weight_rises prefix (list ∷ lists) [] (q ∷ later) order = absurd order
@@ -36,8 +36,8 @@ weight_rises prefix (list ∷ lists) (p ∷ earlier) [] order = absurd order
 weight_rises prefix (list ∷ lists) (p ∷ earlier) (q ∷ later) order =
     omega (
       arith,
-      weight_rise-append prefix (take p list) (records_before_cut lists earlier),
-      weight_rise-append prefix (take q list) (records_before_cut lists later),
+      weight_rise-append prefix (take p list) (records_before lists earlier),
+      weight_rise-append prefix (take q list) (records_before lists later),
       weight_rises_in_list prefix list p q order.0,
       weight_rises prefix lists earlier later order.1,
     )

@@ -2,50 +2,50 @@
 use Rattle.std.specs.Prelude.{ℕ, ◌≡◌, ◌+◌, ◌*◌, ◌<◌, ◌≤◌, List, length, All, Contains}
 use Rattle.std.specs.List.{AllZip}
 use Rattle.prefix_lattice.specs.{RecordValue, PrefixValue, IsPrefix, prefix_weight, total_weight, conditioned_weight}
-use Rattle.prefix_lattice.specs.{closest, kept_pairs, IntervalHoldsWeight, IsNarrowInterval}
+use Rattle.prefix_lattice.specs.{closest, kept_pairs, HoldsWeight, IsNarrow}
 use Rattle.hhh_report.specs.declared.line.Line.{Line}
 use Rattle.hhh_report.specs.declared.report.Report.{Report}
-use Rattle.hhh_report.specs.Positions.{records_before_cut}
-use Rattle.hhh_report.specs.ReportLines.{prefixes_of_lines}
-use Rattle.hhh_report.specs.Threshold.{IsThreshold}
+use Rattle.hhh_report.specs.Positions.{records_before}
+use Rattle.hhh_report.specs.Lines.{prefixes_of_lines}
+use Rattle.hhh_report.specs.Thresholds.{IsThreshold}
 
 -- there are as many positions as lists, and none is past the end of its list
-abbrev pub AreWithinListsInSoundReport : List ℕ → List (List RecordValue) → Type 0
-AreWithinListsInSoundReport positions lists = AllZip (λ position list. position ≤ length list) positions lists
+abbrev pub AreWithinLists : List ℕ → List (List RecordValue) → Type 0
+AreWithinLists positions lists = AllZip (λ position list. position ≤ length list) positions lists
 
 -- the interval of a line holds the exact weight of its prefix over some records
-abbrev pub HoldsWeightInSoundReport : List RecordValue → Line → Type 0
-HoldsWeightInSoundReport records line = IntervalHoldsWeight line.lo line.hi (prefix_weight line.prefix records)
+abbrev pub LineHoldsWeight : List RecordValue → Line → Type 0
+LineHoldsWeight records line = HoldsWeight line.lo line.hi (prefix_weight line.prefix records)
 
 -- the interval of a line is no wider than the total over the capacity
-abbrev pub IsNarrowInSoundReport : ℕ → ℕ → Line → Type 0
-IsNarrowInSoundReport capacity total line = IsNarrowInterval line.lo line.hi capacity total
+abbrev pub IsNarrowLine : ℕ → ℕ → Line → Type 0
+IsNarrowLine capacity total line = IsNarrow line.lo line.hi capacity total
 
 -- the conditioned weight of a line is at least the threshold less the widths of the intervals that it was judged by:
 -- its own, those of its closest lines and of the meets of their kept pairs, each at most the total over the capacity
-abbrev pub IsJustifiedInSoundReport : ℕ → ℕ → List PrefixValue → List RecordValue → Line → Type 0
-IsJustifiedInSoundReport capacity threshold lines records line =
+abbrev pub IsJustified : ℕ → ℕ → List PrefixValue → List RecordValue → Line → Type 0
+IsJustified capacity threshold lines records line =
     capacity * threshold ≤ capacity * conditioned_weight line.prefix lines records
     + (1 + length (closest line.prefix lines) + length (kept_pairs (closest line.prefix lines))) * total_weight records
 
 -- the high of a line is at least the threshold
-abbrev pub IsHeavyInSoundReport : ℕ → Line → Type 0
-IsHeavyInSoundReport threshold line = threshold ≤ line.hi
+abbrev pub IsHeavyLine : ℕ → Line → Type 0
+IsHeavyLine threshold line = threshold ≤ line.hi
 
 -- each prefix that is no line has a conditioned weight below the threshold, over these prefixes of lines
-abbrev pub AreCompleteInSoundReport : ℕ → List PrefixValue → List RecordValue → Type 0
-AreCompleteInSoundReport threshold lines records = (prefix : PrefixValue) → IsPrefix prefix → ¬ Contains lines prefix
+abbrev pub AreComplete : ℕ → List PrefixValue → List RecordValue → Type 0
+AreComplete threshold lines records = (prefix : PrefixValue) → IsPrefix prefix → ¬ Contains lines prefix
     → conditioned_weight prefix lines records < threshold
 
 -- a report is sound over lists of records, for tables of this capacity: eight tests hold
 pub record IsSound (report : Report) (lists : List (List RecordValue)) (capacity phi : ℕ) : Type 0 where
-  pub positions : AreWithinListsInSoundReport report.positions lists
-  pub total : report.total ≡ total_weight (records_before_cut lists report.positions)
+  pub positions : AreWithinLists report.positions lists
+  pub total : report.total ≡ total_weight (records_before lists report.positions)
   pub threshold : IsThreshold phi report.total report.threshold
-  pub interval : All (HoldsWeightInSoundReport (records_before_cut lists report.positions)) report.lines
-  pub width : All (IsNarrowInSoundReport capacity report.total) report.lines
-  pub heavy : All (IsHeavyInSoundReport report.threshold) report.lines
+  pub interval : All (LineHoldsWeight (records_before lists report.positions)) report.lines
+  pub width : All (IsNarrowLine capacity report.total) report.lines
+  pub heavy : All (IsHeavyLine report.threshold) report.lines
   pub justified : All
-      (IsJustifiedInSoundReport capacity report.threshold (prefixes_of_lines report.lines) (records_before_cut lists report.positions))
+      (IsJustified capacity report.threshold (prefixes_of_lines report.lines) (records_before lists report.positions))
       report.lines
-  pub complete : AreCompleteInSoundReport report.threshold (prefixes_of_lines report.lines) (records_before_cut lists report.positions)
+  pub complete : AreComplete report.threshold (prefixes_of_lines report.lines) (records_before lists report.positions)

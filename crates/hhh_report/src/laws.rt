@@ -3,7 +3,7 @@
 ghost use Rattle.std.specs.Prelude.{ℕ, ◌≤◌, List, All};
 ghost use Rattle.prefix_lattice.specs.{RecordValue, prefix_weight};
 ghost use Rattle.hhh_report.specs.declared.report.Report.{Report};
-ghost use Rattle.hhh_report.specs.Positions.{AreCutPositionsNotPast, records_before_cut};
+ghost use Rattle.hhh_report.specs.Positions.{AreNotPast, records_before};
 ghost use Rattle.hhh_report.specs.SoundReport.{IsSound};
 
 /// What a sound report says of other positions. At positions that aren't past its own, no line's prefix weighs more
@@ -12,9 +12,9 @@ ghost use Rattle.hhh_report.specs.SoundReport.{IsSound};
 /// limit for what the earlier one counted.
 pub fn lines_bound_other_positions()
     ensures earlier { (report : Report) (lists : List (List RecordValue)) (capacity phi : ℕ) (positions : List ℕ) → IsSound report lists capacity phi
-        → AreCutPositionsNotPast positions report.positions
-        → All (λ line. prefix_weight line.prefix (records_before_cut lists positions) ≤ line.hi) report.lines }
+        → AreNotPast positions report.positions
+        → All (λ line. prefix_weight line.prefix (records_before lists positions) ≤ line.hi) report.lines }
     ensures later { (report : Report) (lists : List (List RecordValue)) (capacity phi : ℕ) (positions : List ℕ) → IsSound report lists capacity phi
-        → AreCutPositionsNotPast report.positions positions
-        → All (λ line. line.lo ≤ prefix_weight line.prefix (records_before_cut lists positions)) report.lines }
+        → AreNotPast report.positions positions
+        → All (λ line. line.lo ≤ prefix_weight line.prefix (records_before lists positions)) report.lines }
 {}

@@ -1,6 +1,6 @@
 //! A report.
 
-ghost use Rattle.hhh_report.specs.ReportLines.{AreReportLines};
+ghost use Rattle.hhh_report.specs.Lines.{AreReportLines};
 
 use crate::{Lines, Positions};
 

@@ -1,6 +1,6 @@
 pub use Rattle.key_index.specs.KeyIndex.{IndexedKeys}
 pub mod KeyIndex
 -- within the crate
-pub mod CellPaths
+pub mod Homes
 pub mod Cells
-pub mod CellSearch
+pub mod Searching

@@ -3,7 +3,7 @@
 ghost use Rattle.std.specs.Prelude.{◌≡◌, ◌+◌, ◌*◌, ◌^◌, ◌<◌, ◌≤◌, ◌↔◌, ℕ, IfOk, IfSome, IfNone, IsTrue, false, length};
 ghost use Rattle.std.specs.Prelude.{replicate, slice_index};
 ghost use Rattle.key_index.specs.Cells.{AreCellsBelow};
-ghost use Rattle.key_index.specs.CellPaths.{CellPathFinds, cell_path_leads_to, cell_path};
+ghost use Rattle.key_index.specs.Homes.{Finds, leads_to, path};
 
 use crate::homes::HOMES_A_KEY;
 use crate::searching::{free_cell, place_of};
@@ -55,7 +55,7 @@ impl KeyCells {
         ensures within { IfSome result (λ place. place < length keys.now) }
         ensures found { IfSome result (λ place. slice_index keys.now place ≡ key) }
         ensures missing { IfNone result ((place : ℕ) → slice_index keys.now place ≡ key
-            → cell_path_leads_to (cell_path self.now.room key) self.now.marks place ≡ false) }
+            → leads_to (path self.now.room key) self.now.marks place ≡ false) }
     {
         place_of(&self.marks, keys, key, self.room)
     }
@@ -73,9 +73,9 @@ impl KeyCells {
         requires room { self.old.fills < 2 * self.old.room }
         ensures room { self.new.room ≡ self.old.room }
         ensures fills { self.new.fills ≡ self.old.fills + 1 }
-        ensures entered { CellPathFinds self.new.room self.new.marks key place }
-        ensures kept { (known earlier : ℕ) → CellPathFinds self.old.room self.old.marks known earlier
-            → CellPathFinds self.old.room self.new.marks known earlier }
+        ensures entered { Finds self.new.room self.new.marks key place }
+        ensures kept { (known earlier : ℕ) → Finds self.old.room self.old.marks known earlier
+            → Finds self.old.room self.new.marks known earlier }
         ensures below { (count : ℕ) → place < count → AreCellsBelow count self.old.marks → AreCellsBelow count self.new.marks }
     {
         let cell = free_cell(&self.marks, key, self.room);

@@ -1,7 +1,7 @@
 //! Where a search for a key begins.
 
 ghost use Rattle.std.specs.Prelude.{◌≡◌, ◌*◌, ◌^◌, ◌<◌, ◌≤◌};
-ghost use Rattle.key_index.specs.CellPaths.{cell_path_home};
+ghost use Rattle.key_index.specs.Homes.{cell_home};
 
 /// How many cells a search passes from one home of a key before it goes on from the next.
 pub(crate) const WINDOW: usize = 16;
@@ -31,7 +31,7 @@ pub(crate) fn home_of(key: u64, turn: usize, room: usize) -> usize
     requires turns { turn ≤ 7 }
     requires few { room < 2 ^ 16 }
     requires some { 1 ≤ room }
-    ensures home { result ≡ cell_path_home room turn key }
+    ensures home { result ≡ cell_home room turn key }
     ensures within { result < 8 * room }
 {
     let high = key.wrapping_mul(MULTIPLIERS[turn]) >> 32;

@@ -2,7 +2,7 @@
 
 ghost use Rattle.std.specs.Prelude.{◌≡◌, ◌≢◌, ◌+◌, ◌*◌, ◌^◌, ◌<◌, ◌≤◌, ◌++◌, ◌∷◌, [], ℕ, All, IfOk, MatchOption, Some};
 ghost use Rattle.std.specs.Prelude.{length, slice_get, slice_set};
-ghost use Rattle.key_index.specs.KeyIndex.{KeyIndexHoldsKeys, KeyIndexHoldsKeysButOne};
+ghost use Rattle.key_index.specs.KeyIndex.{HoldsKeys, HoldsKeysButOne};
 
 use crate::cells::KeyCells;
 use std::alloc::{AllocError, Global};
@@ -75,8 +75,8 @@ impl KeyIndex {
 // frees a cell whose place has another key by now.
 fn enter(cells: &mut KeyCells, keys: &[u64], place: usize)
     requires within { place < length keys.now }
-    requires filled { KeyIndexHoldsKeysButOne place cells.old.room keys.now cells.old }
-    ensures { KeyIndexHoldsKeys cells.old.room keys.now cells.new }
+    requires filled { HoldsKeysButOne place cells.old.room keys.now cells.old }
+    ensures { HoldsKeys cells.old.room keys.now cells.new }
 {
     if cells.are_used_up() {
         enter_all(cells, keys);
@@ -89,7 +89,7 @@ fn enter(cells: &mut KeyCells, keys: &[u64], place: usize)
 fn enter_all(cells: &mut KeyCells, keys: &[u64])
     requires few { length keys.now ≤ cells.old.room }
     requires room { cells.old.room < 2 ^ 16 }
-    ensures { KeyIndexHoldsKeys cells.old.room keys.now cells.new }
+    ensures { HoldsKeys cells.old.room keys.now cells.new }
 {
     cells.clear();
     for (place, key) in keys.iter().enumerate() {

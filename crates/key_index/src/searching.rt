@@ -3,8 +3,8 @@
 ghost use Rattle.std.specs.Prelude.{◌≡◌, ◌≢◌, ◌+◌, ◌*◌, ◌^◌, ◌<◌, ◌≤◌, ℕ, IfSome, IfNone, false, true, length};
 ghost use Rattle.std.specs.Prelude.{slice_index, slice_set};
 ghost use Rattle.key_index.specs.Cells.{AreCellsBelow};
-ghost use Rattle.key_index.specs.CellPaths.{cell_path_leads_to, cell_path};
-ghost use Rattle.key_index.specs.CellSearch.{SearchEndsAt};
+ghost use Rattle.key_index.specs.Homes.{leads_to, path};
+ghost use Rattle.key_index.specs.Searching.{EndsAt};
 
 use crate::homes::{TURNS, WINDOW, home_of};
 
@@ -23,7 +23,7 @@ pub(crate) enum End {
 pub(crate) fn search(marks: &[u16], keys: &[u64], key: u64, from: usize, to: usize) -> End
     requires within { to ≤ length marks.now }
     requires places { AreCellsBelow (length keys.now) marks.now }
-    ensures { SearchEndsAt result marks.now keys.now key from to }
+    ensures { EndsAt result marks.now keys.now key from to }
 {
     for cell in from..to {
         let mark = usize::from(marks[cell]);
@@ -45,7 +45,7 @@ pub(crate) fn place_of(marks: &[u16], keys: &[u64], key: u64, room: usize) -> Op
     requires places { AreCellsBelow (length keys.now) marks.now }
     ensures within { IfSome result (λ place. place < length keys.now) }
     ensures found { IfSome result (λ place. slice_index keys.now place ≡ key) }
-    ensures missing { IfNone result ((place : ℕ) → slice_index keys.now place ≡ key → cell_path_leads_to (cell_path room key) marks.now place ≡ false) }
+    ensures missing { IfNone result ((place : ℕ) → slice_index keys.now place ≡ key → leads_to (path room key) marks.now place ≡ false) }
 {
     let mut turn = TURNS;
     while turn > 0 {
@@ -89,7 +89,7 @@ pub(crate) fn free_cell(marks: &[u16], key: u64, room: usize) -> usize
     ensures within { result < length marks.now }
     ensures free { slice_index marks.now result ≡ 0 }
     ensures early { (cell : ℕ) → 8 * room + 16 ≤ cell → slice_index marks.now cell ≡ 0 → result ≤ cell }
-    ensures reached { (place : ℕ) → cell_path_leads_to (cell_path room key) (slice_set marks.now result (place + 1)) place ≡ true }
+    ensures reached { (place : ℕ) → leads_to (path room key) (slice_set marks.now result (place + 1)) place ≡ true }
 {
     let mut turn = TURNS;
     while turn > 0 {

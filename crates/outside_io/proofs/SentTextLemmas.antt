@@ -3,7 +3,7 @@ use Rattle.std.proofs.Common.{◌≡◌, ℕ, ◌<◌, List, [], ◌++◌, Optio
 use Rattle.std.proofs.Common.{append-nil, take, drop, subst, take-append-drop, length, length-append, arith}
 use Rattle.std.specs.Io.KnownBytes.{Appends, Keeps}
 use Rattle.std.proofs.KnownBytes.{Appends-nil, Appends-trans}
-use Rattle.outside_io.specs.Beginning.{AppendsBeginning}
+use Rattle.outside_io.specs.Writing.{AppendsPart}
 
 -- a front of the text was taken, and this rest is still to be written
 pub record IsSentText (old new : Option (List ℕ)) (text rest : List ℕ) : Type 0 where
@@ -41,7 +41,7 @@ sent_text_stays (Some x) (Some y) (Some z) front took kept = kept ∙ took
 
 -- if bytes are still to be written when a call takes nothing, a strict prefix of the text was appended
 pub text_beginning_is_sent : (old mid new : Option (List ℕ)) (text rest : List ℕ)
-    → IsSentText old mid text rest → 0 < length rest → Keeps mid new → AppendsBeginning old new text
+    → IsSentText old mid text rest → 0 < length rest → Keeps mid new → AppendsPart old new text
 text_beginning_is_sent old mid new text rest sent some kept = record {
   front = sent.front;
   is_beginning = (rest, sent.joined);

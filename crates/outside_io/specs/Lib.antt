@@ -1,7 +1,7 @@
-pub mod FaultCounts
+pub mod Failed
 pub mod MemorySink
 pub mod MemorySource
-pub mod Beginning
+pub mod Writing
 -- the face: what contracts of other crates cite
-pub use Rattle.outside_io.specs.FaultCounts.{FailsByFaultCount, FaultCountRose, next_fault_count}
-pub use Rattle.outside_io.specs.Beginning.{AppendsBeginning, IsBeginning}
+pub use Rattle.outside_io.specs.Failed.{FailsByCount, FaultRose, next_count}
+pub use Rattle.outside_io.specs.Writing.{AppendsPart, IsBeginning}

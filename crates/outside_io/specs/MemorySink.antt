@@ -1,10 +1,10 @@
 -- The state of a sink in memory, as tests see it.
 use Rattle.std.specs.Prelude.{ℕ, List, ◌-◌, Bool, ◌==◌, ◌||◌, ◌&&◌, nat_lt, min, ◌++◌, length, take}
 use Rattle.std.specs.List.{list_any}
-use Rattle.outside_io.specs.FaultCounts.{next_fault_count}
+use Rattle.outside_io.specs.Failed.{next_count}
 
 -- the bytes taken, the most bytes taken in all, the numbers of the calls that fail, the counts of calls and of faults
-pub record MemorySinkState : Type 0 where
+pub record SinkState : Type 0 where
   pub taken : List ℕ
   pub room : ℕ
   pub fails : List ℕ
@@ -12,21 +12,21 @@ pub record MemorySinkState : Type 0 where
   pub faults : ℕ
 
 -- how many bytes the sink can still take
-abbrev pub memory_sink_room_left : MemorySinkState → ℕ
-memory_sink_room_left s = s.room - length s.taken
+abbrev pub room_left : SinkState → ℕ
+room_left s = s.room - length s.taken
 
 -- whether the next call fails for a piece of this length
-abbrev pub memory_sink_write_fails : MemorySinkState → ℕ → Bool
-memory_sink_write_fails s count = list_any (λ number. number == s.calls) s.fails || (memory_sink_room_left s == 0 && nat_lt 0 count)
+abbrev pub write_fails : SinkState → ℕ → Bool
+write_fails s count = list_any (λ number. number == s.calls) s.fails || (room_left s == 0 && nat_lt 0 count)
 
 -- how many bytes of a piece of this length a call takes, if it doesn't fail
-abbrev pub accepted_by_memory_sink : MemorySinkState → ℕ → ℕ
-accepted_by_memory_sink s count = min (memory_sink_room_left s) count
+abbrev pub accepted : SinkState → ℕ → ℕ
+accepted s count = min (room_left s) count
 
 -- the sink after a call that failed
-abbrev pub memory_sink_after_fault : MemorySinkState → MemorySinkState
-memory_sink_after_fault s = record s { calls = next_fault_count s.calls; faults = next_fault_count s.faults }
+abbrev pub sink_after_fault : SinkState → SinkState
+sink_after_fault s = record s { calls = next_count s.calls; faults = next_count s.faults }
 
 -- the sink after a call that took this many of the bytes
-abbrev pub memory_sink_after_bytes : MemorySinkState → List ℕ → ℕ → MemorySinkState
-memory_sink_after_bytes s bytes count = record s { taken = s.taken ++ take count bytes; calls = next_fault_count s.calls }
+abbrev pub sink_after : SinkState → List ℕ → ℕ → SinkState
+sink_after s bytes count = record s { taken = s.taken ++ take count bytes; calls = next_count s.calls }

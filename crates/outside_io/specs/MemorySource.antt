@@ -1,10 +1,10 @@
 -- The state of a source in memory, as tests see it.
 use Rattle.std.specs.Prelude.{ℕ, List, Bool, ◌==◌, min, length, drop}
 use Rattle.std.specs.List.{list_any}
-use Rattle.outside_io.specs.FaultCounts.{next_fault_count}
+use Rattle.outside_io.specs.Failed.{next_count}
 
 -- the remaining bytes, the numbers of the calls that fail, the most bytes of a call, the counts of calls and of faults
-pub record MemorySourceState : Type 0 where
+pub record SourceState : Type 0 where
   pub left : List ℕ
   pub fails : List ℕ
   pub step : ℕ
@@ -12,17 +12,17 @@ pub record MemorySourceState : Type 0 where
   pub faults : ℕ
 
 -- whether the next call is one of those that fail
-abbrev pub memory_source_call_fails : MemorySourceState → Bool
-memory_source_call_fails s = list_any (λ number. number == s.calls) s.fails
+abbrev pub call_fails : SourceState → Bool
+call_fails s = list_any (λ number. number == s.calls) s.fails
 
 -- how many bytes a call with this much room gives, if it doesn't fail
-abbrev pub given_by_memory_source : MemorySourceState → ℕ → ℕ
-given_by_memory_source s room = min (min s.step room) (length s.left)
+abbrev pub given : SourceState → ℕ → ℕ
+given s room = min (min s.step room) (length s.left)
 
 -- the source after a call that failed
-abbrev pub memory_source_after_fault : MemorySourceState → MemorySourceState
-memory_source_after_fault s = record s { calls = next_fault_count s.calls; faults = next_fault_count s.faults }
+abbrev pub after_fault : SourceState → SourceState
+after_fault s = record s { calls = next_count s.calls; faults = next_count s.faults }
 
 -- the source after a call that gave this many bytes
-abbrev pub memory_source_after_bytes : MemorySourceState → ℕ → MemorySourceState
-memory_source_after_bytes s count = record s { left = drop count s.left; calls = next_fault_count s.calls }
+abbrev pub source_after : SourceState → ℕ → SourceState
+source_after s count = record s { left = drop count s.left; calls = next_count s.calls }

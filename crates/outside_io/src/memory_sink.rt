@@ -2,9 +2,9 @@
 
 ghost use Rattle.std.specs.Prelude.{◌≡◌, ◌≤◌, ◌<◌, [], length, is_err, IfOk, OnErr, Some};
 ghost use Rattle.std.specs.Io.KnownBytes.{WriteAppends};
-ghost use Rattle.outside_io.specs.FaultCounts.{FailsByFaultCount};
-ghost use Rattle.outside_io.specs.MemorySink.{memory_sink_write_fails, accepted_by_memory_sink};
-ghost use Rattle.outside_io.specs.MemorySink.{memory_sink_after_fault, memory_sink_after_bytes};
+ghost use Rattle.outside_io.specs.Failed.{FailsByCount};
+ghost use Rattle.outside_io.specs.MemorySink.{write_fails, accepted};
+ghost use Rattle.outside_io.specs.MemorySink.{sink_after_fault, sink_after};
 
 use crate::{Failed, Sink};
 use std::alloc::{AllocError, Global};
@@ -24,9 +24,9 @@ pub struct MemorySink {
 
 impl Model for MemorySink {
     ghost use Rattle.std.specs.Prelude.{◌≤◌, vec_len, vec_capacity};
-    ghost use Rattle.outside_io.specs.MemorySink.{MemorySinkState};
+    ghost use Rattle.outside_io.specs.MemorySink.{SinkState};
 
-    ghost Value = { MemorySinkState };
+    ghost Value = { SinkState };
 
     ghost view = { λ s. record {
       taken = s.taken.items;
@@ -73,12 +73,12 @@ impl Sink for MemorySink {
         ensures fits { IfOk result (λ count. count ≤ length bytes.now) }
         ensures takes_some { IfOk result (λ count. 0 < length bytes.now → 0 < count) }
         ensures appended { WriteAppends (Some self.old.taken) (Some self.new.taken) result bytes.now }
-        ensures cause { FailsByFaultCount self.old.faults self.new.faults result }
+        ensures cause { FailsByCount self.old.faults self.new.faults result }
 
-        ensures fails { is_err result ≡ memory_sink_write_fails self.old (length bytes.now) }
-        ensures failed { OnErr result (self.new ≡ memory_sink_after_fault self.old) }
-        ensures count { IfOk result (λ count. count ≡ accepted_by_memory_sink self.old (length bytes.now)) }
-        ensures took { IfOk result (λ count. self.new ≡ memory_sink_after_bytes self.old bytes.now count) }
+        ensures fails { is_err result ≡ write_fails self.old (length bytes.now) }
+        ensures failed { OnErr result (self.new ≡ sink_after_fault self.old) }
+        ensures count { IfOk result (λ count. count ≡ accepted self.old (length bytes.now)) }
+        ensures took { IfOk result (λ count. self.new ≡ sink_after self.old bytes.now count) }
     {
         let left = self.room - self.taken.len();
         let fails = self.fails.contains(&self.calls) || (left == 0 && !bytes.is_empty());

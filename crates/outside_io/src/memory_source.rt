@@ -2,9 +2,9 @@
 
 ghost use Rattle.std.specs.Prelude.{◌≡◌, ◌≤◌, ◌++◌, [], length, take, drop, is_err, IfOk, OnErr, None, Some};
 ghost use Rattle.std.specs.Io.KnownBytes.{ReadConsumes};
-ghost use Rattle.outside_io.specs.FaultCounts.{FailsByFaultCount};
-ghost use Rattle.outside_io.specs.MemorySource.{memory_source_call_fails, given_by_memory_source};
-ghost use Rattle.outside_io.specs.MemorySource.{memory_source_after_fault, memory_source_after_bytes};
+ghost use Rattle.outside_io.specs.Failed.{FailsByCount};
+ghost use Rattle.outside_io.specs.MemorySource.{call_fails, given};
+ghost use Rattle.outside_io.specs.MemorySource.{after_fault, source_after};
 
 use crate::{Failed, Source};
 use std::marker::Model;
@@ -24,9 +24,9 @@ pub struct MemorySource {
 
 impl Model for MemorySource {
     ghost use Rattle.std.specs.Prelude.{◌≤◌, drop, vec_len};
-    ghost use Rattle.outside_io.specs.MemorySource.{MemorySourceState};
+    ghost use Rattle.outside_io.specs.MemorySource.{SourceState};
 
-    ghost Value = { MemorySourceState };
+    ghost Value = { SourceState };
 
     ghost view = { λ s. record {
       left = drop s.place s.bytes.items;
@@ -68,13 +68,13 @@ impl Source for MemorySource {
         ensures fits { IfOk result (λ count. count ≤ length into.old) }
         ensures later_places { IfOk result (λ count. drop count into.new ≡ drop count into.old) }
         ensures first_bytes { ReadConsumes (Some self.old.left) (Some self.new.left) result into.new }
-        ensures cause { FailsByFaultCount self.old.faults self.new.faults result }
+        ensures cause { FailsByCount self.old.faults self.new.faults result }
 
-        ensures fails { is_err result ≡ memory_source_call_fails self.old }
-        ensures failed { OnErr result (self.new ≡ memory_source_after_fault self.old) }
+        ensures fails { is_err result ≡ call_fails self.old }
+        ensures failed { OnErr result (self.new ≡ after_fault self.old) }
         ensures untouched { OnErr result (into.new ≡ into.old) }
-        ensures count { IfOk result (λ count. count ≡ given_by_memory_source self.old (length into.old)) }
-        ensures gave { IfOk result (λ count. self.new ≡ memory_source_after_bytes self.old count) }
+        ensures count { IfOk result (λ count. count ≡ given self.old (length into.old)) }
+        ensures gave { IfOk result (λ count. self.new ≡ source_after self.old count) }
     {
         let fails = self.fails.contains(&self.calls);
         self.calls = self.calls.saturating_add(1);

@@ -2,7 +2,7 @@
 
 ghost use Rattle.std.specs.Prelude.{◌≤◌, ◌<◌, ℕ, Option, List, length, IfOk};
 ghost use Rattle.std.specs.Io.KnownBytes.{WriteAppends};
-ghost use Rattle.outside_io.specs.FaultCounts.{FailsByFaultCount};
+ghost use Rattle.outside_io.specs.Failed.{FailsByCount};
 
 use crate::Failed;
 
@@ -21,5 +21,5 @@ pub trait Sink {
         ensures fits { IfOk result (λ count. count ≤ length bytes.now) }
         ensures takes_some { IfOk result (λ count. 0 < length bytes.now → 0 < count) }
         ensures appended { WriteAppends (taken self.old) (taken self.new) result bytes.now }
-        ensures cause { FailsByFaultCount (faults self.old) (faults self.new) result };
+        ensures cause { FailsByCount (faults self.old) (faults self.new) result };
 }

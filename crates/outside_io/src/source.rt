@@ -2,7 +2,7 @@
 
 ghost use Rattle.std.specs.Prelude.{◌≡◌, ◌≤◌, ℕ, Option, List, length, drop, IfOk};
 ghost use Rattle.std.specs.Io.KnownBytes.{ReadConsumes};
-ghost use Rattle.outside_io.specs.FaultCounts.{FailsByFaultCount};
+ghost use Rattle.outside_io.specs.Failed.{FailsByCount};
 
 use crate::Failed;
 
@@ -23,5 +23,5 @@ pub trait Source {
         ensures fits { IfOk result (λ count. count ≤ length into.old) }
         ensures later_places { IfOk result (λ count. drop count into.new ≡ drop count into.old) }
         ensures first_bytes { ReadConsumes (left self.old) (left self.new) result into.new }
-        ensures cause { FailsByFaultCount (faults self.old) (faults self.new) result };
+        ensures cause { FailsByCount (faults self.old) (faults self.new) result };
 }

@@ -2,8 +2,8 @@
 
 ghost use Rattle.std.specs.Prelude.{OnOk, OnErr};
 ghost use Rattle.std.specs.Io.KnownBytes.{Appends};
-ghost use Rattle.outside_io.specs.FaultCounts.{FailsByFaultCount};
-ghost use Rattle.outside_io.specs.Beginning.{AppendsBeginning};
+ghost use Rattle.outside_io.specs.Failed.{FailsByCount};
+ghost use Rattle.outside_io.specs.Writing.{AppendsPart};
 
 use crate::{Failed, Sink};
 
@@ -11,8 +11,8 @@ use crate::{Failed, Sink};
 /// prefix of the bytes.
 pub fn write_all<K: Sink>(sink: &mut K, bytes: &[u8]) -> Result<(), Failed>
     ensures whole { OnOk result (Appends (K.taken sink.old) (K.taken sink.new) bytes.now) }
-    ensures beginning { OnErr result (AppendsBeginning (K.taken sink.old) (K.taken sink.new) bytes.now) }
-    ensures cause { FailsByFaultCount (K.faults sink.old) (K.faults sink.new) result }
+    ensures beginning { OnErr result (AppendsPart (K.taken sink.old) (K.taken sink.new) bytes.now) }
+    ensures cause { FailsByCount (K.faults sink.old) (K.faults sink.new) result }
 {
     let mut rest = bytes;
     while !rest.is_empty() {

@@ -7,15 +7,15 @@ use Rattle.std.proofs.lemmas.Option.{same_Some}
 use Rattle.prefix_lattice.specs.{RecordValue}
 use Rattle.shard_state.specs.{ShardValue, empty_snapshot, folded_shard, shard_state_at}
 use Rattle.shard_state.specs.declared.shard_state.Folded.{Folded}
-use Rattle.position_words.specs.{IsOddWord, SeatValue, PositionWordsValue, first_view, view_after_look, view_after_loss}
-use Rattle.position_words.specs.{seen_in_view, view_after_win}
+use Rattle.position_words.specs.{IsOddWord, SeatValue, WordsValue, first_view, after_look, after_loss}
+use Rattle.position_words.specs.{seen_in, after_win}
 use Rattle.position_words.specs.declared.view.Aim.TheVariants.{Fold}
 use Rattle.position_words.specs.declared.view.Trail.{Trail}
 use Rattle.position_words.specs.declared.view.View.{View}
 use Rattle.pass_tokens.specs.declared.board.TryFold.TheVariants.{Done, Busy}
-use Rattle.pass_tokens.specs.Board.{IsPassOfBoard}
-use Rattle.pass_tokens.specs.Fold.{folded_once, IsFoldOf, Folds, TriesToFold, trail_after_fold_losses, FoldsAtLast}
-use Rattle.pass_tokens.specs.Fold.{WaitsToFold}
+use Rattle.pass_tokens.specs.Board.{IsPassOf}
+use Rattle.pass_tokens.specs.TryFold.{folded_once, IsFoldOf, Folds, TriesFold, after_losses, FoldsAtLast}
+use Rattle.pass_tokens.specs.TryFold.{WaitsToFold}
 
 -- a packet from 1.0.0.1 to 101.0.0.1
 abbrev pub x : RecordValue
@@ -39,17 +39,17 @@ abbrev pub trail : ℕ → Trail
 trail position = record { seen = position; looks = []; reads = []; folds = []; losses = [] }
 
 -- a board of these shards
-abbrev board_of : SeatValue → PositionWordsValue
+abbrev board_of : SeatValue → WordsValue
 board_of seat = record { id = seat.table_id; opening = shards }
 
-pub free_seat_is_a_pass : (seat : SeatValue) → IsPassOfBoard (board_of seat) (record seat { me = (first, []) })
+pub free_seat_is_a_pass : (seat : SeatValue) → IsPassOf (board_of seat) (record seat { me = (first, []) })
 free_seat_is_a_pass seat = record {
   seat = record { id = refl; opening = refl; trails = refl; live = refl; slot = refl };
   free = refl;
 }
 
 pub holder_is_no_pass : (seat : SeatValue)
-    → IsPassOfBoard (board_of seat) (record seat { me = (view_after_win Fold 0 1 first, (0, None) ∷ []) }) → ⊥
+    → IsPassOf (board_of seat) (record seat { me = (after_win Fold 0 1 first, (0, None) ∷ []) }) → ⊥
 holder_is_no_pass seat pass = cc pass.free
 
 abbrev block : ℕ → ℕ → Folded
@@ -88,15 +88,15 @@ pub folds_one_record : Folds shards 0 1 first after_one (block 0 1)
 folds_one_record = record { core = fold_of_one_record; later = omega arith; view = refl }
 
 pub fold_that_the_view_lacks : Folds shards 0 1 first first (block 0 1) → ⊥
-fold_that_the_view_lacks folds = let seen : 0 ≡ 1 = ap (seen_in_view 0) folds.view in omega (arith, seen)
+fold_that_the_view_lacks folds = let seen : 0 ≡ 1 = ap (seen_in 0) folds.view in omega (arith, seen)
 
-pub fold_before_what_was_seen : (now : View) → Folds shards 0 1 (view_after_look 0 1 first) now (block 0 1) → ⊥
+pub fold_before_what_was_seen : (now : View) → Folds shards 0 1 (after_look 0 1 first) now (block 0 1) → ⊥
 fold_before_what_was_seen now folds = let later : 1 ≤ 0 = folds.later in omega (arith, later)
 
-pub try_that_folds : TriesToFold shards 0 1 first after_one (Done (block 0 1))
+pub try_that_folds : TriesFold shards 0 1 first after_one (Done (block 0 1))
 try_that_folds = folds_one_record
 
-pub try_that_loses : TriesToFold shards 0 1 first (view_after_loss 0 3 first) Busy
+pub try_that_loses : TriesFold shards 0 1 first (after_loss 0 3 first) Busy
 try_that_loses = record {
   word = 3;
   odd = refl;
@@ -111,10 +111,10 @@ try_that_loses = record {
 abbrev losses_of : View → ℕ
 losses_of view = slice_index (map (λ trail. length trail.losses) view.trails) 0
 
-pub busy_without_a_loss : TriesToFold shards 0 1 first first Busy → ⊥
+pub busy_without_a_loss : TriesFold shards 0 1 first first Busy → ⊥
 busy_without_a_loss loses = let count : 0 ≡ 1 = ap losses_of loses.view in omega (arith, count)
 
-pub losses_are_kept : trail_after_fold_losses (3 ∷ 5 ∷ []) (trail 0) ≡ record (trail 2) { losses = 3 ∷ 5 ∷ [] }
+pub losses_are_kept : after_losses (3 ∷ 5 ∷ []) (trail 0) ≡ record (trail 2) { losses = 3 ∷ 5 ∷ [] }
 losses_are_kept = refl
 
 -- a take met the word 3, and the next one won at position 1
@@ -129,9 +129,9 @@ folds_after_a_loss = record {
 }
 
 pub fold_at_last_that_the_view_lacks : FoldsAtLast shards 0 1 first first (block 0 1) → ⊥
-fold_at_last_that_the_view_lacks folds = let seen : 0 ≡ 1 = ap (seen_in_view 0) folds.view in omega (arith, seen)
+fold_at_last_that_the_view_lacks folds = let seen : 0 ≡ 1 = ap (seen_in 0) folds.view in omega (arith, seen)
 
-pub waits_for_two_losses : WaitsToFold 0 first (view_after_loss 0 5 (view_after_loss 0 3 first))
+pub waits_for_two_losses : WaitsToFold 0 first (after_loss 0 5 (after_loss 0 3 first))
 waits_for_two_losses = record {
   losses = 3 ∷ 5 ∷ [];
   odd = All-from_recursion IsOddWord (3 ∷ 5 ∷ []) (refl, (refl, tt));
@@ -143,13 +143,13 @@ waits_for_two_losses = record {
 abbrev looks_of : View → ℕ
 looks_of view = slice_index (map (λ trail. length trail.looks) view.trails) 0
 
-looks_stay : (words : List ℕ) (trail : Trail) → (trail_after_fold_losses words trail).looks ≡ trail.looks
+looks_stay : (words : List ℕ) (trail : Trail) → (after_losses words trail).looks ≡ trail.looks
 looks_stay [] trail = refl
 looks_stay (word ∷ words) trail =
     looks_stay words (record trail { seen = word / 2; losses = trail.losses ++ word ∷ [] })
 
 -- a look is not part of a wait
-pub waits_with_a_look : WaitsToFold 0 first (view_after_look 0 1 first) → ⊥
+pub waits_with_a_look : WaitsToFold 0 first (after_look 0 1 first) → ⊥
 waits_with_a_look waits =
     let count : 1 ≡ 0 = ap looks_of waits.view ∙ ap length (looks_stay waits.losses (trail 0)) in
     omega (arith, count)

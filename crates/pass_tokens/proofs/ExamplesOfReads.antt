@@ -3,15 +3,15 @@ use Rattle.std.proofs.Common.{◌≡◌, ℕ, zero, suc, ◌/◌, ◌≤◌, Lis
 use Rattle.std.proofs.Common.{refl, ap, ◌∙◌, arith}
 use Rattle.std.specs.Prelude.{slice_index}
 use Rattle.std.proofs.lemmas.List.Elements.{All-from_recursion}
-use Rattle.shard_state.specs.{CutValue, IsShard, empty_snapshot, cut_positions, snapshot_of_shard, shard_state_at}
-use Rattle.position_words.specs.{IsOddWord, view_after_loss, seen_in_view}
+use Rattle.shard_state.specs.{CutValue, IsShard, empty_snapshot, cut_positions, snapshot_of, shard_state_at}
+use Rattle.position_words.specs.{IsOddWord, after_loss, seen_in}
 use Rattle.position_words.specs.declared.view.Trail.{Trail}
 use Rattle.position_words.specs.declared.view.View.{View}
 use Rattle.pass_tokens.specs.declared.board.TryRead.TheVariants.{Done, Busy}
-use Rattle.pass_tokens.specs.Fold.{trail_after_fold_losses}
-use Rattle.pass_tokens.specs.Read.{read_once, ReadsShard, TriesToReadShard, ShardRead, after_read, after_reads}
-use Rattle.pass_tokens.specs.Read.{states_of_read}
-use Rattle.pass_tokens.specs.Read.{ReadsCut, ReadsAtLast, ReadsSoFar}
+use Rattle.pass_tokens.specs.TryFold.{after_losses}
+use Rattle.pass_tokens.specs.TryRead.{read_once, ReadsShard, TriesToRead, ShardRead, after_read, after_reads}
+use Rattle.pass_tokens.specs.TryRead.{states_of}
+use Rattle.pass_tokens.specs.TryRead.{ReadsCut, ReadsAtLast, ReadsSoFar}
 use Rattle.pass_tokens.proofs.Examples.{pair, single, shards, first, trail, try_that_loses}
 
 pub read_is_kept : read_once 1 (trail 0) ≡ record (trail 1) { reads = 1 ∷ [] }
@@ -22,7 +22,7 @@ abbrev cut : CutValue
 cut = record { capacity = 4; shards = empty_snapshot 4 ∷ empty_snapshot 4 ∷ [] }
 
 abbrev with_first : CutValue
-with_first = record { capacity = 4; shards = snapshot_of_shard (shard_state_at 1 pair) ∷ empty_snapshot 4 ∷ [] }
+with_first = record { capacity = 4; shards = snapshot_of (shard_state_at 1 pair) ∷ empty_snapshot 4 ∷ [] }
 
 -- the view after that
 abbrev after_one : View
@@ -42,17 +42,17 @@ reads_the_first kept = record {
 -- the view has a read at position 1, and the cut is still at position 0
 pub read_that_leaves_the_cut : ReadsShard shards 0 first cut after_one cut → ⊥
 read_that_leaves_the_cut reads =
-    let met : 1 ≡ reads.position = ap (seen_in_view 0) reads.view in
+    let met : 1 ≡ reads.position = ap (seen_in 0) reads.view in
     let in_the_cut : 0 ≡ reads.position = ap (λ c. slice_index (cut_positions c) 0) reads.core in
     omega (arith, met, in_the_cut)
 
-pub try_that_reads : IsShard (shard_state_at 1 pair) → TriesToReadShard shards 0 first cut after_one with_first Done
+pub try_that_reads : IsShard (shard_state_at 1 pair) → TriesToRead shards 0 first cut after_one with_first Done
 try_that_reads kept = reads_the_first kept
 
-pub try_that_loses_leaves_the_cut : TriesToReadShard shards 0 first cut (view_after_loss 0 3 first) cut Busy
+pub try_that_loses_leaves_the_cut : TriesToRead shards 0 first cut (after_loss 0 3 first) cut Busy
 try_that_loses_leaves_the_cut = (try_that_loses, refl)
 
-pub try_that_loses_and_reads : TriesToReadShard shards 0 first cut (view_after_loss 0 3 first) with_first Busy → ⊥
+pub try_that_loses_and_reads : TriesToRead shards 0 first cut (after_loss 0 3 first) with_first Busy → ⊥
 try_that_loses_and_reads tries =
     let position : 1 ≡ 0 = ap (λ c. slice_index (cut_positions c) 0) tries.1 in
     omega (arith, position)
@@ -76,10 +76,10 @@ both_reads_are_kept = refl
 pub second_not_yet_read : after_reads first.trails (one ∷ []) ≡ after_read one (trail 0) ∷ trail 0 ∷ []
 second_not_yet_read = refl
 
-pub states_of_both : states_of_read shards (one ∷ two ∷ []) ≡ shard_state_at 1 pair ∷ shard_state_at 0 single ∷ []
+pub states_of_both : states_of shards (one ∷ two ∷ []) ≡ shard_state_at 1 pair ∷ shard_state_at 0 single ∷ []
 states_of_both = refl
 
-pub states_of_the_first : states_of_read shards (one ∷ []) ≡ shard_state_at 1 pair ∷ []
+pub states_of_the_first : states_of shards (one ∷ []) ≡ shard_state_at 1 pair ∷ []
 states_of_the_first = refl
 
 abbrev losses_are_odd : ShardRead → Type 0
@@ -89,7 +89,7 @@ one_is_odd : All IsOddWord one.losses
 one_is_odd = All-from_recursion IsOddWord (3 ∷ []) (refl, tt)
 
 abbrev with_both : CutValue
-with_both = record { capacity = 4; shards = snapshot_of_shard (shard_state_at 1 pair) ∷ snapshot_of_shard (shard_state_at 0 single) ∷ [] }
+with_both = record { capacity = 4; shards = snapshot_of (shard_state_at 1 pair) ∷ snapshot_of (shard_state_at 0 single) ∷ [] }
 
 pub reads_both : All IsShard (shard_state_at 1 pair ∷ shard_state_at 0 single ∷ [])
     → ReadsCut shards first cut (record first { trails = trails_of_both }) with_both
@@ -104,7 +104,7 @@ reads_both kept = record {
 }
   where
     seen_before : (shard : ℕ) (read : ShardRead) → slice_get (one ∷ two ∷ []) shard ≡ Some read
-        → seen_in_view shard first ≤ read.position
+        → seen_in shard first ≤ read.position
     seen_before zero read is = omega arith
     seen_before (suc zero) read is = omega arith
     seen_before (suc (suc shard)) read is = omega arith
@@ -113,7 +113,7 @@ reads_both kept = record {
 abbrev reads_of : View → ℕ
 reads_of view = slice_index (map (λ trail. length trail.reads) view.trails) 1
 
-reads_stay : (words : List ℕ) (trail : Trail) → (trail_after_fold_losses words trail).reads ≡ trail.reads
+reads_stay : (words : List ℕ) (trail : Trail) → (after_losses words trail).reads ≡ trail.reads
 reads_stay [] trail = refl
 reads_stay (word ∷ words) trail =
     reads_stay words (record trail { seen = word / 2; losses = trail.losses ++ word ∷ [] })
@@ -148,7 +148,7 @@ reads_the_first_at_last kept = record {
 
 pub read_at_last_that_leaves_the_cut : ReadsAtLast shards 0 first cut after_a_loss cut → ⊥
 read_at_last_that_leaves_the_cut reads =
-    let met : 1 ≡ reads.read.position = ap (seen_in_view 0) reads.view in
+    let met : 1 ≡ reads.read.position = ap (seen_in 0) reads.view in
     let in_the_cut : 0 ≡ reads.read.position = ap (λ c. slice_index (cut_positions c) 0) reads.core in
     omega (arith, met, in_the_cut)
 
@@ -164,7 +164,7 @@ reads_one_so_far kept = record {
 }
   where
     seen_before : (shard : ℕ) (read : ShardRead) → slice_get (one ∷ []) shard ≡ Some read
-        → seen_in_view shard first ≤ read.position
+        → seen_in shard first ≤ read.position
     seen_before zero read is = omega arith
     seen_before (suc zero) read is = omega arith
     seen_before (suc (suc shard)) read is = omega arith
@@ -175,5 +175,5 @@ reads_none_so_far changed far = none far.reads far.as_many far.view
   where
     none : (reads : List ShardRead) → length reads ≡ 0
         → after_a_loss ≡ record first { trails = after_reads first.trails reads } → ⊥
-    none [] many view = let seen : 1 ≡ 0 = ap (seen_in_view 0) view in omega (arith, seen)
+    none [] many view = let seen : 1 ≡ 0 = ap (seen_in 0) view in omega (arith, seen)
     none (read ∷ reads) many view = omega (arith, many)

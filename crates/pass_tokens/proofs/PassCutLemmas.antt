@@ -7,25 +7,25 @@ use Rattle.std.proofs.Math.Seq.{drop-length}
 use Rattle.std.proofs.lemmas.List.{length-map}
 use Rattle.std.proofs.lemmas.List.Elements.{All-nil, All-cons, All-append}
 use Rattle.std.proofs.lemmas.Option.{same_Some}
-use Rattle.shard_state.specs.{CutValue, HasCoreShape, IsShard, ShardValue, changed_in_core, snapshot_of_shard}
-use Rattle.shard_state.specs.{shard_state_at, core_cut_with_shard}
-use Rattle.position_words.specs.{IsOddWord, seen_in_view, view_with_trail}
+use Rattle.shard_state.specs.{CutValue, HasCoreShape, IsShard, ShardValue, changed_in, snapshot_of}
+use Rattle.shard_state.specs.{shard_state_at, with_shard}
+use Rattle.position_words.specs.{IsOddWord, seen_in, with_trail}
 use Rattle.position_words.specs.declared.view.Trail.{Trail}
 use Rattle.position_words.specs.declared.view.View.{View}
-use Rattle.pass_tokens.specs.Read.{ReadsAtLast, ReadsCut, ReadsSoFar, ShardRead, after_read, after_reads}
-use Rattle.pass_tokens.specs.Read.{states_of_read}
+use Rattle.pass_tokens.specs.TryRead.{ReadsAtLast, ReadsCut, ReadsSoFar, ShardRead, after_read, after_reads}
+use Rattle.pass_tokens.specs.TryRead.{states_of}
 
 pass_cut_without_reads : (trails : List Trail) → after_reads trails [] ≡ trails
 pass_cut_without_reads [] = refl
 pass_cut_without_reads (trail ∷ rest) = refl
 
-pass_cut_without_states : (opening : List ShardValue) → states_of_read opening [] ≡ []
+pass_cut_without_states : (opening : List ShardValue) → states_of opening [] ≡ []
 pass_cut_without_states [] = refl
 pass_cut_without_states (shard ∷ rest) = refl
 
 -- one read more changes the next trail
 next_trail_of_pass_cut : (trails : List Trail) (reads : List ShardRead) (read : ShardRead)
-    → changed_in_core (after_read read) (length reads) (after_reads trails reads) ≡ after_reads trails (reads ++ read ∷ [])
+    → changed_in (after_read read) (length reads) (after_reads trails reads) ≡ after_reads trails (reads ++ read ∷ [])
 next_trail_of_pass_cut [] reads read = refl
 next_trail_of_pass_cut (trail ∷ rest) [] read = ap (λ ts. after_read read trail ∷ ts) (sym (pass_cut_without_reads rest))
 next_trail_of_pass_cut (trail ∷ rest) (first ∷ reads) read = ap (λ ts. after_read first trail ∷ ts) (next_trail_of_pass_cut rest reads read)
@@ -41,16 +41,16 @@ pass_cut_keeps_later_seen (trail ∷ rest) (read ∷ reads) (suc shard) past = p
 
 next_state_of_pass_cut : (opening : List ShardValue) (reads : List ShardRead) (read : ShardRead) (state : ShardValue)
     → slice_get opening (length reads) ≡ Some state
-    → states_of_read opening (reads ++ read ∷ []) ≡ states_of_read opening reads ++ shard_state_at read.position state ∷ []
+    → states_of opening (reads ++ read ∷ []) ≡ states_of opening reads ++ shard_state_at read.position state ∷ []
 next_state_of_pass_cut [] reads read state is = cc is
 next_state_of_pass_cut (shard ∷ rest) [] read state is =
-    ap (λ (s : ShardValue). shard_state_at read.position s ∷ states_of_read rest []) (same_Some shard state is)
+    ap (λ (s : ShardValue). shard_state_at read.position s ∷ states_of rest []) (same_Some shard state is)
     ∙ ap (λ ss. shard_state_at read.position state ∷ ss) (pass_cut_without_states rest)
 next_state_of_pass_cut (shard ∷ rest) (first ∷ reads) read state is =
     ap (λ ss. shard_state_at first.position shard ∷ ss) (next_state_of_pass_cut rest reads read state is)
 
 length-pass_cut_states : (opening : List ShardValue) (reads : List ShardRead) → length reads ≤ length opening
-    → length (states_of_read opening reads) ≡ length reads
+    → length (states_of opening reads) ≡ length reads
 length-pass_cut_states [] [] few = refl
 length-pass_cut_states [] (read ∷ reads) few = absurd (omega arith)
 length-pass_cut_states (shard ∷ rest) [] few = refl
@@ -86,7 +86,7 @@ pass_cut_begins_unread opening view cut = record {
   kept = subst (All IsShard) (sym (pass_cut_without_states opening)) (All-nil IsShard);
   later = λ shard read is. cc is;
   view = ap (λ trails. record view { trails = trails }) (sym (pass_cut_without_reads view.trails));
-  core = ap (λ states. record cut { shards = map snapshot_of_shard states ++ cut.shards }) (sym (pass_cut_without_states opening));
+  core = ap (λ states. record cut { shards = map snapshot_of states ++ cut.shards }) (sym (pass_cut_without_states opening));
 }
 
 -- one shard more
@@ -98,10 +98,10 @@ pass_cut_reads_next opening capacity count before now after cut mid changed_cut 
     let reads : List ShardRead = far.reads in
     let at : slice_get opening (length reads) ≡ Some one.state = ap (slice_get opening) far.as_many ∙ one.is in
     let state : ShardValue = shard_state_at one.read.position one.state in
-    let states : states_of_read opening (reads ++ one.read ∷ []) ≡ states_of_read opening reads ++ state ∷ [] =
+    let states : states_of opening (reads ++ one.read ∷ []) ≡ states_of opening reads ++ state ∷ [] =
     next_state_of_pass_cut opening reads one.read one.state at in
-    let many : length (map snapshot_of_shard (states_of_read opening reads)) ≡ count =
-    length-map (states_of_read opening reads) snapshot_of_shard
+    let many : length (map snapshot_of (states_of opening reads)) ≡ count =
+    length-map (states_of opening reads) snapshot_of
     ∙ length-pass_cut_states opening reads (omega (arith, far.as_many, inside)) ∙ far.as_many in
     record {
       reads = reads ++ one.read ∷ [];
@@ -112,37 +112,37 @@ pass_cut_reads_next opening capacity count before now after cut mid changed_cut 
           (All-nil (λ read. All IsOddWord read.losses)));
       kept =
           subst (All IsShard) (sym states)
-          (All-append IsShard (states_of_read opening reads) (state ∷ []) far.kept
+          (All-append IsShard (states_of opening reads) (state ∷ []) far.kept
           (All-cons IsShard state [] one.kept (All-nil IsShard)));
       later = λ shard read is.
           ⊎_elim (λ old. far.later shard read old)
           (λ new.
-          let seen : seen_in_view count now ≡ seen_in_view count before =
-          ap (seen_in_view count) far.view ∙ pass_cut_keeps_later_seen before.trails reads count (omega (arith, far.as_many)) in
+          let seen : seen_in count now ≡ seen_in count before =
+          ap (seen_in count) far.view ∙ pass_cut_keeps_later_seen before.trails reads count (omega (arith, far.as_many)) in
           let place : shard ≡ count = new.0 ∙ far.as_many in
-          subst (λ k. seen_in_view k before ≤ read.position) (sym place)
-          (subst (λ (r : ShardRead). seen_in_view count before ≤ r.position) new.1 (omega (arith, one.later, seen))))
+          subst (λ k. seen_in k before ≤ read.position) (sym place)
+          (subst (λ (r : ShardRead). seen_in count before ≤ r.position) new.1 (omega (arith, one.later, seen))))
           (pass_cut_last_or_before reads one.read read shard is);
-      view = one.view ∙ ap (view_with_trail (after_read one.read) count) far.view
+      view = one.view ∙ ap (with_trail (after_read one.read) count) far.view
           ∙ ap (λ trails. record before { trails = trails })
-          (ap (λ k. changed_in_core (after_read one.read) k (after_reads before.trails reads)) (sym far.as_many)
+          (ap (λ k. changed_in (after_read one.read) k (after_reads before.trails reads)) (sym far.as_many)
           ∙ next_trail_of_pass_cut before.trails reads one.read);
-      core = one.core ∙ ap (core_cut_with_shard count (Some state)) far.core
+      core = one.core ∙ ap (with_shard count (Some state)) far.core
           ∙ ap (λ shards. record cut { shards = shards }) (
-          subst (λ k. set (map snapshot_of_shard (states_of_read opening reads) ++ drop k cut.shards) k (snapshot_of_shard state)
-          ≡ (map snapshot_of_shard (states_of_read opening reads) ++ snapshot_of_shard state ∷ []) ++ drop (suc k) cut.shards) many
-          (pass_cut_next_element_set (map snapshot_of_shard (states_of_read opening reads)) cut.shards (snapshot_of_shard state)
+          subst (λ k. set (map snapshot_of (states_of opening reads) ++ drop k cut.shards) k (snapshot_of state)
+          ≡ (map snapshot_of (states_of opening reads) ++ snapshot_of state ∷ []) ++ drop (suc k) cut.shards) many
+          (pass_cut_next_element_set (map snapshot_of (states_of opening reads)) cut.shards (snapshot_of state)
           (omega (arith, many, inside, shape.as_many)))
-          ∙ ap (λ n. (map snapshot_of_shard (states_of_read opening reads) ++ snapshot_of_shard state ∷ []) ++ drop n cut.shards)
+          ∙ ap (λ n. (map snapshot_of (states_of opening reads) ++ snapshot_of state ∷ []) ++ drop n cut.shards)
           (pass_cut_next_number count)
           ∙ ap (λ ss. ss ++ drop (count + 1) cut.shards)
-          (sym (map-snoc (states_of_read opening reads) state) ∙ ap (map snapshot_of_shard) (sym states)));
+          (sym (map-snoc (states_of opening reads) state) ∙ ap (map snapshot_of) (sym states)));
     }
   where
     map-snoc : (states : List ShardValue) (state : ShardValue)
-        → map snapshot_of_shard (states ++ state ∷ []) ≡ map snapshot_of_shard states ++ snapshot_of_shard state ∷ []
+        → map snapshot_of (states ++ state ∷ []) ≡ map snapshot_of states ++ snapshot_of state ∷ []
     map-snoc [] state = refl
-    map-snoc (first ∷ rest) state = ap (λ ss. snapshot_of_shard first ∷ ss) (map-snoc rest state)
+    map-snoc (first ∷ rest) state = ap (λ ss. snapshot_of first ∷ ss) (map-snoc rest state)
 
 -- all of them
 pub pass_cut_reads_all : (opening : List ShardValue) (capacity count : ℕ) (before now : View) (cut changed : CutValue)
@@ -159,6 +159,6 @@ pass_cut_reads_all opening capacity count before now cut changed_cut shape all f
       later = far.later;
       view = far.view;
       core = far.core ∙ ap (λ shards. record cut { shards = shards })
-          (ap (λ ss. map snapshot_of_shard (states_of_read opening far.reads) ++ ss) past
-          ∙ append-nil (map snapshot_of_shard (states_of_read opening far.reads)));
+          (ap (λ ss. map snapshot_of (states_of opening far.reads) ++ ss) past
+          ∙ append-nil (map snapshot_of (states_of opening far.reads)));
     }

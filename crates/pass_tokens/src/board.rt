@@ -2,11 +2,11 @@
 
 ghost use Rattle.std.specs.Prelude.{◌≡◌, ◌≤◌, ◌<◌, length, IfOk};
 ghost use Rattle.shard_state.specs.{AreCoreShards, HasCoreShape, core_capacity};
-ghost use Rattle.position_words.specs.{WordStepMeets, first_view, view_after_join, view_after_look, newcomer_view};
-ghost use Rattle.position_words.specs.{view_after_split, view, IsUnderRule};
-ghost use Rattle.pass_tokens.specs.Board.{IsPassOfBoard};
-ghost use Rattle.pass_tokens.specs.Fold.{FoldsAtLast, TriesToFold};
-ghost use Rattle.pass_tokens.specs.Read.{ReadsAtLast, ReadsCut, TriesToReadShard};
+ghost use Rattle.position_words.specs.{StepMeets, first_view, after_join, after_look, newcomer_view};
+ghost use Rattle.position_words.specs.{after_split, view, IsUnderRule};
+ghost use Rattle.pass_tokens.specs.Board.{IsPassOf};
+ghost use Rattle.pass_tokens.specs.TryFold.{FoldsAtLast, TriesFold};
+ghost use Rattle.pass_tokens.specs.TryRead.{ReadsAtLast, ReadsCut, TriesToRead};
 
 use position_words::{Aim, Seat, Shared, SlotRule, TableRule, Take, View, Words};
 use shard_state::{Cut, Folded, ShardState};
@@ -45,9 +45,9 @@ pub struct Board {
 }
 
 impl Model for Board {
-    ghost use Rattle.position_words.specs.{PositionWordsValue};
+    ghost use Rattle.position_words.specs.{WordsValue};
 
-    ghost Value = { PositionWordsValue };
+    ghost Value = { WordsValue };
 
     ghost view = { λ b. b.words };
 
@@ -60,7 +60,7 @@ impl Board {
     pub fn start(alloc: Global, states: Vec<ShardState>) -> Result<(Board, Pass), AllocError>
         requires { AreCoreShards states.items }
         ensures opening { IfOk result (λ made. made.0.opening ≡ states.items) }
-        ensures pass { IfOk result (λ made. IsPassOfBoard made.0 made.1) }
+        ensures pass { IfOk result (λ made. IsPassOf made.0 made.1) }
         ensures view { IfOk result (λ made. view made.1 ≡ first_view states.items) }
     {
         let (words, pass) = Words::start(alloc, states)?;
@@ -86,11 +86,11 @@ impl Board {
 
     /// A new pass, which has seen the same positions as this one.
     pub fn split(&self, pass: &mut Pass) -> Pass
-        requires { IsPassOfBoard self.now pass.old }
-        ensures split { view pass.new ≡ view_after_split (view pass.old) }
+        requires { IsPassOf self.now pass.old }
+        ensures split { view pass.new ≡ after_split (view pass.old) }
         ensures newcomer { view result ≡ newcomer_view (view pass.old) }
-        ensures pass { IsPassOfBoard self.now pass.new }
-        ensures new_pass { IsPassOfBoard self.now result }
+        ensures pass { IsPassOf self.now pass.new }
+        ensures new_pass { IsPassOf self.now result }
     {
         self.words.split(pass)
     }
@@ -98,10 +98,10 @@ impl Board {
     /// Joins another pass to this one, which has then seen what both had, keeps its own steps, and notes those of the
     /// other.
     pub fn join(&self, pass: &mut Pass, other: Pass)
-        requires pass { IsPassOfBoard self.now pass.old }
-        requires other { IsPassOfBoard self.now other }
-        ensures join { view pass.new ≡ view_after_join (view pass.old) (view other) }
-        ensures pass { IsPassOfBoard self.now pass.new }
+        requires pass { IsPassOf self.now pass.old }
+        requires other { IsPassOf self.now other }
+        ensures join { view pass.new ≡ after_join (view pass.old) (view other) }
+        ensures pass { IsPassOf self.now pass.new }
     {
         self.words.join(pass, other);
     }
@@ -109,10 +109,10 @@ impl Board {
     /// The position of a shard, at least the one that the pass had seen, whether or not a pass holds the shard.
     pub fn position(&self, shard: u32, pass: &mut Pass) -> u64
         requires within { shard < length self.now.opening }
-        requires pass { IsPassOfBoard self.now pass.old }
-        ensures look { view pass.new ≡ view_after_look shard result (view pass.old) }
-        ensures meets { WordStepMeets shard result (view pass.old) }
-        ensures pass { IsPassOfBoard self.now pass.new }
+        requires pass { IsPassOf self.now pass.old }
+        ensures look { view pass.new ≡ after_look shard result (view pass.old) }
+        ensures meets { StepMeets shard result (view pass.old) }
+        ensures pass { IsPassOf self.now pass.new }
     {
         self.words.look(shard, pass)
     }
@@ -122,9 +122,9 @@ impl Board {
     pub fn try_fold(&self, shard: u32, block: u32, pass: &mut Pass) -> TryFold
         requires within { shard < length self.now.opening }
         requires block { 1 ≤ block }
-        requires pass { IsPassOfBoard self.now pass.old }
-        ensures fold { TriesToFold self.now.opening shard block (view pass.old) (view pass.new) result }
-        ensures pass { IsPassOfBoard self.now pass.new }
+        requires pass { IsPassOf self.now pass.old }
+        ensures fold { TriesFold self.now.opening shard block (view pass.old) (view pass.new) result }
+        ensures pass { IsPassOf self.now pass.new }
     {
         match self.words.try_take(shard, Aim::Fold, pass) {
             Take::Busy => TryFold::Busy,
@@ -141,11 +141,11 @@ impl Board {
     #[tactic(auto, using(crate::proofs::PassReadLemmas::is_pass_read))]
     pub fn try_read(&self, shard: u32, pass: &mut Pass, cut: &mut Cut) -> TryRead
         requires within { shard < length self.now.opening }
-        requires pass { IsPassOfBoard self.now pass.old }
+        requires pass { IsPassOf self.now pass.old }
         requires shape { HasCoreShape (length self.now.opening) (core_capacity self.now.opening) cut.old }
-        ensures read { TriesToReadShard self.now.opening shard (view pass.old) cut.old (view pass.new) cut.new result }
+        ensures read { TriesToRead self.now.opening shard (view pass.old) cut.old (view pass.new) cut.new result }
         ensures shape { HasCoreShape (length self.now.opening) (core_capacity self.now.opening) cut.new }
-        ensures pass { IsPassOfBoard self.now pass.new }
+        ensures pass { IsPassOf self.now pass.new }
     {
         let _shards = self.words.shards();
         match self.words.try_take(shard, Aim::Read, pass) {
@@ -165,9 +165,9 @@ impl Board {
     pub fn fold<R: Wait>(&self, rt: &R, shard: u32, block: u32, pass: &mut Pass) -> Folded
         requires within { shard < length self.now.opening }
         requires block { 1 ≤ block }
-        requires pass { IsPassOfBoard self.now pass.old }
+        requires pass { IsPassOf self.now pass.old }
         ensures fold { FoldsAtLast self.now.opening shard block (view pass.old) (view pass.new) result }
-        ensures pass { IsPassOfBoard self.now pass.new }
+        ensures pass { IsPassOf self.now pass.new }
     {
         for _ in rt.forever() {
             match self.try_fold(shard, block, pass) {
@@ -181,11 +181,11 @@ impl Board {
     /// Reads each shard once, in order, into a cut of the board's shape. It tries each until no other pass holds it,
     /// and lets other threads run between two tries. It allocates no memory.
     pub fn read_cut<R: Wait>(&self, rt: &R, pass: &mut Pass, cut: &mut Cut)
-        requires pass { IsPassOfBoard self.now pass.old }
+        requires pass { IsPassOf self.now pass.old }
         requires shape { HasCoreShape (length self.now.opening) (core_capacity self.now.opening) cut.old }
         ensures read { ReadsCut self.now.opening (view pass.old) cut.old (view pass.new) cut.new }
         ensures shape { HasCoreShape (length self.now.opening) (core_capacity self.now.opening) cut.new }
-        ensures pass { IsPassOfBoard self.now pass.new }
+        ensures pass { IsPassOf self.now pass.new }
     {
         for shard in 0..self.shards() {
             self.read(rt, shard, pass, cut);
@@ -196,11 +196,11 @@ impl Board {
     #[tactic(auto, using(crate::proofs::WaitLemmas::wait_without_losses, crate::proofs::WaitLemmas::wait_loses_again, crate::proofs::WaitLemmas::wait_ends_with_read))]
     fn read<R: Wait>(&self, rt: &R, shard: u32, pass: &mut Pass, cut: &mut Cut)
         requires within { shard < length self.now.opening }
-        requires pass { IsPassOfBoard self.now pass.old }
+        requires pass { IsPassOf self.now pass.old }
         requires shape { HasCoreShape (length self.now.opening) (core_capacity self.now.opening) cut.old }
         ensures read { ReadsAtLast self.now.opening shard (view pass.old) cut.old (view pass.new) cut.new }
         ensures shape { HasCoreShape (length self.now.opening) (core_capacity self.now.opening) cut.new }
-        ensures pass { IsPassOfBoard self.now pass.new }
+        ensures pass { IsPassOf self.now pass.new }
     {
         for _ in rt.forever() {
             match self.try_read(shard, pass, cut) {

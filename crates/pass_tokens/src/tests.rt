@@ -1,6 +1,6 @@
 ghost use Rattle.std.specs.Prelude.{◌≡◌, ◌^◌, ◌<◌, ◌≤◌, length, IfOk};
 ghost use Rattle.shard_state.specs.{AreCoreShards, HasCoreShape, core_capacity};
-ghost use Rattle.pass_tokens.specs.Board.{IsPassOfBoard};
+ghost use Rattle.pass_tokens.specs.Board.{IsPassOf};
 
 use super::*;
 use position_words::{Aim, Take};
@@ -102,7 +102,7 @@ fn folds_to_the_end<R: Wait>(
     board: &Board,
     mut pass: Pass,
 ) -> Result<Vec<Folded>, AllocError>
-    requires { (0 < length board.now.opening) × IsPassOfBoard board.now pass }
+    requires { (0 < length board.now.opening) × IsPassOf board.now pass }
 {
     let mut folds = Vec::new(alloc);
     for _ in 0..1_000 {
@@ -127,7 +127,7 @@ fn folds_of_two<R: Threads + Wait + Sync>(
     Result<Vec<Folded>, AllocError>,
     Result<Vec<Folded>, AllocError>,
 )
-    requires { (0 < length board.now.opening) × IsPassOfBoard board.now first × IsPassOfBoard board.now second }
+    requires { (0 < length board.now.opening) × IsPassOf board.now first × IsPassOf board.now second }
 {
     join(
         rt,
@@ -144,7 +144,7 @@ fn reads_to_the_end<R: Wait>(
     mut pass: Pass,
     mut cut: Cut,
 ) -> Result<Vec<u64>, AllocError>
-    requires { IsPassOfBoard board.now pass × HasCoreShape (length board.now.opening) (core_capacity board.now.opening) cut }
+    requires { IsPassOf board.now pass × HasCoreShape (length board.now.opening) (core_capacity board.now.opening) cut }
 {
     let mut positions = Vec::new(alloc);
     for _ in 0..1_000_000 {

@@ -5,28 +5,28 @@ use Rattle.std.proofs.lemmas.Bool.{ltb-true, ltb-false, lt-ltb, le-ltb, cases_Bo
 use Rattle.std.proofs.lemmas.List.{take-append-le, drop-append-le}
 use Rattle.pcap_frames.specs.declared.file_order.FileOrder.{FileOrder}
 use Rattle.pcap_frames.specs.declared.fault.CaptureFault.{CaptureFault}
-use Rattle.pcap_frames.specs.FileOrder.{number_in_file_order}
+use Rattle.pcap_frames.specs.FileOrder.{number_in_order}
 use Rattle.pcap_frames.specs.Frame.{FrameValue}
-use Rattle.pcap_frames.specs.Frame.{frame_at, BeginsWithFrame, BeginsWithFrames, frame_bytes_needed, frame_fault}
-use Rattle.pcap_frames.proofs.FileNumberLemmas.{number_in_file_order-in_longer_file}
+use Rattle.pcap_frames.specs.Frame.{frame_at, BeginsWithFrame, BeginsWithFrames, bytes_needed, frame_fault}
+use Rattle.pcap_frames.proofs.FileNumberLemmas.{number_in_order-in_longer_file}
 
 -- the frame at the front is the same when more bytes follow
 pub longer_bytes_begin_same_frame : (order : FileOrder) (bytes more : List ℕ) → 16 ≤ length bytes
-    → 16 + number_in_file_order order 4 8 bytes ≤ length bytes → frame_at order (bytes ++ more) ≡ frame_at order bytes
+    → 16 + number_in_order order 4 8 bytes ≤ length bytes → frame_at order (bytes ++ more) ≡ frame_at order bytes
 longer_bytes_begin_same_frame order bytes more header room =
     rw (
-      number_in_file_order-in_longer_file order 4 8 bytes more (omega arith),
-      number_in_file_order-in_longer_file order 4 12 bytes more header,
+      number_in_order-in_longer_file order 4 8 bytes more (omega arith),
+      number_in_order-in_longer_file order 4 12 bytes more header,
       drop-append-le 16 bytes more header,
-      take-append-le (number_in_file_order order 4 8 bytes) (drop 16 bytes) more (omega (arith, length-drop 16 bytes)),
+      take-append-le (number_in_order order 4 8 bytes) (drop 16 bytes) more (omega (arith, length-drop 16 bytes)),
     ) refl
 
 -- a frame at the front stays there when more bytes follow
 pub BeginsWithFrame-append : (order : FileOrder) (bytes more : List ℕ) (frame : FrameValue)
     → BeginsWithFrame order bytes frame → BeginsWithFrame order (bytes ++ more) frame
 BeginsWithFrame-append order bytes more frame begins =
-    let captured : frame.captured ≡ number_in_file_order order 4 8 bytes = ap (λ f. f.captured) begins.is_frame in
-    let room : 16 + number_in_file_order order 4 8 bytes ≤ length bytes = omega (arith, begins.room) in record {
+    let captured : frame.captured ≡ number_in_order order 4 8 bytes = ap (λ f. f.captured) begins.is_frame in
+    let room : 16 + number_in_order order 4 8 bytes ≤ length bytes = omega (arith, begins.room) in record {
       header = omega (arith, begins.header, length-append bytes more);
       is_frame = begins.is_frame ∙ sym (longer_bytes_begin_same_frame order bytes more begins.header room);
       limit = begins.limit;
@@ -69,29 +69,29 @@ BeginsWithFrames-shorter order bytes (frame ∷ frames) rest begins =
     omega (arith, length-drop (16 + frame.captured) bytes)
 
 -- a whole frame needs no more bytes than there are
-pub frame_bytes_needed-where_frame_begins : (order : FileOrder) (bytes : List ℕ) (frame : FrameValue) → BeginsWithFrame order bytes frame
-    → frame_bytes_needed order bytes ≤ length bytes
-unfolding frame_bytes_needed
-frame_bytes_needed-where_frame_begins order bytes frame begins =
-    let captured : frame.captured ≡ number_in_file_order order 4 8 bytes = ap (λ f. f.captured) begins.is_frame in
+pub bytes_needed-where_frame_begins : (order : FileOrder) (bytes : List ℕ) (frame : FrameValue) → BeginsWithFrame order bytes frame
+    → bytes_needed order bytes ≤ length bytes
+unfolding bytes_needed
+bytes_needed-where_frame_begins order bytes frame begins =
+    let captured : frame.captured ≡ number_in_order order 4 8 bytes = ap (λ f. f.captured) begins.is_frame in
     rw (le-ltb (length bytes) 16 begins.header) (omega (arith, begins.room))
 
 -- how many bytes a frame needs once its header is whole
-pub frame_bytes_needed-begins_frame_header : (order : FileOrder) (bytes : List ℕ) → 16 ≤ length bytes
-    → frame_bytes_needed order bytes ≡ 16 + number_in_file_order order 4 8 bytes
-unfolding frame_bytes_needed
-frame_bytes_needed-begins_frame_header order bytes header = rw (le-ltb (length bytes) 16 header) refl
+pub bytes_needed-begins_frame_header : (order : FileOrder) (bytes : List ℕ) → 16 ≤ length bytes
+    → bytes_needed order bytes ≡ 16 + number_in_order order 4 8 bytes
+unfolding bytes_needed
+bytes_needed-begins_frame_header order bytes header = rw (le-ltb (length bytes) 16 header) refl
 
 -- how many bytes a frame needs before its header is whole
-pub frame_bytes_needed-begins_part_of_frame : (order : FileOrder) (bytes : List ℕ) → length bytes < 16 → frame_bytes_needed order bytes ≡ 16
-unfolding frame_bytes_needed
-frame_bytes_needed-begins_part_of_frame order bytes short = rw (lt-ltb (length bytes) 16 short) refl
+pub bytes_needed-begins_part_of_frame : (order : FileOrder) (bytes : List ℕ) → length bytes < 16 → bytes_needed order bytes ≡ 16
+unfolding bytes_needed
+bytes_needed-begins_part_of_frame order bytes short = rw (lt-ltb (length bytes) 16 short) refl
 
 -- a frame needs at least its header
-pub frame_that_begins_needs_header : (order : FileOrder) (bytes : List ℕ) → 16 ≤ frame_bytes_needed order bytes
+pub frame_that_begins_needs_header : (order : FileOrder) (bytes : List ℕ) → 16 ≤ bytes_needed order bytes
 frame_that_begins_needs_header order bytes = elim (cases_lt (length bytes) 16) [
-  | inl short ↦ omega (arith, frame_bytes_needed-begins_part_of_frame order bytes short)
-  | inr header ↦ omega (arith, frame_bytes_needed-begins_frame_header order bytes header)
+  | inl short ↦ omega (arith, bytes_needed-begins_part_of_frame order bytes short)
+  | inr header ↦ omega (arith, bytes_needed-begins_frame_header order bytes header)
 ]
 
 -- a fault that is shown after frames stays when more bytes follow
@@ -112,7 +112,7 @@ frame_fault-begins_longer_rest order count place rest more fault shown = elim (c
               let header : 16 ≤ length rest = ltb-false (length rest) 16 past in
               let longer : ltb (length (rest ++ more)) 16 ≡ false =
               le-ltb _ 16 (omega (arith, length-append rest more)) in
-              rw (longer, number_in_file_order-in_longer_file order 4 8 rest more (omega arith)) (rw past at second)
+              rw (longer, number_in_order-in_longer_file order 4 8 rest more (omega arith)) (rw past at second)
         ])
       ])
 ]

@@ -6,12 +6,12 @@ use Rattle.std.proofs.lemmas.Bool.{cases_lt}
 use Rattle.byteorder.specs.Numbers.{big_from-lt, little_from-lt}
 use Rattle.pcap_frames.specs.declared.file_order.FileOrder.{FileOrder}
 use Rattle.pcap_frames.specs.declared.file_order.FileOrder.TheVariants.{Big, Little}
-use Rattle.pcap_frames.specs.FileOrder.{number_in_file_order}
+use Rattle.pcap_frames.specs.FileOrder.{number_in_order}
 use Rattle.pcap_frames.specs.Frame.{FrameValue}
 use Rattle.pcap_frames.specs.Frame.{BeginsWithFrame, BeginsWithFrames, IsFrame, AreFrames}
 use Rattle.pcap_frames.specs.Capture.{IsCapture}
-use Rattle.pcap_frames.specs.Decided.{FilesAreDecided, FrontsAreDecided}
-use Rattle.pcap_frames.proofs.FileSplitLemmas.{ShowsCaptureFault-longer_split_file}
+use Rattle.pcap_frames.specs.Decided.{FilesDecided, FrontsDecided}
+use Rattle.pcap_frames.proofs.FileSplitLemmas.{ShowsFault-longer_split_file}
 use Rattle.pcap_frames.proofs.FirstFaultLemmas.{reader_reaches_first_fault, capture_reaches_first_fault}
 use Rattle.pcap_frames.proofs.FirstFaultLemmas.{frames_reach_first_fault, frames_before_first_fault_agree}
 use Rattle.pcap_frames.proofs.FirstFaultLemmas.{frames_before_first_fault_begin}
@@ -34,8 +34,8 @@ AreCaptureFileBytes-drop : (n : ℕ) (xs : List ℕ) → AreCaptureFileBytes xs 
 AreCaptureFileBytes-drop n xs bytes place = rw (get_or-drop n xs place 0) (bytes (n + place))
 
 AreCaptureFileBytes-bound : (order : FileOrder) (count place : ℕ) (bytes : List ℕ) → AreCaptureFileBytes bytes
-    → number_in_file_order order count place bytes < 256 ^ count
-unfolding number_in_file_order
+    → number_in_order order count place bytes < 256 ^ count
+unfolding number_in_order
 AreCaptureFileBytes-bound Big count place bytes are = big_from-lt place count bytes are
 AreCaptureFileBytes-bound Little count place bytes are = little_from-lt place count bytes are
 
@@ -43,26 +43,26 @@ AreCaptureFileBytes-bound Little count place bytes are = little_from-lt place co
 IsFrame-in_capture_file : (order : FileOrder) (bytes : List ℕ) (frame : FrameValue) → AreCaptureFileBytes bytes
     → BeginsWithFrame order bytes frame → IsFrame frame
 IsFrame-in_capture_file order bytes frame are begins =
-    let captured : frame.captured ≡ number_in_file_order order 4 8 bytes = ap (λ f. f.captured) begins.is_frame in
-    let original : frame.original ≡ number_in_file_order order 4 12 bytes = ap (λ f. f.original) begins.is_frame in
-    let head : frame.head ≡ take 42 (take (number_in_file_order order 4 8 bytes) (drop 16 bytes)) =
+    let captured : frame.captured ≡ number_in_order order 4 8 bytes = ap (λ f. f.captured) begins.is_frame in
+    let original : frame.original ≡ number_in_order order 4 12 bytes = ap (λ f. f.original) begins.is_frame in
+    let head : frame.head ≡ take 42 (take (number_in_order order 4 8 bytes) (drop 16 bytes)) =
     ap (λ f. f.head) begins.is_frame in
-    let fits : number_in_file_order order 4 12 bytes < 256 ^ 4 = AreCaptureFileBytes-bound order 4 12 bytes are in record {
+    let fits : number_in_order order 4 12 bytes < 256 ^ 4 = AreCaptureFileBytes-bound order 4 12 bytes are in record {
       captured = begins.limit;
       original = omega (arith, fits);
       head =
           omega (
             arith,
             ap length head,
-            length-take 42 (take (number_in_file_order order 4 8 bytes) (drop 16 bytes)),
-            length-take (number_in_file_order order 4 8 bytes) (drop 16 bytes),
+            length-take 42 (take (number_in_order order 4 8 bytes) (drop 16 bytes)),
+            length-take (number_in_order order 4 8 bytes) (drop 16 bytes),
             length-drop 16 bytes,
             begins.room,
             begins.header,
           );
       head_bytes = λ place.
           rw head
-          (AreCaptureFileBytes-take 42 _ (AreCaptureFileBytes-take (number_in_file_order order 4 8 bytes) _ (AreCaptureFileBytes-drop 16 bytes are)) place);
+          (AreCaptureFileBytes-take 42 _ (AreCaptureFileBytes-take (number_in_order order 4 8 bytes) _ (AreCaptureFileBytes-drop 16 bytes are)) place);
     }
 
 AreFrames-in_capture_file : (order : FileOrder) (bytes : List ℕ) (frames : List FrameValue) (rest : List ℕ) → AreCaptureFileBytes bytes
@@ -81,7 +81,7 @@ capture_file_has_valid_frames file frames are (order, splits) =
 
 -- ---- the laws
 
-pub capture_files_are_decided : FilesAreDecided
+pub capture_files_are_decided : FilesDecided
 capture_files_are_decided = record {
   either = λ file. let fed = fronts_complete_to_first_fault file in
       elim (capture_or_first_fault fed.1.0 file fed.0 fed.1.1)
@@ -95,7 +95,7 @@ capture_files_are_decided = record {
   are_frames = capture_file_has_valid_frames;
 }
 
-pub capture_file_fronts_are_decided : FrontsAreDecided
+pub capture_file_fronts_are_decided : FrontsDecided
 capture_file_fronts_are_decided = record {
   some = fronts_complete_to_first_fault;
   one = λ front frames others here there.
@@ -110,5 +110,5 @@ capture_file_fronts_are_decided = record {
   before_fault = λ front more frames all fault here first.
       frames_before_first_fault_begin front more frames all (reader_reaches_first_fault here.0 front frames here.1)
       (frames_reach_first_fault (front ++ more) all fault first);
-  shown = λ front more frames fault shows. inl (ShowsCaptureFault-longer_split_file front more frames fault shows);
+  shown = λ front more frames fault shows. inl (ShowsFault-longer_split_file front more frames fault shows);
 }

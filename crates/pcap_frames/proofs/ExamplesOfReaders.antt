@@ -7,21 +7,21 @@ use Rattle.pcap_frames.specs.declared.file_order.FileOrder.TheVariants.{Little}
 use Rattle.pcap_frames.specs.declared.reader.held.HeldFrame.{HeldFrame}
 use Rattle.pcap_frames.specs.declared.reader.part.FramePart.{FramePart}
 use Rattle.pcap_frames.specs.declared.reader.part.Stage.TheVariants as stage
-use Rattle.pcap_frames.specs.FileOrder.{number_in_file_order}
+use Rattle.pcap_frames.specs.FileOrder.{number_in_order}
 use Rattle.pcap_frames.specs.Frame.{FrameValue}
-use Rattle.pcap_frames.specs.Header.{header_magic_order, header_fault, header_fault_at}
-use Rattle.pcap_frames.specs.Frame.{frame_at, frame_bytes_needed, frame_fault}
-use Rattle.pcap_frames.specs.ReaderState.{ReaderFramePlace, ReaderState, InHeader, InFrames, AtFault, LacksMemory}
-use Rattle.pcap_frames.specs.ReaderState.{IsReaderInHeader, IsReaderBehind, ReaderRepresents, ReaderCompletes}
-use Rattle.pcap_frames.specs.ReaderState.{ReaderHasStopped, ReaderAdvances}
-use Rattle.pcap_frames.specs.FrontValue.{FrontValue}
-use Rattle.pcap_frames.specs.ReaderPart.{reader_place_of_part, reader_state_of_part, IsReaderPartWithin}
-use Rattle.pcap_frames.specs.ReaderPart.{IsReaderPartInStage}
-use Rattle.pcap_frames.specs.ReaderSteps.{frames_held_in_step, StepSplitsFrame, ReaderStepTakes, ReaderStepShowsFront}
-use Rattle.pcap_frames.specs.ReaderSteps.{ReaderStepLacksMemory}
-use Rattle.pcap_frames.specs.Visitor.{VisitorSees, VisitorsRepresentSame}
-use Rattle.pcap_frames.specs.Feeding.{IsFeedingResultInState, IfFeedingHadMemory, FeedsReader, FeedingShowsBeginning}
-use Rattle.pcap_frames.specs.Feeding.{IsFeedingResultOfBytes, IsFinalFeedingResult}
+use Rattle.pcap_frames.specs.Header.{order_of_magic, header_fault, header_fault_at}
+use Rattle.pcap_frames.specs.Frame.{frame_at, bytes_needed, frame_fault}
+use Rattle.pcap_frames.specs.FrameReader.{FramePlace, ReaderState, InHeader, InFrames, AtFault, LacksMemory}
+use Rattle.pcap_frames.specs.FrameReader.{IsInHeader, IsBehind, Represents, Completes}
+use Rattle.pcap_frames.specs.FrameReader.{HasStopped, Advances}
+use Rattle.pcap_frames.specs.Front.{FrontValue}
+use Rattle.pcap_frames.specs.Part.{place_of_part, state_of_part, IsPartWithin}
+use Rattle.pcap_frames.specs.Part.{IsPartInStage}
+use Rattle.pcap_frames.specs.Reader.{frames_held, SplitsFrame, StepTakes, StepShowsFront}
+use Rattle.pcap_frames.specs.Reader.{StepLacksMemory}
+use Rattle.pcap_frames.specs.Visitor.{VisitorSees, RepresentSame}
+use Rattle.pcap_frames.specs.Feeding.{IsResultInState, IfHadMemory, FeedsReader, ShowsBeginning}
+use Rattle.pcap_frames.specs.Feeding.{IsResultOf, IsFinalResult}
 use Rattle.pcap_frames.proofs.CaptureFileLemmas.{capture_files_are_decided, capture_file_fronts_are_decided}
 use Rattle.pcap_frames.proofs.Examples.{header, frame_bytes, frame, capture, cut_file, header_and_more}
 use Rattle.pcap_frames.proofs.Examples.{header_a_frame_and_a_rest, whole_frame, frame_of_three_bytes}
@@ -43,10 +43,10 @@ album_sees_a_frame before held = ap (λ frames. frames ++ frame ∷ []) held
 pub album_sees_no_frame : VisitorSees album [] [] (frame ∷ []) → ⊥
 album_sees_no_frame sees = absurd (let grown : [] ≡ frame ∷ [] = sees [] refl in cc)
 
-pub counts_are_alike : VisitorsRepresentSame counter (1, 7) (1, 9)
+pub counts_are_alike : RepresentSame counter (1, 7) (1, 9)
 counts_are_alike = record { forth = λ frames is. is; back = λ frames is. is }
 
-pub albums_are_not_alike : VisitorsRepresentSame album [] (frame ∷ []) → ⊥
+pub albums_are_not_alike : RepresentSame album [] (frame ∷ []) → ⊥
 albums_are_not_alike alike = absurd (let same : frame ∷ [] ≡ [] = alike.forth [] refl in cc)
 
 -- ---- a reader that was fed a file header and a frame without its last byte
@@ -59,33 +59,33 @@ abbrev part : FramePart
 part = record { order = Little; count = 0; place = 24; kept = kept }
 
 -- where the reader is
-abbrev at : ReaderFramePlace
+abbrev at : FramePlace
 at = record { order = Little; count = 0; place = 24; kept = take 18 frame_bytes; came = 18 }
 
-pub place_of_the_part : reader_place_of_part part ≡ at
+pub place_of_the_part : place_of_part part ≡ at
 place_of_the_part = refl
 
-pub state_in_a_frame : reader_state_of_part stage.Frames part ≡ InFrames at
+pub state_in_a_frame : state_of_part stage.Frames part ≡ InFrames at
 state_in_a_frame = refl
 
-pub state_in_the_header : reader_state_of_part stage.Header part ≡ InHeader (take 18 frame_bytes)
+pub state_in_the_header : state_of_part stage.Header part ≡ InHeader (take 18 frame_bytes)
 state_in_the_header = refl
 
-pub part_of_a_frame : IsReaderPartWithin part
-unfolding number_in_file_order frame_bytes_needed
+pub part_of_a_frame : IsPartWithin part
+unfolding number_in_order bytes_needed
 part_of_a_frame = record { count = omega arith; place = omega arith; cut = omega arith; bound = omega arith }
 
-pub part_is_in_its_stage : IsReaderPartInStage stage.Frames part
+pub part_is_in_its_stage : IsPartInStage stage.Frames part
 part_is_in_its_stage = part_of_a_frame
 
 -- a whole frame is never kept
-pub whole_frame_is_in_no_stage : IsReaderPartInStage stage.Frames
+pub whole_frame_is_in_no_stage : IsPartInStage stage.Frames
     (record part { kept = record { first = frame_bytes; came = 19 } }) → ⊥
-unfolding number_in_file_order frame_bytes_needed
+unfolding number_in_order bytes_needed
 whole_frame_is_in_no_stage within = omega (arith, within.cut)
 
-pub reader_behind_the_header : IsReaderBehind at cut_file []
-unfolding number_in_file_order frame_bytes_needed frame_fault
+pub reader_behind_the_header : IsBehind at cut_file []
+unfolding number_in_order bytes_needed frame_fault
 reader_behind_the_header = record {
   rest = take 18 frame_bytes;
   splits = header_a_frame_and_a_rest;
@@ -97,33 +97,33 @@ reader_behind_the_header = record {
   came_is = refl;
 }
 
-pub reader_represents_the_cut_file : ReaderRepresents (InFrames at) cut_file []
+pub reader_represents_the_cut_file : Represents (InFrames at) cut_file []
 reader_represents_the_cut_file = reader_behind_the_header
 
-pub cut_file_completes_no_frame : ReaderCompletes cut_file []
+pub cut_file_completes_no_frame : Completes cut_file []
 cut_file_completes_no_frame = (InFrames at, reader_represents_the_cut_file)
 
-pub cut_file_completes_not_its_frame : ReaderCompletes cut_file (frame ∷ []) → ⊥
+pub cut_file_completes_not_its_frame : Completes cut_file (frame ∷ []) → ⊥
 cut_file_completes_not_its_frame completes =
     absurd (let same : frame ∷ []
     ≡ [] = capture_file_fronts_are_decided.one cut_file [] (frame ∷ []) cut_file_completes_no_frame completes in cc)
 
-pub reader_in_a_frame_goes_on : ReaderHasStopped (InFrames at) → ⊥
+pub reader_in_a_frame_goes_on : HasStopped (InFrames at) → ⊥
 reader_in_a_frame_goes_on stopped = stopped
 
-pub reader_in_a_frame_answers_ok : IsFeedingResultInState {T = ℕ} (InFrames at) (Ok 1)
+pub reader_in_a_frame_answers_ok : IsResultInState {T = ℕ} (InFrames at) (Ok 1)
 reader_in_a_frame_answers_ok = refl
 
 -- a cut file shows no fault, since it may continue as a capture
-pub cut_file_is_not_refused : IsFeedingResultOfBytes {T = ℕ} cut_file (Ok 1)
+pub cut_file_is_not_refused : IsResultOf {T = ℕ} cut_file (Ok 1)
 cut_file_is_not_refused frames fault shows =
     capture_files_are_decided.never_both capture (frame ∷ []) fault header_and_frame
     (frames, capture_file_fronts_are_decided.shown cut_file (9 ∷ []) frames fault shows)
 
-pub cut_file_ends_with_a_fault : IsFinalFeedingResult cut_file [] (Err (Refused (header_fault_at CutFrame 24)))
+pub cut_file_ends_with_a_fault : IsFinalResult cut_file [] (Err (Refused (header_fault_at CutFrame 24)))
 cut_file_ends_with_a_fault = fault_of_a_cut_file
 
-pub capture_ends_with_its_count : IsFinalFeedingResult capture (frame ∷ []) (Ok 1)
+pub capture_ends_with_its_count : IsFinalResult capture (frame ∷ []) (Ok 1)
 capture_ends_with_its_count = (header_and_frame, refl)
 
 -- ---- a reader that was fed a file header without its last byte, and then this byte and a frame
@@ -132,21 +132,21 @@ abbrev piece : List ℕ
 piece = 0 ∷ frame_bytes
 
 -- where the reader is before the frame, and after it
-abbrev before_frame : ReaderFramePlace
+abbrev before_frame : FramePlace
 before_frame = record { order = Little; count = 0; place = 24; kept = []; came = 0 }
 
-abbrev behind_frame : ReaderFramePlace
+abbrev behind_frame : FramePlace
 behind_frame = record { order = Little; count = 1; place = 43; kept = []; came = 0 }
 
-pub part_of_a_header : IsReaderInHeader (take 23 header) (take 23 header) []
-unfolding number_in_file_order header_magic_order header_fault
+pub part_of_a_header : IsInHeader (take 23 header) (take 23 header) []
+unfolding number_in_order order_of_magic header_fault
 part_of_a_header = record { kept_is = refl; short = omega arith; none_shown = refl; no_frame = refl }
 
-pub whole_header_is_no_part : IsReaderInHeader header header [] → ⊥
+pub whole_header_is_no_part : IsInHeader header header [] → ⊥
 whole_header_is_no_part part = omega (arith, part.short)
 
-header_alone_is_passed : ReaderRepresents (InFrames before_frame) header []
-unfolding frame_bytes_needed frame_fault
+header_alone_is_passed : Represents (InFrames before_frame) header []
+unfolding bytes_needed frame_fault
 header_alone_is_passed = record {
   rest = [];
   splits = record { header = header_and_more [] (omega arith); begins = refl; limit = omega arith };
@@ -158,8 +158,8 @@ header_alone_is_passed = record {
   came_is = refl;
 }
 
-pub reader_behind_the_frame : ReaderRepresents (InFrames behind_frame) capture (frame ∷ [])
-unfolding frame_bytes_needed frame_fault
+pub reader_behind_the_frame : Represents (InFrames behind_frame) capture (frame ∷ [])
+unfolding bytes_needed frame_fault
 reader_behind_the_frame = record {
   rest = [];
   splits = record {
@@ -175,21 +175,21 @@ reader_behind_the_frame = record {
   came_is = refl;
 }
 
-pub capture_completes_the_frame : ReaderCompletes capture (frame ∷ [])
+pub capture_completes_the_frame : Completes capture (frame ∷ [])
 capture_completes_the_frame = (InFrames behind_frame, reader_behind_the_frame)
 
 -- a reader in the header knows all its bytes
 in_header_advances : (new : ReaderState) (kept bytes : List ℕ) (given : List FrameValue)
-    → ReaderRepresents new (kept ++ bytes) given → ReaderAdvances (InHeader kept) new bytes given
+    → Represents new (kept ++ bytes) given → Advances (InHeader kept) new bytes given
 in_header_advances new kept bytes given stands = record {
-  reads = λ before frames part. subst (λ l. ReaderRepresents new (l ++ bytes) (frames ++ given)) part.kept_is
-      (subst (λ l. ReaderRepresents new (kept ++ bytes) (l ++ given)) (sym part.no_frame) stands);
+  reads = λ before frames part. subst (λ l. Represents new (l ++ bytes) (frames ++ given)) part.kept_is
+      (subst (λ l. Represents new (kept ++ bytes) (l ++ given)) (sym part.no_frame) stands);
 }
 
-pub header_advances_by_its_last_byte : ReaderAdvances (InHeader (take 23 header)) (InFrames before_frame) (0 ∷ []) []
+pub header_advances_by_its_last_byte : Advances (InHeader (take 23 header)) (InFrames before_frame) (0 ∷ []) []
 header_advances_by_its_last_byte = in_header_advances _ _ _ _ header_alone_is_passed
 
-pub piece_completes_the_frame : ReaderAdvances (InHeader (take 23 header)) (InFrames behind_frame) piece (frame ∷ [])
+pub piece_completes_the_frame : Advances (InHeader (take 23 header)) (InFrames behind_frame) piece (frame ∷ [])
 piece_completes_the_frame = in_header_advances _ _ _ _ reader_behind_the_frame
 
 pub piece_is_fed : FeedsReader album [] (frame ∷ []) (InHeader (take 23 header)) (InFrames behind_frame) piece
@@ -201,7 +201,7 @@ piece_is_fed = record {
 }
 
 -- if memory ran out, an album without the frame saw a front of the frames
-pub album_saw_a_beginning : FeedingShowsBeginning album [] [] (InHeader (take 23 header)) piece
+pub album_saw_a_beginning : ShowsBeginning album [] [] (InHeader (take 23 header)) piece
 album_saw_a_beginning = record {
   given = [];
   are_frames = tt;
@@ -211,7 +211,7 @@ album_saw_a_beginning = record {
 
 -- ---- steps of that reader
 
-pub header_is_taken : ReaderStepTakes (InHeader (take 23 header)) (InFrames before_frame) piece frame_bytes []
+pub header_is_taken : StepTakes (InHeader (take 23 header)) (InFrames before_frame) piece frame_bytes []
 header_is_taken = record {
   front = 0 ∷ [];
   joined = refl;
@@ -219,8 +219,8 @@ header_is_taken = record {
   advances = header_advances_by_its_last_byte;
 }
 
-pub frame_is_split_off : StepSplitsFrame Little (frame_bytes ++ 1 ∷ []) (1 ∷ []) frame
-unfolding number_in_file_order
+pub frame_is_split_off : SplitsFrame Little (frame_bytes ++ 1 ∷ []) (1 ∷ []) frame
+unfolding number_in_order
 frame_is_split_off = record {
   front = frame_bytes;
   joined = refl;
@@ -230,7 +230,7 @@ frame_is_split_off = record {
   frame_is = refl;
 }
 
-pub header_shows_no_frame : ReaderStepShowsFront album [] [] (InHeader (take 23 header)) (InFrames before_frame) piece frame_bytes
+pub header_shows_no_frame : StepShowsFront album [] [] (InHeader (take 23 header)) (InFrames before_frame) piece frame_bytes
 header_shows_no_frame = record {
   given = [];
   takes = header_is_taken;
@@ -238,7 +238,7 @@ header_shows_no_frame = record {
   sees = λ before held. held ∙ sym (append-nil before);
 }
 
-pub album_without_room : ReaderStepLacksMemory album [] [] (InHeader (take 23 header)) piece
+pub album_without_room : StepLacksMemory album [] [] (InHeader (take 23 header)) piece
 album_without_room = record {
   after = InFrames behind_frame;
   rest = [];
@@ -249,40 +249,40 @@ album_without_room = record {
 
 -- a frame that was completed by another piece
 pub frame_that_was_held : (held : HeldFrame) → held.order ≡ Little → held.kept.first ≡ frame_bytes
-    → frames_held_in_step (Some held) ≡ frame ∷ []
-unfolding number_in_file_order
+    → frames_held (Some held) ≡ frame ∷ []
+unfolding number_in_order
 frame_that_was_held held order first =
     subst₂ (λ o bytes. frame_at o bytes ∷ [] ≡ frame ∷ []) (sym order) (sym first) refl
 
-pub no_frame_was_held : frames_held_in_step None ≡ []
+pub no_frame_was_held : frames_held None ≡ []
 no_frame_was_held = refl
 
 -- ---- a reader that was fed a compressed file
 
-pub compressed_file_is_refused : IsFeedingResultOfBytes {T = ℕ} (0x1f ∷ 0x8b ∷ 8 ∷ 0 ∷ []) (Err (Refused (header_fault_at NotCapture 0)))
+pub compressed_file_is_refused : IsResultOf {T = ℕ} (0x1f ∷ 0x8b ∷ 8 ∷ 0 ∷ []) (Err (Refused (header_fault_at NotCapture 0)))
 compressed_file_is_refused = ([], inl compressed_header)
 
-pub reader_of_a_compressed_file : ReaderRepresents (AtFault (header_fault_at NotCapture 0)) (0x1f ∷ 0x8b ∷ 8 ∷ 0 ∷ []) []
+pub reader_of_a_compressed_file : Represents (AtFault (header_fault_at NotCapture 0)) (0x1f ∷ 0x8b ∷ 8 ∷ 0 ∷ []) []
 reader_of_a_compressed_file = inl compressed_header
 
-pub reader_at_a_fault_has_stopped : ReaderHasStopped (AtFault (header_fault_at NotCapture 0))
+pub reader_at_a_fault_has_stopped : HasStopped (AtFault (header_fault_at NotCapture 0))
 reader_at_a_fault_has_stopped = tt
 
-pub reader_at_a_fault_answers_it : IsFeedingResultInState {T = ℕ} (AtFault (header_fault_at NotCapture 0))
+pub reader_at_a_fault_answers_it : IsResultInState {T = ℕ} (AtFault (header_fault_at NotCapture 0))
     (Err (Refused (header_fault_at NotCapture 0)))
 reader_at_a_fault_answers_it = refl
 
-pub reader_at_a_fault_answers_nothing_else : IsFeedingResultInState {T = ℕ} (AtFault (header_fault_at NotCapture 0)) (Ok 1) → ⊥
+pub reader_at_a_fault_answers_nothing_else : IsResultInState {T = ℕ} (AtFault (header_fault_at NotCapture 0)) (Ok 1) → ⊥
 reader_at_a_fault_answers_nothing_else answer = cc
 
 -- ---- out of memory
 
 pub reader_without_memory_represents_nothing : (bytes : List ℕ) (frames : List FrameValue)
-    → ReaderRepresents LacksMemory bytes frames → ⊥
+    → Represents LacksMemory bytes frames → ⊥
 reader_without_memory_represents_nothing bytes frames stands = stands
 
-pub other_fact_where_memory_ran_out : IfFeedingHadMemory {T = ℕ} (Err OutOfMemory) (1 ≤ 0) (0 ≤ 1)
+pub other_fact_where_memory_ran_out : IfHadMemory {T = ℕ} (Err OutOfMemory) (1 ≤ 0) (0 ≤ 1)
 other_fact_where_memory_ran_out = omega arith
 
-pub first_fact_where_memory_sufficed : IfFeedingHadMemory {T = ℕ} (Err (Refused (header_fault_at NotCapture 0))) (0 ≤ 1) (1 ≤ 0)
+pub first_fact_where_memory_sufficed : IfHadMemory {T = ℕ} (Err (Refused (header_fault_at NotCapture 0))) (0 ≤ 1) (1 ≤ 0)
 first_fact_where_memory_sufficed = omega arith

@@ -5,11 +5,11 @@ use Rattle.pcap_frames.specs.declared.fault.FaultKind.TheVariants.{CutFrame, Lon
 use Rattle.pcap_frames.specs.declared.fault.FeedFault.TheVariants as feed
 use Rattle.pcap_frames.specs.declared.fault.ReadRefusal.TheVariants.{Capture, ReadFault, OutOfMemory}
 use Rattle.pcap_frames.specs.Header.{header_fault_at}
-use Rattle.pcap_frames.specs.CaptureFault.{IsCaptureEndFault}
+use Rattle.pcap_frames.specs.CaptureFault.{IsEndFault}
 use Rattle.pcap_frames.specs.Visitor.{VisitorSees}
-use Rattle.pcap_frames.specs.SourceReading.{source_reading_refusal, SourceReadingShowsCapture}
-use Rattle.pcap_frames.specs.SourceReading.{SourceReadingShowsBeforeFault, SourceReadingShowsFront}
-use Rattle.pcap_frames.specs.SourceReading.{SourceReadingShowsPart, IsSeenInSourceReading, IsSourceReadingOf}
+use Rattle.pcap_frames.specs.Reading.{refusal_of, ShowsCapture}
+use Rattle.pcap_frames.specs.Reading.{ShowsBeforeFault, ShowsFront}
+use Rattle.pcap_frames.specs.Reading.{ShowsPart, IsSeen, IsReadingOf}
 use Rattle.pcap_frames.proofs.CaptureFileLemmas.{capture_files_are_decided}
 use Rattle.pcap_frames.proofs.Examples.{frame, capture, cut_file, frame_of_three_bytes, header_and_frame}
 use Rattle.pcap_frames.proofs.Examples.{fault_of_a_cut_file, cut_file_is_no_capture, capture_has_no_fault}
@@ -22,13 +22,13 @@ sees_frame before held = ap (λ frames. frames ++ frame ∷ []) held
 sees_nothing : VisitorSees album [] [] []
 sees_nothing before held = held ∙ sym (append-nil before)
 
-pub fault_is_passed_on : source_reading_refusal (feed.Refused (header_fault_at CutFrame 24)) ≡ Capture (header_fault_at CutFrame 24)
+pub fault_is_passed_on : refusal_of (feed.Refused (header_fault_at CutFrame 24)) ≡ Capture (header_fault_at CutFrame 24)
 fault_is_passed_on = refl
 
-pub want_of_memory_is_passed_on : source_reading_refusal feed.OutOfMemory ≡ OutOfMemory
+pub want_of_memory_is_passed_on : refusal_of feed.OutOfMemory ≡ OutOfMemory
 want_of_memory_is_passed_on = refl
 
-pub whole_capture_is_seen : SourceReadingShowsCapture album [] (frame ∷ []) (Some capture) (Some []) 1
+pub whole_capture_is_seen : ShowsCapture album [] (frame ∷ []) (Some capture) (Some []) 1
 whole_capture_is_seen = record {
   frames = frame ∷ [];
   counted = refl;
@@ -40,10 +40,10 @@ whole_capture_is_seen = record {
 }
 
 -- a capture is not seen before its source is at the end
-pub capture_is_seen_at_the_end : SourceReadingShowsCapture album [] (frame ∷ []) (Some capture) (Some (9 ∷ [])) 1 → ⊥
+pub capture_is_seen_at_the_end : ShowsCapture album [] (frame ∷ []) (Some capture) (Some (9 ∷ [])) 1 → ⊥
 capture_is_seen_at_the_end seen = absurd (let none_left : 9 ∷ [] ≡ [] = seen.at_end in cc)
 
-pub nothing_is_seen_of_a_cut_frame : SourceReadingShowsBeforeFault album [] [] (Some cut_file) (Some []) (header_fault_at CutFrame 24)
+pub nothing_is_seen_of_a_cut_frame : ShowsBeforeFault album [] [] (Some cut_file) (Some []) (header_fault_at CutFrame 24)
 nothing_is_seen_of_a_cut_frame = record {
   front = cut_file;
   frames = [];
@@ -57,15 +57,15 @@ nothing_is_seen_of_a_cut_frame = record {
 }
 
 -- whether a frame is cut is not known before the source is at its end
-pub cut_frame_is_seen_at_the_end : SourceReadingShowsBeforeFault album [] [] (Some (cut_file ++ 9 ∷ [])) (Some (9 ∷ []))
+pub cut_frame_is_seen_at_the_end : ShowsBeforeFault album [] [] (Some (cut_file ++ 9 ∷ [])) (Some (9 ∷ []))
     (header_fault_at CutFrame 24) → ⊥
 cut_frame_is_seen_at_the_end seen = absurd (let none_left : 9 ∷ [] ≡ [] = seen.at_end tt in cc)
 
-pub only_the_end_cuts_a_frame : IsCaptureEndFault CutFrame × (IsCaptureEndFault LongFrame → ⊥)
+pub only_the_end_cuts_a_frame : IsEndFault CutFrame × (IsEndFault LongFrame → ⊥)
 only_the_end_cuts_a_frame = (tt, λ ends. ends)
 
 -- the call after the one that read the cut file failed
-pub front_is_seen : SourceReadingShowsFront album [] [] (Some capture) (Some (9 ∷ []))
+pub front_is_seen : ShowsFront album [] [] (Some capture) (Some (9 ∷ []))
 front_is_seen = record {
   front = cut_file;
   frames = [];
@@ -76,7 +76,7 @@ front_is_seen = record {
 }
 
 -- the whole capture was read, but memory ran out for its frame
-pub part_is_seen : SourceReadingShowsPart album [] [] (Some capture) (Some [])
+pub part_is_seen : ShowsPart album [] [] (Some capture) (Some [])
 part_is_seen = record {
   front = capture;
   all = frame ∷ [];
@@ -88,22 +88,22 @@ part_is_seen = record {
   sees = sees_nothing;
 }
 
-pub seen_at_each_answer : IsSeenInSourceReading album [] (frame ∷ []) (Some capture) (Some []) (Ok 1)
-    × IsSeenInSourceReading album [] [] (Some cut_file) (Some []) (Err (Capture (header_fault_at CutFrame 24)))
-    × IsSeenInSourceReading album [] [] (Some capture) (Some (9 ∷ [])) (Err ReadFault)
-    × IsSeenInSourceReading album [] [] (Some capture) (Some []) (Err OutOfMemory)
+pub seen_at_each_answer : IsSeen album [] (frame ∷ []) (Some capture) (Some []) (Ok 1)
+    × IsSeen album [] [] (Some cut_file) (Some []) (Err (Capture (header_fault_at CutFrame 24)))
+    × IsSeen album [] [] (Some capture) (Some (9 ∷ [])) (Err ReadFault)
+    × IsSeen album [] [] (Some capture) (Some []) (Err OutOfMemory)
 seen_at_each_answer = (whole_capture_is_seen, nothing_is_seen_of_a_cut_frame, front_is_seen, part_is_seen)
 
-pub capture_is_read : IsSourceReadingOf capture (Ok 1)
+pub capture_is_read : IsReadingOf capture (Ok 1)
 capture_is_read = ((frame ∷ [], header_and_frame, refl), capture_has_no_fault)
 
-pub count_is_of_frames : IsSourceReadingOf capture (Ok 2) → ⊥
+pub count_is_of_frames : IsReadingOf capture (Ok 2) → ⊥
 count_is_of_frames ((frames, is, counted), none) =
     let same : frames ≡ frame ∷ [] = capture_files_are_decided.one_list capture (frame ∷ []) frames header_and_frame is in
     omega (arith, counted, ap length same)
 
-pub cut_file_is_refused : IsSourceReadingOf cut_file (Err (Capture (header_fault_at CutFrame 24)))
+pub cut_file_is_refused : IsReadingOf cut_file (Err (Capture (header_fault_at CutFrame 24)))
 cut_file_is_refused = (([], fault_of_a_cut_file), cut_file_is_no_capture)
 
-pub cut_file_is_not_read : IsSourceReadingOf cut_file (Ok 0) → ⊥
+pub cut_file_is_not_read : IsReadingOf cut_file (Ok 0) → ⊥
 cut_file_is_not_read (read, none) = none (header_fault_at CutFrame 24) ([], fault_of_a_cut_file)

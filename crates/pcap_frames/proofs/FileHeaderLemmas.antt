@@ -5,15 +5,15 @@ use Rattle.std.proofs.lemmas.Bool.{ltb-false, le-ltb, eqb-true, eq-eqb, cases_Bo
 use Rattle.pcap_frames.specs.declared.file_order.FileOrder.{FileOrder}
 use Rattle.pcap_frames.specs.declared.file_order.FileOrder.TheVariants.{Big, Little}
 use Rattle.pcap_frames.specs.declared.fault.CaptureFault.{CaptureFault}
-use Rattle.pcap_frames.specs.FileOrder.{number_in_file_order}
-use Rattle.pcap_frames.specs.Header.{header_magic_order, header_fields_fault, header_fault, IsHeader}
-use Rattle.pcap_frames.proofs.FileNumberLemmas.{number_in_file_order-in_longer_file}
+use Rattle.pcap_frames.specs.FileOrder.{number_in_order}
+use Rattle.pcap_frames.specs.Header.{order_of_magic, fields_fault, header_fault, IsHeader}
+use Rattle.pcap_frames.proofs.FileNumberLemmas.{number_in_order-in_longer_file}
 
 -- the magic stays when more bytes follow
-pub file_header_magic_stays : (bytes more : List ℕ) → 4 ≤ length bytes → header_magic_order (bytes ++ more) ≡ header_magic_order bytes
-unfolding header_magic_order
+pub file_header_magic_stays : (bytes more : List ℕ) → 4 ≤ length bytes → order_of_magic (bytes ++ more) ≡ order_of_magic bytes
+unfolding order_of_magic
 file_header_magic_stays bytes more fits =
-    rw (number_in_file_order-in_longer_file Big 4 0 bytes more (omega arith), number_in_file_order-in_longer_file Little 4 0 bytes more (omega arith)) refl
+    rw (number_in_order-in_longer_file Big 4 0 bytes more (omega arith), number_in_order-in_longer_file Little 4 0 bytes more (omega arith)) refl
 
 -- a whole header shows no fault
 pub file_header_shows_no_fault : (order : FileOrder) (bytes : List ℕ) → IsHeader order bytes → header_fault bytes ≡ None
@@ -30,17 +30,17 @@ file_header_shows_no_fault order bytes header =
     ) refl
 
 -- 24 bytes whose magic shows an order and whose fields show nothing wrong are a whole header
-file_header_from_fields : (order : FileOrder) (bytes : List ℕ) → header_magic_order bytes ≡ Some order → 24 ≤ length bytes
-    → header_fields_fault (Some order) bytes ≡ None → IsHeader order bytes
+file_header_from_fields : (order : FileOrder) (bytes : List ℕ) → order_of_magic bytes ≡ Some order → 24 ≤ length bytes
+    → fields_fault (Some order) bytes ≡ None → IsHeader order bytes
 file_header_from_fields order bytes magic whole none =
     let short : ltb (length bytes) 8 ≡ false = le-ltb (length bytes) 8 (omega arith) in
     let long : ltb (length bytes) 24 ≡ false = le-ltb (length bytes) 24 whole in
     let first = rw (short, long) at none in
-    elim (cases_Bool (eqb (number_in_file_order order 2 4 bytes) 2)) [
+    elim (cases_Bool (eqb (number_in_order order 2 4 bytes) 2)) [
       | inr major ↦ absurd (let wrong = rw major at first in cc)
-      | inl major ↦ let second = rw major at first in elim (cases_Bool (eqb (number_in_file_order order 2 6 bytes) 4)) [
+      | inl major ↦ let second = rw major at first in elim (cases_Bool (eqb (number_in_order order 2 6 bytes) 4)) [
         | inr minor ↦ absurd (let wrong = rw minor at second in cc)
-        | inl minor ↦ let third = rw minor at second in elim (cases_Bool (eqb (number_in_file_order order 4 20 bytes) 1)) [
+        | inl minor ↦ let third = rw minor at second in elim (cases_Bool (eqb (number_in_order order 4 20 bytes) 1)) [
           | inr link ↦ absurd (let wrong = rw link at third in cc)
           | inl link ↦ record {
             whole = whole;
@@ -54,8 +54,8 @@ file_header_from_fields order bytes magic whole none =
     ]
 
 -- the magic of a header that shows nothing wrong
-file_header_from_magic : (magic : Option FileOrder) (bytes : List ℕ) → header_magic_order bytes ≡ magic → 24 ≤ length bytes
-    → header_fields_fault magic bytes ≡ None → (order : FileOrder) × IsHeader order bytes
+file_header_from_magic : (magic : Option FileOrder) (bytes : List ℕ) → order_of_magic bytes ≡ magic → 24 ≤ length bytes
+    → fields_fault magic bytes ≡ None → (order : FileOrder) × IsHeader order bytes
 file_header_from_magic None bytes is whole none = absurd cc
 file_header_from_magic (Some order) bytes is whole none = (order, file_header_from_fields order bytes is whole none)
 
@@ -65,18 +65,18 @@ pub file_header_is_whole : (bytes : List ℕ) → 24 ≤ length bytes → header
 unfolding header_fault
 file_header_is_whole bytes whole none =
     let long : ltb (length bytes) 4 ≡ false = le-ltb (length bytes) 4 (omega arith) in
-    file_header_from_magic (header_magic_order bytes) bytes refl whole (rw long at none)
+    file_header_from_magic (order_of_magic bytes) bytes refl whole (rw long at none)
 
 -- the order of a header that shows nothing wrong is that of its magic
 pub file_header_of_magic_order : (order : FileOrder) (bytes : List ℕ) → 24 ≤ length bytes → header_fault bytes ≡ None
-    → header_magic_order bytes ≡ Some order → IsHeader order bytes
+    → order_of_magic bytes ≡ Some order → IsHeader order bytes
 unfolding header_fault
 file_header_of_magic_order order bytes whole none magic =
     let long : ltb (length bytes) 4 ≡ false = le-ltb (length bytes) 4 (omega arith) in
     file_header_from_fields order bytes magic whole (rw (long, magic) at none)
 
 -- 24 bytes that show nothing wrong have a magic
-pub file_header_has_magic : (bytes : List ℕ) → 24 ≤ length bytes → header_fault bytes ≡ None → header_magic_order bytes ≡ None → ⊥
+pub file_header_has_magic : (bytes : List ℕ) → 24 ≤ length bytes → header_fault bytes ≡ None → order_of_magic bytes ≡ None → ⊥
 file_header_has_magic bytes whole none magic = let found = file_header_is_whole bytes whole none in let is = found.1.magic in cc
 
 -- a whole header stays when more bytes follow
@@ -84,14 +84,14 @@ pub IsHeader-in_longer_file : (order : FileOrder) (bytes more : List ℕ) → Is
 IsHeader-in_longer_file order bytes more header = record {
   whole = omega (arith, header.whole, length-append bytes more);
   magic = file_header_magic_stays bytes more (omega (arith, header.whole)) ∙ header.magic;
-  major = number_in_file_order-in_longer_file order 2 4 bytes more (omega (arith, header.whole)) ∙ header.major;
-  minor = number_in_file_order-in_longer_file order 2 6 bytes more (omega (arith, header.whole)) ∙ header.minor;
-  link = number_in_file_order-in_longer_file order 4 20 bytes more header.whole ∙ header.link;
+  major = number_in_order-in_longer_file order 2 4 bytes more (omega (arith, header.whole)) ∙ header.major;
+  minor = number_in_order-in_longer_file order 2 6 bytes more (omega (arith, header.whole)) ∙ header.minor;
+  link = number_in_order-in_longer_file order 4 20 bytes more header.whole ∙ header.link;
 }
 
 -- the fault of the fields stays when more bytes follow
 file_header_fields_fault_stays : (magic : Option FileOrder) (bytes more : List ℕ) (fault : CaptureFault)
-    → header_fields_fault magic bytes ≡ Some fault → header_fields_fault magic (bytes ++ more) ≡ Some fault
+    → fields_fault magic bytes ≡ Some fault → fields_fault magic (bytes ++ more) ≡ Some fault
 file_header_fields_fault_stays None bytes more fault shown = shown
 file_header_fields_fault_stays (Some order) bytes more fault shown = elim (cases_Bool (ltb (length bytes) 8)) [
   | inl short ↦ absurd (let wrong = rw short at shown in cc)
@@ -99,11 +99,11 @@ file_header_fields_fault_stays (Some order) bytes more fault shown = elim (cases
       let eight : 8 ≤ length bytes = ltb-false (length bytes) 8 past in
       let longer : ltb (length (bytes ++ more)) 8 ≡ false = le-ltb _ 8 (omega (arith, length-append bytes more)) in
       let first = rw past at shown in
-      rw (longer, number_in_file_order-in_longer_file order 2 4 bytes more (omega arith), number_in_file_order-in_longer_file order 2 6 bytes more eight) (
-      elim (cases_Bool (eqb (number_in_file_order order 2 4 bytes) 2)) [
+      rw (longer, number_in_order-in_longer_file order 2 4 bytes more (omega arith), number_in_order-in_longer_file order 2 6 bytes more eight) (
+      elim (cases_Bool (eqb (number_in_order order 2 4 bytes) 2)) [
         | inr major ↦ rw major (rw major at first)
         | inl major ↦ let second = rw major at first in
-            rw major (elim (cases_Bool (eqb (number_in_file_order order 2 6 bytes) 4)) [
+            rw major (elim (cases_Bool (eqb (number_in_order order 2 6 bytes) 4)) [
               | inr minor ↦ rw minor (rw minor at second)
               | inl minor ↦ let third = rw minor at second in rw minor (elim (cases_Bool (ltb (length bytes) 24)) [
                 | inl part ↦ absurd (let wrong = rw part at third in cc)
@@ -111,7 +111,7 @@ file_header_fields_fault_stays (Some order) bytes more fault shown = elim (cases
                     let whole : 24 ≤ length bytes = ltb-false (length bytes) 24 all in
                     let long : ltb (length (bytes ++ more)) 24 ≡ false =
                     le-ltb _ 24 (omega (arith, length-append bytes more)) in
-                    rw (long, number_in_file_order-in_longer_file order 4 20 bytes more whole) (rw all at third)
+                    rw (long, number_in_order-in_longer_file order 4 20 bytes more whole) (rw all at third)
               ])
             ])
       ])
@@ -127,5 +127,5 @@ file_header_fault_stays bytes more fault shown = elim (cases_Bool (ltb (length b
       let four : 4 ≤ length bytes = ltb-false (length bytes) 4 past in
       let longer : ltb (length (bytes ++ more)) 4 ≡ false = le-ltb _ 4 (omega (arith, length-append bytes more)) in
       rw (longer, file_header_magic_stays bytes more four)
-      (file_header_fields_fault_stays (header_magic_order bytes) bytes more fault (rw past at shown))
+      (file_header_fields_fault_stays (order_of_magic bytes) bytes more fault (rw past at shown))
 ]

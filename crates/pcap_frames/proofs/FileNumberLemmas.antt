@@ -4,18 +4,18 @@ use Rattle.std.proofs.lemmas.List.{take_at}
 use Rattle.byteorder.specs.Numbers.{big_from-take, little_from-take}
 use Rattle.pcap_frames.specs.declared.file_order.FileOrder.{FileOrder}
 use Rattle.pcap_frames.specs.declared.file_order.FileOrder.TheVariants.{Big, Little}
-use Rattle.pcap_frames.specs.FileOrder.{number_in_file_order}
+use Rattle.pcap_frames.specs.FileOrder.{number_in_order}
 
 -- a number reads no byte past its end
-pub number_in_file_order-in_file_front : (order : FileOrder) (count place n : ℕ) (bytes : List ℕ) → place + count ≤ n
-    → number_in_file_order order count place (take n bytes) ≡ number_in_file_order order count place bytes
-unfolding number_in_file_order
-number_in_file_order-in_file_front Big count place n bytes fits = big_from-take place count n bytes fits
-number_in_file_order-in_file_front Little count place n bytes fits = little_from-take place count n bytes fits
+pub number_in_order-in_file_front : (order : FileOrder) (count place n : ℕ) (bytes : List ℕ) → place + count ≤ n
+    → number_in_order order count place (take n bytes) ≡ number_in_order order count place bytes
+unfolding number_in_order
+number_in_order-in_file_front Big count place n bytes fits = big_from-take place count n bytes fits
+number_in_order-in_file_front Little count place n bytes fits = little_from-take place count n bytes fits
 
 -- a number stays when more bytes follow
-pub number_in_file_order-in_longer_file : (order : FileOrder) (count place : ℕ) (bytes more : List ℕ) → place + count ≤ length bytes
-    → number_in_file_order order count place (bytes ++ more) ≡ number_in_file_order order count place bytes
-number_in_file_order-in_longer_file order count place bytes more fits =
-    sym (number_in_file_order-in_file_front order count place (length bytes) (bytes ++ more) fits)
-    ∙ ap (number_in_file_order order count place) (take_at bytes more (length bytes) refl)
+pub number_in_order-in_longer_file : (order : FileOrder) (count place : ℕ) (bytes more : List ℕ) → place + count ≤ length bytes
+    → number_in_order order count place (bytes ++ more) ≡ number_in_order order count place bytes
+number_in_order-in_longer_file order count place bytes more fits =
+    sym (number_in_order-in_file_front order count place (length bytes) (bytes ++ more) fits)
+    ∙ ap (number_in_order order count place) (take_at bytes more (length bytes) refl)

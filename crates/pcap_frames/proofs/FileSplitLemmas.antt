@@ -7,7 +7,7 @@ use Rattle.pcap_frames.specs.declared.fault.CaptureFault.{CaptureFault}
 use Rattle.pcap_frames.specs.Frame.{FrameValue}
 use Rattle.pcap_frames.specs.Frame.{BeginsWithFrame, BeginsWithFrames, frame_fault}
 use Rattle.pcap_frames.specs.Capture.{SplitsCapture}
-use Rattle.pcap_frames.specs.CaptureFault.{ShowsCaptureFault}
+use Rattle.pcap_frames.specs.CaptureFault.{ShowsFault}
 use Rattle.pcap_frames.proofs.FileHeaderLemmas.{IsHeader-in_longer_file, file_header_fault_stays}
 use Rattle.pcap_frames.proofs.BeginsFrameLemmas.{BeginsWithFrames-append, frame_fault-begins_longer_rest}
 
@@ -28,13 +28,13 @@ pub split_place_in_longer_file : (bytes rest more : List ℕ)
 split_place_in_longer_file bytes rest more = omega (arith, length-append bytes more, length-append rest more)
 
 -- a fault that is shown stays when more bytes follow
-pub ShowsCaptureFault-longer_split_file : (bytes more : List ℕ) (frames : List FrameValue) (fault : CaptureFault)
-    → ShowsCaptureFault bytes frames fault → ShowsCaptureFault (bytes ++ more) frames fault
-ShowsCaptureFault-longer_split_file bytes more frames fault (inl shows) = inl (record {
+pub ShowsFault-longer_split_file : (bytes more : List ℕ) (frames : List FrameValue) (fault : CaptureFault)
+    → ShowsFault bytes frames fault → ShowsFault (bytes ++ more) frames fault
+ShowsFault-longer_split_file bytes more frames fault (inl shows) = inl (record {
   shown = file_header_fault_stays bytes more fault shows.shown;
   none_before = shows.none_before;
 })
-ShowsCaptureFault-longer_split_file bytes more frames fault (inr shows) = inr (record {
+ShowsFault-longer_split_file bytes more frames fault (inr shows) = inr (record {
   order = shows.order;
   rest = shows.rest ++ more;
   splits = SplitsCapture-longer_file bytes more shows.order frames shows.rest shows.splits;

@@ -7,21 +7,21 @@ use Rattle.std.proofs.lemmas.List.{nil_from_length}
 use Rattle.pcap_frames.specs.declared.file_order.FileOrder.{FileOrder}
 use Rattle.pcap_frames.specs.declared.fault.CaptureFault.{CaptureFault}
 use Rattle.pcap_frames.specs.declared.fault.FaultKind.TheVariants.{ShortHeader, CutFrame}
-use Rattle.pcap_frames.specs.FileOrder.{number_in_file_order}
+use Rattle.pcap_frames.specs.FileOrder.{number_in_order}
 use Rattle.pcap_frames.specs.Frame.{FrameValue}
 use Rattle.pcap_frames.specs.Header.{IsHeader, header_fault, header_fault_at}
-use Rattle.pcap_frames.specs.Frame.{frame_at, BeginsWithFrame, BeginsWithFrames, frame_bytes_needed, frame_fault}
+use Rattle.pcap_frames.specs.Frame.{frame_at, BeginsWithFrame, BeginsWithFrames, bytes_needed, frame_fault}
 use Rattle.pcap_frames.specs.Capture.{SplitsCapture, IsCapture}
-use Rattle.pcap_frames.specs.CaptureFault.{ShowsCaptureFault, HasCaptureFaultAfter, HasCaptureFault}
+use Rattle.pcap_frames.specs.CaptureFault.{ShowsFault, HasFaultAfter, HasCaptureFault}
 use Rattle.pcap_frames.specs.declared.fault.FeedFault.{FeedFault}
-use Rattle.pcap_frames.specs.ReaderState.{ReaderFramePlace, ReaderState, InHeader, InFrames, AtFault, LacksMemory}
-use Rattle.pcap_frames.specs.ReaderState.{IsReaderInHeader, IsReaderBehind, ReaderRepresents, ReaderCompletes}
-use Rattle.pcap_frames.specs.Feeding.{IsFeedingResultInState, IsFeedingResultOfBytes}
+use Rattle.pcap_frames.specs.FrameReader.{FramePlace, ReaderState, InHeader, InFrames, AtFault, LacksMemory}
+use Rattle.pcap_frames.specs.FrameReader.{IsInHeader, IsBehind, Represents, Completes}
+use Rattle.pcap_frames.specs.Feeding.{IsResultInState, IsResultOf}
 use Rattle.pcap_frames.proofs.FileHeaderLemmas.{file_header_shows_no_fault, file_header_is_whole}
 use Rattle.pcap_frames.proofs.FileHeaderLemmas.{IsHeader-in_longer_file}
-use Rattle.pcap_frames.proofs.BeginsFrameLemmas.{frame_bytes_needed-where_frame_begins}
-use Rattle.pcap_frames.proofs.BeginsFrameLemmas.{frame_bytes_needed-begins_part_of_frame}
-use Rattle.pcap_frames.proofs.BeginsFrameLemmas.{frame_bytes_needed-begins_frame_header, frame_that_begins_needs_header}
+use Rattle.pcap_frames.proofs.BeginsFrameLemmas.{bytes_needed-where_frame_begins}
+use Rattle.pcap_frames.proofs.BeginsFrameLemmas.{bytes_needed-begins_part_of_frame}
+use Rattle.pcap_frames.proofs.BeginsFrameLemmas.{bytes_needed-begins_frame_header, frame_that_begins_needs_header}
 use Rattle.pcap_frames.proofs.BeginsFrameLemmas.{BeginsWithFrames-shorter}
 use Rattle.pcap_frames.proofs.FileSplitLemmas.{SplitsCapture-longer_file, IsLastFileSplit, last_file_split_begins}
 use Rattle.pcap_frames.proofs.FileSplitLemmas.{last_file_split_is_one}
@@ -56,7 +56,7 @@ no_frame_behind_first_fault order count place rest fault shown = elim (cases_Boo
     | inl full ↦ inr (omega (arith, eqb-true count 16777216 full))
     | inr room ↦ let second = rw room at first in elim (cases_Bool (ltb (length rest) 16)) [
       | inl short ↦ absurd (let wrong = rw short at second in cc)
-      | inr past ↦ let third = rw past at second in elim (cases_Bool (ltb 262144 (number_in_file_order order 4 8 rest))) [
+      | inr past ↦ let third = rw past at second in elim (cases_Bool (ltb 262144 (number_in_order order 4 8 rest))) [
         | inr fits ↦ absurd (let wrong = rw fits at third in cc)
         | inl long ↦
             inl (λ frame begins.
@@ -67,16 +67,16 @@ no_frame_behind_first_fault order count place rest fault shown = elim (cases_Boo
 ]
 
 -- no frame begins a rest that needs more bytes
-cut_frame_is_first_fault : (order : FileOrder) (rest : List ℕ) → length rest < frame_bytes_needed order rest → (frame : FrameValue)
+cut_frame_is_first_fault : (order : FileOrder) (rest : List ℕ) → length rest < bytes_needed order rest → (frame : FrameValue)
     → BeginsWithFrame order rest frame → ⊥
-cut_frame_is_first_fault order rest cut frame begins = omega (arith, frame_bytes_needed-where_frame_begins order rest frame begins)
+cut_frame_is_first_fault order rest cut frame begins = omega (arith, bytes_needed-where_frame_begins order rest frame begins)
 
 -- a header that shows a fault isn't correct
 first_fault_refutes_header : (bytes : List ℕ) (fault : CaptureFault) → header_fault bytes ≡ Some fault → (order : FileOrder)
     → IsHeader order bytes → ⊥
 first_fault_refutes_header bytes fault shown order header = let right = file_header_shows_no_fault order bytes header in cc
 
-pub shown_reaches_first_fault : (bytes : List ℕ) (frames : List FrameValue) (fault : CaptureFault) → ShowsCaptureFault bytes frames fault
+pub shown_reaches_first_fault : (bytes : List ℕ) (frames : List FrameValue) (fault : CaptureFault) → ShowsFault bytes frames fault
     → ReachesFirstFault bytes frames
 shown_reaches_first_fault bytes frames fault (inl shows) =
     inl (record { none = first_fault_refutes_header bytes fault shows.shown; no_frame = shows.none_before })
@@ -89,7 +89,7 @@ shown_reaches_first_fault bytes frames fault (inr shows) =
     })
 
 pub reader_reaches_first_fault : (state : ReaderState) (bytes : List ℕ) (frames : List FrameValue)
-    → ReaderRepresents state bytes frames → ReachesFirstFault bytes frames
+    → Represents state bytes frames → ReachesFirstFault bytes frames
 reader_reaches_first_fault (InHeader kept) bytes frames stands =
     inl (record { none = λ order header. omega (arith, stands.short, header.whole); no_frame = stands.no_frame })
 reader_reaches_first_fault (InFrames at) bytes frames stands =
@@ -167,7 +167,7 @@ capture_first_fault_is_none file frames (order, splits) =
       rw (frame_fault-empty_reader_step order (length frames) (length file - 0)) refl,
     )
 
-faulty_file_has_first_fault : (file : List ℕ) (frames : List FrameValue) (fault : CaptureFault) → HasCaptureFaultAfter file frames fault
+faulty_file_has_first_fault : (file : List ℕ) (frames : List FrameValue) (fault : CaptureFault) → HasFaultAfter file frames fault
     → IsFirstFaultOrNone file frames (Some fault)
 unfolding IsFirstFaultOrNone first_fault_of_rest first_fault_of_two first_fault_of_header
 faulty_file_has_first_fault file frames fault (inl (inl shows)) =
@@ -230,15 +230,15 @@ one_first_fault_or_none file frames others verdict other (inr last) (inr last_to
 
 -- less than a header that shows nothing wrong shows no fault
 part_shows_no_first_fault : (kept bytes : List ℕ) (frames others : List FrameValue) (fault : CaptureFault)
-    → IsReaderInHeader kept bytes frames → ShowsCaptureFault bytes others fault → ⊥
+    → IsInHeader kept bytes frames → ShowsFault bytes others fault → ⊥
 part_shows_no_first_fault kept bytes frames others fault stands (inl shows) =
     let none = stands.none_shown in let some = shows.shown in cc
 part_shows_no_first_fault kept bytes frames others fault stands (inr shows) =
     let header = shows.splits.header in omega (arith, stands.short, header.whole)
 
 -- less than a frame that shows nothing wrong shows no fault
-behind_shows_no_first_fault : (at : ReaderFramePlace) (bytes : List ℕ) (frames others : List FrameValue) (fault : CaptureFault)
-    → IsReaderBehind at bytes frames → ShowsCaptureFault bytes others fault → ⊥
+behind_shows_no_first_fault : (at : FramePlace) (bytes : List ℕ) (frames others : List FrameValue) (fault : CaptureFault)
+    → IsBehind at bytes frames → ShowsFault bytes others fault → ⊥
 behind_shows_no_first_fault at bytes frames others fault stands (inl shows) =
     first_fault_refutes_header bytes fault shows.shown at.order stands.splits.header
 behind_shows_no_first_fault at bytes frames others fault stands (inr shows) =
@@ -262,15 +262,15 @@ behind_shows_no_first_fault at bytes frames others fault stands (inr shows) =
 
 -- a reader that goes on represents bytes that show no fault, and one at a fault represents bytes that show it
 pub answer_tells_first_fault : {T : Type 0} (state : ReaderState) (bytes : List ℕ) (frames : List FrameValue)
-    (result : Result T FeedFault) → ReaderRepresents state bytes frames → IsFeedingResultInState state result
-    → IsFeedingResultOfBytes bytes result
+    (result : Result T FeedFault) → Represents state bytes frames → IsResultInState state result
+    → IsResultOf bytes result
 answer_tells_first_fault (InHeader kept) bytes frames (Ok x) stands answer = λ others fault.
     part_shows_no_first_fault kept bytes frames others fault stands
 answer_tells_first_fault (InHeader kept) bytes frames (Err x) stands answer = absurd cc
 answer_tells_first_fault (InFrames at) bytes frames (Ok x) stands answer = λ others fault.
     behind_shows_no_first_fault at bytes frames others fault stands
 answer_tells_first_fault (InFrames at) bytes frames (Err x) stands answer = absurd cc
-answer_tells_first_fault (AtFault fault) bytes frames result stands answer = subst (IsFeedingResultOfBytes bytes) (sym answer) (frames, stands)
+answer_tells_first_fault (AtFault fault) bytes frames result stands answer = subst (IsResultOf bytes) (sym answer) (frames, stands)
 answer_tells_first_fault LacksMemory bytes frames result stands answer = absurd stands
 
 -- ---- existence
@@ -281,11 +281,11 @@ pub record FrontToFirstFault (order : FileOrder) (limit : ℕ) (bytes : List ℕ
   pub rest : List ℕ
   pub begins : BeginsWithFrames order bytes frames rest
   pub within : length frames ≤ limit
-  pub stuck : (length rest < frame_bytes_needed order rest)
-      ⊎ (((16 ≤ length rest) × (262144 < number_in_file_order order 4 8 rest)) ⊎ (length frames ≡ limit))
+  pub stuck : (length rest < bytes_needed order rest)
+      ⊎ (((16 ≤ length rest) × (262144 < number_in_order order 4 8 rest)) ⊎ (length frames ≡ limit))
 
 front_to_first_fault_grows : (order : FileOrder) (limit : ℕ) (bytes : List ℕ) → BeginsWithFrame order bytes (frame_at order bytes)
-    → FrontToFirstFault order limit (drop (16 + number_in_file_order order 4 8 bytes) bytes) → FrontToFirstFault order (suc limit) bytes
+    → FrontToFirstFault order limit (drop (16 + number_in_order order 4 8 bytes) bytes) → FrontToFirstFault order (suc limit) bytes
 front_to_first_fault_grows order limit bytes begins behind = record {
   frames = frame_at order bytes ∷ behind.frames;
   rest = behind.rest;
@@ -306,11 +306,11 @@ front_reaches_first_fault order zero bytes = record {
   within = omega arith;
   stuck = inr (inr refl);
 }
-front_reaches_first_fault order (suc limit) bytes = elim (cases_lt (length bytes) (frame_bytes_needed order bytes)) [
+front_reaches_first_fault order (suc limit) bytes = elim (cases_lt (length bytes) (bytes_needed order bytes)) [
   | inl cut ↦ record { frames = []; rest = bytes; begins = refl; within = omega arith; stuck = inl cut }
   | inr whole ↦ elim (cases_lt (length bytes) 16) [
-    | inl short ↦ absurd (omega (arith, frame_bytes_needed-begins_part_of_frame order bytes short))
-    | inr header ↦ elim (cases_lt 262144 (number_in_file_order order 4 8 bytes)) [
+    | inl short ↦ absurd (omega (arith, bytes_needed-begins_part_of_frame order bytes short))
+    | inr header ↦ elim (cases_lt 262144 (number_in_order order 4 8 bytes)) [
       | inl long ↦ record {
         frames = [];
         rest = bytes;
@@ -324,17 +324,17 @@ front_reaches_first_fault order (suc limit) bytes = elim (cases_lt (length bytes
             header = header;
             is_frame = refl;
             limit = fits;
-            room = omega (arith, frame_bytes_needed-begins_frame_header order bytes header);
-          }) (front_reaches_first_fault order limit (drop (16 + number_in_file_order order 4 8 bytes) bytes))
+            room = omega (arith, bytes_needed-begins_frame_header order bytes header);
+          }) (front_reaches_first_fault order limit (drop (16 + number_in_order order 4 8 bytes) bytes))
     ]
   ]
 ]
 
 -- a rest after the last frame that shows no fault is less than a frame
 no_first_fault_means_cut : (order : FileOrder) (count place : ℕ) (rest : List ℕ) → frame_fault order count place rest ≡ None
-    → (length rest < frame_bytes_needed order rest)
-    ⊎ (((16 ≤ length rest) × (262144 < number_in_file_order order 4 8 rest)) ⊎ (count ≡ 16777216))
-    → length rest < frame_bytes_needed order rest
+    → (length rest < bytes_needed order rest)
+    ⊎ (((16 ≤ length rest) × (262144 < number_in_order order 4 8 rest)) ⊎ (count ≡ 16777216))
+    → length rest < bytes_needed order rest
 no_first_fault_means_cut order count place rest none (inl cut) = cut
 no_first_fault_means_cut order count place rest none (inr (inl long)) =
     absurd (omega (arith, long.1, (reader_step_at_right_frame order count place rest none long.0).1))
@@ -344,12 +344,12 @@ no_first_fault_means_cut order count place rest none (inr (inr full)) = elim (ca
 ]
 
 -- every front of a file completes some frames
-pub fronts_complete_to_first_fault : (bytes : List ℕ) → (frames : List FrameValue) × ReaderCompletes bytes frames
+pub fronts_complete_to_first_fault : (bytes : List ℕ) → (frames : List FrameValue) × Completes bytes frames
 fronts_complete_to_first_fault bytes = by_header (header_fault bytes) refl where
   behind : (order : FileOrder) → IsHeader order bytes
       → (front : FrontToFirstFault order 16777216 (drop 24 bytes)) (found : Option CaptureFault)
       → frame_fault order (length front.frames) (length bytes - length front.rest) front.rest ≡ found
-      → (frames : List FrameValue) × ReaderCompletes bytes frames
+      → (frames : List FrameValue) × Completes bytes frames
   behind order header front (Some fault) is = (
     front.frames,
     (
@@ -387,7 +387,7 @@ fronts_complete_to_first_fault bytes = by_header (header_fault bytes) refl where
       )
 
   by_header : (found : Option CaptureFault) → header_fault bytes ≡ found
-      → (frames : List FrameValue) × ReaderCompletes bytes frames
+      → (frames : List FrameValue) × Completes bytes frames
   by_header (Some fault) is = ([], (AtFault fault, inl (record { shown = is; none_before = refl })))
   by_header None is = elim (cases_lt (length bytes) 24) [
     | inl short ↦ ([], (InHeader bytes, record { kept_is = refl; short = short; none_shown = is; no_frame = refl }))
@@ -397,8 +397,8 @@ fronts_complete_to_first_fault bytes = by_header (header_fault bytes) refl where
   ]
 
 -- a file that a reader represents is a capture of the frames, or has a fault after them
-pub capture_or_first_fault : (state : ReaderState) (file : List ℕ) (frames : List FrameValue) → ReaderRepresents state file frames
-    → IsCapture file frames ⊎ ((fault : CaptureFault) × HasCaptureFaultAfter file frames fault)
+pub capture_or_first_fault : (state : ReaderState) (file : List ℕ) (frames : List FrameValue) → Represents state file frames
+    → IsCapture file frames ⊎ ((fault : CaptureFault) × HasFaultAfter file frames fault)
 capture_or_first_fault (InHeader kept) file frames stands =
     inr (
       header_fault_at ShortHeader (length file),
@@ -437,7 +437,7 @@ capture_or_first_fault LacksMemory file frames stands = absurd stands
 pub capture_reaches_first_fault : (file : List ℕ) (frames : List FrameValue) → IsCapture file frames → ReachesFirstFault file frames
 capture_reaches_first_fault file frames capture = first_fault_is_reached file frames None (capture_first_fault_is_none file frames capture)
 
-pub frames_reach_first_fault : (file : List ℕ) (frames : List FrameValue) (fault : CaptureFault) → HasCaptureFaultAfter file frames fault
+pub frames_reach_first_fault : (file : List ℕ) (frames : List FrameValue) (fault : CaptureFault) → HasFaultAfter file frames fault
     → ReachesFirstFault file frames
 frames_reach_first_fault file frames fault first = first_fault_is_reached file frames (Some fault) (faulty_file_has_first_fault file frames fault first)
 

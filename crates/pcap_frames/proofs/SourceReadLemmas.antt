@@ -9,19 +9,19 @@ use Rattle.pcap_frames.specs.declared.fault.FeedFault.{FeedFault}
 use Rattle.pcap_frames.specs.declared.fault.ReadRefusal.TheVariants.{Capture}
 use Rattle.pcap_frames.specs.Frame.{FrameValue}
 use Rattle.pcap_frames.specs.Frame.{AreFrames}
-use Rattle.pcap_frames.specs.CaptureFault.{ShowsCaptureFault, HasCaptureFaultAfter}
-use Rattle.pcap_frames.specs.ReaderState.{ReaderState, InHeader, InFrames, AtFault, LacksMemory, ReaderHasStopped}
-use Rattle.pcap_frames.specs.ReaderState.{ReaderRepresents, ReaderCompletes}
+use Rattle.pcap_frames.specs.CaptureFault.{ShowsFault, HasFaultAfter}
+use Rattle.pcap_frames.specs.FrameReader.{ReaderState, InHeader, InFrames, AtFault, LacksMemory, HasStopped}
+use Rattle.pcap_frames.specs.FrameReader.{Represents, Completes}
 use Rattle.pcap_frames.specs.Visitor.{VisitorSees}
-use Rattle.pcap_frames.specs.Feeding.{IsFeedingResultInState, IfFeedingHadMemory, FeedsReader, FeedingShowsBeginning}
-use Rattle.pcap_frames.specs.Feeding.{IsFinalFeedingResult}
-use Rattle.pcap_frames.specs.SourceReading.{source_reading_refusal, SourceReadingShowsCapture}
-use Rattle.pcap_frames.specs.SourceReading.{SourceReadingShowsBeforeFault, SourceReadingShowsFront}
-use Rattle.pcap_frames.specs.SourceReading.{SourceReadingShowsPart, IsSeenInSourceReading, IsSourceReadingOf}
+use Rattle.pcap_frames.specs.Feeding.{IsResultInState, IfHadMemory, FeedsReader, ShowsBeginning}
+use Rattle.pcap_frames.specs.Feeding.{IsFinalResult}
+use Rattle.pcap_frames.specs.Reading.{refusal_of, ShowsCapture}
+use Rattle.pcap_frames.specs.Reading.{ShowsBeforeFault, ShowsFront}
+use Rattle.pcap_frames.specs.Reading.{ShowsPart, IsSeen, IsReadingOf}
 use Rattle.pcap_frames.proofs.BeginsFrameLemmas.{BeginsWithFrames-length}
-use Rattle.pcap_frames.proofs.FileSplitLemmas.{ShowsCaptureFault-longer_split_file}
+use Rattle.pcap_frames.proofs.FileSplitLemmas.{ShowsFault-longer_split_file}
 use Rattle.pcap_frames.proofs.EndFaultLemmas.{bytes_show_no_end_fault}
-use Rattle.pcap_frames.proofs.ReaderStepLemmas.{frame_bytes_needed-reader_step_bound}
+use Rattle.pcap_frames.proofs.ReaderStepLemmas.{bytes_needed-reader_step_bound}
 use Rattle.pcap_frames.proofs.FirstFaultLemmas.{reader_reaches_first_fault, frames_before_first_fault_begin}
 use Rattle.pcap_frames.proofs.FirstFaultLemmas.{fronts_complete_to_first_fault, capture_has_no_first_fault}
 use Rattle.pcap_frames.proofs.FedPieceLemmas.{AreFrames-of_fed_pieces, VisitorSees-no_fed_piece}
@@ -38,7 +38,7 @@ source_read_extent (AtFault fault) = 0
 source_read_extent LacksMemory = 0
 
 pub source_read_extent_is_length : (state : ReaderState) (bytes : List ℕ) (frames : List FrameValue)
-    → ReaderRepresents state bytes frames → (ReaderHasStopped state → ⊥) → source_read_extent state ≡ length bytes
+    → Represents state bytes frames → (HasStopped state → ⊥) → source_read_extent state ≡ length bytes
 source_read_extent_is_length (InHeader kept) bytes frames stands goes = ap length stands.kept_is
 source_read_extent_is_length (InFrames at) bytes frames stands goes = omega (arith, stands.place_is, stands.came_is)
 source_read_extent_is_length (AtFault fault) bytes frames stands goes = absurd (goes tt)
@@ -46,7 +46,7 @@ source_read_extent_is_length LacksMemory bytes frames stands goes = absurd stand
 
 -- no reader that goes on was fed more bytes than the limits allow
 pub source_read_is_bounded : (state : ReaderState) (bytes : List ℕ) (frames : List FrameValue)
-    → ReaderRepresents state bytes frames → (ReaderHasStopped state → ⊥) → length bytes ≤ 24 + 262160 * 16777217
+    → Represents state bytes frames → (HasStopped state → ⊥) → length bytes ≤ 24 + 262160 * 16777217
 source_read_is_bounded (InHeader kept) bytes frames stands goes = omega (arith, stands.short)
 source_read_is_bounded (InFrames at) bytes frames stands goes =
     let splits = stands.splits in
@@ -57,7 +57,7 @@ source_read_is_bounded (InFrames at) bytes frames stands goes =
       sizes,
       splits.limit,
       stands.cut,
-      frame_bytes_needed-reader_step_bound at.order at.count at.place stands.rest stands.none_shown,
+      bytes_needed-reader_step_bound at.order at.count at.place stands.rest stands.none_shown,
       length-drop 24 bytes,
       header.whole,
     )
@@ -65,7 +65,7 @@ source_read_is_bounded (AtFault fault) bytes frames stands goes = absurd (goes t
 source_read_is_bounded LacksMemory bytes frames stands goes = absurd stands
 
 -- a reader that returns Ok goes on
-pub source_read_answer_goes_on : {T : Type 0} (state : ReaderState) (x : T) → IsFeedingResultInState state (Ok x) → ReaderHasStopped state → ⊥
+pub source_read_answer_goes_on : {T : Type 0} (state : ReaderState) (x : T) → IsResultInState state (Ok x) → HasStopped state → ⊥
 source_read_answer_goes_on (InHeader kept) x answer stopped = stopped
 source_read_answer_goes_on (InFrames at) x answer stopped = stopped
 source_read_answer_goes_on (AtFault fault) x answer stopped = cc
@@ -73,12 +73,12 @@ source_read_answer_goes_on LacksMemory x answer stopped = cc
 
 -- a reader that refuses represents bytes that show its fault
 pub source_read_shows_fault : (T : Type 0) (state : ReaderState) (bytes : List ℕ) (frames : List FrameValue)
-    (fault : CaptureFault) → ReaderRepresents state bytes frames
-    → IsFeedingResultInState {T = T} state (Err (feed.Refused fault)) → ShowsCaptureFault bytes frames fault
+    (fault : CaptureFault) → Represents state bytes frames
+    → IsResultInState {T = T} state (Err (feed.Refused fault)) → ShowsFault bytes frames fault
 source_read_shows_fault T (InHeader kept) bytes frames fault stands answer = absurd cc
 source_read_shows_fault T (InFrames at) bytes frames fault stands answer = absurd cc
 source_read_shows_fault T (AtFault shown) bytes frames fault stands answer =
-    subst (ShowsCaptureFault bytes frames) (let same : shown ≡ fault = cc in same) stands
+    subst (ShowsFault bytes frames) (let same : shown ≡ fault = cc in same) stands
 source_read_shows_fault T LacksMemory bytes frames fault stands answer = absurd stands
 
 -- ---- what a source with known bytes held
@@ -98,12 +98,12 @@ source_read_consumed_front (Some xs) None bytes P consumed every = absurd consum
 source_read_consumed_front (Some xs) (Some ys) bytes P consumed every = subst P (sym consumed) (every ys)
 
 -- the frames before a fault that is shown are within the limit
-source_read_shown_within : (bytes : List ℕ) (frames : List FrameValue) (fault : CaptureFault) → ShowsCaptureFault bytes frames fault
+source_read_shown_within : (bytes : List ℕ) (frames : List FrameValue) (fault : CaptureFault) → ShowsFault bytes frames fault
     → length frames ≤ 16777216
 source_read_shown_within bytes frames fault (inl shows) = omega (arith, ap length shows.none_before)
 source_read_shown_within bytes frames fault (inr shows) = let splits = shows.splits in splits.limit
 
-source_read_fault_within : (file : List ℕ) (frames : List FrameValue) (fault : CaptureFault) → HasCaptureFaultAfter file frames fault
+source_read_fault_within : (file : List ℕ) (frames : List FrameValue) (fault : CaptureFault) → HasFaultAfter file frames fault
     → length frames ≤ 16777216
 source_read_fault_within file frames fault (inl shows) = source_read_shown_within file frames fault shows
 source_read_fault_within file frames fault (inr (inl ends)) = omega (arith, ap length ends.none_before)
@@ -115,19 +115,19 @@ module _ {V : Type 0} (represents : V → List FrameValue → Type 0) where
     pub bytes : List ℕ
     pub frames : List FrameValue
     pub consumed : Consumes left now bytes
-    pub stands : ReaderRepresents state bytes frames
-    pub goes : ReaderHasStopped state → ⊥
+    pub stands : Represents state bytes frames
+    pub goes : HasStopped state → ⊥
     pub are_frames : AreFrames frames
     pub sees : VisitorSees represents seen saw frames
 
   pub none_of_source_is_read : (visitor : V) (left : Option (List ℕ)) (state : ReaderState) → state ≡ InHeader []
-      → ReaderRepresents state [] [] → HasReadSource visitor visitor left left state
+      → Represents state [] [] → HasReadSource visitor visitor left left state
   none_of_source_is_read visitor left state is stands = record {
     bytes = [];
     frames = [];
     consumed = Consumes-nil left;
     stands = stands;
-    goes = subst (λ s. ReaderHasStopped s → ⊥) (sym is) (λ stopped. stopped);
+    goes = subst (λ s. HasStopped s → ⊥) (sym is) (λ stopped. stopped);
     are_frames = tt;
     sees = VisitorSees-no_fed_piece represents visitor;
   }
@@ -135,7 +135,7 @@ module _ {V : Type 0} (represents : V → List FrameValue → Type 0) where
   pub more_of_source_is_read : {T : Type 0} (seen mid saw : V) (left now after : Option (List ℕ)) (old new : ReaderState)
       (piece : List ℕ) (x : T)
       → HasReadSource seen mid left now old → Consumes now after piece → FeedsReader represents mid saw old new piece
-      → IsFeedingResultInState new (Ok x) → HasReadSource seen saw left after new
+      → IsResultInState new (Ok x) → HasReadSource seen saw left after new
   more_of_source_is_read seen mid saw left now after old new piece x read consumed feeds answer =
       let fed = feeds.advances in record {
         bytes = read.bytes ++ piece;
@@ -150,7 +150,7 @@ module _ {V : Type 0} (represents : V → List FrameValue → Type 0) where
   pub source_read_leaves_less : {T : Type 0} (seen mid saw : V) (left now : Option (List ℕ)) (old new : ReaderState)
       (piece : List ℕ) (x : T)
       → HasReadSource seen mid left now old → 0 < length piece → FeedsReader represents mid saw old new piece
-      → IsFeedingResultInState new (Ok x) → 24 + 262160 * 16777217 - source_read_extent new < 24 + 262160 * 16777217 - source_read_extent old
+      → IsResultInState new (Ok x) → 24 + 262160 * 16777217 - source_read_extent new < 24 + 262160 * 16777217 - source_read_extent old
   source_read_leaves_less seen mid saw left now old new piece x read some feeds answer =
       let fed = feeds.advances in
       let stands = fed.reads read.bytes read.frames read.stands in
@@ -161,7 +161,7 @@ module _ {V : Type 0} (represents : V → List FrameValue → Type 0) where
 
   -- a call of the source failed
   pub source_read_fails : (seen saw : V) (left now after : Option (List ℕ)) (state : ReaderState)
-      → HasReadSource seen saw left now state → Keeps now after → SourceReadingShowsFront represents seen saw left after
+      → HasReadSource seen saw left now state → Keeps now after → ShowsFront represents seen saw left after
   source_read_fails seen saw left now after state read kept = record {
     front = read.bytes;
     frames = read.frames;
@@ -173,8 +173,8 @@ module _ {V : Type 0} (represents : V → List FrameValue → Type 0) where
 
   -- the visitor had no memory for a frame of the piece
   pub source_read_is_cut_short : (seen mid saw : V) (left now after : Option (List ℕ)) (old : ReaderState) (piece : List ℕ)
-      → HasReadSource seen mid left now old → Consumes now after piece → FeedingShowsBeginning represents mid saw old piece
-      → SourceReadingShowsPart represents seen saw left after
+      → HasReadSource seen mid left now old → Consumes now after piece → ShowsBeginning represents mid saw old piece
+      → ShowsPart represents seen saw left after
   source_read_is_cut_short seen mid saw left now after old piece read consumed cut =
       let fed = fronts_complete_to_first_fault (read.bytes ++ piece) in
       let more =
@@ -182,7 +182,7 @@ module _ {V : Type 0} (represents : V → List FrameValue → Type 0) where
       (reader_reaches_first_fault fed.1.0 (read.bytes ++ piece) fed.0 fed.1.1) in
       let given =
       cut.begins read.bytes read.frames more.0 read.stands
-      (subst (ReaderCompletes (read.bytes ++ piece)) more.1 fed.1) in
+      (subst (Completes (read.bytes ++ piece)) more.1 fed.1) in
       let joined : fed.0 ≡ (read.frames ++ cut.given) ++ given.0 = more.1 ∙ ap (λ l. read.frames ++ l) given.1
       ∙ sym (append_assoc read.frames cut.given given.0) in record {
         front = read.bytes ++ piece;
@@ -199,8 +199,8 @@ module _ {V : Type 0} (represents : V → List FrameValue → Type 0) where
   pub source_read_is_refused : (T : Type 0) (seen mid saw : V) (left now after : Option (List ℕ)) (old new : ReaderState)
       (piece : List ℕ) (fault : CaptureFault)
       → HasReadSource seen mid left now old → Consumes now after piece → FeedsReader represents mid saw old new piece
-      → IsFeedingResultInState {T = T} new (Err (feed.Refused fault))
-      → SourceReadingShowsBeforeFault represents seen saw left after fault × IfSome left (λ file. IsSourceReadingOf file (Err (Capture fault)))
+      → IsResultInState {T = T} new (Err (feed.Refused fault))
+      → ShowsBeforeFault represents seen saw left after fault × IfSome left (λ file. IsReadingOf file (Err (Capture fault)))
   source_read_is_refused T seen mid saw left now after old new piece fault read consumed feeds answer =
       let whole = Consumes-trans left now after read.bytes piece read.consumed consumed in
       let fed = feeds.advances in
@@ -208,8 +208,8 @@ module _ {V : Type 0} (represents : V → List FrameValue → Type 0) where
       source_read_shows_fault T new (read.bytes ++ piece) (read.frames ++ feeds.given) fault
       (fed.reads read.bytes read.frames read.stands) answer in
       let first : (rest : List ℕ)
-      → HasCaptureFaultAfter ((read.bytes ++ piece) ++ rest) (read.frames ++ feeds.given) fault =
-      λ rest. inl (ShowsCaptureFault-longer_split_file (read.bytes ++ piece) rest _ fault shows) in (
+      → HasFaultAfter ((read.bytes ++ piece) ++ rest) (read.frames ++ feeds.given) fault =
+      λ rest. inl (ShowsFault-longer_split_file (read.bytes ++ piece) rest _ fault shows) in (
         record {
           front = read.bytes ++ piece;
           frames = read.frames ++ feeds.given;
@@ -229,10 +229,10 @@ module _ {V : Type 0} (represents : V → List FrameValue → Type 0) where
   pub source_read_is_stopped : (T : Type 0) (seen mid saw : V) (left now after : Option (List ℕ)) (old new : ReaderState)
       (piece : List ℕ) (fault : FeedFault)
       → HasReadSource seen mid left now old → Consumes now after piece
-      → IfFeedingHadMemory {T = T} (Err fault) (FeedsReader represents mid saw old new piece)
-      (FeedingShowsBeginning represents mid saw old piece) → IsFeedingResultInState {T = T} new (Err fault)
-      → IsSeenInSourceReading represents seen saw left after (Err (source_reading_refusal fault))
-      × IfSome left (λ file. IsSourceReadingOf file (Err (source_reading_refusal fault)))
+      → IfHadMemory {T = T} (Err fault) (FeedsReader represents mid saw old new piece)
+      (ShowsBeginning represents mid saw old piece) → IsResultInState {T = T} new (Err fault)
+      → IsSeen represents seen saw left after (Err (refusal_of fault))
+      × IfSome left (λ file. IsReadingOf file (Err (refusal_of fault)))
   source_read_is_stopped T seen mid saw left now after old new piece (feed.Refused fault) read consumed fed answer =
       source_read_is_refused T seen mid saw left now after old new piece fault read consumed fed answer
   source_read_is_stopped T seen mid saw left now after old new piece feed.OutOfMemory read consumed cut answer =
@@ -241,9 +241,9 @@ module _ {V : Type 0} (represents : V → List FrameValue → Type 0) where
   -- the end of the source
   pub source_is_read_whole : (seen saw : V) (left now after : Option (List ℕ)) (state : ReaderState) (count : ℕ)
       → HasReadSource seen saw left now state → Consumes now after [] → IsAtEnd after
-      → ((file : List ℕ) (frames : List FrameValue) → ReaderRepresents state file frames
-      → IsFinalFeedingResult file frames (Ok count))
-      → SourceReadingShowsCapture represents seen saw left after count × IfSome left (λ file. IsSourceReadingOf file (Ok count))
+      → ((file : List ℕ) (frames : List FrameValue) → Represents state file frames
+      → IsFinalResult file frames (Ok count))
+      → ShowsCapture represents seen saw left after count × IfSome left (λ file. IsReadingOf file (Ok count))
   source_is_read_whole seen saw left now after state count read consumed end finish =
       let answer = finish read.bytes read.frames read.stands in
       let whole : Consumes left after read.bytes =
@@ -259,16 +259,16 @@ module _ {V : Type 0} (represents : V → List FrameValue → Type 0) where
           capture = Consumes-whole left after read.bytes _ whole end answer.0;
           at_end = end;
         },
-        Consumes-whole left after read.bytes (λ file. IsSourceReadingOf file (Ok count)) whole end
+        Consumes-whole left after read.bytes (λ file. IsReadingOf file (Ok count)) whole end
             ((read.frames, answer.0, sym answer.1), λ fault. capture_has_no_first_fault read.bytes read.frames fault answer.0),
       )
 
   pub source_read_fails_at_end : (seen saw : V) (left now after : Option (List ℕ)) (state : ReaderState) (fault : FeedFault)
       → HasReadSource seen saw left now state → Consumes now after [] → IsAtEnd after
-      → ((file : List ℕ) (frames : List FrameValue) → ReaderRepresents state file frames
-      → IsFinalFeedingResult file frames (Err fault))
-      → IsSeenInSourceReading represents seen saw left after (Err (source_reading_refusal fault))
-      × IfSome left (λ file. IsSourceReadingOf file (Err (source_reading_refusal fault)))
+      → ((file : List ℕ) (frames : List FrameValue) → Represents state file frames
+      → IsFinalResult file frames (Err fault))
+      → IsSeen represents seen saw left after (Err (refusal_of fault))
+      × IfSome left (λ file. IsReadingOf file (Err (refusal_of fault)))
   source_read_fails_at_end seen saw left now after state (feed.Refused fault) read consumed end finish =
       let first = finish read.bytes read.frames read.stands in
       let whole : Consumes left after read.bytes =
@@ -282,10 +282,10 @@ module _ {V : Type 0} (represents : V → List FrameValue → Type 0) where
           limit = source_read_fault_within read.bytes read.frames fault first;
           are_frames = read.are_frames;
           sees = read.sees;
-          first = Consumes-whole left after read.bytes (λ file. HasCaptureFaultAfter file read.frames fault) whole end first;
+          first = Consumes-whole left after read.bytes (λ file. HasFaultAfter file read.frames fault) whole end first;
           at_end = λ ends. end;
         },
-        Consumes-whole left after read.bytes (λ file. IsSourceReadingOf file (Err (Capture fault))) whole end
+        Consumes-whole left after read.bytes (λ file. IsReadingOf file (Err (Capture fault))) whole end
             ((read.frames, first), λ frames capture. capture_has_no_first_fault read.bytes frames fault capture (read.frames, first)),
       )
   source_read_fails_at_end seen saw left now after state feed.OutOfMemory read consumed end finish =

@@ -7,15 +7,15 @@ use Rattle.pcap_frames.specs.declared.fault.FaultKind.{FaultKind}
 use Rattle.pcap_frames.specs.declared.fault.FaultKind.TheVariants.{ShortHeader, CutFrame}
 use Rattle.pcap_frames.specs.Frame.{FrameValue, frame_fault}
 use Rattle.pcap_frames.specs.Header.{header_fault}
-use Rattle.pcap_frames.specs.Capture.{SplitsCapture, CaptureEndsInside}
+use Rattle.pcap_frames.specs.Capture.{SplitsCapture, EndsInside}
 
 -- the bytes at the front of a file show this fault in the file header
-pub record ShowsCaptureFaultInHeader (bytes : List ℕ) (frames : List FrameValue) (fault : CaptureFault) : Type 0 where
+pub record ShowsInHeader (bytes : List ℕ) (frames : List FrameValue) (fault : CaptureFault) : Type 0 where
   pub shown : header_fault bytes ≡ Some fault
   pub none_before : frames ≡ []
 
 -- the bytes at the front of a file show this fault after these frames
-pub record ShowsCaptureFaultInFrames (bytes : List ℕ) (frames : List FrameValue) (fault : CaptureFault) : Type 0 where
+pub record ShowsInFrames (bytes : List ℕ) (frames : List FrameValue) (fault : CaptureFault) : Type 0 where
   pub order : FileOrder
   pub rest : List ℕ
   pub splits : SplitsCapture bytes order frames rest
@@ -23,19 +23,19 @@ pub record ShowsCaptureFaultInFrames (bytes : List ℕ) (frames : List FrameValu
 
 -- the bytes at the front of a file show this fault, however the file continues, after these frames:
 -- NotCapture, Version, Link, TooManyFrames or LongFrame
-abbrev pub ShowsCaptureFault : List ℕ → List FrameValue → CaptureFault → Type 0
-ShowsCaptureFault bytes frames fault = ShowsCaptureFaultInHeader bytes frames fault ⊎ ShowsCaptureFaultInFrames bytes frames fault
+abbrev pub ShowsFault : List ℕ → List FrameValue → CaptureFault → Type 0
+ShowsFault bytes frames fault = ShowsInHeader bytes frames fault ⊎ ShowsInFrames bytes frames fault
 
 -- a kind of fault that only the end of a file makes: ShortHeader or CutFrame
-abbrev pub IsCaptureEndFault : FaultKind → Type 0
-IsCaptureEndFault ShortHeader = ⊤
-IsCaptureEndFault CutFrame = ⊤
-IsCaptureEndFault shown = ⊥
+abbrev pub IsEndFault : FaultKind → Type 0
+IsEndFault ShortHeader = ⊤
+IsEndFault CutFrame = ⊤
+IsEndFault shown = ⊥
 
 -- this is the file's first fault, and these are the frames before it
-abbrev pub HasCaptureFaultAfter : List ℕ → List FrameValue → CaptureFault → Type 0
-HasCaptureFaultAfter file frames fault = ShowsCaptureFault file frames fault ⊎ CaptureEndsInside file frames fault
+abbrev pub HasFaultAfter : List ℕ → List FrameValue → CaptureFault → Type 0
+HasFaultAfter file frames fault = ShowsFault file frames fault ⊎ EndsInside file frames fault
 
 -- this is the file's first fault
 abbrev pub HasCaptureFault : List ℕ → CaptureFault → Type 0
-HasCaptureFault file fault = (frames : List FrameValue) × HasCaptureFaultAfter file frames fault
+HasCaptureFault file fault = (frames : List FrameValue) × HasFaultAfter file frames fault

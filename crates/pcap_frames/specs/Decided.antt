@@ -4,12 +4,12 @@ use Rattle.pcap_frames.specs.declared.fault.CaptureFault.{CaptureFault}
 use Rattle.pcap_frames.specs.Frame.{FrameValue}
 use Rattle.pcap_frames.specs.Frame.{AreFrames}
 use Rattle.pcap_frames.specs.Capture.{IsCapture}
-use Rattle.pcap_frames.specs.CaptureFault.{ShowsCaptureFault, HasCaptureFaultAfter, HasCaptureFault}
-use Rattle.pcap_frames.specs.ReaderState.{ReaderCompletes}
+use Rattle.pcap_frames.specs.CaptureFault.{ShowsFault, HasFaultAfter, HasCaptureFault}
+use Rattle.pcap_frames.specs.FrameReader.{Completes}
 use Rattle.outside_io.specs.{IsBeginning}
 
 -- each file is a capture of one list of frames, or has one first fault after one list of frames, and never both
-pub record FilesAreDecided : Type 0 where
+pub record FilesDecided : Type 0 where
   pub either : (file : List ℕ)
       → ((frames : List FrameValue) × IsCapture file frames) ⊎ ((fault : CaptureFault) × HasCaptureFault file fault)
   pub never_both : (file : List ℕ) (frames : List FrameValue) (fault : CaptureFault) → IsCapture file frames
@@ -19,21 +19,21 @@ pub record FilesAreDecided : Type 0 where
   pub one_fault : (file : List ℕ) (fault other : CaptureFault) → HasCaptureFault file fault → HasCaptureFault file other
       → other ≡ fault
   pub one_before : (file : List ℕ) (frames others : List FrameValue) (fault other : CaptureFault)
-      → HasCaptureFaultAfter file frames fault → HasCaptureFaultAfter file others other → others ≡ frames
+      → HasFaultAfter file frames fault → HasFaultAfter file others other → others ≡ frames
   pub are_frames : (file : List ℕ) (frames : List FrameValue) → ((place : ℕ) → slice_index file place < 256)
       → IsCapture file frames → AreFrames frames
 
 -- the bytes at the front of a file complete one list of frames, which begins that of any longer front and of the file;
 -- a fault that they show is the file's first
-pub record FrontsAreDecided : Type 0 where
-  pub some : (front : List ℕ) → (frames : List FrameValue) × ReaderCompletes front frames
-  pub one : (front : List ℕ) (frames others : List FrameValue) → ReaderCompletes front frames → ReaderCompletes front others
+pub record FrontsDecided : Type 0 where
+  pub some : (front : List ℕ) → (frames : List FrameValue) × Completes front frames
+  pub one : (front : List ℕ) (frames others : List FrameValue) → Completes front frames → Completes front others
       → others ≡ frames
-  pub longer : (front more : List ℕ) (frames others : List FrameValue) → ReaderCompletes front frames
-      → ReaderCompletes (front ++ more) others → IsBeginning frames others
-  pub of_capture : (front more : List ℕ) (frames all : List FrameValue) → ReaderCompletes front frames
+  pub longer : (front more : List ℕ) (frames others : List FrameValue) → Completes front frames
+      → Completes (front ++ more) others → IsBeginning frames others
+  pub of_capture : (front more : List ℕ) (frames all : List FrameValue) → Completes front frames
       → IsCapture (front ++ more) all → IsBeginning frames all
   pub before_fault : (front more : List ℕ) (frames all : List FrameValue) (fault : CaptureFault)
-      → ReaderCompletes front frames → HasCaptureFaultAfter (front ++ more) all fault → IsBeginning frames all
+      → Completes front frames → HasFaultAfter (front ++ more) all fault → IsBeginning frames all
   pub shown : (front more : List ℕ) (frames : List FrameValue) (fault : CaptureFault)
-      → ShowsCaptureFault front frames fault → HasCaptureFaultAfter (front ++ more) frames fault
+      → ShowsFault front frames fault → HasFaultAfter (front ++ more) frames fault

@@ -5,6 +5,6 @@ use Rattle.pcap_frames.specs.declared.file_order.FileOrder.{FileOrder}
 use Rattle.pcap_frames.specs.declared.file_order.FileOrder.TheVariants.{Big, Little}
 
 -- the number in this many bytes from this offset on, in the file's byte order
-unfoldable pub number_in_file_order : FileOrder → ℕ → ℕ → List ℕ → ℕ
-number_in_file_order Big count place bytes = big_from place count bytes
-number_in_file_order Little count place bytes = little_from place count bytes
+unfoldable pub number_in_order : FileOrder → ℕ → ℕ → List ℕ → ℕ
+number_in_order Big count place bytes = big_from place count bytes
+number_in_order Little count place bytes = little_from place count bytes

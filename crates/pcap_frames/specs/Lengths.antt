@@ -2,16 +2,16 @@
 use Rattle.std.specs.Prelude.{ℕ, ◌+◌}
 
 -- the bytes of the file header: magic, two versions, time zone, accuracy, snapshot length, link type
-abbrev pub file_header_length : ℕ
-file_header_length = 24
+abbrev pub header_length : ℕ
+header_length = 24
 
 -- the bytes of a frame header: two time stamp fields, captured length and length on the wire, four bytes each
-abbrev pub frame_header_length : ℕ
-frame_header_length = 16
+abbrev pub record_length : ℕ
+record_length = 16
 
 -- the most captured bytes of a frame, which is libpcap's own limit
-abbrev pub most_captured_length : ℕ
-most_captured_length = 262144
+abbrev pub most_captured : ℕ
+most_captured = 262144
 
 -- the bytes of a frame that its record is read from: two hardware addresses of 6 bytes, two VLAN tags of 4,
 -- the type of 2, and an IPv4 header of 20
@@ -19,5 +19,5 @@ abbrev pub frame_head_length : ℕ
 frame_head_length = 42
 
 -- the bytes that are kept of a frame split between pieces: its header and its head
-abbrev pub kept_frame_length : ℕ
-kept_frame_length = frame_header_length + frame_head_length
+abbrev pub kept_length : ℕ
+kept_length = record_length + frame_head_length

@@ -2,7 +2,7 @@
 
 ghost use Rattle.std.specs.Prelude.{◌≡◌};
 ghost use Rattle.pcap_frames.specs.declared.fault.ReadRefusal.TheVariants.{ReadFault};
-ghost use Rattle.pcap_frames.specs.SourceReading.{source_reading_refusal};
+ghost use Rattle.pcap_frames.specs.Reading.{refusal_of};
 
 use outside_io::Failed;
 use thiserror::Error;
@@ -78,7 +78,7 @@ impl From<Failed> for ReadRefusal {
 }
 
 impl From<FeedFault> for ReadRefusal {
-    ghost from_gives = { λ fault refusal. refusal ≡ source_reading_refusal fault };
+    ghost from_gives = { λ fault refusal. refusal ≡ refusal_of fault };
 
     fn from(fault: FeedFault) -> ReadRefusal {
         match fault {

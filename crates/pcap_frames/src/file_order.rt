@@ -1,7 +1,7 @@
 //! The byte order of a capture's numbers.
 
 ghost use Rattle.std.specs.Prelude.{◌≡◌, ◌+◌, ◌≤◌, length};
-ghost use Rattle.pcap_frames.specs.FileOrder.{number_in_file_order};
+ghost use Rattle.pcap_frames.specs.FileOrder.{number_in_order};
 
 use byteorder::{BigEndian, ByteOrder, LittleEndian};
 
@@ -14,10 +14,10 @@ pub(crate) enum FileOrder {
 
 impl FileOrder {
     /// The number in the two bytes from this offset on.
-    #[tactic(auto, unfolding(crate::specs::FileOrder::number_in_file_order))]
+    #[tactic(auto, unfolding(crate::specs::FileOrder::number_in_order))]
     pub(crate) fn u16_at(self, bytes: &[u8], place: usize) -> u16
         requires { place + 2 ≤ length bytes.now }
-        ensures { result ≡ number_in_file_order self 2 place bytes.now }
+        ensures { result ≡ number_in_order self 2 place bytes.now }
     {
         match self {
             FileOrder::Big => BigEndian::read_u16(&bytes[place..]),
@@ -26,10 +26,10 @@ impl FileOrder {
     }
 
     /// The number in the four bytes from this offset on.
-    #[tactic(auto, unfolding(crate::specs::FileOrder::number_in_file_order))]
+    #[tactic(auto, unfolding(crate::specs::FileOrder::number_in_order))]
     pub(crate) fn u32_at(self, bytes: &[u8], place: usize) -> u32
         requires { place + 4 ≤ length bytes.now }
-        ensures { result ≡ number_in_file_order self 4 place bytes.now }
+        ensures { result ≡ number_in_order self 4 place bytes.now }
     {
         match self {
             FileOrder::Big => BigEndian::read_u32(&bytes[place..]),

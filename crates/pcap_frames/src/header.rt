@@ -1,7 +1,7 @@
 //! The file header: the first 24 bytes of a capture.
 
 ghost use Rattle.std.specs.Prelude.{◌≡◌, ◌≤◌, length};
-ghost use Rattle.pcap_frames.specs.Header.{header_magic_order, header_fault};
+ghost use Rattle.pcap_frames.specs.Header.{order_of_magic, header_fault};
 
 use crate::file_order::FileOrder;
 use crate::{CaptureFault, FaultKind};
@@ -11,10 +11,10 @@ const MICROSECONDS: u32 = 0xa1b2_c3d4;
 const NANOSECONDS: u32 = 0xa1b2_3c4d;
 
 /// The byte order in which the first four bytes are one of the two magics, if there is one.
-#[tactic(auto, unfolding(crate::specs::Header::header_magic_order))]
+#[tactic(auto, unfolding(crate::specs::Header::order_of_magic))]
 pub(crate) fn magic_order(bytes: &[u8]) -> Option<FileOrder>
     requires { 4 ≤ length bytes.now }
-    ensures { result ≡ header_magic_order bytes.now }
+    ensures { result ≡ order_of_magic bytes.now }
 {
     let big = FileOrder::Big.u32_at(bytes, 0);
     if big == MICROSECONDS || big == NANOSECONDS {

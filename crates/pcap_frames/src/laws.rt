@@ -1,14 +1,14 @@
 //! Laws of the definitions of a capture and of its first fault.
 
-ghost use Rattle.pcap_frames.specs.Decided.{FilesAreDecided, FrontsAreDecided};
+ghost use Rattle.pcap_frames.specs.Decided.{FilesDecided, FrontsDecided};
 
 /// Each file is a capture of one list of frames or has one first fault, and never both.
 pub fn files_are_decided()
-    ensures { FilesAreDecided }
+    ensures { FilesDecided }
 {}
 
 /// The bytes at the front of a file complete one list of frames, which more bytes only extend, and a fault that they
 /// show is the file's first.
 pub fn fronts_are_decided()
-    ensures { FrontsAreDecided }
+    ensures { FrontsDecided }
 {}

@@ -8,10 +8,10 @@ mod part;
 ghost use Rattle.std.specs.Prelude.{◌≡◌, ℕ, ◌<◌, List, [], ◌∷◌, ◌++◌, length, IfOk, OnOk, OnErr, IfSome, IfNone};
 ghost use Rattle.std.specs.Prelude.{IsTrue, ◌↔◌};
 ghost use Rattle.pcap_frames.specs.Frame.{FrameValue};
-ghost use Rattle.pcap_frames.specs.ReaderSteps.{frames_held_in_step};
-ghost use Rattle.pcap_frames.specs.ReaderState.{InHeader, ReaderRepresents, ReaderHasStopped};
-ghost use Rattle.pcap_frames.specs.Feeding.{IsFeedingResultInState, IfFeedingHadMemory, FeedsReader, FeedingShowsBeginning};
-ghost use Rattle.pcap_frames.specs.Feeding.{IsFeedingResultOfBytes, IsFinalFeedingResult};
+ghost use Rattle.pcap_frames.specs.Reader.{frames_held};
+ghost use Rattle.pcap_frames.specs.FrameReader.{InHeader, Represents, HasStopped};
+ghost use Rattle.pcap_frames.specs.Feeding.{IsResultInState, IfHadMemory, FeedsReader, ShowsBeginning};
+ghost use Rattle.pcap_frames.specs.Feeding.{IsResultOf, IsFinalResult};
 
 use crate::header::fault_at;
 use crate::{FaultKind, FeedFault, Frame, FrameVisitor};
@@ -29,25 +29,25 @@ pub struct FrameReader {
 }
 
 impl Model for FrameReader {
-    ghost use Rattle.pcap_frames.specs.ReaderState.{ReaderState};
-    ghost use Rattle.pcap_frames.specs.ReaderPart.{reader_state_of_part, IsReaderPartInStage};
+    ghost use Rattle.pcap_frames.specs.FrameReader.{ReaderState};
+    ghost use Rattle.pcap_frames.specs.Part.{state_of_part, IsPartInStage};
 
     ghost Value = { ReaderState };
 
-    ghost view = { λ r. reader_state_of_part r.stage r.part };
+    ghost view = { λ r. state_of_part r.stage r.part };
 
-    ghost invariant = { λ r. IsReaderPartInStage r.stage r.part };
+    ghost invariant = { λ r. IsPartInStage r.stage r.part };
 }
 
 impl FrameReader {
     ghost use Rattle.pcap_frames.specs.Frame.{frame_content};
     ghost use Rattle.pcap_frames.specs.Frame.{IsFrame};
-    ghost use Rattle.pcap_frames.specs.ReaderSteps.{ReaderStepTakes, ReaderStepShowsFront, ReaderStepLacksMemory};
+    ghost use Rattle.pcap_frames.specs.Reader.{StepTakes, StepShowsFront, StepLacksMemory};
 
     /// A reader that was fed no bytes.
     pub fn new() -> FrameReader
         ensures empty { result ≡ InHeader [] }
-        ensures stands { ReaderRepresents result [] [] }
+        ensures stands { Represents result [] [] }
     {
         FrameReader {
             stage: Stage::Header,
@@ -58,7 +58,7 @@ impl FrameReader {
     /// The frame at the front of the piece and the bytes after it, if the reader is between two frames and the whole
     /// next frame is there.
     fn whole_frame<'a>(&mut self, piece: &'a [u8]) -> Option<(Frame<'a>, &'a [u8])>
-        ensures takes { IfSome result (λ found. ReaderStepTakes self.old self.new piece.now found.1.now (frame_content found.0 ∷ [])) }
+        ensures takes { IfSome result (λ found. StepTakes self.old self.new piece.now found.1.now (frame_content found.0 ∷ [])) }
         ensures is_frame { IfSome result (λ found. IsFrame (frame_content found.0)) }
         ensures none { IfNone result (self.new ≡ self.old) }
     {
@@ -71,7 +71,7 @@ impl FrameReader {
     /// Takes the next bytes of a header or a frame. Gives the frame if they complete it, and the bytes after them.
     fn take<'a>(&mut self, piece: &'a [u8]) -> (Option<HeldFrame>, &'a [u8])
         requires { 0 < length piece.now }
-        ensures { ReaderStepTakes self.old self.new piece.now result.1.now (frames_held_in_step result.0) }
+        ensures { StepTakes self.old self.new piece.now result.1.now (frames_held result.0) }
     {
         let Taken { stage, held, rest } = self.part.take(self.stage, piece);
         self.stage = stage;
@@ -85,8 +85,8 @@ impl FrameReader {
         visitor: &mut V,
     ) -> Result<&'a [u8], AllocError>
         requires { 0 < length piece.now }
-        ensures ok { IfOk result (λ rest. ReaderStepShowsFront V.represents visitor.old visitor.new self.old self.new piece.now rest.now) }
-        ensures err { OnErr result (ReaderStepLacksMemory V.represents visitor.old visitor.new self.old piece.now) }
+        ensures ok { IfOk result (λ rest. StepShowsFront V.represents visitor.old visitor.new self.old self.new piece.now rest.now) }
+        ensures err { OnErr result (StepLacksMemory V.represents visitor.old visitor.new self.old piece.now) }
     {
         if let Some((frame, rest)) = self.whole_frame(piece) {
             visitor.frame(&frame)?;
@@ -102,7 +102,7 @@ impl FrameReader {
     /// Shows the visitor the frames that the piece completes.
     fn show_all<V: FrameVisitor>(&mut self, piece: &[u8], visitor: &mut V) -> Result<(), AllocError>
         ensures ok { OnOk result (FeedsReader V.represents visitor.old visitor.new self.old self.new piece.now) }
-        ensures err { OnErr result (FeedingShowsBeginning V.represents visitor.old visitor.new self.old piece.now) }
+        ensures err { OnErr result (ShowsBeginning V.represents visitor.old visitor.new self.old piece.now) }
     {
         let mut rest = piece;
         while !rest.is_empty() {
@@ -113,14 +113,14 @@ impl FrameReader {
 
     /// Whether the reader takes no more bytes.
     fn has_stopped(&self) -> bool
-        ensures { IsTrue result ↔ ReaderHasStopped self.now }
+        ensures { IsTrue result ↔ HasStopped self.now }
     {
         matches!(self.stage, Stage::AtFault(_) | Stage::LacksMemory)
     }
 
     /// The result that the reader gives in its present state.
     fn answer(&self) -> Result<(), FeedFault>
-        ensures { IsFeedingResultInState self.now result }
+        ensures { IsResultInState self.now result }
     {
         match self.stage {
             Stage::AtFault(fault) => Err(FeedFault::Refused(fault)),
@@ -136,17 +136,17 @@ impl FrameReader {
     /// call. A reader that has returned either takes no more bytes.
     pub fn feed<V: FrameVisitor>(&mut self, piece: &[u8], visitor: &mut V) -> Result<(), FeedFault>
         // What the reader represents, and what the visitor saw.
-        ensures fed { IfFeedingHadMemory result
+        ensures fed { IfHadMemory result
             (FeedsReader V.represents visitor.old visitor.new self.old self.new piece.now)
-            (FeedingShowsBeginning V.represents visitor.old visitor.new self.old piece.now) }
+            (ShowsBeginning V.represents visitor.old visitor.new self.old piece.now) }
 
         // When each result is returned.
-        ensures answer { IsFeedingResultInState self.new result }
-        ensures exact { (before : List ℕ) (frames : List FrameValue) → ReaderRepresents self.old before frames
-            → IsFeedingResultOfBytes (before ++ piece.now) result }
+        ensures answer { IsResultInState self.new result }
+        ensures exact { (before : List ℕ) (frames : List FrameValue) → Represents self.old before frames
+            → IsResultOf (before ++ piece.now) result }
 
         // After a fault, or after memory ran out, nothing changes.
-        ensures stays { ReaderHasStopped self.old → (self.new ≡ self.old) × (visitor.new ≡ visitor.old) }
+        ensures stays { HasStopped self.old → (self.new ≡ self.old) × (visitor.new ≡ visitor.old) }
     {
         if self.has_stopped() {
             return self.answer();
@@ -165,8 +165,8 @@ impl FrameReader {
     /// `ShortHeader` and `CutFrame` are returned here. A reader that has refused the file or run out of memory
     /// returns that again.
     pub fn finish(self) -> Result<u64, FeedFault>
-        ensures stopped { ReaderHasStopped self → IsFeedingResultInState self result }
-        ensures end { (file : List ℕ) (frames : List FrameValue) → ReaderRepresents self file frames → IsFinalFeedingResult file frames result }
+        ensures stopped { HasStopped self → IsResultInState self result }
+        ensures end { (file : List ℕ) (frames : List FrameValue) → Represents self file frames → IsFinalResult file frames result }
     {
         match self.stage {
             Stage::Header => Err(FeedFault::Refused(fault_at(

@@ -1,8 +1,8 @@
 //! Reading a capture from a source.
 
 ghost use Rattle.std.specs.Prelude.{◌≡◌, ℕ, ◌≤◌, ◌<◌, List, length, IfSome, IsErrOf};
-ghost use Rattle.outside_io.specs.{FaultCountRose};
-ghost use Rattle.pcap_frames.specs.SourceReading.{IsSeenInSourceReading, IsSourceReadingOf};
+ghost use Rattle.outside_io.specs.{FaultRose};
+ghost use Rattle.pcap_frames.specs.Reading.{IsSeen, IsReadingOf};
 
 use crate::{FrameReader, FrameVisitor, ReadRefusal};
 use outside_io::Source;
@@ -23,12 +23,12 @@ pub fn read_frames<S: Source, V: FrameVisitor>(
     requires { 0 < length buffer.old }
 
     // What the visitor saw: the frames of the capture, those before the fault, or some of them.
-    ensures seen { IsSeenInSourceReading V.represents visitor.old visitor.new (S.left source.old) (S.left source.new) result }
+    ensures seen { IsSeen V.represents visitor.old visitor.new (S.left source.old) (S.left source.new) result }
 
     // When each result is returned.
-    ensures exact { IfSome (S.left source.old) (λ file. IsSourceReadingOf file result) }
+    ensures exact { IfSome (S.left source.old) (λ file. IsReadingOf file result) }
     ensures later { S.faults source.old ≤ S.faults source.new }
-    ensures fault { IsErrOf result ReadRefusal.ReadFault → FaultCountRose (S.faults source.old) (S.faults source.new) }
+    ensures fault { IsErrOf result ReadRefusal.ReadFault → FaultRose (S.faults source.old) (S.faults source.new) }
     ensures told { (IsErrOf result ReadRefusal.ReadFault → ⊥) → S.faults source.new ≡ S.faults source.old }
 {
     let mut reader = FrameReader::new();

@@ -2,7 +2,7 @@
 
 ghost use Rattle.std.specs.Prelude.{List, [], ◌∷◌, OnOk, OnErr};
 ghost use Rattle.pcap_frames.specs.Frame.{FrameValue, frame_content};
-ghost use Rattle.pcap_frames.specs.Visitor.{VisitorSees, VisitorsRepresentSame};
+ghost use Rattle.pcap_frames.specs.Visitor.{VisitorSees, RepresentSame};
 
 use crate::Frame;
 use std::alloc::AllocError;
@@ -16,5 +16,5 @@ pub trait FrameVisitor {
     /// as before.
     fn frame(&mut self, frame: &Frame<'_>) -> Result<(), AllocError>
         ensures seen { OnOk result (VisitorSees represents self.old self.new (frame_content frame.now ∷ [])) }
-        ensures unchanged { OnErr result (VisitorsRepresentSame represents self.old self.new) };
+        ensures unchanged { OnErr result (RepresentSame represents self.old self.new) };
 }

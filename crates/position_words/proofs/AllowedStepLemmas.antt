@@ -17,14 +17,14 @@ use Rattle.position_words.specs.declared.view.Aim.TheVariants.{Fold, Read}
 use Rattle.position_words.specs.declared.view.Held.{Held}
 use Rattle.position_words.specs.declared.view.Trail.{Trail}
 use Rattle.position_words.specs.declared.view.View.{View}
-use Rattle.position_words.specs.View.{view_trail_from, view_after_look, view_trail_after_win, view_after_win}
-use Rattle.position_words.specs.View.{view_after_loss, view_trail_after_loss, view_trail_after_giving}
-use Rattle.position_words.specs.View.{view_after_giving}
-use Rattle.position_words.specs.View.{view_after_giving_held, view_after_split, newcomer_view, view_after_join}
-use Rattle.position_words.specs.View.{spent_view, view_with_trail}
-use Rattle.position_words.specs.PositionWords.{IsEvenWord, IsOddWord}
-use Rattle.position_words.specs.Rule.{FitsRule, RuleIsKept}
-use Rattle.position_words.specs.WordSteps.{WordStepMeets, WordStepLooks, WordStepTakesFor, WordStepGives}
+use Rattle.position_words.specs.View.{trail_from, after_look, trail_after_win, after_win}
+use Rattle.position_words.specs.View.{after_loss, trail_after_loss, trail_after_give}
+use Rattle.position_words.specs.View.{after_giving}
+use Rattle.position_words.specs.View.{after_give_held, after_split, newcomer_view, after_join}
+use Rattle.position_words.specs.View.{spent_view, with_trail}
+use Rattle.position_words.specs.Words.{IsEvenWord, IsOddWord}
+use Rattle.position_words.specs.Rule.{FitsRule, IsKept}
+use Rattle.position_words.specs.Steps.{StepMeets, StepLooks, StepTakesFor, StepGives}
 use Rattle.position_words.proofs.PositionWordLemmas.{position_word_marked_even, position_word_marked_odd}
 use Rattle.position_words.proofs.PositionWordLemmas.{position_word_has_parity, position_word_here}
 use Rattle.position_words.proofs.PositionWordLemmas.{position_word_halves_rise}
@@ -37,8 +37,8 @@ use Rattle.position_words.proofs.RuleLemmas.{rule_parity_is_never_both}
 
 -- a view that fits, and is not spent, meets the position of a word
 step_meets_allowed_position : (shards : List ShardValue) (state : State (Option ShardValue) View) (seat place : ℕ) (view : View)
-    → RuleIsKept shards state → get_elem? state.views seat ≡ some view → view.spent ≡ false
-    → WordStepMeets place (slice_index state.words place / 2) view
+    → IsKept shards state → get_elem? state.views seat ≡ some view → view.spent ≡ false
+    → StepMeets place (slice_index state.words place / 2) view
 step_meets_allowed_position shards state seat place view kept at live =
     let fits : FitsRule shards state.words view = kept.views seat view at live in
     record {
@@ -49,7 +49,7 @@ step_meets_allowed_position shards state seat place view kept at live =
 -- a view still fits after a step at one shard that saw a position of its word
 view_fits_after_allowed_step : (shards : List ShardValue) (words : List ℕ) (change : Trail → Trail) (position place : ℕ)
     (view : View) → ((trail : Trail) → (change trail).seen ≡ position)
-    → position ≤ slice_index words place / 2 → FitsRule shards words view → FitsRule shards words (view_with_trail change place view)
+    → position ≤ slice_index words place / 2 → FitsRule shards words view → FitsRule shards words (with_trail change place view)
 view_fits_after_allowed_step shards words change position place view sees within fits = record {
   opening = fits.opening;
   trails = length_of_changed_trails change place view.trails ∙ fits.trails;
@@ -58,40 +58,40 @@ view_fits_after_allowed_step shards words change position place view sees within
 
 -- a step that leaves the words and the slots unchanged
 allowed_step_keeps_words : (shards : List ShardValue) (state : State (Option ShardValue) View) (seat place word : ℕ)
-    (before now : View) → RuleIsKept shards state → word ≡ slice_index state.words place
+    (before now : View) → IsKept shards state → word ≡ slice_index state.words place
     → get_elem? state.views seat ≡ some before → now.held ≡ before.held
     → (now.spent ≡ false → FitsRule shards state.words now)
-    → RuleIsKept shards
+    → IsKept shards
     (record { words = set state.words place word; homes = state.homes; views = set state.views seat now })
 allowed_step_keeps_words shards state seat place word before now kept is at same fits =
     let words_are : set state.words place word ≡ state.words =
     ap (set state.words place) is ∙ set-get_or state.words place 0 in
-    subst (λ ws. RuleIsKept shards (record { words = ws; homes = state.homes; views = set state.views seat now }))
+    subst (λ ws. IsKept shards (record { words = ws; homes = state.homes; views = set state.views seat now }))
     (sym words_are)
     (rule_survives_view_change shards state.words state.homes state.views kept seat before now at same fits)
 
 pub look_step_is_allowed : (shards : List ShardValue) (slots seat place : ℕ) (me : Me (Option ShardValue) View) → me.0.spent ≡ false
-    → Allows (RuleIsKept shards) slots seat me place (λ n. n) (WordStepLooks (step slots place 0 0 none) me)
+    → Allows (IsKept shards) slots seat me place (λ n. n) (StepLooks (step slots place 0 0 none) me)
 look_step_is_allowed shards slots seat place me live state kept many at small =
     let position : ℕ = slice_index state.words place / 2 in
     let fits : FitsRule shards state.words me.0 = kept.views seat me.0 at live in
-    let now_fits : FitsRule shards state.words (view_after_look place position me.0) =
+    let now_fits : FitsRule shards state.words (after_look place position me.0) =
     view_fits_after_allowed_step shards state.words
     (λ trail. record trail { seen = position; looks = trail.looks ++ position ∷ [] }) position place me.0
     (λ trail. refl) (omega arith) fits in (
-      view_after_look place position me.0,
+      after_look place position me.0,
       keeps,
       tt,
-      allowed_step_keeps_words shards state seat place (slice_index state.words place) me.0 (view_after_look place position me.0) kept
+      allowed_step_keeps_words shards state seat place (slice_index state.words place) me.0 (after_look place position me.0) kept
           refl at refl (λ _. now_fits),
       (step_meets_allowed_position shards state seat place me.0 kept at live, refl),
     )
 
-allowed_step_sees_taken : (aim : Aim) (position : ℕ) (trail : Trail) → (view_trail_after_win aim position trail).seen ≡ position
+allowed_step_sees_taken : (aim : Aim) (position : ℕ) (trail : Trail) → (trail_after_win aim position trail).seen ≡ position
 allowed_step_sees_taken Fold position trail = refl
 allowed_step_sees_taken Read position trail = refl
 
-allowed_step_sees_given : (aim : Aim) (met position : ℕ) (trail : Trail) → (view_trail_after_giving aim met position trail).seen ≡ position
+allowed_step_sees_given : (aim : Aim) (met position : ℕ) (trail : Trail) → (trail_after_give aim met position trail).seen ≡ position
 allowed_step_sees_given Fold met position trail = refl
 allowed_step_sees_given Read met position trail = refl
 
@@ -100,8 +100,8 @@ abbrev TakeStepIsAllowed : List ShardValue → ℕ → ℕ → ℕ → Aim → M
     → Type 0
 TakeStepIsAllowed shards slots seat place aim me state =
     (now : View) × (act : Act (Option ShardValue)) × Valid state.homes me.1 act
-    × RuleIsKept shards (stepped state place (bit_or (slice_index state.words place) 1) seat me.1 now act)
-    × WordStepTakesFor aim (step slots place 1 0 none) me (slice_index state.words place) (now, carried_after me.1 act)
+    × IsKept shards (stepped state place (bit_or (slice_index state.words place) 1) seat me.1 now act)
+    × StepTakesFor aim (step slots place 1 0 none) me (slice_index state.words place) (now, carried_after me.1 act)
 
 allowed_step_true_not_false : true ≡ false → ⊥
 allowed_step_true_not_false same = cc same
@@ -114,18 +114,18 @@ allowed_step_finds_shard (s ∷ rest) (suc place) inside = allowed_step_finds_sh
 
 -- a take may find the word odd, and leaves it unchanged
 step_loses_as_allowed : (shards : List ShardValue) (slots seat place : ℕ) (aim : Aim) (me : Me (Option ShardValue) View)
-    → me.0.spent ≡ false → (state : State (Option ShardValue) View) → RuleIsKept shards state
+    → me.0.spent ≡ false → (state : State (Option ShardValue) View) → IsKept shards state
     → get_elem? state.views seat ≡ some me.0 → IsOddWord (slice_index state.words place)
     → TakeStepIsAllowed shards slots seat place aim me state
 step_loses_as_allowed shards slots seat place aim me live state kept at odd =
     let word : ℕ = slice_index state.words place in
     let fits : FitsRule shards state.words me.0 = kept.views seat me.0 at live in
-    let now_fits : FitsRule shards state.words (view_after_loss place word me.0) =
-    view_fits_after_allowed_step shards state.words (view_trail_after_loss word) (word / 2) place me.0 (λ trail. refl) (omega arith) fits in (
-      view_after_loss place word me.0,
+    let now_fits : FitsRule shards state.words (after_loss place word me.0) =
+    view_fits_after_allowed_step shards state.words (trail_after_loss word) (word / 2) place me.0 (λ trail. refl) (omega arith) fits in (
+      after_loss place word me.0,
       keeps,
       tt,
-      allowed_step_keeps_words shards state seat place (bit_or word 1) me.0 (view_after_loss place word me.0) kept (position_word_marked_odd word odd) at
+      allowed_step_keeps_words shards state seat place (bit_or word 1) me.0 (after_loss place word me.0) kept (position_word_marked_odd word odd) at
           refl (λ _. now_fits),
       record {
         meets = step_meets_allowed_position shards state seat place me.0 kept at live;
@@ -137,22 +137,22 @@ step_loses_as_allowed shards slots seat place aim me live state kept at odd =
 -- or even, and then the slot goes out to the seat
 step_wins_as_allowed : (shards : List ShardValue) (slots seat place : ℕ) (aim : Aim) (me : Me (Option ShardValue) View)
     → place < length shards → me.0.spent ≡ false → me.0.held ≡ None
-    → (state : State (Option ShardValue) View) → RuleIsKept shards state → get_elem? state.views seat ≡ some me.0
+    → (state : State (Option ShardValue) View) → IsKept shards state → get_elem? state.views seat ≡ some me.0
     → IsEvenWord (slice_index state.words place)
     → TakeStepIsAllowed shards slots seat place aim me state
 step_wins_as_allowed shards slots seat place aim me inside live free state kept at even =
     let word : ℕ = slice_index state.words place in
     let found = allowed_step_finds_shard shards place inside in
     let shard : ShardValue = found.0 in
-    let now : View = view_after_win aim place (word / 2) me.0 in
+    let now : View = after_win aim place (word / 2) me.0 in
     let later : List ℕ = set state.words place (word + 1) in
     let in_words : place < length state.words = omega (arith, inside, kept.words) in
     let here : slice_index later place ≡ word + 1 = position_word_here state.words place (word + 1) in_words in
     let fits : FitsRule shards later me.0 =
     rule_fit_survives_rise shards state.words later me.0 (position_word_halves_rise state.words place (word + 1) in_words (omega arith))
     (kept.views seat me.0 at live) in
-    let trail_fits : FitsRule shards later (view_with_trail (view_trail_after_win aim (word / 2)) place me.0) =
-    view_fits_after_allowed_step shards later (view_trail_after_win aim (word / 2)) (word / 2) place me.0 (allowed_step_sees_taken aim (word / 2))
+    let trail_fits : FitsRule shards later (with_trail (trail_after_win aim (word / 2)) place me.0) =
+    view_fits_after_allowed_step shards later (trail_after_win aim (word / 2)) (word / 2) place me.0 (allowed_step_sees_taken aim (word / 2))
     (omega (arith, here)) fits in
     let now_fits : FitsRule shards later now = record {
       opening = trail_fits.opening;
@@ -164,7 +164,7 @@ step_wins_as_allowed shards slots seat place aim me inside live free state kept 
       takes place (Some (shard_state_at (word / 2) shard)),
       kept.even place shard found.1 even,
       subst (λ n.
-          RuleIsKept shards
+          IsKept shards
           (record {
             words = set state.words place n;
             homes = set state.homes place none;
@@ -185,23 +185,23 @@ step_wins_as_allowed shards slots seat place aim me inside live free state kept 
 
 pub take_step_is_allowed : (shards : List ShardValue) (slots seat place : ℕ) (aim : Aim) (me : Me (Option ShardValue) View)
     → place < length shards → me.0.spent ≡ false → me.0.held ≡ None
-    → Allows (RuleIsKept shards) slots seat me place (λ n. bit_or n 1) (WordStepTakesFor aim (step slots place 1 0 none) me)
+    → Allows (IsKept shards) slots seat me place (λ n. bit_or n 1) (StepTakesFor aim (step slots place 1 0 none) me)
 take_step_is_allowed shards slots seat place aim me inside live free state kept many at small =
     ⊎_elim (step_wins_as_allowed shards slots seat place aim me inside live free state kept at)
     (step_loses_as_allowed shards slots seat place aim me live state kept at) (position_word_has_parity (slice_index state.words place))
 
 -- the view after a give of the shard that is held
 allowed_step_gave_held : (position : ℕ) (view : View) (held : Held) → view.held ≡ Some held
-    → view_after_giving position view
-    ≡ record (view_with_trail (view_trail_after_giving held.aim held.position position) held.shard view) { held = None }
-allowed_step_gave_held position view held holds = ap (λ h. view_after_giving_held position h view) holds
+    → after_giving position view
+    ≡ record (with_trail (trail_after_give held.aim held.position position) held.shard view) { held = None }
+allowed_step_gave_held position view held holds = ap (λ h. after_give_held position h view) holds
 
 give_held_step_is_allowed : (shards : List ShardValue) (slots seat position : ℕ) (me : Me (Option ShardValue) View)
     (held : Held) (shard : ShardValue) → me.0.spent ≡ false → me.0.held ≡ Some held
     → held.position ≤ position → position ≤ length shard.list → slice_get shards held.shard ≡ Some shard
     → me.1 ≡ (held.shard, Some (shard_state_at position shard)) ∷ []
-    → Allows (RuleIsKept shards) slots seat me held.shard (λ _. 2 * position)
-    (λ _. WordStepGives (step slots held.shard (2 * position) 0 none) me (2 * position))
+    → Allows (IsKept shards) slots seat me held.shard (λ _. 2 * position)
+    (λ _. StepGives (step slots held.shard (2 * position) 0 none) me (2 * position))
 give_held_step_is_allowed shards slots seat position me held shard live holds forward ends is out state kept many at small =
     let place : ℕ = held.shard in
     let after : List ℕ = set state.words place (2 * position) in
@@ -213,24 +213,24 @@ give_held_step_is_allowed shards slots seat position me held shard live holds fo
     rule_fit_survives_rise shards state.words after me.0
     (position_word_halves_rise state.words place (2 * position) in_words (omega (arith, before_word, forward)))
     (kept.views seat me.0 at live) in
-    let trail_fits : FitsRule shards after (view_with_trail (view_trail_after_giving held.aim held.position position) place me.0) =
-    view_fits_after_allowed_step shards after (view_trail_after_giving held.aim held.position position) position place me.0
+    let trail_fits : FitsRule shards after (with_trail (trail_after_give held.aim held.position position) place me.0) =
+    view_fits_after_allowed_step shards after (trail_after_give held.aim held.position position) position place me.0
     (allowed_step_sees_given held.aim held.position position) (omega (arith, here)) fits in
-    let now : View = record (view_with_trail (view_trail_after_giving held.aim held.position position) place me.0) { held = None } in
+    let now : View = record (with_trail (trail_after_give held.aim held.position position) place me.0) { held = None } in
     let now_fits : FitsRule shards after now = record {
       opening = trail_fits.opening;
       trails = trail_fits.trails;
       reached = trail_fits.reached;
     } in
     let half : position ≡ 2 * position / 2 = omega arith in
-    let now_is : now ≡ view_after_giving (2 * position / 2) me.0 =
-    sym (allowed_step_gave_held position me.0 held holds) ∙ ap (λ p. view_after_giving p me.0) half in
+    let now_is : now ≡ after_giving (2 * position / 2) me.0 =
+    sym (allowed_step_gave_held position me.0 held holds) ∙ ap (λ p. after_giving p me.0) half in
     let homes_are : set state.homes place (some (Some (shard_state_at position shard)))
     ≡ homes_after state.homes me.1 gives = ap (λ c. put_back state.homes c) (sym out) in (
       now,
       gives,
       tt,
-      subst (λ hs. RuleIsKept shards (record { words = after; homes = hs; views = set state.views seat now })) homes_are
+      subst (λ hs. IsKept shards (record { words = after; homes = hs; views = set state.views seat now })) homes_are
           (rule_survives_putting_back shards state.words state.homes state.views kept seat me.0 now shard held position at
           holds is forward ends refl now_fits),
       ap (λ v. (v, rest me.1)) now_is,
@@ -240,12 +240,12 @@ pub give_step_is_allowed : (shards : List ShardValue) (slots seat place position
     (held : Held) (shard : ShardValue) → me.0.spent ≡ false → me.0.held ≡ Some held
     → held.shard ≡ place → held.position ≤ position → position ≤ length shard.list
     → slice_get shards place ≡ Some shard → me.1 ≡ (place, Some (shard_state_at position shard)) ∷ []
-    → Allows (RuleIsKept shards) slots seat me place (λ _. 2 * position)
-    (λ _. WordStepGives (step slots place (2 * position) 0 none) me (2 * position))
+    → Allows (IsKept shards) slots seat me place (λ _. 2 * position)
+    (λ _. StepGives (step slots place (2 * position) 0 none) me (2 * position))
 give_step_is_allowed shards slots seat place position me held shard live holds at_place forward ends =
     subst (λ k. slice_get shards k ≡ Some shard → me.1 ≡ (k, Some (shard_state_at position shard)) ∷ []
-    → Allows (RuleIsKept shards) slots seat me k (λ _. 2 * position)
-    (λ _. WordStepGives (step slots k (2 * position) 0 none) me (2 * position))) at_place
+    → Allows (IsKept shards) slots seat me k (λ _. 2 * position)
+    (λ _. StepGives (step slots k (2 * position) 0 none) me (2 * position))) at_place
     (give_held_step_is_allowed shards slots seat position me held shard live holds forward ends)
 
 -- a new seat has seen the same positions
@@ -253,40 +253,40 @@ newcomer_fits_allowed_step : (shards : List ShardValue) (words : List ℕ) (view
     → FitsRule shards words (newcomer_view view)
 newcomer_fits_allowed_step shards words view fits = record {
   opening = fits.opening;
-  trails = length-map view.trails (λ trail. view_trail_from trail.seen) ∙ fits.trails;
+  trails = length-map view.trails (λ trail. trail_from trail.seen) ∙ fits.trails;
   reached = λ shard.
       subst (λ seen. slice_index seen shard ≤ slice_index words shard / 2) (sym (trail_positions-newcomer view.trails))
       (fits.reached shard);
 }
 
 pub split_step_is_allowed : (shards : List ShardValue) (seat : ℕ) (view : View) → view.spent ≡ false
-    → Splits (RuleIsKept shards) seat view (view_after_split view) (newcomer_view view)
+    → Splits (IsKept shards) seat view (after_split view) (newcomer_view view)
 split_step_is_allowed shards seat view live state kept at =
     let fits : FitsRule shards state.words view = kept.views seat view at live in
-    let left_fits : FitsRule shards state.words (view_after_split view) = record {
+    let left_fits : FitsRule shards state.words (after_split view) = record {
       opening = fits.opening;
       trails = fits.trails;
       reached = fits.reached;
     } in
-    rule_survives_arrival shards state.words state.homes (set state.views seat (view_after_split view))
-    (rule_survives_view_change shards state.words state.homes state.views kept seat view (view_after_split view) at refl
+    rule_survives_arrival shards state.words state.homes (set state.views seat (after_split view))
+    (rule_survives_view_change shards state.words state.homes state.views kept seat view (after_split view) at refl
     (λ _. left_fits)) (newcomer_view view) refl (newcomer_fits_allowed_step shards state.words view fits)
 
 pub join_step_is_allowed : (shards : List ShardValue) (seat other : ℕ) (view its : View) → view.spent ≡ false
     → its.spent ≡ false → its.held ≡ None
-    → Joins (RuleIsKept shards) seat view other its (view_after_join view its) spent_view
+    → Joins (IsKept shards) seat view other its (after_join view its) spent_view
 join_step_is_allowed shards seat other view its live its_live free state kept at apart at_other =
     let was_other : get_elem? state.views other ≡ some its =
-    sym (set_else state.views seat other (view_after_join view its) apart) ∙ at_other in
+    sym (set_else state.views seat other (after_join view its) apart) ∙ at_other in
     let fits : FitsRule shards state.words view = kept.views seat view at live in
     let its_fits : FitsRule shards state.words its = kept.views other its was_other its_live in
-    let both_fit : FitsRule shards state.words (view_after_join view its) = record {
+    let both_fit : FitsRule shards state.words (after_join view its) = record {
       opening = fits.opening;
       trails = length_of_joined_trails view.trails its.trails ∙ fits.trails;
       reached =
           joined_trails_stay_below view.trails its.trails (λ k. slice_index state.words k / 2) fits.reached its_fits.reached;
     } in
-    rule_survives_view_change shards state.words state.homes (set state.views seat (view_after_join view its))
-    (rule_survives_view_change shards state.words state.homes state.views kept seat view (view_after_join view its) at refl
+    rule_survives_view_change shards state.words state.homes (set state.views seat (after_join view its))
+    (rule_survives_view_change shards state.words state.homes state.views kept seat view (after_join view its) at refl
     (λ _. both_fit)) other its spent_view at_other (sym free)
     (λ fresh. absurd (allowed_step_true_not_false fresh))

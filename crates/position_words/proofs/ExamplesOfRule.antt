@@ -12,11 +12,11 @@ use Rattle.position_words.specs.declared.view.Held.{Held}
 use Rattle.position_words.specs.declared.view.View.{View}
 use Rattle.position_words.specs.View.{newcomer_view, spent_view}
 use Rattle.position_words.specs.Seat.{SeatValue, IsSeatOf}
-use Rattle.position_words.specs.PositionWords.{PositionWordsValue, IsShardAtSomePosition, PositionMayFollow}
-use Rattle.position_words.specs.PositionWords.{MayGiveAtPosition}
-use Rattle.position_words.specs.PositionWords.{IsEvenWord, IsOddWord}
+use Rattle.position_words.specs.Words.{WordsValue, IsShardAtSome, MayFollow}
+use Rattle.position_words.specs.Words.{MayGiveAt}
+use Rattle.position_words.specs.Words.{IsEvenWord, IsOddWord}
 use Rattle.position_words.specs.Seat.{IsHoldingSeat}
-use Rattle.position_words.specs.Rule.{FitsRule, IsUnderRule, RuleIsKept}
+use Rattle.position_words.specs.Rule.{FitsRule, IsUnderRule, IsKept}
 use Rattle.position_words.proofs.Examples.{pair, single, shards, first, holding, held_first}
 
 pub word_of_a_free_shard : IsEvenWord 4
@@ -87,7 +87,7 @@ unseen (suc (suc shard)) = omega arith
 abbrev held_once : State (Option ShardValue) View
 held_once = record { words = words; homes = none ∷ some (Some single) ∷ []; views = views }
 
-pub held_shard_is_kept : RuleIsKept shards held_once
+pub held_shard_is_kept : IsKept shards held_once
 held_shard_is_kept = record {
   words = refl;
   slots = refl;
@@ -138,7 +138,7 @@ held_shard_is_kept = record {
 abbrev too_old : State (Option ShardValue) View
 too_old = record { words = 2 ∷ 0 ∷ []; homes = some (Some pair) ∷ some (Some single) ∷ []; views = first ∷ [] }
 
-pub slot_with_an_older_state : RuleIsKept shards too_old → ⊥
+pub slot_with_an_older_state : IsKept shards too_old → ⊥
 slot_with_an_older_state kept =
     let older = Some pair in
     let newer = Some (shard_state_at 1 pair) in
@@ -152,14 +152,14 @@ slot_with_an_older_state kept =
 abbrev held_by_none : State (Option ShardValue) View
 held_by_none = record { words = 1 ∷ 0 ∷ []; homes = none ∷ some (Some single) ∷ []; views = first ∷ [] }
 
-pub odd_word_without_a_holder : RuleIsKept shards held_by_none → ⊥
+pub odd_word_without_a_holder : IsKept shards held_by_none → ⊥
 odd_word_without_a_holder kept = let found = kept.odd 0 (omega arith) refl in none_holds found.0 found.1
   where
     none_holds : (seat : ℕ) → IsHoldingSeat (first ∷ []) seat 0 → ⊥
     none_holds zero holder = cc (ap (λ v. v.held) (some-injective first holder.view holder.at) ∙ holder.holds)
     none_holds (suc seat) holder = cc holder.at
 
-pub rule_is_under_itself : IsUnderRule shards (RuleIsKept shards)
+pub rule_is_under_itself : IsUnderRule shards (IsKept shards)
 rule_is_under_itself = λ state kept. kept
 
 -- a table that allows an odd word without a holder
@@ -167,7 +167,7 @@ pub table_with_a_word_that_no_seat_gives_back : IsUnderRule shards (λ state. st
 table_with_a_word_that_no_seat_gives_back under = odd_word_without_a_holder (under held_by_none refl)
 
 -- words of these shards
-abbrev words_of : SeatValue → PositionWordsValue
+abbrev words_of : SeatValue → WordsValue
 words_of seat = record { id = seat.table_id; opening = shards }
 
 pub first_is_a_seat : (seat : SeatValue) → IsSeatOf (words_of seat) (record seat { me = (first, []) })
@@ -180,33 +180,33 @@ holder_has_a_slot_out seat = record { id = refl; opening = refl; trails = refl; 
 pub seat_that_was_joined : (seat : SeatValue) → IsSeatOf (words_of seat) (record seat { me = (spent_view, []) }) → ⊥
 seat_that_was_joined seat of = omega (arith, of.trails)
 
-pub same_list_and_base : IsShardAtSomePosition shards 0 (shard_state_at 2 pair)
+pub same_list_and_base : IsShardAtSome shards 0 (shard_state_at 2 pair)
 same_list_and_base = record { start = 0; is = refl }
 
-pub list_of_another_shard : IsShardAtSomePosition shards 0 single → ⊥
+pub list_of_another_shard : IsShardAtSome shards 0 single → ⊥
 list_of_another_shard of =
     let count : 2 ≡ 1 = ap (λ (s : ShardValue). length s.list) (same_Some pair (shard_state_at of.start single) of.is) in
     omega (arith, count)
 
-pub fold_may_end_later : PositionMayFollow Fold 1 2
+pub fold_may_end_later : MayFollow Fold 1 2
 fold_may_end_later = omega arith
 
-pub fold_may_not_go_back : PositionMayFollow Fold 1 0 → ⊥
+pub fold_may_not_go_back : MayFollow Fold 1 0 → ⊥
 fold_may_not_go_back follows = omega (arith, follows)
 
-pub read_leaves_the_position : PositionMayFollow Read 1 1
+pub read_leaves_the_position : MayFollow Read 1 1
 read_leaves_the_position = refl
 
-pub read_may_not_move : PositionMayFollow Read 1 2 → ⊥
+pub read_may_not_move : MayFollow Read 1 2 → ⊥
 read_may_not_move follows = omega (arith, follows)
 
-pub holder_may_give : MayGiveAtPosition 0 2 holding
+pub holder_may_give : MayGiveAt 0 2 holding
 holder_may_give = record { held = held_first; holds = refl; is = refl; follows = omega arith }
 
-pub holder_may_not_give_another_shard : MayGiveAtPosition 1 2 holding → ⊥
+pub holder_may_not_give_another_shard : MayGiveAt 1 2 holding → ⊥
 holder_may_not_give_another_shard gives =
     let shard : 0 ≡ 1 = ap (λ h. h.shard) (held_is gives.held gives.holds) ∙ gives.is in
     omega (arith, shard)
 
-pub free_seat_gives_nothing : MayGiveAtPosition 0 2 first → ⊥
+pub free_seat_gives_nothing : MayGiveAt 0 2 first → ⊥
 free_seat_gives_nothing gives = cc gives.holds

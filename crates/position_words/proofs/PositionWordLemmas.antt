@@ -7,7 +7,7 @@ use Rattle.std.specs.Int.Bits.{bit_or, bit_and, or_add_and}
 use Rattle.std.proofs.lemmas.Bool.{cases_eq}
 use Rattle.std.proofs.lemmas.Nat.Bits.{bit_at_lowest, shr_and_one}
 use Rattle.std.proofs.lemmas.List.{get_or-set_same, get_or-set_other}
-use Rattle.position_words.specs.PositionWords.{IsEvenWord, IsOddWord}
+use Rattle.position_words.specs.Words.{IsEvenWord, IsOddWord}
 
 position_word_last_bit : (word : ℕ) → bit_and word 1 ≡ word % 2
 position_word_last_bit word = ap (λ n. bit_and n 1) (sym (div-one word)) ∙ shr_and_one word 0 ∙ bit_at_lowest word

@@ -15,10 +15,10 @@ use Rattle.atomic_table.proofs.Lists.{at_set, set_here, set_else, at_snoc, at_lo
 use Rattle.shard_state.specs.{ShardValue, IsShard, shard_state_at}
 use Rattle.position_words.specs.declared.view.Held.{Held}
 use Rattle.position_words.specs.declared.view.View.{View}
-use Rattle.position_words.specs.View.{first_view, view_trail_from}
-use Rattle.position_words.specs.PositionWords.{IsEvenWord, IsOddWord}
+use Rattle.position_words.specs.View.{first_view, trail_from}
+use Rattle.position_words.specs.Words.{IsEvenWord, IsOddWord}
 use Rattle.position_words.specs.Seat.{IsHoldingSeat}
-use Rattle.position_words.specs.Rule.{FitsRule, RuleIsKept}
+use Rattle.position_words.specs.Rule.{FitsRule, IsKept}
 use Rattle.position_words.proofs.PositionWordLemmas.{position_word_here, position_word_there, position_word_halves_rise}
 use Rattle.position_words.proofs.TrailLemmas.{first_trails_have_positions}
 use Rattle.position_words.proofs.HolderLemmas.{IsHolderView, holder_there, holder_here, holder_has_its_view}
@@ -43,7 +43,7 @@ rule_fit_survives_rise shards words later view rule_halves_rise fits =
     }
 
 module _ (shards : List ShardValue) (words : List ℕ) (homes : List (maybe.Option (Option ShardValue)))
-    (views : List View) (kept : RuleIsKept shards (record { words = words; homes = homes; views = views })) where
+    (views : List View) (kept : IsKept shards (record { words = words; homes = homes; views = views })) where
   -- the word of a shard that is held
   rule_word_when_held : (seat place : ℕ) (view : View) → get_elem? views seat ≡ some view → (has : IsHolderView view place)
       → slice_index words place ≡ 2 * has.held.position + 1
@@ -61,7 +61,7 @@ module _ (shards : List ShardValue) (words : List ℕ) (homes : List (maybe.Opti
   -- a view changes, and holds what it held
   pub rule_survives_view_change : (seat : ℕ) (before now : View) → get_elem? views seat ≡ some before → now.held ≡ before.held
       → (now.spent ≡ false → FitsRule shards words now)
-      → RuleIsKept shards (record { words = words; homes = homes; views = set views seat now })
+      → IsKept shards (record { words = words; homes = homes; views = set views seat now })
   rule_survives_view_change seat before now at same fits = record {
     words = kept.words;
     slots = kept.slots;
@@ -85,7 +85,7 @@ module _ (shards : List ShardValue) (words : List ℕ) (homes : List (maybe.Opti
 
   -- a new seat, which holds nothing
   pub rule_survives_arrival : (new : View) → new.held ≡ None → FitsRule shards words new
-      → RuleIsKept shards (record { words = words; homes = homes; views = views ++ new ∷ [] })
+      → IsKept shards (record { words = words; homes = homes; views = views ++ new ∷ [] })
   rule_survives_arrival new free fits = record {
     words = kept.words;
     slots = kept.slots;
@@ -163,7 +163,7 @@ module _ (shards : List ShardValue) (words : List ℕ) (homes : List (maybe.Opti
     rule_nobody_held_it other at_place holder same =
         rule_parity_is_never_both word even (rule_is_odd_if_held other place (subst (IsHoldingSeat views other) same holder))
 
-    pub rule_survives_taking_out : RuleIsKept shards (record { words = later; homes = set homes place none; views = set views seat now })
+    pub rule_survives_taking_out : IsKept shards (record { words = later; homes = set homes place none; views = set views seat now })
     rule_survives_taking_out = record {
       words = length-set words place (word + 1) ∙ kept.words;
       slots = length-set homes place none ∙ kept.slots;
@@ -290,7 +290,7 @@ module _ (shards : List ShardValue) (words : List ℕ) (homes : List (maybe.Opti
         ⊎_elim (λ mine. absurd (rule_none_is_not_held now mine.1.held free mine.1.holds)) (λ old. old)
         (holder_after views seat other at_place now holder)
 
-    pub rule_survives_putting_back : RuleIsKept shards (record { words = after; homes = filled; views = set views seat now })
+    pub rule_survives_putting_back : IsKept shards (record { words = after; homes = filled; views = set views seat now })
     rule_survives_putting_back = record {
       words = length-set words place (2 * position) ∙ kept.words;
       slots = length-set homes place (some (Some (shard_state_at position shard))) ∙ kept.slots;
@@ -377,7 +377,7 @@ rule_starts_with_one_view first zero view is = some-injective first view is
 rule_starts_with_one_view first (suc seat) view is = absurd (some-ne-none view (sym is))
 
 pub rule_is_kept_at_start : (shards : List ShardValue) → All IsShard shards
-    → RuleIsKept shards (opening (map (λ (s : ShardValue). 2 * s.position) shards) (map Some shards) (first_view shards))
+    → IsKept shards (opening (map (λ (s : ShardValue). 2 * s.position) shards) (map Some shards) (first_view shards))
 rule_is_kept_at_start shards kept = record {
   words = length-map shards (λ (s : ShardValue). 2 * s.position);
   slots = length-map (map Some shards) some ∙ length-map shards Some;
@@ -399,7 +399,7 @@ rule_is_kept_at_start shards kept = record {
       subst (FitsRule shards (map (λ (s : ShardValue). 2 * s.position) shards)) (rule_starts_with_one_view (first_view shards) seat view is)
       (record {
         opening = refl;
-        trails = length-map shards (λ s. view_trail_from s.position);
+        trails = length-map shards (λ s. trail_from s.position);
         reached = first_trails_have_positions shards;
       });
 }

@@ -7,8 +7,8 @@ use Rattle.atomic_table.specs.Table.{State}
 use Rattle.shard_state.specs.{ShardValue, shard_state_at}
 use Rattle.position_words.specs.declared.view.Held.{Held}
 use Rattle.position_words.specs.declared.view.View.{View}
-use Rattle.position_words.specs.View.{seen_in_view}
-use Rattle.position_words.specs.PositionWords.{IsEvenWord, IsOddWord}
+use Rattle.position_words.specs.View.{seen_in}
+use Rattle.position_words.specs.Words.{IsEvenWord, IsOddWord}
 use Rattle.position_words.specs.Seat.{IsHoldingSeat}
 
 -- what holds of the view of a seat that was not joined to another: it names the shards, has a trail for each, and has
@@ -16,11 +16,11 @@ use Rattle.position_words.specs.Seat.{IsHoldingSeat}
 pub record FitsRule (shards : List ShardValue) (words : List ℕ) (view : View) : Type 0 where
   pub opening : view.opening ≡ shards
   pub trails : length view.trails ≡ length shards
-  pub reached : (shard : ℕ) → seen_in_view shard view ≤ slice_index words shard / 2
+  pub reached : (shard : ℕ) → seen_in shard view ≤ slice_index words shard / 2
 
 -- the rule: a word is twice its shard's position, which is within the list, plus one while a seat holds the shard; at
 -- most one seat does; while none does, the slot has the shard's state at that position; each view in use fits
-pub record RuleIsKept (opening : List ShardValue) (state : State (Option ShardValue) View) : Type 0 where
+pub record IsKept (opening : List ShardValue) (state : State (Option ShardValue) View) : Type 0 where
   pub words : length state.words ≡ length opening
   pub slots : length state.homes ≡ length opening
   pub within : (place : ℕ) (shard : ShardValue) → slice_get opening place ≡ Some shard
@@ -38,4 +38,4 @@ pub record RuleIsKept (opening : List ShardValue) (state : State (Option ShardVa
 
 -- a table that allows these states of words, slots and views is under the rule: each of them keeps it over the shards
 abbrev pub IsUnderRule : List ShardValue → (State (Option ShardValue) View → Type 0) → Type 0
-IsUnderRule opening allows = (state : State (Option ShardValue) View) → allows state → RuleIsKept opening state
+IsUnderRule opening allows = (state : State (Option ShardValue) View) → allows state → IsKept opening state

@@ -1,8 +1,8 @@
 //! The rule that the words, the slots and the views keep between any two steps, and what each kind of step does.
 
 ghost use Rattle.position_words.specs.declared.view.Aim.TheVariants.{Fold, Read};
-ghost use Rattle.position_words.specs.WordSteps.{WordStepLooks, WordStepTakesFor, WordStepGives};
-ghost use Rattle.position_words.specs.View.{view_after_split, newcomer_view, view_after_join, spent_view};
+ghost use Rattle.position_words.specs.Steps.{StepLooks, StepTakesFor, StepGives};
+ghost use Rattle.position_words.specs.View.{after_split, newcomer_view, after_join, spent_view};
 
 use crate::view::View;
 use atomic_table::{Join, Play, Split, TableRule};
@@ -13,10 +13,10 @@ use std::snapshot::Snapshot;
 pub struct SlotRule;
 
 impl TableRule<Option<ShardState>, View, Snapshot<Vec<ShardState>>> for SlotRule {
-    ghost use Rattle.position_words.specs.Rule.{RuleIsKept};
+    ghost use Rattle.position_words.specs.Rule.{IsKept};
     ghost use Rattle.position_words.specs.View.{first_view};
 
-    ghost holds = { λ key. RuleIsKept key.value.items };
+    ghost holds = { λ key. IsKept key.value.items };
 
     ghost first = { λ key. first_view key.value.items };
 }
@@ -25,35 +25,35 @@ impl TableRule<Option<ShardState>, View, Snapshot<Vec<ShardState>>> for SlotRule
 pub(crate) struct Looking;
 
 impl Play<Option<ShardState>, View> for Looking {
-    ghost then = { WordStepLooks };
+    ghost then = { StepLooks };
 }
 
 // A take to fold, which wins or loses.
 pub(crate) struct TakingToFold;
 
 impl Play<Option<ShardState>, View> for TakingToFold {
-    ghost then = { WordStepTakesFor Fold };
+    ghost then = { StepTakesFor Fold };
 }
 
 // A take to read, which wins or loses.
 pub(crate) struct TakingToRead;
 
 impl Play<Option<ShardState>, View> for TakingToRead {
-    ghost then = { WordStepTakesFor Read };
+    ghost then = { StepTakesFor Read };
 }
 
 // The store that gives a shard back.
 pub(crate) struct Giving;
 
 impl Play<Option<ShardState>, View> for Giving {
-    ghost then = { WordStepGives };
+    ghost then = { StepGives };
 }
 
 // A new seat, which has seen the same positions.
 pub(crate) struct SplittingOff;
 
 impl Split<View> for SplittingOff {
-    ghost left = { view_after_split };
+    ghost left = { after_split };
 
     ghost right = { newcomer_view };
 }
@@ -62,7 +62,7 @@ impl Split<View> for SplittingOff {
 pub(crate) struct Joining;
 
 impl Join<View> for Joining {
-    ghost both = { view_after_join };
+    ghost both = { after_join };
 
     ghost spent = { spent_view };
 }

@@ -3,12 +3,12 @@
 ghost use Rattle.std.specs.Prelude.{◌≡◌, ◌≤◌, ◌<◌, ◌*◌, ◌^◌, All, length, map, IfOk, None, Some};
 ghost use Rattle.prefix_lattice.specs.{record_limit};
 ghost use Rattle.shard_state.specs.{AreCoreShards};
-ghost use Rattle.position_words.specs.View.{first_view, view_after_giving, view_after_join, view_after_look};
-ghost use Rattle.position_words.specs.View.{newcomer_view, view_after_split};
-ghost use Rattle.position_words.specs.PositionWords.{IsShardAtSomePosition, MayGiveAtPosition};
+ghost use Rattle.position_words.specs.View.{first_view, after_giving, after_join, after_look};
+ghost use Rattle.position_words.specs.View.{newcomer_view, after_split};
+ghost use Rattle.position_words.specs.Words.{IsShardAtSome, MayGiveAt};
 ghost use Rattle.position_words.specs.Rule.{IsUnderRule};
 ghost use Rattle.position_words.specs.Seat.{IsSeatOf, view};
-ghost use Rattle.position_words.specs.WordSteps.{WordStepAnswers, WordStepMeets};
+ghost use Rattle.position_words.specs.Steps.{StepAnswers, StepMeets};
 
 use crate::rule::{Joining, SlotRule, SplittingOff};
 use crate::view::{Aim, View};
@@ -57,9 +57,9 @@ pub struct Words {
 impl Model for Words {
     ghost use Rattle.std.specs.Prelude.{◌≡◌, length};
     ghost use Rattle.shard_state.specs.{AreCoreShards};
-    ghost use Rattle.position_words.specs.PositionWords.{PositionWordsValue};
+    ghost use Rattle.position_words.specs.Words.{WordsValue};
 
-    ghost Value = { PositionWordsValue };
+    ghost Value = { WordsValue };
 
     ghost view = { λ w. record { id = w.table.shared.table_id; opening = w.table.shared.key.value.items } };
 
@@ -110,8 +110,8 @@ impl Words {
     pub fn look(&self, shard: u32, seat: &mut Seat) -> u64
         requires within { shard < length self.now.opening }
         requires seat { IsSeatOf self.now seat.old }
-        ensures look { view seat.new ≡ view_after_look shard result (view seat.old) }
-        ensures meets { WordStepMeets shard result (view seat.old) }
+        ensures look { view seat.new ≡ after_look shard result (view seat.old) }
+        ensures meets { StepMeets shard result (view seat.old) }
         ensures seat { IsSeatOf self.now seat.new }
     {
         self.load(shard, seat) / 2
@@ -123,7 +123,7 @@ impl Words {
         requires within { shard < length self.now.opening }
         requires seat { IsSeatOf self.now seat.old }
         requires free { (view seat.old).held ≡ None }
-        ensures take { WordStepAnswers self.now.opening shard aim (view seat.old) (view seat.new) result }
+        ensures take { StepAnswers self.now.opening shard aim (view seat.old) (view seat.new) result }
         ensures seat { IsSeatOf self.now seat.new }
     {
         let word = self.mark(shard, aim, seat);
@@ -138,9 +138,9 @@ impl Words {
     #[tactic(auto, using(crate::proofs::SeatLemmas::seat_slot_is_empty, crate::proofs::SeatLemmas::seat_is_ready_to_give, crate::proofs::SeatLemmas::seat_view_after_giving, crate::proofs::SeatLemmas::seat_is_free_after_giving))]
     pub fn give(&self, shard: u32, seat: &mut Seat, state: ShardState)
         requires seat { IsSeatOf self.now seat.old }
-        requires state { IsShardAtSomePosition self.now.opening shard state }
-        requires held { MayGiveAtPosition shard state.position (view seat.old) }
-        ensures give { view seat.new ≡ view_after_giving state.position (view seat.old) }
+        requires state { IsShardAtSome self.now.opening shard state }
+        requires held { MayGiveAt shard state.position (view seat.old) }
+        ensures give { view seat.new ≡ after_giving state.position (view seat.old) }
         ensures free { (view seat.new).held ≡ None }
         ensures seat { IsSeatOf self.now seat.new }
     {
@@ -153,7 +153,7 @@ impl Words {
     pub fn split(&self, seat: &mut Seat) -> Seat
         requires seat { IsSeatOf self.now seat.old }
         requires free { (view seat.old).held ≡ None }
-        ensures split { view seat.new ≡ view_after_split (view seat.old) }
+        ensures split { view seat.new ≡ after_split (view seat.old) }
         ensures newcomer { view result ≡ newcomer_view (view seat.old) }
         ensures seat { IsSeatOf self.now seat.new }
         ensures new_seat { IsSeatOf self.now result }
@@ -168,7 +168,7 @@ impl Words {
         requires free { (view seat.old).held ≡ None }
         requires other { IsSeatOf self.now other }
         requires other_free { (view other).held ≡ None }
-        ensures join { view seat.new ≡ view_after_join (view seat.old) (view other) }
+        ensures join { view seat.new ≡ after_join (view seat.old) (view other) }
         ensures seat { IsSeatOf self.now seat.new }
     {
         self.table.shared.join_seat::<Joining>(seat, other);

@@ -5,17 +5,17 @@ use Rattle.std.proofs.lemmas.Bool.{false≢true, eqb-true, eq-eqb, and_parts, an
 use Rattle.std.proofs.lemmas.Nat.{pow-add}
 use Rattle.std.proofs.Math.Nat.{pow-zero, pow-suc, div-lt_iff_lt-mul, mul-div_cancel, mul-lt-mul_of_pos_right}
 use Rattle.std.proofs.Math.Nat.{div-mul-le_self}
-use Rattle.prefix_lattice.specs.Address.{address_digits, address_number_from, address_bytes, address_of}
-use Rattle.prefix_lattice.specs.KeptBytes.{kept_bytes_begin_with, AreLeadingBytes}
-use Rattle.prefix_lattice.proofs.DigitLemmas.{length-digits, address_digits-read_back, take-digits, digits_small}
+use Rattle.prefix_lattice.specs.Address.{digits, number_from, address_bytes, address_of}
+use Rattle.prefix_lattice.specs.KeptBytes.{begins_with, AreLeadingBytes}
+use Rattle.prefix_lattice.proofs.DigitLemmas.{length-digits, digits-read_back, take-digits, digits_small}
 use Rattle.prefix_lattice.proofs.DigitLemmas.{same_digits, digits_stay_below_power}
 use Rattle.prefix_lattice.proofs.ListFrontLemmas.{list_front-taken, longer_list_is_no_front}
 
 -- the first bytes of an address are the digits of its high part
-pub address_bytes-are_digits : (n address : ℕ) → n ≤ 4 → take n (address_bytes address) ≡ address_digits 256 n (address / 256 ^ (4 - n))
+pub address_bytes-are_digits : (n address : ℕ) → n ≤ 4 → take n (address_bytes address) ≡ digits 256 n (address / 256 ^ (4 - n))
 address_bytes-are_digits n address few =
     let whole : n + (4 - n) ≡ 4 = omega arith in
-    ap (λ m. take n (address_digits 256 m address)) (sym whole) ∙ take-digits 256 n (4 - n) address
+    ap (λ m. take n (digits 256 m address)) (sym whole) ∙ take-digits 256 n (4 - n) address
 
 pub address_front-length : (n address : ℕ) → n ≤ 4 → length (take n (address_bytes address)) ≡ n
 address_front-length n address few = ap length (address_bytes-are_digits n address few) ∙ length-digits 256 n (address / 256 ^ (4 - n))
@@ -49,17 +49,17 @@ pub address_of-leading : (n address : ℕ) → n ≤ 4 → address < 2 ^ 32
     → address_of (take n (address_bytes address)) ≡ address / 256 ^ (4 - n) * 256 ^ (4 - n)
 address_of-leading n address few small =
     let high = address / 256 ^ (4 - n) in
-    let spelled : address_number_from 256 0 (take n (address_bytes address)) ≡ high =
-    ap (address_number_from 256 0) (address_bytes-are_digits n address few)
-    ∙ address_digits-read_back 256 n high (omega arith) (address_high_part_is_small n address few small) in
-    ap (λ m. address_number_from 256 0 (take n (address_bytes address)) * 256 ^ (4 - m)) (address_front-length n address few)
+    let spelled : number_from 256 0 (take n (address_bytes address)) ≡ high =
+    ap (number_from 256 0) (address_bytes-are_digits n address few)
+    ∙ digits-read_back 256 n high (omega arith) (address_high_part_is_small n address few small) in
+    ap (λ m. number_from 256 0 (take n (address_bytes address)) * 256 ^ (4 - m)) (address_front-length n address few)
     ∙ ap (λ m. m * 256 ^ (4 - n)) spelled
 
 -- the address of leading bytes is an address
 pub address_of-small : (front : List ℕ) → AreLeadingBytes front → address_of front < 2 ^ 32
 address_of-small front leading =
     let n = length front in
-    let number : address_number_from 256 0 front < 256 ^ n = omega (arith, digits_stay_below_power 256 0 front leading.bytes) in
+    let number : number_from 256 0 front < 256 ^ n = omega (arith, digits_stay_below_power 256 0 front leading.bytes) in
     subst (λ bound. address_of front < bound) (address_parts_have_four_bytes n leading.few) (mul-lt-mul_of_pos_right number (address_unit_is_positive (4 - n)))
 
 -- two lists of leading bytes of the same length that spell the same address are the same
@@ -67,12 +67,12 @@ pub address_tells_leading_bytes : (xs ys : List ℕ) → AreLeadingBytes xs → 
     → address_of xs ≡ address_of ys → xs ≡ ys
 address_tells_leading_bytes xs ys xs_leading ys_leading same_length same =
     let unit = 256 ^ (4 - length xs) in
-    let numbers : address_number_from 256 0 xs * unit ≡ address_number_from 256 0 ys * unit =
-    same ∙ ap (λ m. address_number_from 256 0 ys * 256 ^ (4 - m)) (sym same_length) in
+    let numbers : number_from 256 0 xs * unit ≡ number_from 256 0 ys * unit =
+    same ∙ ap (λ m. number_from 256 0 ys * 256 ^ (4 - m)) (sym same_length) in
     let has_unit : 0 < unit = address_unit_is_positive (4 - length xs) in
-    let spelled : address_number_from 256 0 xs ≡ address_number_from 256 0 ys =
-    sym (mul-div_cancel (address_number_from 256 0 xs) has_unit) ∙ ap (λ m. m / unit) numbers
-    ∙ mul-div_cancel (address_number_from 256 0 ys) has_unit in
+    let spelled : number_from 256 0 xs ≡ number_from 256 0 ys =
+    sym (mul-div_cancel (number_from 256 0 xs) has_unit) ∙ ap (λ m. m / unit) numbers
+    ∙ mul-div_cancel (number_from 256 0 ys) has_unit in
     (same_digits 256 0 0 xs ys same_length xs_leading.bytes ys_leading.bytes spelled).1
 
 -- two tests that imply each other are equal
@@ -82,21 +82,21 @@ address_tests_agree false true to from = from refl
 address_tests_agree false false to from = refl
 
 -- a list begins with its own front
-pub kept_bytes_begin_with-address_front : (bytes front : List ℕ) → take (length front) bytes ≡ front → kept_bytes_begin_with bytes front ≡ true
-kept_bytes_begin_with-address_front bytes [] same = refl
-kept_bytes_begin_with-address_front [] (b ∷ front) same = cc
-kept_bytes_begin_with-address_front (x ∷ bytes) (b ∷ front) same =
+pub begins_with-address_front : (bytes front : List ℕ) → take (length front) bytes ≡ front → begins_with bytes front ≡ true
+begins_with-address_front bytes [] same = refl
+begins_with-address_front [] (b ∷ front) same = cc
+begins_with-address_front (x ∷ bytes) (b ∷ front) same =
     let heads : x ≡ b = cc in
     let tails : take (length front) bytes ≡ front = cc in
-    and_from (eqb x b) (kept_bytes_begin_with bytes front) (eq-eqb x b heads) (kept_bytes_begin_with-address_front bytes front tails)
+    and_from (eqb x b) (begins_with bytes front) (eq-eqb x b heads) (begins_with-address_front bytes front tails)
 
 -- what a list begins with is its front
-pub address_front-from_begins_with : (bytes front : List ℕ) → kept_bytes_begin_with bytes front ≡ true → take (length front) bytes ≡ front
+pub address_front-from_begins_with : (bytes front : List ℕ) → begins_with bytes front ≡ true → take (length front) bytes ≡ front
 address_front-from_begins_with bytes [] begins = refl
 address_front-from_begins_with [] (b ∷ front) begins = absurd (false≢true begins)
 address_front-from_begins_with (x ∷ bytes) (b ∷ front) begins =
-    let both : (eqb x b ≡ true) × (kept_bytes_begin_with bytes front ≡ true) =
-    and_parts (eqb x b) (kept_bytes_begin_with bytes front) begins in
+    let both : (eqb x b ≡ true) × (begins_with bytes front ≡ true) =
+    and_parts (eqb x b) (begins_with bytes front) begins in
     ap (λ d. d ∷ take (length front) bytes) (eqb-true x b both.0)
     ∙ ap (λ l. b ∷ l) (address_front-from_begins_with bytes front both.1)
 
@@ -106,7 +106,7 @@ pub address_front-masked : (n address : ℕ) → n ≤ 4
 address_front-masked n address few =
     let unit = 256 ^ (4 - n) in
     address_bytes-are_digits n (address / unit * unit) few
-    ∙ ap (address_digits 256 n) (mul-div_cancel (address / unit) (address_unit_is_positive (4 - n)))
+    ∙ ap (digits 256 n) (mul-div_cancel (address / unit) (address_unit_is_positive (4 - n)))
     ∙ sym (address_bytes-are_digits n address few)
 
 -- an address with its last bytes set to zero is still an address
@@ -122,35 +122,35 @@ address_of-masked n address few small =
 
 -- an address begins with the first bytes of another, whose last bytes are zero, exactly where it equals the other
 -- once its last bytes are set to zero too
-pub kept_bytes_begin_with-masked_address : (n address other : ℕ) → n ≤ 4 → address < 2 ^ 32 → other < 2 ^ 32
+pub begins_with-masked_address : (n address other : ℕ) → n ≤ 4 → address < 2 ^ 32 → other < 2 ^ 32
     → address_of (take n (address_bytes other)) ≡ other
-    → kept_bytes_begin_with (address_bytes address) (take n (address_bytes other))
+    → begins_with (address_bytes address) (take n (address_bytes other))
     ≡ eqb (address / 256 ^ (4 - n) * 256 ^ (4 - n)) other
-kept_bytes_begin_with-masked_address n address other few small other_small masked =
+begins_with-masked_address n address other few small other_small masked =
     let unit = 256 ^ (4 - n) in
     let front = take n (address_bytes other) in
     let as_many : take (length front) (address_bytes address) ≡ take n (address_bytes address) =
     ap (λ m. take m (address_bytes address)) (address_front-length n other few) in
-    address_tests_agree (kept_bytes_begin_with (address_bytes address) front) (eqb (address / unit * unit) other)
+    address_tests_agree (begins_with (address_bytes address) front) (eqb (address / unit * unit) other)
     (λ begins. eq-eqb (address / unit * unit) other
     (sym (address_of-leading n address few small)
     ∙ ap address_of (sym as_many ∙ address_front-from_begins_with (address_bytes address) front begins)
     ∙ masked))
-    (λ same. kept_bytes_begin_with-address_front (address_bytes address) front
+    (λ same. begins_with-address_front (address_bytes address) front
     (as_many ∙ sym (address_front-masked n address few)
     ∙ ap (λ m. take n (address_bytes m)) (eqb-true (address / unit * unit) other same)))
 
 -- the first n bytes of an address begin with the first m of another, m at most n, exactly where the address does
 pub address_front-begins_with : (n m address other : ℕ) → m ≤ n → n ≤ 4
-    → kept_bytes_begin_with (take n (address_bytes address)) (take m (address_bytes other))
-    ≡ kept_bytes_begin_with (address_bytes address) (take m (address_bytes other))
+    → begins_with (take n (address_bytes address)) (take m (address_bytes other))
+    ≡ begins_with (address_bytes address) (take m (address_bytes other))
 address_front-begins_with n m address other fewer few =
     list_front-taken (address_bytes address) (take m (address_bytes other)) n
     (omega (arith, address_front-length m other (omega arith)))
 
 -- the first n bytes of an address don't begin with more than n bytes of another
 pub address_front-begins_no_more : (n m address other : ℕ) → n < m → m ≤ 4
-    → kept_bytes_begin_with (take n (address_bytes address)) (take m (address_bytes other)) ≡ false
+    → begins_with (take n (address_bytes address)) (take m (address_bytes other)) ≡ false
 address_front-begins_no_more n m address other more few =
     longer_list_is_no_front (take n (address_bytes address)) (take m (address_bytes other))
     (omega (arith, address_front-length n address (omega arith), address_front-length m other few))

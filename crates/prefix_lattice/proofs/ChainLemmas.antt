@@ -8,7 +8,7 @@ use Rattle.prefix_lattice.specs.Address.{address_bytes}
 use Rattle.prefix_lattice.specs.Record.{RecordValue}
 use Rattle.prefix_lattice.specs.Prefix.{PrefixValue, covers}
 use Rattle.prefix_lattice.specs.Lattice.{under, strictly_under}
-use Rattle.prefix_lattice.specs.ClosestLines.{AreIncomparableLines}
+use Rattle.prefix_lattice.specs.ClosestLines.{AreIncomparable}
 use Rattle.prefix_lattice.proofs.ListFrontLemmas.{list_front-no_longer, list_front-shorter}
 use Rattle.prefix_lattice.proofs.ListLemmas.{AllPairs-list_head, AllPairs-list_tail}
 use Rattle.prefix_lattice.proofs.AmongLemmas.{Among, among-All, pairs-among}
@@ -46,7 +46,7 @@ chain_bytes-by_under lower upper is_under =
     (list_front-no_longer lower.source upper.source sides.0, list_front-no_longer lower.dest upper.dest sides.1)
 
 -- a member that is under another is that member
-pub chain_member_under_is_same : (members : List PrefixValue) (prefix other : PrefixValue) → AreIncomparableLines members
+pub chain_member_under_is_same : (members : List PrefixValue) (prefix other : PrefixValue) → AreIncomparable members
     → Among prefix members → Among other members → under prefix other ≡ true → prefix ≡ other
 chain_member_under_is_same members prefix other incomparable among other_among is_under =
     either (pairs-among (λ x y. (strictly_under x y ≡ false) × (strictly_under y x ≡ false))
@@ -64,7 +64,7 @@ pub record DescendsChain (prefix next : PrefixValue) : Type 0 where
 
 -- of two distinct members that cover a record, one descends to the other
 pub chain_descends_either_way : (members : List PrefixValue) (rec : RecordValue) (prefix other : PrefixValue)
-    → AreIncomparableLines members → IsChainMember members rec prefix → IsChainMember members rec other → prefix ≢ other
+    → AreIncomparable members → IsChainMember members rec prefix → IsChainMember members rec other → prefix ≢ other
     → DescendsChain prefix other ⊎ DescendsChain other prefix
 chain_descends_either_way members rec prefix other incomparable step other_step differ =
     by_lengths (cases_lt (chain_source_bytes prefix) (chain_source_bytes other))
@@ -142,7 +142,7 @@ chain_has_place_for_prefix prefix (first ∷ rest) is_chain apart =
 
 -- distinct members that cover a record form a chain, once their kept source bytes rise
 pub chain_from_ordered_members : (members : List PrefixValue) (rec : RecordValue) (steps : List PrefixValue)
-    → AreIncomparableLines members
+    → AreIncomparable members
     → AllPairs (λ prefix other. prefix ≢ other) steps
     → ((prefix : PrefixValue) → Among prefix steps → IsChainMember members rec prefix)
     → IsChain (ordered_by chain_source_bytes steps)

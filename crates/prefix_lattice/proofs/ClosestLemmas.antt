@@ -11,10 +11,10 @@ use Rattle.prefix_lattice.specs.Prefix.{PrefixValue, IsPrefix, covers, node_of_p
 use Rattle.prefix_lattice.specs.Lattice.{strictly_under}
 use Rattle.prefix_lattice.specs.Meets.{meet}
 use Rattle.prefix_lattice.specs.ClosestLines.{lines_under, one_line_covers, greatest_lines, closest}
-use Rattle.prefix_lattice.specs.KeptPairs.{is_under_third_beside_pair}
-use Rattle.prefix_lattice.specs.KeptPairs.{unless_under_third_beside_pair, kept_pair_meet, kept_pair_meets_among}
+use Rattle.prefix_lattice.specs.KeptPairs.{under_third}
+use Rattle.prefix_lattice.specs.KeptPairs.{unless_third, pair_meet, pair_meets}
 use Rattle.prefix_lattice.specs.KeptPairs.{kept_pairs}
-use Rattle.prefix_lattice.specs.ClosestLines.{AreIncomparableLines}
+use Rattle.prefix_lattice.specs.ClosestLines.{AreIncomparable}
 use Rattle.prefix_lattice.proofs.AddressLemmas.{address_tests_agree}
 use Rattle.prefix_lattice.proofs.AmongLemmas.{Among, PassesAmong, All-from_among, among-All, any_among-true}
 use Rattle.prefix_lattice.proofs.AmongLemmas.{any_among-found, any_among-fails, among-filter, filter-among}
@@ -82,7 +82,7 @@ closest-strictly prefix lines = All-from_among (λ line. strictly_under line pre
 
 -- the closest of distinct lines are incomparable
 pub closest-incomparable : (prefix : PrefixValue) (lines : List PrefixValue)
-    → AllPairs (λ line other. line ≢ other) lines → AreIncomparableLines (closest prefix lines)
+    → AllPairs (λ line other. line ≢ other) lines → AreIncomparable (closest prefix lines)
 closest-incomparable prefix lines distinct = record {
   distinct =
       AllPairs-filter Differ (λ p. not (list_any (λ other. strictly_under p other) nearer)) nearer
@@ -107,7 +107,7 @@ closest-incomparable prefix lines distinct = record {
 
 -- a kept meet is a meet
 closest_kept_meet-is_meet : (members : List PrefixValue) (first second lowest : PrefixValue)
-    → kept_pair_meet members first second ≡ Some lowest → meet first second ≡ Some lowest
+    → pair_meet members first second ≡ Some lowest → meet first second ≡ Some lowest
 closest_kept_meet-is_meet members first second lowest = by_meet (meet first second)
   where
     by_third : (found : PrefixValue) (third : Bool) → cond third None (Some found) ≡ Some lowest
@@ -115,18 +115,18 @@ closest_kept_meet-is_meet members first second lowest = by_meet (meet first seco
     by_third found true kept = absurd (cc)
     by_third found false kept = kept
 
-    by_meet : (o : Option PrefixValue) → unless_under_third_beside_pair members first second o ≡ Some lowest → o ≡ Some lowest
+    by_meet : (o : Option PrefixValue) → unless_third members first second o ≡ Some lowest → o ≡ Some lowest
     by_meet None kept = kept
-    by_meet (Some found) kept = by_third found (is_under_third_beside_pair members first second found) kept
+    by_meet (Some found) kept = by_third found (under_third members first second found) kept
 
 -- what a meet inherits from its members holds of the kept meets
 closest_kept_meets_inherit : (P : PrefixValue → Type 0) (members some : List PrefixValue)
     → ((first second lowest : PrefixValue) → P first → P second → meet first second ≡ Some lowest → P lowest)
-    → All P some → All P (kept_pair_meets_among members some)
+    → All P some → All P (pair_meets members some)
 closest_kept_meets_inherit P members [] of_meet all = All-nil P
 closest_kept_meets_inherit P members (first ∷ rest) of_meet all =
-    All-append P (filter_map (kept_pair_meet members first) rest) (kept_pair_meets_among members rest)
-    (All-filter_map_among P (kept_pair_meet members first) rest
+    All-append P (filter_map (pair_meet members first) rest) (pair_meets members rest)
+    (All-filter_map_among P (pair_meet members first) rest
     (λ second lowest among kept. of_meet first second lowest (All-head P first rest all)
     (among-All P second rest (All-tail P first rest all) among)
     (closest_kept_meet-is_meet members first second lowest kept)))

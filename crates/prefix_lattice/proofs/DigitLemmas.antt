@@ -5,52 +5,52 @@ use Rattle.std.proofs.lemmas.List.{take-append-le}
 use Rattle.std.proofs.lemmas.Nat.{div-add-mod', div-mul-add}
 use Rattle.std.proofs.Math.Nat.{pow-zero, pow-suc, pow-succ', div-one, div-div-eq-div-mul, div-lt_iff_lt-mul}
 use Rattle.std.proofs.Math.Nat.{mul-le-mul_right, mul_assoc}
-use Rattle.prefix_lattice.specs.Address.{address_digits, address_number_from}
+use Rattle.prefix_lattice.specs.Address.{digits, number_from}
 
 -- there are as many digits as requested
-pub length-digits : (base count number : ℕ) → length (address_digits base count number) ≡ count
+pub length-digits : (base count number : ℕ) → length (digits base count number) ≡ count
 length-digits base zero number = refl
 length-digits base (suc count) number =
     omega (
       arith,
-      length-append (address_digits base count (number / base)) (number % base ∷ []),
+      length-append (digits base count (number / base)) (number % base ∷ []),
       length-digits base count (number / base),
     )
 
 -- one more digit at the end
-address_digits-one_more : (base high digit : ℕ) (front : List ℕ)
-    → address_number_from base high (front ++ digit ∷ []) ≡ address_number_from base high front * base + digit
-address_digits-one_more base high digit [] = refl
-address_digits-one_more base high digit (d ∷ front) = address_digits-one_more base (high * base + d) digit front
+digits-one_more : (base high digit : ℕ) (front : List ℕ)
+    → number_from base high (front ++ digit ∷ []) ≡ number_from base high front * base + digit
+digits-one_more base high digit [] = refl
+digits-one_more base high digit (d ∷ front) = digits-one_more base (high * base + d) digit front
 
 -- a number is spelled by its digits
-pub address_digits-read_back : (base count number : ℕ) → 0 < base → number < base ^ count
-    → address_number_from base 0 (address_digits base count number) ≡ number
-address_digits-read_back base zero number has_base small = omega (arith, pow-zero base)
-address_digits-read_back base (suc count) number has_base small =
+pub digits-read_back : (base count number : ℕ) → 0 < base → number < base ^ count
+    → number_from base 0 (digits base count number) ≡ number
+digits-read_back base zero number has_base small = omega (arith, pow-zero base)
+digits-read_back base (suc count) number has_base small =
     let smaller : number / base < base ^ count =
     (div-lt_iff_lt-mul has_base).1 (subst (λ bound. number < bound) (pow-suc base count) small) in
-    address_digits-one_more base 0 (number % base) (address_digits base count (number / base))
-    ∙ ap (λ high. high * base + number % base) (address_digits-read_back base count (number / base) has_base smaller)
+    digits-one_more base 0 (number % base) (digits base count (number / base))
+    ∙ ap (λ high. high * base + number % base) (digits-read_back base count (number / base) has_base smaller)
     ∙ div-add-mod' number base
 
 -- the first digits are those of the number without its last digits
-pub take-digits : (base n k number : ℕ) → take n (address_digits base (n + k) number) ≡ address_digits base n (number / base ^ k)
+pub take-digits : (base n k number : ℕ) → take n (digits base (n + k) number) ≡ digits base n (number / base ^ k)
 take-digits base n zero number =
     let all : n + 0 ≡ n = omega arith in
     let whole : number / base ^ 0 ≡ number = ap (λ unit. number / unit) (pow-zero base) ∙ div-one number in
-    ap (λ m. take n (address_digits base m number)) all
-    ∙ take_all n (address_digits base n number) (omega (arith, length-digits base n number))
-    ∙ ap (address_digits base n) (sym whole)
+    ap (λ m. take n (digits base m number)) all
+    ∙ take_all n (digits base n number) (omega (arith, length-digits base n number))
+    ∙ ap (digits base n) (sym whole)
 take-digits base n (suc k) number =
     let one_more : n + suc k ≡ suc (n + k) = omega arith in
     let higher : number / base / base ^ k ≡ number / base ^ suc k =
     div-div-eq-div-mul number base (base ^ k) ∙ ap (λ m. number / m) (sym (pow-succ' base k)) in
-    ap (λ m. take n (address_digits base m number)) one_more
-    ∙ take-append-le n (address_digits base (n + k) (number / base)) (number % base ∷ [])
+    ap (λ m. take n (digits base m number)) one_more
+    ∙ take-append-le n (digits base (n + k) (number / base)) (number % base ∷ [])
     (omega (arith, length-digits base (n + k) (number / base)))
     ∙ take-digits base n k (number / base)
-    ∙ ap (address_digits base n) higher
+    ∙ ap (digits base n) higher
 
 -- a bound on each number of a list and on one more number bounds the longer list
 digits_small-push : (bound y : ℕ) (xs : List ℕ) (place : ℕ) → 0 < bound → ((k : ℕ) → get_or xs k 0 < bound) → y < bound
@@ -62,16 +62,16 @@ digits_small-push bound y (x ∷ xs) (suc place) has_bound small y_small =
     digits_small-push bound y xs place has_bound (λ k. small (suc k)) y_small
 
 -- each digit is below the base
-pub digits_small : (base count number place : ℕ) → 0 < base → get_or (address_digits base count number) place 0 < base
+pub digits_small : (base count number place : ℕ) → 0 < base → get_or (digits base count number) place 0 < base
 digits_small base zero number place has_base = has_base
 digits_small base (suc count) number place has_base =
-    digits_small-push base (number % base) (address_digits base count (number / base)) place has_base
+    digits_small-push base (number % base) (digits base count (number / base)) place has_base
     (λ k. digits_small base count (number / base) k has_base) (omega arith)
 
 -- two lists of digits below the base that have the same length and spell the same number are the same
 pub same_digits : (base high other : ℕ) (xs ys : List ℕ) → length xs ≡ length ys
     → ((place : ℕ) → get_or xs place 0 < base) → ((place : ℕ) → get_or ys place 0 < base)
-    → address_number_from base high xs ≡ address_number_from base other ys → (high ≡ other) × (xs ≡ ys)
+    → number_from base high xs ≡ number_from base other ys → (high ≡ other) × (xs ≡ ys)
 same_digits base high other [] [] same_length xs_small ys_small same = (same, refl)
 same_digits base high other [] (y ∷ ys) same_length xs_small ys_small same = absurd (omega arith)
 same_digits base high other (x ∷ xs) [] same_length xs_small ys_small same = absurd (omega arith)
@@ -88,10 +88,10 @@ same_digits base high other (x ∷ xs) (y ∷ ys) same_length xs_small ys_small 
 
 -- digits below the base spell a number below a power of it
 pub digits_stay_below_power : (base high : ℕ) (xs : List ℕ) → ((place : ℕ) → get_or xs place 0 < base)
-    → address_number_from base high xs < (high + 1) * base ^ length xs
+    → number_from base high xs < (high + 1) * base ^ length xs
 digits_stay_below_power base high [] small = subst (λ unit. high < (high + 1) * unit) (sym (pow-zero base)) (omega arith)
 digits_stay_below_power base high (x ∷ xs) small =
-    let rest : address_number_from base (high * base + x) xs < (high * base + x + 1) * base ^ length xs =
+    let rest : number_from base (high * base + x) xs < (high * base + x + 1) * base ^ length xs =
     digits_stay_below_power base (high * base + x) xs (λ place. small (suc place)) in
     let x_small : x < base = small 0 in
     let step : high * base + x + 1 ≤ (high + 1) * base = omega arith in

@@ -4,20 +4,20 @@ use Rattle.std.proofs.Common.{◌+◌, ◌*◌, ◌^◌, length}
 use Rattle.std.specs.declared.cmp.Ordering.TheVariants.{Less, Equal, Greater}
 use Rattle.prefix_lattice.specs.Record.{RecordValue}
 use Rattle.prefix_lattice.specs.Node.{NodeValue, IsNode, node_index, node_at, node_level, node_count}
-use Rattle.prefix_lattice.specs.Node.{deepest_node_level}
+use Rattle.prefix_lattice.specs.Node.{deepest_level}
 use Rattle.prefix_lattice.specs.Prefix.{IsPrefixKey, HasPrefixKey, PrefixValue, IsPrefix, covers}
 use Rattle.prefix_lattice.specs.Weight.{prefix_weight, total_weight}
 use Rattle.prefix_lattice.specs.Prefix.{node_of_prefix, prefix_at, prefix_key}
-use Rattle.prefix_lattice.specs.Address.{address_digits, address_number_from, address_bytes, address_of}
-use Rattle.prefix_lattice.specs.KeptBytes.{kept_bytes_begin_with, AreLeadingBytes}
+use Rattle.prefix_lattice.specs.Address.{digits, number_from, address_bytes, address_of}
+use Rattle.prefix_lattice.specs.KeptBytes.{begins_with, AreLeadingBytes}
 use Rattle.prefix_lattice.specs.Address.{address_length}
-use Rattle.prefix_lattice.specs.Lattice.{under, same_in_lattice, strictly_under}
-use Rattle.prefix_lattice.specs.Meets.{meet_side, meet_with_sides, meet}
-use Rattle.prefix_lattice.specs.Meets.{MeetInAddresses}
+use Rattle.prefix_lattice.specs.Lattice.{under, same_as, strictly_under}
+use Rattle.prefix_lattice.specs.Meets.{meet_side, meet_of_sides, meet}
+use Rattle.prefix_lattice.specs.Meets.{AreMeet}
 use Rattle.prefix_lattice.specs.ReportOrder.{report_order}
 use Rattle.prefix_lattice.proofs.UnderMeetLemmas.{meet-some}
 use Rattle.prefix_lattice.specs.Limits.{record_limit, shard_limit, total_limit}
-use Rattle.prefix_lattice.specs.Interval.{IntervalHoldsWeight, IsNarrowInterval}
+use Rattle.prefix_lattice.specs.Interval.{HoldsWeight, IsNarrow}
 
 -- 100 bytes from 10.1.2.3 to 20.1.2.3
 abbrev pub packet : RecordValue
@@ -32,13 +32,13 @@ abbrev pub prefix : PrefixValue
 prefix = record { source = 10 ∷ []; dest = 20 ∷ 1 ∷ [] }
 
 -- digits above the lowest two are left out
-pub lowest_two_bytes : address_digits 256 2 0x0a1401 ≡ 20 ∷ 1 ∷ []
+pub lowest_two_bytes : digits 256 2 0x0a1401 ≡ 20 ∷ 1 ∷ []
 lowest_two_bytes = refl
 
-pub number_of_two_bytes : address_number_from 256 0 (20 ∷ 1 ∷ []) ≡ 0x1401
+pub number_of_two_bytes : number_from 256 0 (20 ∷ 1 ∷ []) ≡ 0x1401
 number_of_two_bytes = refl
 
-pub number_that_goes_on_with_a_byte : address_number_from 256 0x1401 (2 ∷ []) ≡ 0x140102
+pub number_that_goes_on_with_a_byte : number_from 256 0x1401 (2 ∷ []) ≡ 0x140102
 number_that_goes_on_with_a_byte = refl
 
 pub bytes_of_an_address : address_bytes 0x0a010203 ≡ 10 ∷ 1 ∷ 2 ∷ 3 ∷ []
@@ -47,13 +47,13 @@ bytes_of_an_address = refl
 pub address_of_two_bytes : address_of (20 ∷ 1 ∷ []) ≡ 0x14010000
 address_of_two_bytes = refl
 
-pub bytes_that_begin_with_others : kept_bytes_begin_with (20 ∷ 1 ∷ 2 ∷ 3 ∷ []) (20 ∷ 1 ∷ []) ≡ true
+pub bytes_that_begin_with_others : begins_with (20 ∷ 1 ∷ 2 ∷ 3 ∷ []) (20 ∷ 1 ∷ []) ≡ true
 bytes_that_begin_with_others = refl
 
-pub bytes_that_begin_otherwise : kept_bytes_begin_with (20 ∷ 1 ∷ 2 ∷ 3 ∷ []) (20 ∷ 2 ∷ []) ≡ false
+pub bytes_that_begin_otherwise : begins_with (20 ∷ 1 ∷ 2 ∷ 3 ∷ []) (20 ∷ 2 ∷ []) ≡ false
 bytes_that_begin_otherwise = refl
 
-pub bytes_too_few_to_begin_with_more : kept_bytes_begin_with (20 ∷ []) (20 ∷ 1 ∷ []) ≡ false
+pub bytes_too_few_to_begin_with_more : begins_with (20 ∷ []) (20 ∷ 1 ∷ []) ≡ false
 bytes_too_few_to_begin_with_more = refl
 
 pub leading_bytes_of_the_source : AreLeadingBytes (10 ∷ [])
@@ -169,10 +169,10 @@ more_kept_bytes_stand_under = refl
 pub more_kept_bytes_on_one_side_do_not : under from_ten to_twenty ≡ false
 more_kept_bytes_on_one_side_do_not = refl
 
-pub each_is_the_same_as_itself : same_in_lattice prefix prefix ≡ true
+pub each_is_the_same_as_itself : same_as prefix prefix ≡ true
 each_is_the_same_as_itself = refl
 
-pub under_another_is_not_the_same : same_in_lattice prefix from_ten_to_twenty ≡ false
+pub under_another_is_not_the_same : same_as prefix from_ten_to_twenty ≡ false
 under_another_is_not_the_same = refl
 
 pub none_is_strictly_under_itself : strictly_under prefix prefix ≡ false
@@ -187,10 +187,10 @@ longer_side_of_two = refl
 pub no_longer_side_of_two_that_differ : meet_side (20 ∷ []) (21 ∷ 1 ∷ []) ≡ None
 no_longer_side_of_two_that_differ = refl
 
-pub two_sides_make_a_prefix : meet_with_sides (Some (10 ∷ [])) (Some []) ≡ Some from_ten
+pub two_sides_make_a_prefix : meet_of_sides (Some (10 ∷ [])) (Some []) ≡ Some from_ten
 two_sides_make_a_prefix = refl
 
-pub one_side_makes_none : meet_with_sides (Some (10 ∷ [])) None ≡ None
+pub one_side_makes_none : meet_of_sides (Some (10 ∷ [])) None ≡ None
 one_side_makes_none = refl
 
 pub meet_takes_the_longer_side : meet from_ten to_twenty ≡ Some from_ten_to_twenty
@@ -200,7 +200,7 @@ pub other_sources_do_not_meet : meet from_ten from_eleven ≡ None
 other_sources_do_not_meet = refl
 
 -- both cover the packet's pair of addresses
-pub addresses_are_shared : MeetInAddresses from_ten to_twenty
+pub addresses_are_shared : AreMeet from_ten to_twenty
 addresses_are_shared = record {
   pair = packet;
   is_source = omega arith;
@@ -209,7 +209,7 @@ addresses_are_shared = record {
   covered_by_other = refl;
 }
 
-pub no_address_is_shared : MeetInAddresses from_ten from_eleven → ⊥
+pub no_address_is_shared : AreMeet from_ten from_eleven → ⊥
 no_address_is_shared shares =
     let valid : (byte : ℕ) → byte < 256 → IsPrefix (record { source = byte ∷ []; dest = [] }) = λ byte small. record {
       source = record { few = omega arith; bytes = λ place. one_byte byte place small };
@@ -247,7 +247,7 @@ length_of_an_address = refl
 pub nodes_up_to_whole_addresses : node_index (record { source_bytes = 4; dest_bytes = 4 }) + 1 ≡ node_count
 nodes_up_to_whole_addresses = refl
 
-pub level_of_whole_addresses : node_level (record { source_bytes = 4; dest_bytes = 4 }) ≡ deepest_node_level
+pub level_of_whole_addresses : node_level (record { source_bytes = 4; dest_bytes = 4 }) ≡ deepest_level
 level_of_whole_addresses = refl
 
 pub records_are_few : record_limit ≡ 2 ^ 24
@@ -259,15 +259,15 @@ limit_of_a_total = refl
 
 -- ---- intervals
 
-pub weight_within : IntervalHoldsWeight 4 6 5
+pub weight_within : HoldsWeight 4 6 5
 weight_within = record { low = omega arith; high = omega arith }
 
-pub weight_above : IntervalHoldsWeight 4 5 6 → ⊥
+pub weight_above : HoldsWeight 4 5 6 → ⊥
 weight_above holds = omega (arith, holds.high)
 
 -- an interval of width 2 is narrow in a table of capacity 3 with a total of 6, but not in one of capacity 4
-pub width_for_three_entries : IsNarrowInterval 4 6 3 6
+pub width_for_three_entries : IsNarrow 4 6 3 6
 width_for_three_entries = omega arith
 
-pub too_wide_for_four : IsNarrowInterval 4 6 4 6 → ⊥
+pub too_wide_for_four : IsNarrow 4 6 4 6 → ⊥
 too_wide_for_four narrow = omega (arith, narrow)

@@ -8,10 +8,10 @@ use Rattle.prefix_lattice.specs.Lattice.{strictly_under}
 use Rattle.prefix_lattice.specs.Meets.{meet}
 use Rattle.prefix_lattice.specs.ClosestLines.{lines_under, one_line_covers, greatest_lines, closest}
 use Rattle.prefix_lattice.specs.ConditionedWeight.{conditioned_weight}
-use Rattle.prefix_lattice.specs.KeptPairs.{is_under_third_beside_pair, unless_under_third_beside_pair, kept_pair_meet}
-use Rattle.prefix_lattice.specs.KeptPairs.{kept_pair_meets_among, kept_pairs}
-use Rattle.prefix_lattice.specs.ClosestLines.{AreIncomparableLines, covering_line_count}
-use Rattle.prefix_lattice.specs.Staircase.{LinesObeyStaircase}
+use Rattle.prefix_lattice.specs.KeptPairs.{under_third, unless_third, pair_meet}
+use Rattle.prefix_lattice.specs.KeptPairs.{pair_meets, kept_pairs}
+use Rattle.prefix_lattice.specs.ClosestLines.{AreIncomparable, covering_count}
+use Rattle.prefix_lattice.specs.Staircase.{ObeyStaircase}
 use Rattle.prefix_lattice.proofs.Examples.{packet, answer, prefix, root, to_twenty, from_ten_to_twenty}
 
 -- the root and three under it, of which the first is under the other two
@@ -75,37 +75,37 @@ climber = record { src = 0x0a010101; dst = 0x14010101; weight = 9 }
 pub none_of_the_stairs_is_under_another : closest root stairs ≡ stairs
 none_of_the_stairs_is_under_another = refl
 
-pub outer_meet_is_under_the_middle_step : is_under_third_beside_pair stairs lowest_step highest_step outer_meet ≡ true
+pub outer_meet_is_under_the_middle_step : under_third stairs lowest_step highest_step outer_meet ≡ true
 outer_meet_is_under_the_middle_step = refl
 
 -- the two members whose meet it is don't count as a third
-pub lower_meet_is_under_no_third_step : is_under_third_beside_pair stairs lowest_step middle_step lower_meet ≡ false
+pub lower_meet_is_under_no_third_step : under_third stairs lowest_step middle_step lower_meet ≡ false
 lower_meet_is_under_no_third_step = refl
 
-pub prefix_under_a_third_is_dropped : unless_under_third_beside_pair stairs lowest_step highest_step (Some outer_meet) ≡ None
+pub prefix_under_a_third_is_dropped : unless_third stairs lowest_step highest_step (Some outer_meet) ≡ None
 prefix_under_a_third_is_dropped = refl
 
-pub prefix_under_no_third_stays : unless_under_third_beside_pair stairs lowest_step middle_step (Some lower_meet) ≡ Some lower_meet
+pub prefix_under_no_third_stays : unless_third stairs lowest_step middle_step (Some lower_meet) ≡ Some lower_meet
 prefix_under_no_third_stays = refl
 
-pub meet_of_neighbours_is_kept : kept_pair_meet stairs middle_step highest_step ≡ Some upper_meet
+pub meet_of_neighbours_is_kept : pair_meet stairs middle_step highest_step ≡ Some upper_meet
 meet_of_neighbours_is_kept = refl
 
 -- the meet exists, but is not kept
 pub meet_of_the_outer_two : meet lowest_step highest_step ≡ Some outer_meet
 meet_of_the_outer_two = refl
 
-pub meet_of_the_outer_two_is_not_kept : kept_pair_meet stairs lowest_step highest_step ≡ None
+pub meet_of_the_outer_two_is_not_kept : pair_meet stairs lowest_step highest_step ≡ None
 meet_of_the_outer_two_is_not_kept = refl
 
 -- the pairs whose first member follows the lowest step
-pub kept_pairs_of_the_upper_steps : kept_pair_meets_among stairs (middle_step ∷ highest_step ∷ []) ≡ upper_meet ∷ []
+pub kept_pairs_of_the_upper_steps : pair_meets stairs (middle_step ∷ highest_step ∷ []) ≡ upper_meet ∷ []
 kept_pairs_of_the_upper_steps = refl
 
 pub neighbours_are_kept : kept_pairs stairs ≡ lower_meet ∷ upper_meet ∷ []
 neighbours_are_kept = refl
 
-pub stairs_are_incomparable : AreIncomparableLines stairs
+pub stairs_are_incomparable : AreIncomparable stairs
 stairs_are_incomparable = record {
   distinct =
       pairs (λ line other. line ≢ other) (λ same. omega (arith, ap (λ p. length p.dest) same))
@@ -126,19 +126,19 @@ stairs_are_incomparable = record {
         (All-cons (R middle_step) highest_step [] three (All-nil (R middle_step)))
         (AllPairs-cons R highest_step [] (All-nil (R highest_step)) (λ i j d before within. absurd (omega arith))))
 
-pub lines_under_one_another_are_comparable : AreIncomparableLines lines → ⊥
+pub lines_under_one_another_are_comparable : AreIncomparable lines → ⊥
 lines_under_one_another_are_comparable apart = cc ((apart.none_under 0 1 root (omega arith) (omega arith)).0)
 
 -- three steps cover the record, and two kept pairs
-pub steps_that_cover : covering_line_count climber stairs ≡ 3
+pub steps_that_cover : covering_count climber stairs ≡ 3
 steps_that_cover = refl
 
-pub kept_pairs_that_cover : covering_line_count climber (kept_pairs stairs) ≡ 2
+pub kept_pairs_that_cover : covering_count climber (kept_pairs stairs) ≡ 2
 kept_pairs_that_cover = refl
 
-pub stairs_obey_the_law : LinesObeyStaircase stairs climber
+pub stairs_obey_the_law : ObeyStaircase stairs climber
 stairs_obey_the_law some = refl
 
 -- of three lines under one another only one pair is kept, although all three cover the packet
-pub comparable_lines_do_not_obey : LinesObeyStaircase (prefix ∷ from_ten_to_twenty ∷ to_twenty ∷ []) packet → ⊥
+pub comparable_lines_do_not_obey : ObeyStaircase (prefix ∷ from_ten_to_twenty ∷ to_twenty ∷ []) packet → ⊥
 comparable_lines_do_not_obey obeys = omega (arith, obeys (omega arith))

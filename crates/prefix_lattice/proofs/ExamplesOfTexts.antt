@@ -3,13 +3,13 @@ use Rattle.std.proofs.Common.{◌≡◌, ℕ, ◌*◌, ◌≤◌, List, [], ◌�
 use Rattle.std.proofs.Common.{ap, arith, length}
 use Rattle.std.specs.Fmt.{digits}
 use Rattle.std.proofs.lemmas.Fmt.{decimal_injective}
-use Rattle.prefix_lattice.specs.PrefixText.{dot, slash, prefix_text_space, address_text, side_text_of, side_text}
+use Rattle.prefix_lattice.specs.PrefixText.{dot, slash, text_space, address_text, side_text_of, side_text}
 use Rattle.prefix_lattice.specs.PrefixText.{prefix_text}
-use Rattle.prefix_lattice.specs.PrefixText.{source_part_of_prefix_text, dest_part_of_prefix_text, TextSpellsSide}
-use Rattle.prefix_lattice.specs.PrefixText.{IsAddressText, text_before_slash}
-use Rattle.prefix_lattice.specs.PrefixText.{TextHasLength, TextHasLooseBits, TextHasSideFault, SpellsPrefix}
-use Rattle.prefix_lattice.specs.PrefixText.{HasPrefixTextFault}
-use Rattle.prefix_lattice.specs.PrefixText.{WritesPrefixTextPart, longest_prefix_text_length, longest_side_text_length}
+use Rattle.prefix_lattice.specs.PrefixText.{source_part, dest_part, TextSpellsSide}
+use Rattle.prefix_lattice.specs.PrefixText.{IsAddressText, before_slash}
+use Rattle.prefix_lattice.specs.PrefixText.{HasLength, HasLooseBits, HasSideFault, SpellsPrefix}
+use Rattle.prefix_lattice.specs.PrefixText.{HasPrefixFault}
+use Rattle.prefix_lattice.specs.PrefixText.{WritesPrefixPart, longest_prefix_text, longest_side_text}
 use Rattle.prefix_lattice.specs.declared.prefix_fault.Side.TheVariants.{Source, Dest}
 use Rattle.prefix_lattice.specs.declared.prefix_fault.PrefixFault.TheVariants.{BadAddress, BadLength, LooseBits}
 use Rattle.prefix_lattice.proofs.AddressTextLemmas.{address_text-first_number, address_text-second_number}
@@ -22,7 +22,7 @@ dot_between_numbers = refl
 pub slash_before_a_length : codes "/" ≡ slash ∷ []
 slash_before_a_length = refl
 
-pub space_between_sides : codes " " ≡ prefix_text_space ∷ []
+pub space_between_sides : codes " " ≡ text_space ∷ []
 space_between_sides = refl
 
 pub text_of_an_address : address_text 0x0a010203 ≡ codes "10.1.2.3"
@@ -45,10 +45,10 @@ pub text_of_a_prefix : prefix_text prefix ≡ text
 unfolding digits
 text_of_a_prefix = refl
 
-pub text_before_the_space : source_part_of_prefix_text text ≡ codes "10.0.0.0/8"
+pub text_before_the_space : source_part text ≡ codes "10.0.0.0/8"
 text_before_the_space = refl
 
-pub text_after_the_space : dest_part_of_prefix_text text ≡ codes "20.1.0.0/16"
+pub text_after_the_space : dest_part text ≡ codes "20.1.0.0/16"
 text_after_the_space = refl
 
 pub text_of_the_source : TextSpellsSide (codes "10.0.0.0/8") (10 ∷ [])
@@ -77,18 +77,18 @@ three_numbers_are_no_address is_address =
     one.1 in
     text_cut-no_next_number (codes "2") _ _ (omega arith) refl two.1
 
-pub text_before_the_slash : text_before_slash (codes "10.0.0.0/8") ≡ codes "10.0.0.0"
+pub text_before_the_slash : before_slash (codes "10.0.0.0/8") ≡ codes "10.0.0.0"
 text_before_the_slash = refl
 
-pub whole_text_without_a_slash : text_before_slash (codes "10.0.0.0") ≡ codes "10.0.0.0"
+pub whole_text_without_a_slash : before_slash (codes "10.0.0.0") ≡ codes "10.0.0.0"
 whole_text_without_a_slash = refl
 
-pub eight_is_a_length : TextHasLength (codes "10.0.0.0/8")
+pub eight_is_a_length : HasLength (codes "10.0.0.0/8")
 unfolding digits
 eight_is_a_length = (1, omega arith, refl)
 
 -- bytes are kept whole
-pub fifteen_is_no_length : TextHasLength (codes "10.0.0.0/15") → ⊥
+pub fifteen_is_no_length : HasLength (codes "10.0.0.0/15") → ⊥
 unfolding digits
 fifteen_is_no_length has_length =
     let bytes = has_length.0 in
@@ -97,7 +97,7 @@ fifteen_is_no_length has_length =
     let fifteen : decimal 15 ≡ decimal (8 * bytes) = same in
     omega (arith, decimal_injective 15 (8 * bytes) (omega arith) (omega arith) fifteen)
 
-pub bits_past_a_length : TextHasLooseBits (codes "10.1.2.0/16")
+pub bits_past_a_length : HasLooseBits (codes "10.1.2.0/16")
 unfolding digits
 bits_past_a_length = record {
   address = 0x0a010200;
@@ -108,41 +108,41 @@ bits_past_a_length = record {
   loose = λ none. omega (arith, none);
 }
 
-pub fault_of_three_numbers : TextHasSideFault Source (codes "10.1.2/8") (BadAddress Source)
+pub fault_of_three_numbers : HasSideFault Source (codes "10.1.2/8") (BadAddress Source)
 fault_of_three_numbers = (refl, three_numbers_are_no_address)
 
-pub fault_of_a_length : TextHasSideFault Source (codes "10.0.0.0/15") (BadLength Source)
+pub fault_of_a_length : HasSideFault Source (codes "10.0.0.0/15") (BadLength Source)
 unfolding digits
 fault_of_a_length = (refl, (0x0a000000, omega arith, refl), fifteen_is_no_length)
 
-pub fault_of_bits_past_a_length : TextHasSideFault Dest (codes "10.1.2.0/16") (LooseBits Dest)
+pub fault_of_bits_past_a_length : HasSideFault Dest (codes "10.1.2.0/16") (LooseBits Dest)
 fault_of_bits_past_a_length = (refl, bits_past_a_length)
 
 -- a fault of one side is not reported as one of the other
-pub fault_of_another_side : TextHasSideFault Dest (codes "10.1.2.0/16") (LooseBits Source) → ⊥
+pub fault_of_another_side : HasSideFault Dest (codes "10.1.2.0/16") (LooseBits Source) → ⊥
 fault_of_another_side has = cc (has.0)
 
 -- the destination is not checked if the source has a fault
-pub fault_of_the_source : HasPrefixTextFault (codes "10.1.2/8") (codes "x") (BadAddress Source)
+pub fault_of_the_source : HasPrefixFault (codes "10.1.2/8") (codes "x") (BadAddress Source)
 fault_of_the_source = inl fault_of_three_numbers
 
-pub fault_of_the_destination : HasPrefixTextFault (codes "10.0.0.0/8") (codes "10.1.2.0/16") (LooseBits Dest)
+pub fault_of_the_destination : HasPrefixFault (codes "10.0.0.0/8") (codes "10.1.2.0/16") (LooseBits Dest)
 fault_of_the_destination = inr ((10 ∷ [], text_of_the_source), fault_of_bits_past_a_length)
 
 -- of six bytes the two from offset 2 on were written
-pub part_that_was_written : WritesPrefixTextPart (codes "xxxxxx") (codes "xx10xx") 2 4 (codes "10")
+pub part_that_was_written : WritesPrefixPart (codes "xxxxxx") (codes "xx10xx") 2 4 (codes "10")
 part_that_was_written = record { ends = refl; written = refl }
 
-pub byte_that_did_not_stay : WritesPrefixTextPart (codes "xxxxxx") (codes "xx10yx") 2 4 (codes "10") → ⊥
+pub byte_that_did_not_stay : WritesPrefixPart (codes "xxxxxx") (codes "xx10yx") 2 4 (codes "10") → ⊥
 byte_that_did_not_stay writes = omega (arith, ap (λ l. slice_index l 4) writes.written)
 
-pub longest_side : length (side_text (255 ∷ 255 ∷ 255 ∷ 255 ∷ [])) ≡ longest_side_text_length
+pub longest_side : length (side_text (255 ∷ 255 ∷ 255 ∷ 255 ∷ [])) ≡ longest_side_text
 unfolding digits
 longest_side = refl
 
 -- no text is longer than that of 255.255.255.255/32 255.255.255.255/32
 pub longest_text :
     length (prefix_text (record { source = 255 ∷ 255 ∷ 255 ∷ 255 ∷ []; dest = 255 ∷ 255 ∷ 255 ∷ 255 ∷ [] }))
-    ≡ longest_prefix_text_length
+    ≡ longest_prefix_text
 unfolding digits
 longest_text = refl

@@ -2,18 +2,18 @@
 use Rattle.std.proofs.Common.{◌≡◌, ℕ, ◌^◌, ◌<◌, ◌≤◌, eqb, true, List, length, take, refl, sym, ap, ◌∙◌, arith, subst}
 use Rattle.std.proofs.lemmas.Bool.{eqb-true, eq-eqb, and_parts, and_from}
 use Rattle.prefix_lattice.specs.Address.{address_bytes, address_of}
-use Rattle.prefix_lattice.specs.KeptBytes.{kept_bytes_begin_with}
+use Rattle.prefix_lattice.specs.KeptBytes.{begins_with}
 use Rattle.prefix_lattice.specs.Record.{RecordValue}
 use Rattle.prefix_lattice.specs.Node.{NodeValue}
 use Rattle.prefix_lattice.specs.Prefix.{PrefixValue, IsPrefix, covers, node_of_prefix, prefix_at, prefix_key}
 use Rattle.prefix_lattice.proofs.AddressLemmas.{address_front_is_leading, address_front-length, address_of-small}
 use Rattle.prefix_lattice.proofs.AddressLemmas.{address_tells_leading_bytes}
-use Rattle.prefix_lattice.proofs.AddressLemmas.{address_tests_agree, kept_bytes_begin_with-address_front}
+use Rattle.prefix_lattice.proofs.AddressLemmas.{address_tests_agree, begins_with-address_front}
 use Rattle.prefix_lattice.proofs.AddressLemmas.{address_front-from_begins_with}
 
 -- an address begins with its own first bytes
-node_prefix-own_bytes : (n address : ℕ) → n ≤ 4 → kept_bytes_begin_with (address_bytes address) (take n (address_bytes address)) ≡ true
-node_prefix-own_bytes n address few = kept_bytes_begin_with-address_front (address_bytes address) (take n (address_bytes address))
+node_prefix-own_bytes : (n address : ℕ) → n ≤ 4 → begins_with (address_bytes address) (take n (address_bytes address)) ≡ true
+node_prefix-own_bytes n address few = begins_with-address_front (address_bytes address) (take n (address_bytes address))
     (ap (λ m. take m (address_bytes address)) (address_front-length n address few))
 
 -- a record is covered by its prefix at a node
@@ -27,8 +27,8 @@ node_prefix-covers node rec few_source few_dest =
 pub only_node_prefix_covers : (node : NodeValue) (rec : RecordValue) (other : PrefixValue) → node_of_prefix other ≡ node
     → covers other rec ≡ true → other ≡ prefix_at node rec
 only_node_prefix_covers node rec other of_node covered =
-    let both : (kept_bytes_begin_with (address_bytes rec.src) other.source ≡ true)
-    × (kept_bytes_begin_with (address_bytes rec.dst) other.dest ≡ true) =
+    let both : (begins_with (address_bytes rec.src) other.source ≡ true)
+    × (begins_with (address_bytes rec.dst) other.dest ≡ true) =
     and_parts _ _ covered in
     let source : other.source ≡ take node.source_bytes (address_bytes rec.src) =
     sym (address_front-from_begins_with (address_bytes rec.src) other.source both.0)

@@ -2,7 +2,7 @@
 use Rattle.std.proofs.Common.{◌≡◌, ℕ, ◌-◌, ◌/◌, ◌%◌, ◌^◌, ◌<◌, length, take, Option, None, Some, IsSome, IfSome}
 use Rattle.std.proofs.Common.{IfNone, refl, sym, ap, ◌∙◌, arith, subst}
 use Rattle.std.proofs.Math.Nat.{mul-mod_left}
-use Rattle.prefix_lattice.specs.Address.{address_bytes, address_of, address_number_from}
+use Rattle.prefix_lattice.specs.Address.{address_bytes, address_of, number_from}
 use Rattle.prefix_lattice.specs.Record.{RecordValue}
 use Rattle.prefix_lattice.specs.Node.{NodeValue, IsNode}
 use Rattle.prefix_lattice.specs.Prefix.{PrefixValue, IsPrefix, node_of_prefix, prefix_at, prefix_key, IsPrefixKey}
@@ -19,10 +19,10 @@ IsPrefixKey-prefix prefix valid =
     record {
       source =
           ap (λ m. m % 256 ^ (4 - length prefix.source)) high
-          ∙ mul-mod_left (address_number_from 256 0 prefix.source) (256 ^ (4 - length prefix.source));
+          ∙ mul-mod_left (number_from 256 0 prefix.source) (256 ^ (4 - length prefix.source));
       dest =
           ap (λ m. m % 256 ^ (4 - length prefix.dest)) low
-          ∙ mul-mod_left (address_number_from 256 0 prefix.dest) (256 ^ (4 - length prefix.dest));
+          ∙ mul-mod_left (number_from 256 0 prefix.dest) (256 ^ (4 - length prefix.dest));
     }
 
 -- the key of a prefix of a node is a key of the node

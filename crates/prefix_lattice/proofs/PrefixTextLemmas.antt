@@ -1,7 +1,7 @@
 -- The text of a prefix: it spells one prefix at most, and has one fault exactly where it spells none.
 use Rattle.std.proofs.Common.{◌≡◌, List, ℕ, Result, Ok, Err, IfOk, IfErr, inl, inr, ap, ◌∙◌, subst}
 use Rattle.prefix_lattice.specs.Prefix.{PrefixValue}
-use Rattle.prefix_lattice.specs.PrefixText.{SpellsPrefix, HasPrefixTextFault}
+use Rattle.prefix_lattice.specs.PrefixText.{SpellsPrefix, HasPrefixFault}
 use Rattle.prefix_lattice.specs.declared.prefix_fault.Side.TheVariants.{Source, Dest}
 use Rattle.prefix_lattice.specs.declared.prefix_fault.PrefixFault.{PrefixFault}
 use Rattle.prefix_lattice.proofs.SideTextLemmas.{side_text-tells_side, side_text-no_fault, side_text-single_fault}
@@ -17,14 +17,14 @@ prefix_text-tells_prefix source dest prefix other spells spells_other =
 
 -- texts that spell a prefix have no fault
 pub prefix_text-no_fault : (source dest : List ℕ) (prefix : PrefixValue) (fault : PrefixFault)
-    → SpellsPrefix source dest prefix → HasPrefixTextFault source dest fault → ⊥
+    → SpellsPrefix source dest prefix → HasPrefixFault source dest fault → ⊥
 prefix_text-no_fault source dest prefix fault spells (inl has) =
     side_text-no_fault Source source prefix.source fault spells.source has
 prefix_text-no_fault source dest prefix fault spells (inr has) = side_text-no_fault Dest dest prefix.dest fault spells.dest has.1
 
 -- two texts have one fault at most
-pub prefix_text-single_fault : (source dest : List ℕ) (fault other : PrefixFault) → HasPrefixTextFault source dest fault
-    → HasPrefixTextFault source dest other → fault ≡ other
+pub prefix_text-single_fault : (source dest : List ℕ) (fault other : PrefixFault) → HasPrefixFault source dest fault
+    → HasPrefixFault source dest other → fault ≡ other
 prefix_text-single_fault source dest fault other (inl has) (inl has_other) =
     side_text-single_fault Source source fault other has has_other
 prefix_text-single_fault source dest fault other (inl has) (inr has_other) =
@@ -36,7 +36,7 @@ prefix_text-single_fault source dest fault other (inr has) (inr has_other) =
 
 -- a result that is spelled by the texts, or is their fault, is the only correct one
 pub prefix_text-exactly_spelled : (source dest : List ℕ) (result : Result PrefixValue PrefixFault)
-    → IfOk result (SpellsPrefix source dest) → IfErr result (HasPrefixTextFault source dest)
+    → IfOk result (SpellsPrefix source dest) → IfErr result (HasPrefixFault source dest)
     → (prefix : PrefixValue)
     → (result ≡ Ok prefix → SpellsPrefix source dest prefix)
     × (SpellsPrefix source dest prefix → result ≡ Ok prefix)
@@ -48,13 +48,13 @@ prefix_text-exactly_spelled source dest (Err found) ok fault prefix =
     (λ same. cc same, λ spells. absurd (prefix_text-no_fault source dest prefix found spells fault))
 
 pub prefix_text-exact_fault : (source dest : List ℕ) (result : Result PrefixValue PrefixFault)
-    → IfOk result (SpellsPrefix source dest) → IfErr result (HasPrefixTextFault source dest)
+    → IfOk result (SpellsPrefix source dest) → IfErr result (HasPrefixFault source dest)
     → (other : PrefixFault)
-    → (result ≡ Err other → HasPrefixTextFault source dest other)
-    × (HasPrefixTextFault source dest other → result ≡ Err other)
+    → (result ≡ Err other → HasPrefixFault source dest other)
+    × (HasPrefixFault source dest other → result ≡ Err other)
 prefix_text-exact_fault source dest (Ok found) ok fault other =
     (λ same. cc same, λ has. absurd (prefix_text-no_fault source dest found other ok has))
 prefix_text-exact_fault source dest (Err found) ok fault other = (
-  λ same. subst (HasPrefixTextFault source dest) (cc same) fault,
+  λ same. subst (HasPrefixFault source dest) (cc same) fault,
   λ has. ap Err (prefix_text-single_fault source dest found other fault has),
 )

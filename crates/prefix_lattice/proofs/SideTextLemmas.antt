@@ -3,9 +3,9 @@ use Rattle.std.proofs.Common.{◌≡◌, ℕ, ◌-◌, ◌*◌, ◌%◌, ◌^◌
 use Rattle.std.proofs.Common.{◌∙◌, arith}
 use Rattle.std.proofs.lemmas.Fmt.{decimal_injective}
 use Rattle.std.proofs.Math.Nat.{mul-mod_left}
-use Rattle.prefix_lattice.specs.Address.{address_number_from, address_of}
-use Rattle.prefix_lattice.specs.PrefixText.{address_text, side_text_of, text_before_slash, IsAddressText, TextHasLength}
-use Rattle.prefix_lattice.specs.PrefixText.{TextSpellsSide, TextHasSideFault}
+use Rattle.prefix_lattice.specs.Address.{number_from, address_of}
+use Rattle.prefix_lattice.specs.PrefixText.{address_text, side_text_of, before_slash, IsAddressText, HasLength}
+use Rattle.prefix_lattice.specs.PrefixText.{TextSpellsSide, HasSideFault}
 use Rattle.prefix_lattice.specs.declared.prefix_fault.Side.{Side}
 use Rattle.prefix_lattice.specs.declared.prefix_fault.PrefixFault.{PrefixFault}
 use Rattle.prefix_lattice.specs.declared.prefix_fault.PrefixFault.TheVariants.{BadAddress, BadLength, LooseBits}
@@ -15,18 +15,18 @@ use Rattle.prefix_lattice.proofs.TextCutLemmas.{first_text_cut, same_text_cut}
 
 -- in the text of an address and a length, the part before the slash is the address
 pub side_text-before_slash : (text : List ℕ) (address bytes : ℕ) → text ≡ side_text_of address bytes
-    → text_before_slash text ≡ address_text address
+    → before_slash text ≡ address_text address
 side_text-before_slash text address bytes spelled =
-    ap text_before_slash spelled
+    ap before_slash spelled
     ∙ first_text_cut 47 (address_text address) (decimal (8 * bytes)) (address_text-lacks_slash address)
 
 -- such a text has an address before its slash
 pub side_text-has_address : (text : List ℕ) (address bytes : ℕ) → address < 2 ^ 32 → text ≡ side_text_of address bytes
-    → IsAddressText (text_before_slash text)
+    → IsAddressText (before_slash text)
 side_text-has_address text address bytes small spelled = (address, small, side_text-before_slash text address bytes spelled)
 
 -- and a length after it
-pub side_text-has_length : (text : List ℕ) (address bytes : ℕ) → bytes ≤ 4 → text ≡ side_text_of address bytes → TextHasLength text
+pub side_text-has_length : (text : List ℕ) (address bytes : ℕ) → bytes ≤ 4 → text ≡ side_text_of address bytes → HasLength text
 side_text-has_length text address bytes few spelled =
     (bytes, few, spelled ∙ ap (λ l. l ++ 47 ∷ decimal (8 * bytes)) (sym (side_text-before_slash text address bytes spelled)))
 
@@ -53,11 +53,11 @@ side_text-tells_side text front other spells spells_other =
 
 -- the address of leading bytes has no bit set past them
 side_text-nothing_loose : (front : List ℕ) → address_of front % 256 ^ (4 - length front) ≡ 0
-side_text-nothing_loose front = mul-mod_left (address_number_from 256 0 front) (256 ^ (4 - length front))
+side_text-nothing_loose front = mul-mod_left (number_from 256 0 front) (256 ^ (4 - length front))
 
 -- a text that spells a side has no fault
 pub side_text-no_fault : (side : Side) (text front : List ℕ) (fault : PrefixFault) → TextSpellsSide text front
-    → TextHasSideFault side text fault → ⊥
+    → HasSideFault side text fault → ⊥
 side_text-no_fault side text front (BadAddress at) spells has =
     has.1 (side_text-has_address text (address_of front) (length front) (address_of-small front spells.leading) spells.spelled)
 side_text-no_fault side text front (BadLength at) spells has =
@@ -71,8 +71,8 @@ side_text-no_fault side text front (LooseBits at) spells has =
     ∙ side_text-nothing_loose front)
 
 -- a text has one fault at most
-pub side_text-single_fault : (side : Side) (text : List ℕ) (fault other : PrefixFault) → TextHasSideFault side text fault
-    → TextHasSideFault side text other → fault ≡ other
+pub side_text-single_fault : (side : Side) (text : List ℕ) (fault other : PrefixFault) → HasSideFault side text fault
+    → HasSideFault side text other → fault ≡ other
 side_text-single_fault side text (BadAddress at) (BadAddress at') has has_other = ap BadAddress (has.0 ∙ sym has_other.0)
 side_text-single_fault side text (BadAddress at) (BadLength at') has has_other = absurd (has.1 has_other.1)
 side_text-single_fault side text (BadAddress at) (LooseBits at') has has_other =

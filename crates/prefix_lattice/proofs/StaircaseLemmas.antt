@@ -9,10 +9,10 @@ use Rattle.std.proofs.lemmas.List.Kept.{AllPairs-filter}
 use Rattle.prefix_lattice.specs.Address.{address_bytes}
 use Rattle.prefix_lattice.specs.Record.{RecordValue}
 use Rattle.prefix_lattice.specs.Prefix.{PrefixValue, covers}
-use Rattle.prefix_lattice.specs.Lattice.{under, same_in_lattice}
-use Rattle.prefix_lattice.specs.KeptPairs.{is_under_third_beside_pair, kept_pairs}
-use Rattle.prefix_lattice.specs.ClosestLines.{AreIncomparableLines, covering_line_count}
-use Rattle.prefix_lattice.specs.Staircase.{LinesObeyStaircase}
+use Rattle.prefix_lattice.specs.Lattice.{under, same_as}
+use Rattle.prefix_lattice.specs.KeptPairs.{under_third, kept_pairs}
+use Rattle.prefix_lattice.specs.ClosestLines.{AreIncomparable, covering_count}
+use Rattle.prefix_lattice.specs.Staircase.{ObeyStaircase}
 use Rattle.prefix_lattice.proofs.AmongLemmas.{Among, any_among-false, any_among-true, among-filter, filter-among}
 use Rattle.prefix_lattice.proofs.OrderedCountLemmas.{added_to_count, count_by-cons, count_by-none, pair_count}
 use Rattle.prefix_lattice.proofs.OrderedCountLemmas.{pair_count-filter}
@@ -55,14 +55,14 @@ staircase_rest-tail members rec step next later rest = record {
 
 -- the meet of a step and the next one is under no third member
 staircase_has_no_third : (members : List PrefixValue) (rec : RecordValue) (step next lowest : PrefixValue)
-    (later : List PrefixValue) → AreIncomparableLines members → AreStaircaseRest members rec step (next ∷ later)
+    (later : List PrefixValue) → AreIncomparable members → AreStaircaseRest members rec step (next ∷ later)
     → IsMeet step next lowest (address_bytes rec.src) (address_bytes rec.dst)
-    → is_under_third_beside_pair members step next lowest ≡ false
+    → under_third members step next lowest ≡ false
 staircase_has_no_third members rec step next lowest later incomparable rest found =
-    any_among-false (λ third. under lowest third && not (same_in_lattice third step || same_in_lattice third next)) members
+    any_among-false (λ third. under lowest third && not (same_as third step || same_as third next)) members
     (λ third among. false_from_ne_true _ (λ passes.
-    let parts = and_parts (under lowest third) (not (same_in_lattice third step || same_in_lattice third next)) passes in
-    let neither = or_parts (same_in_lattice third step) (same_in_lattice third next) (not-true _ parts.1) in
+    let parts = and_parts (under lowest third) (not (same_as third step || same_as third next)) passes in
+    let neither = or_parts (same_as third step) (same_as third next) (not-true _ parts.1) in
     let covered = and_from _ _ found.source_begins found.dest_begins in
     let is_step : IsChainMember members rec third = record {
       among = among;
@@ -73,12 +73,12 @@ staircase_has_no_third members rec step next lowest later incomparable rest foun
     descends : DescendsChain step next
     descends = rest.chain.0 next (inl refl)
 
-    is_first : (third : PrefixValue) → third ≡ step → same_in_lattice third step ≡ false → ⊥
+    is_first : (third : PrefixValue) → third ≡ step → same_as third step ≡ false → ⊥
     is_first third same other =
-        false≢true (sym other ∙ subst (λ p. same_in_lattice third p ≡ true) same (under_same_prefix-refl third))
+        false≢true (sym other ∙ subst (λ p. same_as third p ≡ true) same (under_same_prefix-refl third))
 
     is_one : (third : PrefixValue) → IsChainMember members rec third → under lowest third ≡ true
-        → same_in_lattice third step ≡ false → same_in_lattice third next ≡ false
+        → same_as third step ≡ false → same_as third next ≡ false
         → (chain_source_bytes third ≤ chain_source_bytes step) ⊎ Among third (next ∷ later) → ⊥
     is_one third is_step is_under not_step not_next (inl less) =
         let lengths = chain_bytes-by_under lowest third is_under in
@@ -89,7 +89,7 @@ staircase_has_no_third members rec step next lowest later incomparable rest foun
         (under-by_chain_bytes rec step third first_step.covered is_step.covered less dests) in
         is_first third (sym same) not_step
     is_one third is_step is_under not_step not_next (inr (inl same)) =
-        false≢true (sym not_next ∙ subst (λ p. same_in_lattice third p ≡ true) same (under_same_prefix-refl third))
+        false≢true (sym not_next ∙ subst (λ p. same_as third p ≡ true) same (under_same_prefix-refl third))
     is_one third is_step is_under not_step not_next (inr (inr among)) =
         let lengths = chain_bytes-by_under lowest third is_under in
         let further = rest.chain.1.0 third among in
@@ -97,7 +97,7 @@ staircase_has_no_third members rec step next lowest later incomparable rest foun
 
 -- a step and the next one are a kept pair, and their meet covers the record
 staircase_next_is_kept : (members : List PrefixValue) (rec : RecordValue) (step next : PrefixValue) (later : List PrefixValue)
-    → AreIncomparableLines members → AreStaircaseRest members rec step (next ∷ later)
+    → AreIncomparable members → AreStaircaseRest members rec step (next ∷ later)
     → keeps_pair members rec step next ≡ true
 staircase_next_is_kept members rec step next later incomparable rest =
     let found =
@@ -121,26 +121,26 @@ staircase_later_is_not_kept members rec step next later rest last among =
     let sources : chain_source_bytes next ≤ chain_source_bytes found.0 = omega (arith, found.1.source_length, further.source) in
     let dests : chain_dest_bytes next ≤ chain_dest_bytes found.0 = omega (arith, found.1.dest_length, descends.dest) in
     let is_under = under-by_chain_bytes rec found.0 next covered next_step.covered sources dests in
-    let not_first = false_from_ne_true (same_in_lattice next step) (λ same. other next step descends.source same) in
-    let not_last = false_from_ne_true (same_in_lattice next last) (λ same. turned next last further.source same) in
-    let third = any_among-true (λ p. under found.0 p && not (same_in_lattice p step || same_in_lattice p last)) next members
+    let not_first = false_from_ne_true (same_as next step) (λ same. other next step descends.source same) in
+    let not_last = false_from_ne_true (same_as next last) (λ same. turned next last further.source same) in
+    let third = any_among-true (λ p. under found.0 p && not (same_as p step || same_as p last)) next members
     next_step.among
     (and_from _ _ is_under (not_from_false _ (or_from _ _ not_first not_last))) in
     keeps_pair-by_kept_meet members rec step last found.0 true found.1.is third
   where
-    other : (prefix first : PrefixValue) → chain_source_bytes first < chain_source_bytes prefix → same_in_lattice prefix first ≡ true → ⊥
+    other : (prefix first : PrefixValue) → chain_source_bytes first < chain_source_bytes prefix → same_as prefix first ≡ true → ⊥
     other prefix first less same =
         let both = and_parts (under prefix first) (under first prefix) same in
         absurd (omega (arith, less, ap chain_source_bytes (under-antisym prefix first both.0 both.1)))
 
-    turned : (prefix next : PrefixValue) → chain_source_bytes prefix < chain_source_bytes next → same_in_lattice prefix next ≡ true → ⊥
+    turned : (prefix next : PrefixValue) → chain_source_bytes prefix < chain_source_bytes next → same_as prefix next ≡ true → ⊥
     turned prefix next less same =
         let both = and_parts (under prefix next) (under next prefix) same in
         absurd (omega (arith, less, ap chain_source_bytes (under-antisym prefix next both.0 both.1)))
 
 -- the kept pairs of a chain are its neighbours, one fewer than its steps
 staircase_neighbours-count : (members : List PrefixValue) (rec : RecordValue) (step : PrefixValue) (later : List PrefixValue)
-    → AreIncomparableLines members → AreStaircaseRest members rec step later
+    → AreIncomparable members → AreStaircaseRest members rec step later
     → pair_count (keeps_pair members rec) (step ∷ later) + 1 ≡ length (step ∷ later)
 staircase_neighbours-count members rec step [] incomparable rest = refl
 staircase_neighbours-count members rec step (next ∷ later) incomparable rest =
@@ -161,13 +161,13 @@ abbrev staircase_chain : List PrefixValue → RecordValue → List PrefixValue
 staircase_chain members rec = ordered_by chain_source_bytes (staircase_members members rec)
 
 -- if n members cover a record and n is at least 1, exactly n - 1 kept pairs have a meet that covers it
-pub staircase : (members : List PrefixValue) (rec : RecordValue) → AreIncomparableLines members → LinesObeyStaircase members rec
+pub staircase : (members : List PrefixValue) (rec : RecordValue) → AreIncomparable members → ObeyStaircase members rec
 staircase members rec incomparable some =
-    let pairs : covering_line_count rec (kept_pairs members) ≡ pair_count (keeps_pair members rec) (staircase_chain members rec) =
+    let pairs : covering_count rec (kept_pairs members) ≡ pair_count (keeps_pair members rec) (staircase_chain members rec) =
     kept_pair-count members rec members
     ∙ sym (pair_count-filter (keeps_pair members rec) (λ prefix. covers prefix rec) members (keeps_pair-covers members rec))
     ∙ sym (pair_count-ordered_by chain_source_bytes (keeps_pair members rec) (keeps_pair-turned members rec) (staircase_members members rec)) in
-    let steps : length (staircase_chain members rec) ≡ covering_line_count rec members =
+    let steps : length (staircase_chain members rec) ≡ covering_count rec members =
     ordered_by-same_count chain_source_bytes (staircase_members members rec) ∙ length-filter (λ prefix. covers prefix rec) members in
     let whole : pair_count (keeps_pair members rec) (staircase_chain members rec) + 1 ≡ length (staircase_chain members rec) =
     by_chain (staircase_chain members rec) is_chain are_steps all (omega arith) in

@@ -4,33 +4,33 @@ use Rattle.std.proofs.Common.{List, length, take, Option, Some, None, is_some, I
 use Rattle.std.proofs.Common.{refl, sym, ap, ◌∙◌, arith, subst}
 use Rattle.std.proofs.lemmas.Bool.{false≢true, and_parts, and_from, cases_lt}
 use Rattle.std.proofs.Math.Nat.{mul-div_cancel}
-use Rattle.prefix_lattice.specs.Address.{address_number_from, address_bytes, address_of}
-use Rattle.prefix_lattice.specs.KeptBytes.{kept_bytes_begin_with, AreLeadingBytes}
+use Rattle.prefix_lattice.specs.Address.{number_from, address_bytes, address_of}
+use Rattle.prefix_lattice.specs.KeptBytes.{begins_with, AreLeadingBytes}
 use Rattle.prefix_lattice.specs.Node.{node_level}
 use Rattle.prefix_lattice.specs.Record.{RecordValue}
 use Rattle.prefix_lattice.specs.Prefix.{PrefixValue, IsPrefix, covers, node_of_prefix}
-use Rattle.prefix_lattice.specs.Lattice.{under, same_in_lattice, strictly_under}
-use Rattle.prefix_lattice.specs.Meets.{meet_side, meet_with_sides, meet}
-use Rattle.prefix_lattice.specs.Meets.{MeetInAddresses}
+use Rattle.prefix_lattice.specs.Lattice.{under, same_as, strictly_under}
+use Rattle.prefix_lattice.specs.Meets.{meet_side, meet_of_sides, meet}
+use Rattle.prefix_lattice.specs.Meets.{AreMeet}
 use Rattle.prefix_lattice.proofs.AddressLemmas.{address_unit_is_positive, address_front_is_leading}
 use Rattle.prefix_lattice.proofs.AddressLemmas.{address_front-length, address_of-small}
 use Rattle.prefix_lattice.proofs.AddressLemmas.{address_of-leading, address_tells_leading_bytes}
-use Rattle.prefix_lattice.proofs.AddressLemmas.{kept_bytes_begin_with-address_front}
+use Rattle.prefix_lattice.proofs.AddressLemmas.{begins_with-address_front}
 use Rattle.prefix_lattice.proofs.ListFrontLemmas.{list_front-reflexive, list_front-transitive, list_front-antisymmetric}
 use Rattle.prefix_lattice.proofs.ListFrontLemmas.{list_front-no_longer, list_front-shorter, longer_list_front-begins}
 use Rattle.prefix_lattice.proofs.ListFrontLemmas.{longer_of_list_fronts}
 use Rattle.prefix_lattice.proofs.ListFrontLemmas.{longer_list_front-either, longer_list_front-turned}
 
 pub under_both_sides : (lower upper : PrefixValue) → under lower upper ≡ true
-    → (kept_bytes_begin_with lower.source upper.source ≡ true) × (kept_bytes_begin_with lower.dest upper.dest ≡ true)
+    → (begins_with lower.source upper.source ≡ true) × (begins_with lower.dest upper.dest ≡ true)
 under_both_sides lower upper is_under =
-    and_parts (kept_bytes_begin_with lower.source upper.source) (kept_bytes_begin_with lower.dest upper.dest) is_under
+    and_parts (begins_with lower.source upper.source) (begins_with lower.dest upper.dest) is_under
 
 pub covers-sides_like_under : (prefix : PrefixValue) (rec : RecordValue) → covers prefix rec ≡ true
-    → (kept_bytes_begin_with (address_bytes rec.src) prefix.source ≡ true)
-    × (kept_bytes_begin_with (address_bytes rec.dst) prefix.dest ≡ true)
+    → (begins_with (address_bytes rec.src) prefix.source ≡ true)
+    × (begins_with (address_bytes rec.dst) prefix.dest ≡ true)
 covers-sides_like_under prefix rec covered =
-    and_parts (kept_bytes_begin_with (address_bytes rec.src) prefix.source) (kept_bytes_begin_with (address_bytes rec.dst) prefix.dest)
+    and_parts (begins_with (address_bytes rec.src) prefix.source) (begins_with (address_bytes rec.dst) prefix.dest)
     covered
 
 -- each prefix is under itself
@@ -148,7 +148,7 @@ strictly_under-trans lower middle upper is_under strictly =
       λ same. parts.1 (under-antisym middle upper parts.0 (subst (λ p. under p middle ≡ true) same is_under)),
     )
 
-pub under_same_prefix-refl : (prefix : PrefixValue) → same_in_lattice prefix prefix ≡ true
+pub under_same_prefix-refl : (prefix : PrefixValue) → same_as prefix prefix ≡ true
 under_same_prefix-refl prefix = and_from _ _ (under-refl prefix) (under-refl prefix)
 
 -- a record that a prefix covers is covered by all that the prefix is under
@@ -172,7 +172,7 @@ meet_is_longer prefix other lowest =
   where
     of_sides : (source dest : Option (List ℕ)) → meet_side prefix.source other.source ≡ source
         → meet_side prefix.dest other.dest ≡ dest
-        → meet_with_sides source dest ≡ Some lowest → MeetIsLonger prefix other lowest
+        → meet_of_sides source dest ≡ Some lowest → MeetIsLonger prefix other lowest
     of_sides (Some source) (Some dest) is_source is_dest same =
         let whole : record { source = source; dest = dest } ≡ lowest = cc in
         record {
@@ -200,14 +200,14 @@ meet_under_both prefix other (Some lowest) is = meet-under prefix other lowest (
 -- the meet
 pub record IsMeet (prefix other lowest : PrefixValue) (source dest : List ℕ) : Type 0 where
   pub is : meet prefix other ≡ Some lowest
-  pub source_begins : kept_bytes_begin_with source lowest.source ≡ true
-  pub dest_begins : kept_bytes_begin_with dest lowest.dest ≡ true
+  pub source_begins : begins_with source lowest.source ≡ true
+  pub dest_begins : begins_with dest lowest.dest ≡ true
   pub source_length : length lowest.source ≡ max (length prefix.source) (length other.source)
   pub dest_length : length lowest.dest ≡ max (length prefix.dest) (length other.dest)
 
-pub meet_of : (prefix other : PrefixValue) (source dest : List ℕ) → kept_bytes_begin_with source prefix.source ≡ true
-    → kept_bytes_begin_with source other.source ≡ true
-    → kept_bytes_begin_with dest prefix.dest ≡ true → kept_bytes_begin_with dest other.dest ≡ true
+pub meet_of : (prefix other : PrefixValue) (source dest : List ℕ) → begins_with source prefix.source ≡ true
+    → begins_with source other.source ≡ true
+    → begins_with dest prefix.dest ≡ true → begins_with dest other.dest ≡ true
     → (lowest : PrefixValue) × IsMeet prefix other lowest source dest
 meet_of prefix other source dest source_begins source_other dest_begins dest_other =
     let on_source = longer_of_list_fronts source prefix.source other.source source_begins source_other in
@@ -215,8 +215,8 @@ meet_of prefix other source dest source_begins source_other dest_begins dest_oth
       record { source = on_source.0; dest = on_dest.0 },
       record {
         is =
-            ap (λ s. meet_with_sides s (meet_side prefix.dest other.dest)) on_source.1.is
-            ∙ ap (λ d. meet_with_sides (Some on_source.0) d) on_dest.1.is;
+            ap (λ s. meet_of_sides s (meet_side prefix.dest other.dest)) on_source.1.is
+            ∙ ap (λ d. meet_of_sides (Some on_source.0) d) on_dest.1.is;
         source_begins = on_source.1.begins;
         dest_begins = on_dest.1.begins;
         source_length = on_source.1.is_length;
@@ -227,8 +227,8 @@ meet_of prefix other source dest source_begins source_other dest_begins dest_oth
 -- the meet is the same whichever prefix is named first
 pub meet-turned : (prefix other : PrefixValue) → meet prefix other ≡ meet other prefix
 meet-turned prefix other =
-    ap (λ s. meet_with_sides s (meet_side prefix.dest other.dest)) (longer_list_front-turned prefix.source other.source)
-    ∙ ap (λ d. meet_with_sides (meet_side other.source prefix.source) d) (longer_list_front-turned prefix.dest other.dest)
+    ap (λ s. meet_of_sides s (meet_side prefix.dest other.dest)) (longer_list_front-turned prefix.source other.source)
+    ∙ ap (λ d. meet_of_sides (meet_side other.source prefix.source) d) (longer_list_front-turned prefix.dest other.dest)
 
 -- two prefixes that cover one record meet, and their meet covers it
 pub meet-covers : (prefix other : PrefixValue) (rec : RecordValue) → covers prefix rec ≡ true → covers other rec ≡ true
@@ -265,26 +265,26 @@ under_meet-zeros_after : (front : List ℕ)
     → address_of front / 256 ^ (4 - length front) * 256 ^ (4 - length front) ≡ address_of front
 under_meet-zeros_after front =
     let unit = 256 ^ (4 - length front) in
-    ap (λ m. m * unit) (mul-div_cancel (address_number_from 256 0 front) (address_unit_is_positive (4 - length front)))
+    ap (λ m. m * unit) (mul-div_cancel (number_from 256 0 front) (address_unit_is_positive (4 - length front)))
 
 -- the address of leading bytes begins with them
 under_meet-address_begins : (front : List ℕ) → AreLeadingBytes front
-    → kept_bytes_begin_with (address_bytes (address_of front)) front ≡ true
+    → begins_with (address_bytes (address_of front)) front ≡ true
 under_meet-address_begins front leading =
     let n = length front in
     let own = take n (address_bytes (address_of front)) in
     let small = address_of-small front leading in
-    kept_bytes_begin_with-address_front (address_bytes (address_of front)) front
+    begins_with-address_front (address_bytes (address_of front)) front
     (address_tells_leading_bytes own front (address_front_is_leading n (address_of front) leading.few) leading
     (address_front-length n (address_of front) leading.few)
     (address_of-leading n (address_of front) leading.few small ∙ under_meet-zeros_after front))
 
 -- two prefixes share a pair of addresses exactly where they meet
 pub meet-some : (prefix other : PrefixValue) → IsPrefix prefix → IsPrefix other
-    → (is_some (meet prefix other) ≡ true) ↔ MeetInAddresses prefix other
+    → (is_some (meet prefix other) ≡ true) ↔ AreMeet prefix other
 meet-some prefix other valid other_valid = (shared (meet prefix other) refl, found)
   where
-    shared : (o : Option PrefixValue) → meet prefix other ≡ o → is_some o ≡ true → MeetInAddresses prefix other
+    shared : (o : Option PrefixValue) → meet prefix other ≡ o → is_some o ≡ true → AreMeet prefix other
     shared None is some = absurd (false≢true some)
     shared (Some lowest) is some =
         let lowest_valid = meet-IsPrefix prefix other lowest valid other_valid is in
@@ -301,5 +301,5 @@ meet-some prefix other valid other_valid = (shared (meet prefix other) refl, fou
           covered_by_other = covers-up_from_under lowest other own both.1 covered;
         }
 
-    found : MeetInAddresses prefix other → is_some (meet prefix other) ≡ true
+    found : AreMeet prefix other → is_some (meet prefix other) ≡ true
     found shares = ap is_some (meet-covers prefix other shares.pair shares.covered shares.covered_by_other).1.is

@@ -3,8 +3,8 @@ use Rattle.std.proofs.Common.{◌≡◌, ℕ, ◌*◌, List, ◌∷◌, ◌++◌
 use Rattle.prefix_lattice.specs.Address.{address_of}
 use Rattle.prefix_lattice.specs.KeptBytes.{AreLeadingBytes}
 use Rattle.prefix_lattice.specs.Prefix.{PrefixValue, IsPrefix}
-use Rattle.prefix_lattice.specs.PrefixText.{address_text, side_text, prefix_text, source_part_of_prefix_text}
-use Rattle.prefix_lattice.specs.PrefixText.{dest_part_of_prefix_text, SpellsPrefix}
+use Rattle.prefix_lattice.specs.PrefixText.{address_text, side_text, prefix_text, source_part}
+use Rattle.prefix_lattice.specs.PrefixText.{dest_part, SpellsPrefix}
 use Rattle.prefix_lattice.proofs.TextCutLemmas.{TextLacksCutByte, first_text_cut, first_text_cut_behind}
 use Rattle.prefix_lattice.proofs.TextCutLemmas.{decimal_lacks_text_cut, lacks_text_cut-append}
 use Rattle.prefix_lattice.proofs.TextCutLemmas.{lacks_text_cut-cons}
@@ -21,19 +21,19 @@ whole_text-side_lacks_space front leading =
     (decimal_lacks_text_cut 32 (8 * length front) (omega arith) (omega arith)))
 
 pub whole_text-source_part : (prefix : PrefixValue) → IsPrefix prefix
-    → source_part_of_prefix_text (prefix_text prefix) ≡ side_text prefix.source
+    → source_part (prefix_text prefix) ≡ side_text prefix.source
 whole_text-source_part prefix valid =
     first_text_cut 32 (side_text prefix.source) (side_text prefix.dest) (whole_text-side_lacks_space prefix.source valid.source)
 
 pub whole_text-dest_part : (prefix : PrefixValue) → IsPrefix prefix
-    → dest_part_of_prefix_text (prefix_text prefix) ≡ side_text prefix.dest
+    → dest_part (prefix_text prefix) ≡ side_text prefix.dest
 whole_text-dest_part prefix valid =
     first_text_cut_behind 32 (side_text prefix.source) (side_text prefix.dest)
     (whole_text-side_lacks_space prefix.source valid.source)
 
 -- a prefix that is written is read back
 pub whole_text-read_back : (prefix : PrefixValue) → IsPrefix prefix
-    → SpellsPrefix (source_part_of_prefix_text (prefix_text prefix)) (dest_part_of_prefix_text (prefix_text prefix)) prefix
+    → SpellsPrefix (source_part (prefix_text prefix)) (dest_part (prefix_text prefix)) prefix
 whole_text-read_back prefix valid = record {
   source = record { leading = valid.source; spelled = whole_text-source_part prefix valid };
   dest = record { leading = valid.dest; spelled = whole_text-dest_part prefix valid };
@@ -50,7 +50,7 @@ whole_text-written_as_read source dest prefix spells =
 pub whole_text-tells_prefix : (prefix other : PrefixValue) → IsPrefix prefix → IsPrefix other
     → prefix_text prefix ≡ prefix_text other → prefix ≡ other
 whole_text-tells_prefix prefix other valid other_valid same =
-    prefix_text-tells_prefix (source_part_of_prefix_text (prefix_text prefix)) (dest_part_of_prefix_text (prefix_text prefix)) prefix other
+    prefix_text-tells_prefix (source_part (prefix_text prefix)) (dest_part (prefix_text prefix)) prefix other
     (whole_text-read_back prefix valid)
-    (subst (λ (text : List ℕ). SpellsPrefix (source_part_of_prefix_text text) (dest_part_of_prefix_text text) other) (sym same)
+    (subst (λ (text : List ℕ). SpellsPrefix (source_part text) (dest_part text) other) (sym same)
     (whole_text-read_back other other_valid))

@@ -3,12 +3,12 @@ use Rattle.std.proofs.Common.{◌≡◌, ℕ, ◌+◌, ◌<◌, ◌≤◌, suc, 
 use Rattle.std.proofs.Common.{ap, ◌∙◌, arith, length-append, append_assoc, subst, decimal}
 use Rattle.std.proofs.lemmas.Slice.{drop-append-drop}
 use Rattle.std.proofs.lemmas.List.{take_at, length-take, set_split}
-use Rattle.prefix_lattice.specs.PrefixText.{WritesPrefixTextPart}
+use Rattle.prefix_lattice.specs.PrefixText.{WritesPrefixPart}
 
 -- two parts that are written one after the other are one part
 pub written_parts-joined : (old middle new : List ℕ) (start between end : ℕ) (part other : List ℕ) → between ≤ length old
-    → WritesPrefixTextPart old middle start between part → WritesPrefixTextPart middle new between end other
-    → WritesPrefixTextPart old new start end (part ++ other)
+    → WritesPrefixPart old middle start between part → WritesPrefixPart middle new between end other
+    → WritesPrefixPart old new start end (part ++ other)
 written_parts-joined old middle new start between end part other within first second =
     let front = take start old ++ part in
     let front_length : length front ≡ between =
@@ -26,7 +26,7 @@ written_parts-joined old middle new start between end part other within first se
 
 -- one byte is a part
 pub written_part-byte : (text : List ℕ) (at byte : ℕ) → at < length text
-    → WritesPrefixTextPart text (set text at byte) at (at + 1) (byte ∷ [])
+    → WritesPrefixPart text (set text at byte) at (at + 1) (byte ∷ [])
 written_part-byte text at byte within =
     let next : suc at ≡ at + 1 = omega arith in
     record {
@@ -39,7 +39,7 @@ written_part-byte text at byte within =
 -- two sides with a byte between them, from the front of a text
 pub written_part-sides : (old middle new : List ℕ) (byte between end : ℕ) (part other : List ℕ) → between < length old
     → length middle ≡ length old
-    → WritesPrefixTextPart old middle 0 between part → WritesPrefixTextPart (set middle between byte) new (between + 1) end other
+    → WritesPrefixPart old middle 0 between part → WritesPrefixPart (set middle between byte) new (between + 1) end other
     → new ≡ part ++ byte ∷ other ++ drop end old
 written_part-sides old middle new byte between end part other within same_length first second =
     let marked = written_part-byte middle between byte (omega arith) in
@@ -50,16 +50,16 @@ written_part-sides old middle new byte between end part other within same_length
 
 -- a written part may be replaced by an equal one
 pub written_part-same : (old new : List ℕ) (start end : ℕ) (part same : List ℕ) → part ≡ same
-    → WritesPrefixTextPart old new start end part → WritesPrefixTextPart old new start end same
-written_part-same old new start end part same is writes = subst (λ l. WritesPrefixTextPart old new start end l) is writes
+    → WritesPrefixPart old new start end part → WritesPrefixPart old new start end same
+written_part-same old new start end part same is writes = subst (λ l. WritesPrefixPart old new start end l) is writes
 
 -- four numbers with a byte between them
 pub written_part-numbers : (old one two three new : List ℕ) (mark start first second third end a b c d : ℕ)
     → length one ≡ length old → length two ≡ length old
     → start + length (decimal a ++ mark ∷ (decimal b ++ mark ∷ (decimal c ++ mark ∷ decimal d))) ≤ length old
-    → WritesPrefixTextPart old one start first (decimal a) → WritesPrefixTextPart one two first second (mark ∷ decimal b)
-    → WritesPrefixTextPart two three second third (mark ∷ decimal c) → WritesPrefixTextPart three new third end (mark ∷ decimal d)
-    → WritesPrefixTextPart old new start end (decimal a ++ mark ∷ (decimal b ++ mark ∷ (decimal c ++ mark ∷ decimal d)))
+    → WritesPrefixPart old one start first (decimal a) → WritesPrefixPart one two first second (mark ∷ decimal b)
+    → WritesPrefixPart two three second third (mark ∷ decimal c) → WritesPrefixPart three new third end (mark ∷ decimal d)
+    → WritesPrefixPart old new start end (decimal a ++ mark ∷ (decimal b ++ mark ∷ (decimal c ++ mark ∷ decimal d)))
 written_part-numbers old one two three new mark start first second third end a b c d same_one same_two room writes_a
     writes_b writes_c writes_d =
     let behind_c = mark ∷ decimal d in

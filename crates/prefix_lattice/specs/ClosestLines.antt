@@ -23,11 +23,11 @@ abbrev pub closest : PrefixValue → List PrefixValue → List PrefixValue
 closest prefix lines = greatest_lines (lines_under prefix lines)
 
 -- distinct prefixes, none of which is strictly under another
-pub record AreIncomparableLines (members : List PrefixValue) : Type 0 where
+pub record AreIncomparable (members : List PrefixValue) : Type 0 where
   pub distinct : AllPairs (λ prefix other. prefix ≢ other) members
   pub none_under : AllPairs
       (λ prefix other. (strictly_under prefix other ≡ false) × (strictly_under other prefix ≡ false)) members
 
 -- how many of these prefixes cover the record
-abbrev pub covering_line_count : RecordValue → List PrefixValue → ℕ
-covering_line_count rec prefixes = count_by (λ prefix. covers prefix rec) prefixes
+abbrev pub covering_count : RecordValue → List PrefixValue → ℕ
+covering_count rec prefixes = count_by (λ prefix. covers prefix rec) prefixes

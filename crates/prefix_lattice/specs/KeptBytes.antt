@@ -3,10 +3,10 @@ use Rattle.std.specs.Prelude.{ℕ, ◌-◌, ◌<◌, ◌≤◌, ◌==◌, ◌&&�
 use Rattle.prefix_lattice.specs.Address.{address_length}
 
 -- whether a list of bytes begins with another
-abbrev pub kept_bytes_begin_with : List ℕ → List ℕ → Bool
-kept_bytes_begin_with bytes [] = true
-kept_bytes_begin_with [] (first ∷ front) = false
-kept_bytes_begin_with (byte ∷ bytes) (first ∷ front) = byte == first && kept_bytes_begin_with bytes front
+abbrev pub begins_with : List ℕ → List ℕ → Bool
+begins_with bytes [] = true
+begins_with [] (first ∷ front) = false
+begins_with (byte ∷ bytes) (first ∷ front) = byte == first && begins_with bytes front
 
 -- leading bytes of an address: at most four numbers below 256
 pub record AreLeadingBytes (front : List ℕ) : Type 0 where

@@ -29,5 +29,5 @@ abbrev pub node_level : NodeValue → ℕ
 node_level node = node.source_bytes + node.dest_bytes
 
 -- the level of the most specific prefixes, which keep all bytes of both addresses
-abbrev pub deepest_node_level : ℕ
-deepest_node_level = 2 * address_length
+abbrev pub deepest_level : ℕ
+deepest_level = 2 * address_length

@@ -1,6 +1,6 @@
 -- Prefixes of records, their nodes and their keys.
 use Rattle.std.specs.Prelude.{ℕ, List, ◌+◌, ◌*◌, ◌^◌, ◌&&◌, Bool, length, take, ◌≡◌, ◌-◌, ◌/◌, ◌%◌}
-use Rattle.prefix_lattice.specs.KeptBytes.{AreLeadingBytes, kept_bytes_begin_with}
+use Rattle.prefix_lattice.specs.KeptBytes.{AreLeadingBytes, begins_with}
 use Rattle.prefix_lattice.specs.Address.{address_bytes, address_of, address_length}
 use Rattle.prefix_lattice.specs.Record.{RecordValue}
 use Rattle.prefix_lattice.specs.Node.{NodeValue, node_index}
@@ -17,7 +17,7 @@ pub record IsPrefix (prefix : PrefixValue) : Type 0 where
 
 -- a prefix covers a record whose addresses begin with its bytes
 abbrev pub covers : PrefixValue → RecordValue → Bool
-covers prefix rec = kept_bytes_begin_with (address_bytes rec.src) prefix.source && kept_bytes_begin_with (address_bytes rec.dst) prefix.dest
+covers prefix rec = begins_with (address_bytes rec.src) prefix.source && begins_with (address_bytes rec.dst) prefix.dest
 
 -- the node of a prefix: how many bytes it keeps of each address
 abbrev pub node_of_prefix : PrefixValue → NodeValue

@@ -31,28 +31,28 @@ abbrev pub side_text : List ℕ → List ℕ
 side_text front = side_text_of (address_of front) (length front)
 
 -- the most bytes of the text of a side, as of `255.255.255.255/32`
-abbrev pub longest_side_text_length : ℕ
-longest_side_text_length = 18
+abbrev pub longest_side_text : ℕ
+longest_side_text = 18
 
 -- the space that separates the two sides of a prefix
-abbrev pub prefix_text_space : ℕ
-prefix_text_space = 32
+abbrev pub text_space : ℕ
+text_space = 32
 
 -- how a prefix is spelled: its source, a space and its destination
 abbrev pub prefix_text : PrefixValue → List ℕ
-prefix_text prefix = side_text prefix.source ++ prefix_text_space ∷ side_text prefix.dest
+prefix_text prefix = side_text prefix.source ++ text_space ∷ side_text prefix.dest
 
 -- the most bytes of the text of a prefix: two sides and a space
-abbrev pub longest_prefix_text_length : ℕ
-longest_prefix_text_length = 2 * longest_side_text_length + 1
+abbrev pub longest_prefix_text : ℕ
+longest_prefix_text = 2 * longest_side_text + 1
 
 -- the part of a text before its first space
-abbrev pub source_part_of_prefix_text : List ℕ → List ℕ
-source_part_of_prefix_text text = before_first (λ byte. byte == prefix_text_space) text
+abbrev pub source_part : List ℕ → List ℕ
+source_part text = before_first (λ byte. byte == text_space) text
 
 -- the part of a text after its first space
-abbrev pub dest_part_of_prefix_text : List ℕ → List ℕ
-dest_part_of_prefix_text text = after_first (λ byte. byte == prefix_text_space) text
+abbrev pub dest_part : List ℕ → List ℕ
+dest_part text = after_first (λ byte. byte == text_space) text
 
 -- the text spells this side of a prefix
 pub record TextSpellsSide (text front : List ℕ) : Type 0 where
@@ -64,15 +64,15 @@ abbrev pub IsAddressText : List ℕ → Type 0
 IsAddressText text = (address : ℕ) × (address < 2 ^ 32) × (text ≡ address_text address)
 
 -- the part of a text before its first slash, or all of it if there is no slash
-abbrev pub text_before_slash : List ℕ → List ℕ
-text_before_slash text = before_first (λ byte. byte == slash) text
+abbrev pub before_slash : List ℕ → List ℕ
+before_slash text = before_first (λ byte. byte == slash) text
 
 -- the text after its first slash is one of the five lengths
-abbrev pub TextHasLength : List ℕ → Type 0
-TextHasLength text = (bytes : ℕ) × (bytes ≤ address_length) × (text ≡ text_before_slash text ++ slash ∷ decimal (8 * bytes))
+abbrev pub HasLength : List ℕ → Type 0
+HasLength text = (bytes : ℕ) × (bytes ≤ address_length) × (text ≡ before_slash text ++ slash ∷ decimal (8 * bytes))
 
 -- the text is an address and a length, and a bit past the length is set
-pub record TextHasLooseBits (text : List ℕ) : Type 0 where
+pub record HasLooseBits (text : List ℕ) : Type 0 where
   pub address : ℕ
   pub bytes : ℕ
   pub is_address : address < 2 ^ 32
@@ -81,10 +81,10 @@ pub record TextHasLooseBits (text : List ℕ) : Type 0 where
   pub loose : address % 256 ^ (address_length - bytes) ≢ 0
 
 -- what is wrong with the text of one side
-abbrev pub TextHasSideFault : Side → List ℕ → PrefixFault → Type 0
-TextHasSideFault side text (BadAddress at) = (at ≡ side) × ¬ IsAddressText (text_before_slash text)
-TextHasSideFault side text (BadLength at) = (at ≡ side) × IsAddressText (text_before_slash text) × ¬ TextHasLength text
-TextHasSideFault side text (LooseBits at) = (at ≡ side) × TextHasLooseBits text
+abbrev pub HasSideFault : Side → List ℕ → PrefixFault → Type 0
+HasSideFault side text (BadAddress at) = (at ≡ side) × ¬ IsAddressText (before_slash text)
+HasSideFault side text (BadLength at) = (at ≡ side) × IsAddressText (before_slash text) × ¬ HasLength text
+HasSideFault side text (LooseBits at) = (at ≡ side) × HasLooseBits text
 
 -- the two texts spell the prefix
 pub record SpellsPrefix (source_text dest_text : List ℕ) (prefix : PrefixValue) : Type 0 where
@@ -92,11 +92,11 @@ pub record SpellsPrefix (source_text dest_text : List ℕ) (prefix : PrefixValue
   pub dest : TextSpellsSide dest_text prefix.dest
 
 -- what is wrong with the two texts: the source is checked completely before the destination
-abbrev pub HasPrefixTextFault : List ℕ → List ℕ → PrefixFault → Type 0
-HasPrefixTextFault source dest fault =
-    TextHasSideFault Source source fault ⊎ (((front : List ℕ) × TextSpellsSide source front) × TextHasSideFault Dest dest fault)
+abbrev pub HasPrefixFault : List ℕ → List ℕ → PrefixFault → Type 0
+HasPrefixFault source dest fault =
+    HasSideFault Source source fault ⊎ (((front : List ℕ) × TextSpellsSide source front) × HasSideFault Dest dest fault)
 
 -- this part was written from this offset on, and other bytes are unchanged
-pub record WritesPrefixTextPart (old new : List ℕ) (start end : ℕ) (part : List ℕ) : Type 0 where
+pub record WritesPrefixPart (old new : List ℕ) (start end : ℕ) (part : List ℕ) : Type 0 where
   pub ends : end ≡ start + length part
   pub written : new ≡ take start old ++ part ++ drop end old

@@ -1,7 +1,7 @@
 //! Decimal numbers in text, read and written.
 
 ghost use Rattle.std.specs.Prelude.{◌≡◌, ◌≢◌, ◌+◌, ◌<◌, ◌≤◌, ◌^◌, ℕ, length, IfSome, IfNone, decimal};
-ghost use Rattle.prefix_lattice.specs.PrefixText.{WritesPrefixTextPart};
+ghost use Rattle.prefix_lattice.specs.PrefixText.{WritesPrefixPart};
 
 use itoa::Buffer;
 use std::str;
@@ -29,7 +29,7 @@ pub fn number_of(text: &[u8]) -> Option<u64>
 /// bytes are unchanged.
 pub fn write_number(text: &mut [u8], at: usize, number: u8) -> usize
     requires { at + length (decimal number) ≤ length text.old }
-    ensures { WritesPrefixTextPart text.old text.new at result (decimal number) }
+    ensures { WritesPrefixPart text.old text.new at result (decimal number) }
 {
     let mut buffer = Buffer::new();
     let digits = buffer.format(number).as_bytes();

@@ -2,7 +2,7 @@
 
 ghost use Rattle.std.specs.Prelude.{◌≡◌, ◌≢◌, ◌≤◌, ◌-◌, ◌*◌, ◌/◌, ◌%◌, ◌^◌, length, take, IfSome, IfNone};
 ghost use Rattle.prefix_lattice.specs.Address.{address_bytes, address_of, address_length};
-ghost use Rattle.prefix_lattice.specs.KeptBytes.{kept_bytes_begin_with, AreLeadingBytes};
+ghost use Rattle.prefix_lattice.specs.KeptBytes.{begins_with, AreLeadingBytes};
 ghost use Rattle.prefix_lattice.specs.Meets.{meet_side};
 
 use std::marker::Model;
@@ -73,14 +73,14 @@ impl KeptBytes {
 
     /// Whether an address begins with these bytes.
     pub fn begin(&self, address: u32) -> bool
-        ensures { result ≡ kept_bytes_begin_with (address_bytes address) self.now }
+        ensures { result ≡ begins_with (address_bytes address) self.now }
     {
         masked(address, self.bytes) == self.address
     }
 
     /// Whether these bytes begin with those of the other.
     pub fn under(&self, other: &KeptBytes) -> bool
-        ensures value { result ≡ kept_bytes_begin_with self.now other.now }
+        ensures value { result ≡ begins_with self.now other.now }
         ensures leading { AreLeadingBytes self.now }
         ensures other_leading { AreLeadingBytes other.now }
     {

@@ -9,12 +9,12 @@ ghost use Rattle.prefix_lattice.specs.Prefix.{PrefixValue, IsPrefix, covers, nod
 ghost use Rattle.prefix_lattice.specs.Lattice.{under, strictly_under};
 ghost use Rattle.prefix_lattice.specs.Meets.{meet};
 ghost use Rattle.prefix_lattice.specs.ReportOrder.{report_order};
-ghost use Rattle.prefix_lattice.specs.PrefixText.{prefix_text_space, source_part_of_prefix_text};
-ghost use Rattle.prefix_lattice.specs.PrefixText.{dest_part_of_prefix_text, prefix_text, SpellsPrefix};
-ghost use Rattle.prefix_lattice.specs.PrefixText.{longest_prefix_text_length};
-ghost use Rattle.prefix_lattice.specs.ClosestLines.{lines_under, one_line_covers, closest, AreIncomparableLines};
+ghost use Rattle.prefix_lattice.specs.PrefixText.{text_space, source_part};
+ghost use Rattle.prefix_lattice.specs.PrefixText.{dest_part, prefix_text, SpellsPrefix};
+ghost use Rattle.prefix_lattice.specs.PrefixText.{longest_prefix_text};
+ghost use Rattle.prefix_lattice.specs.ClosestLines.{lines_under, one_line_covers, closest, AreIncomparable};
 ghost use Rattle.prefix_lattice.specs.KeptPairs.{kept_pairs};
-ghost use Rattle.prefix_lattice.specs.Staircase.{LinesObeyStaircase};
+ghost use Rattle.prefix_lattice.specs.Staircase.{ObeyStaircase};
 
 use std::cmp::Ordering;
 
@@ -42,11 +42,11 @@ pub fn report_order_is_total()
 /// back unchanged. It is at most 37 bytes long, and distinct prefixes have distinct texts.
 pub fn prefix_texts_read_back()
     ensures read { (prefix : PrefixValue) → IsPrefix prefix
-        → SpellsPrefix (source_part_of_prefix_text (prefix_text prefix)) (dest_part_of_prefix_text (prefix_text prefix)) prefix }
+        → SpellsPrefix (source_part (prefix_text prefix)) (dest_part (prefix_text prefix)) prefix }
     ensures written { (source dest : List ℕ) (prefix : PrefixValue) → SpellsPrefix source dest prefix
-        → prefix_text prefix ≡ source ++ prefix_text_space ∷ dest }
+        → prefix_text prefix ≡ source ++ text_space ∷ dest }
     ensures apart { (prefix other : PrefixValue) → IsPrefix prefix → IsPrefix other → prefix_text prefix ≡ prefix_text other → prefix ≡ other }
-    ensures short { (prefix : PrefixValue) → IsPrefix prefix → length (prefix_text prefix) ≤ longest_prefix_text_length }
+    ensures short { (prefix : PrefixValue) → IsPrefix prefix → length (prefix_text prefix) ≤ longest_prefix_text }
 {}
 
 /// A law of lines: the lines closest to a prefix cover the same records as all lines under it, and the closest of
@@ -55,7 +55,7 @@ pub fn closest_lines_explain()
     ensures explain { (prefix : PrefixValue) (lines : List PrefixValue) (rec : RecordValue)
         → one_line_covers (lines_under prefix lines) rec ≡ one_line_covers (closest prefix lines) rec }
     ensures incomparable { (prefix : PrefixValue) (lines : List PrefixValue)
-        → AllPairs (λ line other. line ≢ other) lines → AreIncomparableLines (closest prefix lines) }
+        → AllPairs (λ line other. line ≢ other) lines → AreIncomparable (closest prefix lines) }
     ensures under { (prefix : PrefixValue) (lines : List PrefixValue) → All (λ line. strictly_under line prefix ≡ true) (closest prefix lines) }
 {}
 
@@ -77,5 +77,5 @@ pub fn kept_meets_stay_under()
 /// The staircase law: if n of some distinct prefixes, none of which is strictly under another, cover a record, and n is
 /// at least 1, then exactly n - 1 kept pairs have a meet that covers it.
 pub fn staircase_law()
-    ensures { (members : List PrefixValue) (rec : RecordValue) → AreIncomparableLines members → LinesObeyStaircase members rec }
+    ensures { (members : List PrefixValue) (rec : RecordValue) → AreIncomparable members → ObeyStaircase members rec }
 {}

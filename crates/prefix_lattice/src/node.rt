@@ -2,7 +2,7 @@
 
 ghost use Rattle.std.specs.Prelude.{◌≡◌, ◌<◌, ◌≤◌, ◌↔◌, ◌⊎◌, IsNone, IfSome};
 ghost use Rattle.prefix_lattice.specs.Address.{address_length};
-ghost use Rattle.prefix_lattice.specs.Node.{IsNode, node_index, node_at, node_level, node_count, deepest_node_level};
+ghost use Rattle.prefix_lattice.specs.Node.{IsNode, node_index, node_at, node_level, node_count, deepest_level};
 
 use std::marker::Model;
 
@@ -66,7 +66,7 @@ impl Node {
     /// How many bytes are kept of both addresses together, 0 to 8.
     pub fn level(self) -> u8
         ensures value { result ≡ node_level self }
-        ensures few { result ≤ deepest_node_level }
+        ensures few { result ≤ deepest_level }
     {
         self.source_bytes + self.dest_bytes
     }

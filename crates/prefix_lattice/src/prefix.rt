@@ -1,12 +1,12 @@
 //! Prefixes of pairs of addresses.
 
 ghost use Rattle.std.specs.Prelude.{◌≡◌, ◌==◌, ◌↔◌, ◌≤◌, ℕ, List, true, IfOk, IfErr, IfSome, IfNone, IsSome};
-ghost use Rattle.prefix_lattice.specs.Node.{NodeValue, IsNode, node_level, deepest_node_level};
+ghost use Rattle.prefix_lattice.specs.Node.{NodeValue, IsNode, node_level, deepest_level};
 ghost use Rattle.prefix_lattice.specs.Record.{RecordValue};
 ghost use Rattle.prefix_lattice.specs.Address.{address_of};
 ghost use Rattle.prefix_lattice.specs.Prefix.{IsPrefixKey, HasPrefixKey, PrefixValue, IsPrefix, covers, node_of_prefix};
 ghost use Rattle.prefix_lattice.specs.Prefix.{prefix_at, prefix_key};
-ghost use Rattle.prefix_lattice.specs.PrefixText.{SpellsPrefix, HasPrefixTextFault};
+ghost use Rattle.prefix_lattice.specs.PrefixText.{SpellsPrefix, HasPrefixFault};
 ghost use Rattle.prefix_lattice.specs.declared.prefix_fault.PrefixFault.{PrefixFault};
 
 mod lattice;
@@ -40,7 +40,7 @@ impl Prefix {
     /// destination.
     pub fn parse(source: &[u8], dest: &[u8]) -> Result<Prefix, PrefixFault>
         ensures ok { (prefix : PrefixValue) → (result ≡ Ok prefix) ↔ SpellsPrefix source.now dest.now prefix }
-        ensures fault { (fault : PrefixFault) → (result ≡ Err fault) ↔ HasPrefixTextFault source.now dest.now fault }
+        ensures fault { (fault : PrefixFault) → (result ≡ Err fault) ↔ HasPrefixFault source.now dest.now fault }
     {
         parse_sides(source, dest)
     }
@@ -99,7 +99,7 @@ impl Prefix {
     /// How many bytes are kept of both addresses together, 0 to 8.
     pub fn level(&self) -> u8
         ensures value { result ≡ node_level (node_of_prefix self.now) }
-        ensures few { result ≤ deepest_node_level }
+        ensures few { result ≤ deepest_level }
     {
         self.source.len() + self.dest.len()
     }
@@ -115,7 +115,7 @@ impl Prefix {
 // Reads one side after the other.
 fn parse_sides(source: &[u8], dest: &[u8]) -> Result<Prefix, PrefixFault>
     ensures ok { IfOk result (SpellsPrefix source.now dest.now) }
-    ensures fault { IfErr result (HasPrefixTextFault source.now dest.now) }
+    ensures fault { IfErr result (HasPrefixFault source.now dest.now) }
 {
     let source = parse_side(source, Side::Source)?;
     let dest = parse_side(dest, Side::Dest)?;
@@ -153,7 +153,7 @@ pub fn prefix_texts_have_one_reading()
     ensures one_prefix { (source dest : List ℕ) (prefix other : PrefixValue)
         → SpellsPrefix source dest prefix → SpellsPrefix source dest other → prefix ≡ other }
     ensures no_fault { (source dest : List ℕ) (prefix : PrefixValue) (fault : PrefixFault)
-        → SpellsPrefix source dest prefix → HasPrefixTextFault source dest fault → ⊥ }
+        → SpellsPrefix source dest prefix → HasPrefixFault source dest fault → ⊥ }
     ensures one_fault { (source dest : List ℕ) (fault other : PrefixFault)
-        → HasPrefixTextFault source dest fault → HasPrefixTextFault source dest other → fault ≡ other }
+        → HasPrefixFault source dest fault → HasPrefixFault source dest other → fault ≡ other }
 {}

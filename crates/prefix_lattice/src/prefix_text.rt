@@ -3,7 +3,7 @@
 ghost use Rattle.std.specs.Prelude.{◌≡◌, ◌≢◌, ◌==◌, ◌<◌, ◌≤◌, ◌*◌, ◌^◌, ◌++◌, ◌∷◌, ℕ, length, position, decimal};
 ghost use Rattle.std.specs.Prelude.{IfSome, IfNone, IfOk, IfErr};
 ghost use Rattle.std.specs.List.{before_first};
-ghost use Rattle.prefix_lattice.specs.PrefixText.{address_text, slash, TextSpellsSide, TextHasSideFault};
+ghost use Rattle.prefix_lattice.specs.PrefixText.{address_text, slash, TextSpellsSide, HasSideFault};
 ghost use Rattle.prefix_lattice.specs.Address.{address_length};
 
 use crate::kept_bytes::KeptBytes;
@@ -12,7 +12,7 @@ use crate::{PrefixFault, Side, number_of};
 /// Reads an address, a slash and a length in bits.
 pub fn parse_side(text: &[u8], side: Side) -> Result<KeptBytes, PrefixFault>
     ensures ok { IfOk result (TextSpellsSide text.now) }
-    ensures fault { IfErr result (TextHasSideFault side text.now) }
+    ensures fault { IfErr result (HasSideFault side text.now) }
 {
     let Some(cut) = cut_at(text, b'/') else {
         return Err(without_length(text, side));
@@ -32,7 +32,7 @@ pub fn parse_side(text: &[u8], side: Side) -> Result<KeptBytes, PrefixFault>
 // What is wrong with a text that has no slash.
 fn without_length(text: &[u8], side: Side) -> PrefixFault
     requires { before_first (λ byte. byte == slash) text.now ≡ text.now }
-    ensures { TextHasSideFault side text.now result }
+    ensures { HasSideFault side text.now result }
 {
     match address_of_text(text) {
         Some(_) => PrefixFault::BadLength(side),

@@ -1,7 +1,7 @@
 //! Writing one side of the text of a prefix.
 
 ghost use Rattle.std.specs.Prelude.{◌≡◌, ◌+◌, ◌≤◌, ◌∷◌, length, decimal};
-ghost use Rattle.prefix_lattice.specs.PrefixText.{WritesPrefixTextPart, address_text, longest_side_text_length};
+ghost use Rattle.prefix_lattice.specs.PrefixText.{WritesPrefixPart, address_text, longest_side_text};
 ghost use Rattle.prefix_lattice.specs.PrefixText.{side_text};
 
 use crate::decimal::write_number;
@@ -10,9 +10,9 @@ use crate::kept_bytes::KeptBytes;
 /// Writes an address, a slash and a length in bits at an offset of a text, and returns the offset after them. The text
 /// has room for the 18 bytes that they may need. Other bytes are unchanged.
 pub fn write_side(text: &mut [u8], at: usize, side: &KeptBytes) -> usize
-    requires { at + longest_side_text_length ≤ length text.old }
-    ensures written { WritesPrefixTextPart text.old text.new at result (side_text side.now) }
-    ensures short { result ≤ at + longest_side_text_length }
+    requires { at + longest_side_text ≤ length text.old }
+    ensures written { WritesPrefixPart text.old text.new at result (side_text side.now) }
+    ensures short { result ≤ at + longest_side_text }
 {
     let end = write_address(text, at, side.address());
     write_behind(text, end, b'/', 8 * side.len())
@@ -20,7 +20,7 @@ pub fn write_side(text: &mut [u8], at: usize, side: &KeptBytes) -> usize
 
 fn write_address(text: &mut [u8], at: usize, address: u32) -> usize
     requires { at + length (address_text address) ≤ length text.old }
-    ensures { WritesPrefixTextPart text.old text.new at result (address_text address) }
+    ensures { WritesPrefixPart text.old text.new at result (address_text address) }
 {
     let [a, b, c, d] = address.to_be_bytes();
     let end = write_number(text, at, a);
@@ -32,7 +32,7 @@ fn write_address(text: &mut [u8], at: usize, address: u32) -> usize
 // Writes a byte and a number after it.
 fn write_behind(text: &mut [u8], at: usize, mark: u8, number: u8) -> usize
     requires { at + length (mark ∷ decimal number) ≤ length text.old }
-    ensures { WritesPrefixTextPart text.old text.new at result (mark ∷ decimal number) }
+    ensures { WritesPrefixPart text.old text.new at result (mark ∷ decimal number) }
 {
     text[at] = mark;
     write_number(text, at + 1, number)

@@ -5,16 +5,16 @@ use Rattle.space_saving.specs.declared.entry.Entry.{Entry}
 use Rattle.key_index.specs.{IndexedKeys}
 use Rattle.rank_table.specs.declared.slot.Slot.{Slot}
 use Rattle.rank_table.specs.Ranks.{slot_rank}
-use Rattle.rank_table.specs.SlotOrder.{slot_put_in_order, slots_in_rank_order, entries_in_slot_order, AreOrderedSlots}
-use Rattle.rank_table.specs.Slots.{AreApartSlots, AreDistinctSlots}
-use Rattle.rank_table.specs.Slots.{Slots}
-use Rattle.rank_table.specs.RankWords.{rank_word, IsExactRankWord}
-use Rattle.rank_table.specs.Ranks.{HasLeastRank, AreRankLeaves, AreRanked}
-use Rattle.rank_table.specs.Marks.{mark_of, marks_from, rank_of_mark, slot_without_mark, slot_of_mark}
-use Rattle.rank_table.specs.Marks.{numbered_for_marks}
-use Rattle.rank_table.specs.TableSteps.{raised_slot_of_table_step, fresh_slot_of_table_step, heir_slot_of_table_step}
-use Rattle.rank_table.specs.TableSteps.{IsTakenOverByTableStep}
-use Rattle.rank_table.specs.RankTable.{AreRankTableParts, IsRankTable}
+use Rattle.rank_table.specs.SlotOrder.{put_in_order, in_rank_order, ordered_entries, AreOrdered}
+use Rattle.rank_table.specs.Slot.{AreApart, AreDistinct}
+use Rattle.rank_table.specs.Slot.{Slots}
+use Rattle.rank_table.specs.Words.{rank_word, IsExactWord}
+use Rattle.rank_table.specs.Ranks.{HasLeast, AreLeaves, AreRanked}
+use Rattle.rank_table.specs.Marks.{mark_of, marks_from, rank_of_mark, without_mark, slot_of_mark}
+use Rattle.rank_table.specs.Marks.{numbered}
+use Rattle.rank_table.specs.Steps.{raised_slot, entered_slot, heir_slot}
+use Rattle.rank_table.specs.Steps.{IsTakenOver}
+use Rattle.rank_table.specs.RankTable.{AreParts, IsRankTable}
 
 abbrev entry : ℕ → ℕ → ℕ → Entry
 entry key count error = record { key = key; count = count; error = error }
@@ -32,35 +32,35 @@ unfolding slot_rank
 rank_by_count_first = omega arith
 
 -- in a tie, the slot with the earlier time comes first
-pub slots_in_order : slots_in_rank_order slots ≡ slot 2 3 0 0 ∷ slot 3 5 0 1 ∷ slot 1 5 0 2 ∷ []
+pub slots_in_order : in_rank_order slots ≡ slot 2 3 0 0 ∷ slot 3 5 0 1 ∷ slot 1 5 0 2 ∷ []
 unfolding slot_rank
 slots_in_order = refl
 
-pub entries_in_order : entries_in_slot_order slots ≡ entry 2 3 0 ∷ entry 3 5 0 ∷ entry 1 5 0 ∷ []
+pub entries_in_order : ordered_entries slots ≡ entry 2 3 0 ∷ entry 3 5 0 ∷ entry 1 5 0 ∷ []
 unfolding slot_rank
 entries_in_order = refl
 
-pub put_in_between : slot_put_in_order (slot 4 4 0 3) (slot 2 3 0 0 ∷ slot 3 5 0 1 ∷ []) ≡ slot 2 3 0 0 ∷ slot 4 4 0 3 ∷ slot 3 5 0 1 ∷ []
+pub put_in_between : put_in_order (slot 4 4 0 3) (slot 2 3 0 0 ∷ slot 3 5 0 1 ∷ []) ≡ slot 2 3 0 0 ∷ slot 4 4 0 3 ∷ slot 3 5 0 1 ∷ []
 unfolding slot_rank
 put_in_between = refl
 
-pub slots_apart : AreApartSlots (slot 1 5 0 2) (slot 2 3 0 0)
+pub slots_apart : AreApart (slot 1 5 0 2) (slot 2 3 0 0)
 slots_apart = ((λ same. omega (arith, same)), (λ same. omega (arith, same)))
 
-pub one_key_twice : AreDistinctSlots (slot 1 5 0 2 ∷ slot 1 3 0 0 ∷ []) → ⊥
+pub one_key_twice : AreDistinct (slot 1 5 0 2 ∷ slot 1 3 0 0 ∷ []) → ⊥
 one_key_twice distinct = distinct.0.0.0 refl
 
-pub one_time_twice : AreDistinctSlots (slot 1 5 0 2 ∷ slot 2 3 0 2 ∷ []) → ⊥
+pub one_time_twice : AreDistinct (slot 1 5 0 2 ∷ slot 2 3 0 2 ∷ []) → ⊥
 one_time_twice distinct = distinct.0.0.1 refl
 
-pub slots_of_two_keys : AreOrderedSlots 3 (slot 1 5 0 2 ∷ slot 2 3 0 0 ∷ [])
+pub slots_of_two_keys : AreOrdered 3 (slot 1 5 0 2 ∷ slot 2 3 0 0 ∷ [])
 slots_of_two_keys = record {
   timed = (omega arith, (omega arith, tt));
   distinct = ((slots_apart, tt), (tt, tt));
 }
 
 -- a slot whose time is not before now
-pub slot_of_now : AreOrderedSlots 2 (slot 1 5 0 2 ∷ []) → ⊥
+pub slot_of_now : AreOrdered 2 (slot 1 5 0 2 ∷ []) → ⊥
 slot_of_now are = omega (arith, are.timed.0)
 
 -- excess 2 over base 3, time 2, place 1
@@ -73,16 +73,16 @@ pub far_counts_have_one_word : rank_word 0 (slot 1 268435456 0 2) 1 ≡ rank_wor
 unfolding rank_word
 far_counts_have_one_word = refl
 
-pub small_rank_is_exact : IsExactRankWord 3 (slot 1 5 0 2)
+pub small_rank_is_exact : IsExactWord 3 (slot 1 5 0 2)
 small_rank_is_exact = (omega arith, omega arith)
 
-pub cut_off_count_is_not : IsExactRankWord 0 (slot 1 268435455 0 2) → ⊥
+pub cut_off_count_is_not : IsExactWord 0 (slot 1 268435455 0 2) → ⊥
 cut_off_count_is_not exact = omega (arith, exact.0)
 
-pub cut_off_time_is_not : IsExactRankWord 0 (slot 1 5 0 16777215) → ⊥
+pub cut_off_time_is_not : IsExactWord 0 (slot 1 5 0 16777215) → ⊥
 cut_off_time_is_not exact = omega (arith, exact.1)
 
-pub least_of_two : HasLeastRank (slot 1 5 0 2 ∷ slot 2 3 0 0 ∷ []) 1
+pub least_of_two : HasLeast (slot 1 5 0 2 ∷ slot 2 3 0 0 ∷ []) 1
 unfolding slot_rank
 least_of_two = record { within = omega arith; least = least }
   where
@@ -91,26 +91,26 @@ least_of_two = record { within = omega arith; least = least }
     least (suc zero) d inside = omega arith
     least (suc (suc other)) d inside = absurd (omega arith)
 
-pub greater_is_not_least : HasLeastRank (slot 1 5 0 2 ∷ slot 2 3 0 0 ∷ []) 0 → ⊥
+pub greater_is_not_least : HasLeast (slot 1 5 0 2 ∷ slot 2 3 0 0 ∷ []) 0 → ⊥
 unfolding slot_rank
-greater_is_not_least least = omega (arith, least.least 1 slot_without_mark (omega arith))
+greater_is_not_least least = omega (arith, least.least 1 without_mark (omega arith))
 
 -- there must be as many leaves as the capacity
-pub leaf_is_missing : AreRankLeaves 2 0 (0 ∷ []) [] → ⊥
+pub leaf_is_missing : AreLeaves 2 0 (0 ∷ []) [] → ⊥
 leaf_is_missing leaves = omega (arith, leaves.shape)
 
 -- a leaf of place 1 at place 0
-pub leaf_of_another_place : AreRankLeaves 2 0 (1 ∷ 1 ∷ []) [] → ⊥
+pub leaf_of_another_place : AreLeaves 2 0 (1 ∷ 1 ∷ []) [] → ⊥
 leaf_of_another_place leaves = omega (arith, leaves.early 0 (omega arith) (omega arith))
 
-pub grown_slot : raised_slot_of_table_step 4 7 (slot 1 5 2 2) ≡ slot 1 9 2 7
+pub grown_slot : raised_slot 4 7 (slot 1 5 2 2) ≡ slot 1 9 2 7
 grown_slot = refl
 
-pub fresh_slot : fresh_slot_of_table_step 6 4 7 ≡ slot 6 4 0 7
+pub fresh_slot : entered_slot 6 4 7 ≡ slot 6 4 0 7
 fresh_slot = refl
 
 -- the count of the slot that is taken over becomes the error
-pub taken_over_slot : heir_slot_of_table_step 6 4 7 (slot 2 3 1 0) ≡ slot 6 7 3 7
+pub taken_over_slot : heir_slot 6 4 7 (slot 2 3 1 0) ≡ slot 6 7 3 7
 taken_over_slot = refl
 
 pub mark_of_a_slot : mark_of 1 (slot 2 3 1 8) ≡ entry 1 3 8
@@ -126,10 +126,10 @@ rank_of_a_mark = refl
 pub slot_of_a_mark : slot_of_mark slots (entry 1 3 0) ≡ slot 2 3 0 0
 slot_of_a_mark = refl
 
-pub slot_of_a_wrong_mark : slot_of_mark slots (entry 9 3 0) ≡ slot_without_mark
+pub slot_of_a_wrong_mark : slot_of_mark slots (entry 9 3 0) ≡ without_mark
 slot_of_a_wrong_mark = refl
 
-pub entries_by_their_numbers : numbered_for_marks 0 (entry 2 3 0 ∷ entry 1 5 0 ∷ []) ≡ slot 2 3 0 0 ∷ slot 1 5 0 1 ∷ []
+pub entries_by_their_numbers : numbered 0 (entry 2 3 0 ∷ entry 1 5 0 ∷ []) ≡ slot 2 3 0 0 ∷ slot 1 5 0 1 ∷ []
 entries_by_their_numbers = refl
 
 abbrev two_keys : IndexedKeys
@@ -138,11 +138,11 @@ two_keys = record { room = 4; keys = 1 ∷ 2 ∷ [] }
 abbrev two_slots : Slots
 two_slots = record { capacity = 4; slots = slot 1 5 0 2 ∷ slot 2 3 0 0 ∷ [] }
 
-pub keys_of_the_slots : AreRankTableParts 4 two_keys two_slots
+pub keys_of_the_slots : AreParts 4 two_keys two_slots
 keys_of_the_slots = record { roomy = refl; as_many = refl; keyed = refl }
 
 -- an index that kept the key of another slot
-pub stale_key : AreRankTableParts 4 (record { room = 4; keys = 1 ∷ 3 ∷ [] }) two_slots → ⊥
+pub stale_key : AreParts 4 (record { room = 4; keys = 1 ∷ 3 ∷ [] }) two_slots → ⊥
 stale_key together = cc
 
 -- there is no table of capacity 0
@@ -150,7 +150,7 @@ pub no_room_for_slots : AreRanked 0 4 0 [] [] → ⊥
 no_room_for_slots ranked = omega (arith, ranked.some)
 
 -- key 6 takes over the slot of key 2
-pub slot_taken_over : IsTakenOverByTableStep 6 4 7 (record { room = 2; keys = 1 ∷ 2 ∷ [] }) (record { capacity = 2; slots = slot 1 5 0 2 ∷ slot 2 3 0 0 ∷ [] })
+pub slot_taken_over : IsTakenOver 6 4 7 (record { room = 2; keys = 1 ∷ 2 ∷ [] }) (record { capacity = 2; slots = slot 1 5 0 2 ∷ slot 2 3 0 0 ∷ [] })
     (record { room = 2; keys = 1 ∷ 6 ∷ [] }) (record { capacity = 2; slots = slot 1 5 0 2 ∷ slot 6 7 3 7 ∷ [] })
 slot_taken_over = record { place = 1; least = least_of_two; indexed = refl; taken = λ d. refl }
 

@@ -9,15 +9,15 @@ use Rattle.std.proofs.lemmas.List.FromFn.{length-range_with_len, get_or-range_wi
 use Rattle.std.proofs.lemmas.List.Sums.{sum_by-set, sum_by-le}
 use Rattle.rank_table.specs.declared.slot.Slot.{Slot}
 use Rattle.rank_table.specs.Ranks.{slot_rank}
-use Rattle.rank_table.specs.RankWords.{rank_word, IsExactRankWord}
-use Rattle.rank_table.specs.Ranks.{AreRankLeaves, AreRanked, HasLeastRank}
+use Rattle.rank_table.specs.Words.{rank_word, IsExactWord}
+use Rattle.rank_table.specs.Ranks.{AreLeaves, AreRanked, HasLeast}
 use Rattle.rank_table.proofs.RankWordLemmas.{rank_word_names_place, rank_word_not_below_place, rank_word_fits}
 use Rattle.rank_table.proofs.RankWordLemmas.{rank_word_rises, exact_rank_word_is_least}
 
 -- leaves that are their own indices are lower bounds of the slots' words
 pub leaf_starts_as_its_place : (capacity base : ℕ) (slots : List Slot) → capacity ≤ 4096 → length slots ≤ capacity
     → ((place : ℕ) (d : Slot) → place < length slots → base ≤ (get_or slots place d).entry.count)
-    → AreRankLeaves capacity base (range_with_len 0 capacity) slots
+    → AreLeaves capacity base (range_with_len 0 capacity) slots
 leaf_starts_as_its_place capacity base slots most fits based =
     let number : (place : ℕ) → place < capacity
     → get_or (range_with_len 0 capacity) place 0 ≡ place = λ place within. get_or-range_with_len 0 capacity place 0 within
@@ -33,7 +33,7 @@ leaf_starts_as_its_place capacity base slots most fits based =
     }
 
 -- the place that a leaf names has that leaf
-pub leaf_stands_at_its_place : (capacity base leaf : ℕ) (leaves : List ℕ) (slots : List Slot) → AreRankLeaves capacity base leaves slots → Contains leaves leaf
+pub leaf_stands_at_its_place : (capacity base leaf : ℕ) (leaves : List ℕ) (slots : List Slot) → AreLeaves capacity base leaves slots → Contains leaves leaf
     → (leaf % 4096 < capacity) × (get_or leaves (leaf % 4096) 0 ≡ leaf)
 leaf_stands_at_its_place capacity base leaf leaves slots are present =
     let place = present.0 in
@@ -43,9 +43,9 @@ leaf_stands_at_its_place capacity base leaf leaves slots are present =
     (omega arith, ap (λ n. get_or leaves n 0) named ∙ is)
 
 -- the leaves stay lower bounds when one becomes its slot's word
-pub leaf_is_mended_to_word : (capacity base : ℕ) (leaves : List ℕ) (slots : List Slot) (place : ℕ) (slot : Slot) → AreRankLeaves capacity base leaves slots
+pub leaf_is_mended_to_word : (capacity base : ℕ) (leaves : List ℕ) (slots : List Slot) (place : ℕ) (slot : Slot) → AreLeaves capacity base leaves slots
     → place < length slots
-    → slot ≡ get_or slots place slot → AreRankLeaves capacity base (set leaves place (rank_word base slot place)) slots
+    → slot ≡ get_or slots place slot → AreLeaves capacity base (set leaves place (rank_word base slot place)) slots
 leaf_is_mended_to_word capacity base leaves slots place slot are within read =
     let shape : length leaves ≡ capacity = are.shape in
     let fits : length slots ≤ capacity = are.fits in
@@ -74,10 +74,10 @@ leaf_is_mended_to_word capacity base leaves slots place slot are within read =
 
 -- the leaves stay lower bounds when a slot changes to one of no smaller count and time
 pub leaf_stays_below_raised_slot : (capacity base : ℕ) (leaves : List ℕ) (slots : List Slot) (place : ℕ) (slot : Slot)
-    → AreRankLeaves capacity base leaves slots
+    → AreLeaves capacity base leaves slots
     → place < length slots
     → (get_or slots place slot).entry.count ≤ slot.entry.count → (get_or slots place slot).time ≤ slot.time
-    → AreRankLeaves capacity base leaves (set slots place slot)
+    → AreLeaves capacity base leaves (set slots place slot)
 leaf_stays_below_raised_slot capacity base leaves slots place slot are within more later =
     let same_length : length (set slots place slot) ≡ length slots = length-set slots place slot in
     record {
@@ -102,9 +102,9 @@ leaf_stays_below_raised_slot capacity base leaves slots place slot are within mo
     }
 
 -- the leaves stay lower bounds when a slot is appended, if the base is 0
-pub leaf_stays_after_push : (capacity base : ℕ) (leaves : List ℕ) (slots : List Slot) (slot : Slot) → AreRankLeaves capacity base leaves slots
+pub leaf_stays_after_push : (capacity base : ℕ) (leaves : List ℕ) (slots : List Slot) (slot : Slot) → AreLeaves capacity base leaves slots
     → length slots < capacity → base ≡ 0
-    → AreRankLeaves capacity base leaves (slots ++ slot ∷ [])
+    → AreLeaves capacity base leaves (slots ++ slot ∷ [])
 leaf_stays_after_push capacity base leaves slots slot are room unbased =
     let one_more : length (slots ++ slot ∷ []) ≡ length slots + 1 = length_push slots slot in
     record {
@@ -127,7 +127,7 @@ leaf_stays_after_push capacity base leaves slots slot are room unbased =
     }
 
 -- the sum by which leaves can still rise falls when a leaf that differs from its slot's word is mended
-pub leaf_rises_when_mended : (capacity base : ℕ) (leaves : List ℕ) (slots : List Slot) (place : ℕ) (slot : Slot) → AreRankLeaves capacity base leaves slots
+pub leaf_rises_when_mended : (capacity base : ℕ) (leaves : List ℕ) (slots : List Slot) (place : ℕ) (slot : Slot) → AreLeaves capacity base leaves slots
     → capacity ≡ length slots → place < capacity
     → slot ≡ get_or slots place slot → get_or leaves place 0 ≢ rank_word base slot place
     → length (set leaves place (rank_word base slot place)) * 2 ^ 64 - sum (set leaves place (rank_word base slot place)) < length leaves * 2 ^ 64 - sum leaves
@@ -145,11 +145,11 @@ leaf_rises_when_mended capacity base leaves slots place slot are full within rea
     omega (arith, length-set leaves place new, sum_by-set (λ x. x) leaves place new 0 (omega arith), sum_by-le (λ x. x) (2 ^ 64) (set leaves place new) small)
 
 -- a winner whose word is exact comes first
-pub exact_leaf_is_least : (capacity base : ℕ) (leaves : List ℕ) (slots : List Slot) (place : ℕ) (slot : Slot) → AreRankLeaves capacity base leaves slots
+pub exact_leaf_is_least : (capacity base : ℕ) (leaves : List ℕ) (slots : List Slot) (place : ℕ) (slot : Slot) → AreLeaves capacity base leaves slots
     → place < length slots
-    → slot ≡ get_or slots place slot → IsExactRankWord base slot
+    → slot ≡ get_or slots place slot → IsExactWord base slot
     → ((other : ℕ) (d : Slot) → other < length slots → rank_word base (get_or slots place d) place ≤ rank_word base (get_or slots other d) other)
-    → HasLeastRank slots place
+    → HasLeast slots place
 exact_leaf_is_least capacity base leaves slots place slot are within read exact least =
     let most : capacity ≤ 4096 = are.most in
     let fits : length slots ≤ capacity = are.fits in

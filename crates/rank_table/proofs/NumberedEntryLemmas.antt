@@ -6,29 +6,29 @@ use Rattle.std.proofs.lemmas.Bool.{eqb-false}
 use Rattle.std.proofs.lemmas.List.Elements.{recursion_from_All}
 use Rattle.std.proofs.lemmas.List.Sums.{sum_by-cons}
 use Rattle.space_saving.specs.declared.entry.Entry.{Entry}
-use Rattle.space_saving.specs.{table_entry, table_total, TableRisesFrom, AreApartInTable, HasSmallTableError}
+use Rattle.space_saving.specs.{table_entry, table_total, RisesFrom, KeysApart, HasSmallError}
 use Rattle.space_saving.specs.{AreTableEntries}
 use Rattle.rank_table.specs.declared.slot.Slot.{Slot}
-use Rattle.rank_table.specs.Marks.{numbered_for_marks}
+use Rattle.rank_table.specs.Marks.{numbered}
 use Rattle.rank_table.specs.Ranks.{slot_rank}
-use Rattle.rank_table.specs.SlotOrder.{slot_put_in_order, slots_in_rank_order, entries_in_slot_order, AreOrderedSlots}
-use Rattle.rank_table.specs.Slots.{AreApartSlots}
+use Rattle.rank_table.specs.SlotOrder.{put_in_order, in_rank_order, ordered_entries, AreOrdered}
+use Rattle.rank_table.specs.Slot.{AreApart}
 use Rattle.rank_table.proofs.RankedSlotLemmas.{ranked_slot_entry, slot_put_in_order-least}
 use Rattle.rank_table.proofs.SlotKeyLemmas.{slot_key}
 
-pub length-numbered_entries : (time : ℕ) (entries : List Entry) → length (numbered_for_marks time entries) ≡ length entries
+pub length-numbered_entries : (time : ℕ) (entries : List Entry) → length (numbered time entries) ≡ length entries
 length-numbered_entries time [] = refl
 length-numbered_entries time (entry ∷ rest) = omega (arith, length-numbered_entries (time + 1) rest)
 
-pub numbered_for_marks-push_entry : (time : ℕ) (entries : List Entry) (entry : Entry) (last : ℕ) → time + length entries ≡ last
-    → numbered_for_marks time (entries ++ entry ∷ []) ≡ numbered_for_marks time entries ++ (let s : Slot = record { entry = entry; time = last } in s) ∷ []
-numbered_for_marks-push_entry time [] entry last is = ap (λ n. (let s : Slot = record { entry = entry; time = n } in s) ∷ [])
+pub numbered-push_entry : (time : ℕ) (entries : List Entry) (entry : Entry) (last : ℕ) → time + length entries ≡ last
+    → numbered time (entries ++ entry ∷ []) ≡ numbered time entries ++ (let s : Slot = record { entry = entry; time = last } in s) ∷ []
+numbered-push_entry time [] entry last is = ap (λ n. (let s : Slot = record { entry = entry; time = n } in s) ∷ [])
     (let e : time ≡ last = omega arith in e)
-numbered_for_marks-push_entry time (first ∷ rest) entry last is = ap (λ l. (let s : Slot = record { entry = first; time = time } in s) ∷ l)
-    (numbered_for_marks-push_entry (time + 1) rest entry last (omega arith))
+numbered-push_entry time (first ∷ rest) entry last is = ap (λ l. (let s : Slot = record { entry = first; time = time } in s) ∷ l)
+    (numbered-push_entry (time + 1) rest entry last (omega arith))
 
 -- counts that rise from a number rise from each smaller one
-numbered_entries_rise_from_less : (less least : ℕ) (entries : List Entry) → TableRisesFrom least entries → less ≤ least → TableRisesFrom less entries
+numbered_entries_rise_from_less : (less least : ℕ) (entries : List Entry) → RisesFrom least entries → less ≤ least → RisesFrom less entries
 numbered_entries_rise_from_less less least [] rises below = tt
 numbered_entries_rise_from_less less least (entry ∷ rest) rises below = (let above : least ≤ entry.count = rises.0 in omega arith, rises.1)
 
@@ -43,8 +43,8 @@ missing_numbered_entry_parts key entry rest missing =
     ]) refl missing
 
 -- slots of rising counts and times are in order
-numbered_entry_ranks_rise : (slot : Slot) (time : ℕ) (entries : List Entry) → slot.time < time → TableRisesFrom slot.entry.count entries
-    → AllByRecursion (λ other. slot_rank slot ≤ slot_rank other) (numbered_for_marks time entries)
+numbered_entry_ranks_rise : (slot : Slot) (time : ℕ) (entries : List Entry) → slot.time < time → RisesFrom slot.entry.count entries
+    → AllByRecursion (λ other. slot_rank slot ≤ slot_rank other) (numbered time entries)
 unfolding slot_rank
 numbered_entry_ranks_rise slot time [] sooner rises = tt
 numbered_entry_ranks_rise slot time (entry ∷ rest) sooner rises =
@@ -54,48 +54,48 @@ numbered_entry_ranks_rise slot time (entry ∷ rest) sooner rises =
           at_most),
     )
 
-pub slots_in_rank_order-numbered_entries : (time least : ℕ) (entries : List Entry) → TableRisesFrom least entries
-    → slots_in_rank_order (numbered_for_marks time entries) ≡ numbered_for_marks time entries
-slots_in_rank_order-numbered_entries time least [] rises = refl
-slots_in_rank_order-numbered_entries time least (entry ∷ rest) rises =
+pub in_rank_order-numbered_entries : (time least : ℕ) (entries : List Entry) → RisesFrom least entries
+    → in_rank_order (numbered time entries) ≡ numbered time entries
+in_rank_order-numbered_entries time least [] rises = refl
+in_rank_order-numbered_entries time least (entry ∷ rest) rises =
     let slot : Slot = record { entry = entry; time = time } in
-    ap (slot_put_in_order slot) (slots_in_rank_order-numbered_entries (time + 1) entry.count rest rises.1)
-    ∙ slot_put_in_order-least slot (numbered_for_marks (time + 1) rest) (numbered_entry_ranks_rise slot (time + 1) rest (omega arith) rises.1)
+    ap (put_in_order slot) (in_rank_order-numbered_entries (time + 1) entry.count rest rises.1)
+    ∙ slot_put_in_order-least slot (numbered (time + 1) rest) (numbered_entry_ranks_rise slot (time + 1) rest (omega arith) rises.1)
 
-entries-numbered : (time : ℕ) (entries : List Entry) → map ranked_slot_entry (numbered_for_marks time entries) ≡ entries
+entries-numbered : (time : ℕ) (entries : List Entry) → map ranked_slot_entry (numbered time entries) ≡ entries
 entries-numbered time [] = refl
 entries-numbered time (entry ∷ rest) = ap (λ l. entry ∷ l) (entries-numbered (time + 1) rest)
 
-pub entries_in_slot_order-numbered : (entries : List Entry) → TableRisesFrom 0 entries → entries_in_slot_order (numbered_for_marks 0 entries) ≡ entries
-entries_in_slot_order-numbered entries rises = ap (map ranked_slot_entry) (slots_in_rank_order-numbered_entries 0 0 entries rises) ∙ entries-numbered 0 entries
+pub ordered_entries-numbered : (entries : List Entry) → RisesFrom 0 entries → ordered_entries (numbered 0 entries) ≡ entries
+ordered_entries-numbered entries rises = ap (map ranked_slot_entry) (in_rank_order-numbered_entries 0 0 entries rises) ∙ entries-numbered 0 entries
 
-pub keys-numbered_entries : (time : ℕ) (entries : List Entry) → map (λ (entry : Entry). entry.key) entries ≡ map slot_key (numbered_for_marks time entries)
+pub keys-numbered_entries : (time : ℕ) (entries : List Entry) → map (λ (entry : Entry). entry.key) entries ≡ map slot_key (numbered time entries)
 keys-numbered_entries time [] = refl
 keys-numbered_entries time (entry ∷ rest) = ap (λ l. entry.key ∷ l) (keys-numbered_entries (time + 1) rest)
 
 -- a slot whose key is missing among later entries is apart from their slots
 apart_from_numbered_entries : (slot : Slot) (time : ℕ) (entries : List Entry) → slot.time < time → table_entry slot.entry.key entries ≡ None
-    → AllByRecursion (AreApartSlots slot) (numbered_for_marks time entries)
+    → AllByRecursion (AreApart slot) (numbered time entries)
 apart_from_numbered_entries slot time [] sooner missing = tt
 apart_from_numbered_entries slot time (entry ∷ rest) sooner missing =
     let parts = missing_numbered_entry_parts slot.entry.key entry rest missing in
     ((λ same. parts.0 (sym same), λ same. omega arith), apart_from_numbered_entries slot (time + 1) rest (omega arith) parts.1)
 
-AreOrderedSlots-numbered_entries : (time now : ℕ) (entries : List Entry) → AreApartInTable entries → time + length entries ≤ now
-    → AreOrderedSlots now (numbered_for_marks time entries)
-AreOrderedSlots-numbered_entries time now [] apart fits = record { timed = tt; distinct = tt }
-AreOrderedSlots-numbered_entries time now (entry ∷ rest) apart fits =
-    let behind = AreOrderedSlots-numbered_entries (time + 1) now rest apart.1 (omega arith) in
+AreOrdered-numbered_entries : (time now : ℕ) (entries : List Entry) → KeysApart entries → time + length entries ≤ now
+    → AreOrdered now (numbered time entries)
+AreOrdered-numbered_entries time now [] apart fits = record { timed = tt; distinct = tt }
+AreOrdered-numbered_entries time now (entry ∷ rest) apart fits =
+    let behind = AreOrdered-numbered_entries (time + 1) now rest apart.1 (omega arith) in
     record {
       timed = (omega arith, behind.timed);
       distinct = (apart_from_numbered_entries (record { entry = entry; time = time }) (time + 1) rest (omega arith) apart.0, behind.distinct);
     }
 
-pub AreOrderedSlots-all_numbered_entries : (entries : List Entry) → AreApartInTable entries → AreOrderedSlots (length entries) (numbered_for_marks 0 entries)
-AreOrderedSlots-all_numbered_entries entries apart = AreOrderedSlots-numbered_entries 0 (length entries) entries apart (omega arith)
+pub AreOrdered-all_numbered_entries : (entries : List Entry) → KeysApart entries → AreOrdered (length entries) (numbered 0 entries)
+AreOrdered-all_numbered_entries entries apart = AreOrdered-numbered_entries 0 (length entries) entries apart (omega arith)
 
 -- a table has no more entries than its total, since each count is at least 1
-numbered_entries_count_something : (capacity total : ℕ) (entries : List Entry) → AllByRecursion (HasSmallTableError capacity total) entries
+numbered_entries_count_something : (capacity total : ℕ) (entries : List Entry) → AllByRecursion (HasSmallError capacity total) entries
     → length entries ≤ table_total entries
 numbered_entries_count_something capacity total [] small = omega arith
 numbered_entries_count_something capacity total (entry ∷ rest) small =
@@ -104,5 +104,5 @@ numbered_entries_count_something capacity total (entry ∷ rest) small =
 
 pub numbered_entries_fit_total : (capacity : ℕ) (entries : List Entry) → AreTableEntries capacity entries → length entries ≤ table_total entries
 numbered_entries_fit_total capacity entries are =
-    numbered_entries_count_something capacity (table_total entries) entries (recursion_from_All (HasSmallTableError capacity
+    numbered_entries_count_something capacity (table_total entries) entries (recursion_from_All (HasSmallError capacity
     (table_total entries)) entries are.is_table.small_errors)

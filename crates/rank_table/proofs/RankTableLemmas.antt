@@ -6,45 +6,45 @@ use Rattle.std.proofs.lemmas.Bool.{cond-true, cond-false, lt-ltb, le-ltb}
 use Rattle.std.proofs.lemmas.List.Elements.{recursion_from_All}
 use Rattle.key_index.specs.{IndexedKeys}
 use Rattle.space_saving.specs.declared.entry.Entry.{Entry}
-use Rattle.space_saving.specs.{TableAdd, TableValue, table_after_step, table_entry, table_total, least_table_count}
-use Rattle.space_saving.specs.{table_interval_from, interval_in_table, HasSmallTableError, IsTable, AreTableEntries}
+use Rattle.space_saving.specs.{TableAdd, TableValue, after_step, table_entry, table_total, least_count}
+use Rattle.space_saving.specs.{interval_from, interval_in, HasSmallError, IsTable, AreTableEntries}
 use Rattle.rank_table.specs.declared.slot.Slot.{Slot}
-use Rattle.rank_table.specs.SlotOrder.{slots_in_rank_order, entries_in_slot_order, AreOrderedSlots}
-use Rattle.rank_table.specs.Ranks.{HasLeastRank}
-use Rattle.rank_table.specs.Slots.{Slots}
-use Rattle.rank_table.specs.RankTable.{AreRankTableParts, IsRankTable}
+use Rattle.rank_table.specs.SlotOrder.{in_rank_order, ordered_entries, AreOrdered}
+use Rattle.rank_table.specs.Ranks.{HasLeast}
+use Rattle.rank_table.specs.Slot.{Slots}
+use Rattle.rank_table.specs.RankTable.{AreParts, IsRankTable}
 use Rattle.rank_table.proofs.RankedSlotLemmas.{ranked_slot_entry, all-ranked_slot_at}
-use Rattle.rank_table.specs.Marks.{numbered_for_marks}
-use Rattle.rank_table.proofs.SlotChangeLemmas.{AreOrderedSlots-change_of_time, least_entry_in_slot_change}
+use Rattle.rank_table.specs.Marks.{numbered}
+use Rattle.rank_table.proofs.SlotChangeLemmas.{AreOrdered-change_of_time, least_entry_in_slot_change}
 use Rattle.rank_table.proofs.SlotChangeLemmas.{slot_change_entry_count}
 use Rattle.rank_table.proofs.SlotKeyLemmas.{slot_key}
-use Rattle.rank_table.proofs.NumberedEntryLemmas.{entries_in_slot_order-numbered, keys-numbered_entries}
-use Rattle.rank_table.proofs.NumberedEntryLemmas.{AreOrderedSlots-all_numbered_entries, numbered_entries_fit_total}
+use Rattle.rank_table.proofs.NumberedEntryLemmas.{ordered_entries-numbered, keys-numbered_entries}
+use Rattle.rank_table.proofs.NumberedEntryLemmas.{AreOrdered-all_numbered_entries, numbered_entries_fit_total}
 use Rattle.rank_table.proofs.SlotRiseLemmas.{all_slots_from_rise_order}
 
 -- a table after an add
 pub IsRankTable-add : (capacity clock total weight : ℕ) (index index_after : IndexedKeys) (ranked ranked_after : Slots) (add : TableAdd)
     → IsRankTable capacity clock total index ranked
-    → add.weight ≡ weight → 1 ≤ weight → table_total (entries_in_slot_order ranked.slots) + weight < 2 ^ 56
-    → ((entries : List Entry) → IsTable capacity entries → IsTable capacity (table_after_step capacity entries add))
-    → ((entries : List Entry) → table_total (table_after_step capacity entries add) ≡ table_total entries + add.weight)
-    → ranked_after.capacity ≡ ranked.capacity → AreRankTableParts ranked_after.capacity index_after ranked_after
-    → AreOrderedSlots (clock + 1) ranked_after.slots
-    → entries_in_slot_order ranked_after.slots ≡ table_after_step capacity (entries_in_slot_order ranked.slots) add
+    → add.weight ≡ weight → 1 ≤ weight → table_total (ordered_entries ranked.slots) + weight < 2 ^ 56
+    → ((entries : List Entry) → IsTable capacity entries → IsTable capacity (after_step capacity entries add))
+    → ((entries : List Entry) → table_total (after_step capacity entries add) ≡ table_total entries + add.weight)
+    → ranked_after.capacity ≡ ranked.capacity → AreParts ranked_after.capacity index_after ranked_after
+    → AreOrdered (clock + 1) ranked_after.slots
+    → ordered_entries ranked_after.slots ≡ after_step capacity (ordered_entries ranked.slots) add
     → IsRankTable capacity (clock + 1) (total + weight) index_after ranked_after
 IsRankTable-add capacity clock total weight index index_after ranked ranked_after add table is weighs fits stays_table adds same together slots stepped =
-    let grew : table_total (entries_in_slot_order ranked_after.slots) ≡ table_total (entries_in_slot_order ranked.slots) + weight = ap table_total stepped
-    ∙ adds (entries_in_slot_order ranked.slots) ∙ ap (λ n. table_total (entries_in_slot_order ranked.slots) + n) is in
+    let grew : table_total (ordered_entries ranked_after.slots) ≡ table_total (ordered_entries ranked.slots) + weight = ap table_total stepped
+    ∙ adds (ordered_entries ranked.slots) ∙ ap (λ n. table_total (ordered_entries ranked.slots) + n) is in
     let width : ranked_after.capacity ≡ capacity = same ∙ table.together.as_many in
     record {
       least = table.least;
       most = table.most;
-      together = subst (λ n. AreRankTableParts n index_after ranked_after) width together;
+      together = subst (λ n. AreParts n index_after ranked_after) width together;
       slots = slots;
       clocked = omega (arith, table.clocked);
       adds_up = omega (arith, table.adds_up, grew);
       are_entries = record {
-        is_table = subst (IsTable capacity) (sym stepped) (stays_table (entries_in_slot_order ranked.slots) table.are_entries.is_table);
+        is_table = subst (IsTable capacity) (sym stepped) (stays_table (ordered_entries ranked.slots) table.are_entries.is_table);
         bounded = omega (arith, grew);
       };
     }
@@ -60,59 +60,59 @@ rank_table_all_from_map : (P : Entry → Type 0) (slots : List Slot) → AllByRe
 rank_table_all_from_map P [] all = tt
 rank_table_all_from_map P (slot ∷ rest) all = (all.0, rank_table_all_from_map P rest all.1)
 
-pub rank_table_error_below_count : (capacity place : ℕ) (slots : List Slot) (d : Slot) → AreTableEntries capacity (entries_in_slot_order slots)
+pub rank_table_error_below_count : (capacity place : ℕ) (slots : List Slot) (d : Slot) → AreTableEntries capacity (ordered_entries slots)
     → place < length slots
     → (get_or slots place d).entry.error < (get_or slots place d).entry.count
 rank_table_error_below_count capacity place slots d are within =
-    let P = HasSmallTableError capacity (table_total (entries_in_slot_order slots)) in
+    let P = HasSmallError capacity (table_total (ordered_entries slots)) in
     (all-ranked_slot_at (λ slot. P slot.entry) place slots d (all_slots_from_rise_order (λ slot. P slot.entry) slots
-    (rank_table_all_from_map P (slots_in_rank_order slots)
-    (recursion_from_All P (entries_in_slot_order slots) are.is_table.small_errors))) within).0
+    (rank_table_all_from_map P (in_rank_order slots)
+    (recursion_from_All P (ordered_entries slots) are.is_table.small_errors))) within).0
 
 -- the greatest weight of a missing key
-pub rank_table_high_with_room : (capacity key : ℕ) (slots : List Slot) → table_entry key (entries_in_slot_order slots) ≡ None → length slots < capacity
-    → 0 ≡ (interval_in_table (record { capacity = capacity; entries = entries_in_slot_order slots }) key).high
+pub rank_table_high_with_room : (capacity key : ℕ) (slots : List Slot) → table_entry key (ordered_entries slots) ≡ None → length slots < capacity
+    → 0 ≡ (interval_in (record { capacity = capacity; entries = ordered_entries slots }) key).high
 rank_table_high_with_room capacity key slots missing room =
-    let table : TableValue = record { capacity = capacity; entries = entries_in_slot_order slots } in
-    sym (ap (λ o. (table_interval_from o table).high) missing
-    ∙ cond-true {A = ℕ} (ltb (length (entries_in_slot_order slots)) capacity) 0 (least_table_count (entries_in_slot_order slots))
-    (lt-ltb (length (entries_in_slot_order slots)) capacity (omega (arith, slot_change_entry_count slots))))
+    let table : TableValue = record { capacity = capacity; entries = ordered_entries slots } in
+    sym (ap (λ o. (interval_from o table).high) missing
+    ∙ cond-true {A = ℕ} (ltb (length (ordered_entries slots)) capacity) 0 (least_count (ordered_entries slots))
+    (lt-ltb (length (ordered_entries slots)) capacity (omega (arith, slot_change_entry_count slots))))
 
-pub rank_table_high_when_full : (capacity key place : ℕ) (slots : List Slot) (d : Slot) → table_entry key (entries_in_slot_order slots) ≡ None
-    → capacity ≤ length slots → AreOrderedSlots (2 ^ 64) slots → HasLeastRank slots place
-    → (get_or slots place d).entry.count ≡ (interval_in_table (record { capacity = capacity; entries = entries_in_slot_order slots }) key).high
+pub rank_table_high_when_full : (capacity key place : ℕ) (slots : List Slot) (d : Slot) → table_entry key (ordered_entries slots) ≡ None
+    → capacity ≤ length slots → AreOrdered (2 ^ 64) slots → HasLeast slots place
+    → (get_or slots place d).entry.count ≡ (interval_in (record { capacity = capacity; entries = ordered_entries slots }) key).high
 rank_table_high_when_full capacity key place slots d missing full are least =
-    let table : TableValue = record { capacity = capacity; entries = entries_in_slot_order slots } in
-    sym (ap (λ o. (table_interval_from o table).high) missing
-    ∙ cond-false {A = ℕ} (ltb (length (entries_in_slot_order slots)) capacity) 0 (least_table_count (entries_in_slot_order slots))
-    (le-ltb (length (entries_in_slot_order slots)) capacity (omega (arith, slot_change_entry_count slots)))
-    ∙ ap least_table_count (least_entry_in_slot_change (2 ^ 64) place slots d (omega arith) are least))
+    let table : TableValue = record { capacity = capacity; entries = ordered_entries slots } in
+    sym (ap (λ o. (interval_from o table).high) missing
+    ∙ cond-false {A = ℕ} (ltb (length (ordered_entries slots)) capacity) 0 (least_count (ordered_entries slots))
+    (le-ltb (length (ordered_entries slots)) capacity (omega (arith, slot_change_entry_count slots)))
+    ∙ ap least_count (least_entry_in_slot_change (2 ^ 64) place slots d (omega arith) are least))
 
 -- as many slots as entries
 pub rank_table_length_as_seen : (capacity : ℕ) (seen slots : List Slot) (table : TableValue) → seen ≡ slots
-    → (let t : TableValue = record { capacity = capacity; entries = entries_in_slot_order slots } in t ≡ table)
+    → (let t : TableValue = record { capacity = capacity; entries = ordered_entries slots } in t ≡ table)
     → length seen ≡ length table.entries
 rank_table_length_as_seen capacity seen slots table same view = ap length same ∙ sym (slot_change_entry_count slots)
     ∙ ap (λ (t : TableValue). length t.entries) view
 
 -- the times of a table are below 2^64
 pub rank_table_times_are_small : (capacity clock total : ℕ) (index : IndexedKeys) (ranked : Slots) → IsRankTable capacity clock total index ranked
-    → AreOrderedSlots (2 ^ 64) ranked.slots
+    → AreOrdered (2 ^ 64) ranked.slots
 rank_table_times_are_small capacity clock total index ranked table =
-    AreOrderedSlots-change_of_time clock (2 ^ 64) ranked.slots (omega (arith, rank_table_clock_is_small capacity clock total index ranked table)) table.slots
+    AreOrdered-change_of_time clock (2 ^ 64) ranked.slots (omega (arith, rank_table_clock_is_small capacity clock total index ranked table)) table.slots
 
 -- a table of entries that were inserted one after the other
 pub IsRankTable-loaded : (capacity total : ℕ) (entries : List Entry) (index : IndexedKeys) (ranked : Slots) → 2 ≤ capacity → capacity ≤ 4096
     → AreTableEntries capacity entries → total ≡ table_total entries
-    → index.room ≡ capacity → ranked.capacity ≡ capacity → index.keys ≡ map (λ (entry : Entry). entry.key) entries → ranked.slots ≡ numbered_for_marks 0 entries
+    → index.room ≡ capacity → ranked.capacity ≡ capacity → index.keys ≡ map (λ (entry : Entry). entry.key) entries → ranked.slots ≡ numbered 0 entries
     → IsRankTable capacity (length entries) total index ranked
 IsRankTable-loaded capacity total entries index ranked least most are counted roomy as_many keys slots =
-    let same : entries_in_slot_order ranked.slots ≡ entries = ap entries_in_slot_order slots ∙ entries_in_slot_order-numbered entries are.is_table.ascending in
+    let same : ordered_entries ranked.slots ≡ entries = ap ordered_entries slots ∙ ordered_entries-numbered entries are.is_table.ascending in
     record {
       least = least;
       most = most;
       together = record { roomy = roomy; as_many = as_many; keyed = keys ∙ keys-numbered_entries 0 entries ∙ ap (map slot_key) (sym slots) };
-      slots = subst (AreOrderedSlots (length entries)) (sym slots) (AreOrderedSlots-all_numbered_entries entries are.is_table.distinct);
+      slots = subst (AreOrdered (length entries)) (sym slots) (AreOrdered-all_numbered_entries entries are.is_table.distinct);
       clocked = omega (arith, counted, numbered_entries_fit_total capacity entries are);
       adds_up = counted ∙ ap table_total (sym same);
       are_entries = subst (AreTableEntries capacity) (sym same) are;

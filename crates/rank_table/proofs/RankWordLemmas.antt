@@ -4,7 +4,7 @@ use Rattle.std.proofs.lemmas.Bool.{cases_order}
 use Rattle.std.proofs.lemmas.Nat.{mod-mul-add}
 use Rattle.rank_table.specs.declared.slot.Slot.{Slot}
 use Rattle.rank_table.specs.Ranks.{slot_rank}
-use Rattle.rank_table.specs.RankWords.{rank_word, IsExactRankWord}
+use Rattle.rank_table.specs.Words.{rank_word, IsExactWord}
 
 -- a word names its place
 pub rank_word_names_place : (base : ℕ) (slot : Slot) (place : ℕ) → place < 4096 → rank_word base slot place % 4096 ≡ place
@@ -32,7 +32,7 @@ unfolding rank_word
 rank_word_rises base slot after place more later = omega arith
 
 -- a slot whose word is exact and no greater than another's has a rank that is no greater
-pub exact_rank_word_is_least : (base : ℕ) (slot other : Slot) (place at : ℕ) → IsExactRankWord base slot → base ≤ slot.entry.count → base ≤ other.entry.count
+pub exact_rank_word_is_least : (base : ℕ) (slot other : Slot) (place at : ℕ) → IsExactWord base slot → base ≤ slot.entry.count → base ≤ other.entry.count
     → place < 4096 → at < 4096
     → rank_word base slot place ≤ rank_word base other at → slot_rank slot ≤ slot_rank other
 unfolding slot_rank rank_word

@@ -1,8 +1,8 @@
 -- within the crate
 pub mod SlotOrder
-pub mod Slots
-pub mod RankWords
+pub mod Slot
+pub mod Words
 pub mod Ranks
 pub mod Marks
-pub mod TableSteps
+pub mod Steps
 pub mod RankTable

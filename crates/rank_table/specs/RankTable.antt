@@ -2,11 +2,11 @@
 use Rattle.std.specs.Prelude.{ℕ, ◌≡◌, ◌≤◌, map}
 use Rattle.key_index.specs.{IndexedKeys}
 use Rattle.space_saving.specs.{table_total, AreTableEntries}
-use Rattle.rank_table.specs.SlotOrder.{AreOrderedSlots, entries_in_slot_order}
-use Rattle.rank_table.specs.Slots.{Slots}
+use Rattle.rank_table.specs.SlotOrder.{AreOrdered, ordered_entries}
+use Rattle.rank_table.specs.Slot.{Slots}
 
 -- an index of the keys of the slots, both with this capacity
-pub record AreRankTableParts (capacity : ℕ) (index : IndexedKeys) (ranked : Slots) : Type 0 where
+pub record AreParts (capacity : ℕ) (index : IndexedKeys) (ranked : Slots) : Type 0 where
   pub roomy : index.room ≡ capacity
   pub as_many : ranked.capacity ≡ capacity
   pub keyed : index.keys ≡ map (λ slot. slot.entry.key) ranked.slots
@@ -16,8 +16,8 @@ pub record AreRankTableParts (capacity : ℕ) (index : IndexedKeys) (ranked : Sl
 pub record IsRankTable (capacity clock total : ℕ) (index : IndexedKeys) (ranked : Slots) : Type 0 where
   pub least : 2 ≤ capacity
   pub most : capacity ≤ 4096
-  pub together : AreRankTableParts capacity index ranked
-  pub slots : AreOrderedSlots clock ranked.slots
+  pub together : AreParts capacity index ranked
+  pub slots : AreOrdered clock ranked.slots
   pub clocked : clock ≤ total
-  pub adds_up : total ≡ table_total (entries_in_slot_order ranked.slots)
-  pub are_entries : AreTableEntries capacity (entries_in_slot_order ranked.slots)
+  pub adds_up : total ≡ table_total (ordered_entries ranked.slots)
+  pub are_entries : AreTableEntries capacity (ordered_entries ranked.slots)

@@ -1,19 +1,19 @@
 -- Slots and the leaves of a tree over them, which no public contract cites.
 use Rattle.std.specs.Prelude.{ℕ, ◌≡◌, ◌%◌, ◌<◌, ◌≤◌, List, length, slice_index, slice_index_or, ◌+◌, ◌*◌, ◌^◌}
 use Rattle.rank_table.specs.declared.slot.Slot.{Slot}
-use Rattle.rank_table.specs.RankWords.{rank_word}
+use Rattle.rank_table.specs.Words.{rank_word}
 
 -- the count, and for equal counts the time
 unfoldable pub slot_rank : Slot → ℕ
 slot_rank slot = slot.entry.count * 2 ^ 64 + slot.time
 
 -- the slot at this place comes before all others
-pub record HasLeastRank (slots : List Slot) (place : ℕ) : Type 0 where
+pub record HasLeast (slots : List Slot) (place : ℕ) : Type 0 where
   pub within : place < length slots
   pub least : (other : ℕ) (d : Slot) → other < length slots → slot_rank (slice_index_or slots place d) ≤ slot_rank (slice_index_or slots other d)
 
 -- each leaf names its place in its low 12 bits, and is a lower bound of the word of the slot at that place
-pub record AreRankLeaves (capacity base : ℕ) (leaves : List ℕ) (slots : List Slot) : Type 0 where
+pub record AreLeaves (capacity base : ℕ) (leaves : List ℕ) (slots : List Slot) : Type 0 where
   pub most : capacity ≤ 4096
   pub shape : length leaves ≡ capacity
   pub fits : length slots ≤ capacity
@@ -26,5 +26,5 @@ pub record AreRankLeaves (capacity base : ℕ) (leaves : List ℕ) (slots : List
 pub record AreRanked (capacity reserved base : ℕ) (leaves : List ℕ) (slots : List Slot) : Type 0 where
   pub some : 1 ≤ capacity
   pub has_room : capacity ≤ reserved
-  pub are_leaves : AreRankLeaves capacity base leaves slots
+  pub are_leaves : AreLeaves capacity base leaves slots
   pub unbased : length slots < capacity → base ≡ 0

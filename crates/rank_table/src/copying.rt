@@ -4,16 +4,16 @@
 ghost use Rattle.std.specs.Prelude.{◌≡◌, ◌^◌, ◌<◌, All, length, map};
 ghost use Rattle.std.specs.List.Sorted.{IsNonDecreasingBy, IsPermutation};
 ghost use Rattle.rank_table.specs.Marks.{marks_from, rank_of_mark, slot_of_mark};
-ghost use Rattle.rank_table.specs.SlotOrder.{AreOrderedSlots, entries_in_slot_order};
+ghost use Rattle.rank_table.specs.SlotOrder.{AreOrdered, ordered_entries};
 
 use crate::slot::Slot;
 use space_saving::Entry;
 
 /// Writes the entries of slots in their order over as many entries, in the time of one sort.
 pub(crate) fn write_in_order(slots: &[Slot], into: &mut [Entry])
-    requires slots { AreOrderedSlots (2 ^ 64) slots.now }
+    requires slots { AreOrdered (2 ^ 64) slots.now }
     requires as_many { length into.old ≡ length slots.now }
-    ensures { into.new ≡ entries_in_slot_order slots.now }
+    ensures { into.new ≡ ordered_entries slots.now }
 {
     write_marks(slots, into);
     sort_marks(into);

@@ -1,7 +1,7 @@
 //! The table.
 
 ghost use Rattle.std.specs.Prelude.{◌≡◌, [], map};
-ghost use Rattle.rank_table.specs.Marks.{numbered_for_marks};
+ghost use Rattle.rank_table.specs.Marks.{numbered};
 
 use crate::copying::write_in_order;
 use crate::ranked_slots::RankedSlots;
@@ -28,12 +28,12 @@ pub struct RankTable {
 
 impl Model for RankTable {
     ghost use Rattle.space_saving.specs.{TableValue};
-    ghost use Rattle.rank_table.specs.SlotOrder.{entries_in_slot_order};
+    ghost use Rattle.rank_table.specs.SlotOrder.{ordered_entries};
     ghost use Rattle.rank_table.specs.RankTable.{IsRankTable};
 
     ghost Value = { TableValue };
 
-    ghost view = { λ t. record { capacity = t.capacity; entries = entries_in_slot_order t.ranked.slots } };
+    ghost view = { λ t. record { capacity = t.capacity; entries = ordered_entries t.ranked.slots } };
 
     ghost invariant = { λ t. IsRankTable t.capacity t.clock t.total t.index t.ranked };
 }
@@ -129,7 +129,7 @@ fn load(index: &mut KeyIndex, ranked: &mut RankedSlots, flat: &Flat)
     requires no_keys { index.old.keys ≡ [] }
     requires no_slots { ranked.old.slots ≡ [] }
     ensures index { index.new ≡ record index.old { keys = map (λ entry. entry.key) flat.now.entries } }
-    ensures ranked { ranked.new ≡ record ranked.old { slots = numbered_for_marks 0 flat.now.entries } }
+    ensures ranked { ranked.new ≡ record ranked.old { slots = numbered 0 flat.now.entries } }
 {
     for place in 0..flat.len() {
         let entry = flat.entry(place);

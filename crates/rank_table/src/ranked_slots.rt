@@ -3,8 +3,8 @@
 ghost use Rattle.std.specs.Prelude.{◌≡◌, ◌+◌, ◌<◌, ◌≤◌, ◌++◌, ◌∷◌, [], ℕ, IfOk, IsTrue, false, ◌↔◌, length};
 ghost use Rattle.std.specs.Prelude.{slice_index_or, slice_set};
 ghost use Rattle.rank_table.specs.declared.slot.Slot.{Slot};
-ghost use Rattle.rank_table.specs.Ranks.{AreRankLeaves, HasLeastRank};
-ghost use Rattle.rank_table.specs.RankWords.{rank_word};
+ghost use Rattle.rank_table.specs.Ranks.{AreLeaves, HasLeast};
+ghost use Rattle.rank_table.specs.Words.{rank_word};
 
 use crate::scanning::least_of;
 use crate::slot::Slot;
@@ -25,7 +25,7 @@ pub(crate) struct RankedSlots {
 
 impl Model for RankedSlots {
     ghost use Rattle.std.specs.Prelude.{vec_capacity};
-    ghost use Rattle.rank_table.specs.Slots.{Slots};
+    ghost use Rattle.rank_table.specs.Slot.{Slots};
     ghost use Rattle.rank_table.specs.Ranks.{AreRanked};
 
     ghost Value = { Slots };
@@ -99,7 +99,7 @@ impl RankedSlots {
     pub(crate) fn least(&mut self) -> usize
         requires { length self.old.slots ≡ self.old.capacity }
         ensures same { self.new ≡ self.old }
-        ensures least { HasLeastRank self.old.slots result }
+        ensures least { HasLeast self.old.slots result }
     {
         let place = winner(&mut self.tree, &self.slots, self.base);
         if is_exact(self.base, &self.slots[place]) {
@@ -118,8 +118,8 @@ impl RankedSlots {
 // The place whose slot has the least word. A leaf that comes first and is less than its slot's word gets that word.
 fn winner(tree: &mut WinnerTree, slots: &[Slot], base: u64) -> usize
     requires some { 0 < length slots.now }
-    requires leaves { AreRankLeaves (length slots.now) base tree.old slots.now }
-    ensures leaves { AreRankLeaves (length slots.now) base tree.new slots.now }
+    requires leaves { AreLeaves (length slots.now) base tree.old slots.now }
+    ensures leaves { AreLeaves (length slots.now) base tree.new slots.now }
     ensures within { result < length slots.now }
     ensures least { (place : ℕ) (d : Slot) → place < length slots.now
         → rank_word base (slice_index_or slots.now result d) result ≤ rank_word base (slice_index_or slots.now place d) place }

@@ -3,10 +3,10 @@
 ghost use Rattle.std.specs.Prelude.{◌≡◌, ◌^◌, ◌<◌, ◌≤◌, ℕ, Some, IsTrue, false, nat_lt, length, map, slice_get};
 ghost use Rattle.std.specs.Prelude.{slice_index_or, count_by};
 ghost use Rattle.rank_table.specs.declared.slot.Slot.{Slot};
-ghost use Rattle.space_saving.specs.{interval_in_table, AreTableEntries};
-ghost use Rattle.rank_table.specs.SlotOrder.{AreOrderedSlots, entries_in_slot_order, slots_in_rank_order};
+ghost use Rattle.space_saving.specs.{interval_in, AreTableEntries};
+ghost use Rattle.rank_table.specs.SlotOrder.{AreOrdered, ordered_entries, in_rank_order};
 ghost use Rattle.rank_table.specs.Ranks.{slot_rank};
-ghost use Rattle.rank_table.specs.Ranks.{HasLeastRank};
+ghost use Rattle.rank_table.specs.Ranks.{HasLeast};
 
 use crate::slot::Slot;
 use key_index::KeyIndex;
@@ -27,7 +27,7 @@ pub(crate) fn is_before(first: &Slot, second: &Slot) -> bool
 /// The place of the slot that comes before all others.
 pub(crate) fn least_of(slots: &[Slot]) -> usize
     requires { 0 < length slots.now }
-    ensures least { HasLeastRank slots.now result }
+    ensures least { HasLeast slots.now result }
     ensures count { (other : ℕ) (d : Slot) → other < length slots.now
         → (slice_index_or slots.now result d).entry.count ≤ (slice_index_or slots.now other d).entry.count }
 {
@@ -49,9 +49,9 @@ fn count_before(slots: &[Slot], slot: &Slot) -> usize
 
 /// The slot before which `place` others come. It may compare every slot with every other.
 pub(crate) fn slot_at(slots: &[Slot], place: usize) -> Slot
-    requires slots { AreOrderedSlots (2 ^ 64) slots.now }
+    requires slots { AreOrdered (2 ^ 64) slots.now }
     requires within { place < length slots.now }
-    ensures { slice_get (slots_in_rank_order slots.now) place ≡ Some result }
+    ensures { slice_get (in_rank_order slots.now) place ≡ Some result }
 {
     for slot in slots {
         if count_before(slots, slot) == place {
@@ -65,10 +65,10 @@ pub(crate) fn slot_at(slots: &[Slot], place: usize) -> Slot
 pub(crate) fn interval_of(index: &KeyIndex, slots: &[Slot], capacity: u32, key: u64) -> (u64, u64)
     requires some { 1 ≤ capacity }
     requires keyed { index.now.keys ≡ map (λ slot. slot.entry.key) slots.now }
-    requires slots { AreOrderedSlots (2 ^ 64) slots.now }
-    requires entries { AreTableEntries capacity (entries_in_slot_order slots.now) }
-    ensures low { result.0 ≡ (interval_in_table (record { capacity = capacity; entries = entries_in_slot_order slots.now }) key).low }
-    ensures high { result.1 ≡ (interval_in_table (record { capacity = capacity; entries = entries_in_slot_order slots.now }) key).high }
+    requires slots { AreOrdered (2 ^ 64) slots.now }
+    requires entries { AreTableEntries capacity (ordered_entries slots.now) }
+    ensures low { result.0 ≡ (interval_in (record { capacity = capacity; entries = ordered_entries slots.now }) key).low }
+    ensures high { result.1 ≡ (interval_in (record { capacity = capacity; entries = ordered_entries slots.now }) key).high }
 {
     match index.find(key) {
         Some(place) => {

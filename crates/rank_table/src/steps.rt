@@ -1,11 +1,11 @@
 //! One step of Space-Saving on slots.
 
 ghost use Rattle.std.specs.Prelude.{◌≡◌, ◌+◌, ◌^◌, ◌<◌, ◌≤◌, ◌++◌, ◌∷◌, [], length, slice_index_or, slice_set};
-ghost use Rattle.space_saving.specs.{table_after_step, table_total};
-ghost use Rattle.rank_table.specs.SlotOrder.{AreOrderedSlots, entries_in_slot_order};
-ghost use Rattle.rank_table.specs.TableSteps.{IsTakenOverByTableStep, fresh_slot_of_table_step};
-ghost use Rattle.rank_table.specs.TableSteps.{raised_slot_of_table_step};
-ghost use Rattle.rank_table.specs.RankTable.{AreRankTableParts};
+ghost use Rattle.space_saving.specs.{after_step, table_total};
+ghost use Rattle.rank_table.specs.SlotOrder.{AreOrdered, ordered_entries};
+ghost use Rattle.rank_table.specs.Steps.{IsTakenOver, entered_slot};
+ghost use Rattle.rank_table.specs.Steps.{raised_slot};
+ghost use Rattle.rank_table.specs.RankTable.{AreParts};
 ghost use Rattle.rank_table.specs.declared.slot.Slot.{Slot};
 
 use crate::ranked_slots::RankedSlots;
@@ -22,16 +22,16 @@ pub(crate) fn add_weight(
     weight: u64,
     now: u64,
 )
-    requires together { AreRankTableParts ranked.old.capacity index.old ranked.old }
-    requires slots { AreOrderedSlots now ranked.old.slots }
+    requires together { AreParts ranked.old.capacity index.old ranked.old }
+    requires slots { AreOrdered now ranked.old.slots }
     requires weighs { 1 ≤ weight }
     requires early { now < 2 ^ 56 }
-    requires room { table_total (entries_in_slot_order ranked.old.slots) + weight < 2 ^ 56 }
+    requires room { table_total (ordered_entries ranked.old.slots) + weight < 2 ^ 56 }
     ensures capacity { ranked.new.capacity ≡ ranked.old.capacity }
-    ensures together { AreRankTableParts ranked.new.capacity index.new ranked.new }
-    ensures slots { AreOrderedSlots (now + 1) ranked.new.slots }
-    ensures stepped { entries_in_slot_order ranked.new.slots
-        ≡ table_after_step ranked.old.capacity (entries_in_slot_order ranked.old.slots) (record { key = key; weight = weight }) }
+    ensures together { AreParts ranked.new.capacity index.new ranked.new }
+    ensures slots { AreOrdered (now + 1) ranked.new.slots }
+    ensures stepped { ordered_entries ranked.new.slots
+        ≡ after_step ranked.old.capacity (ordered_entries ranked.old.slots) (record { key = key; weight = weight }) }
 {
     match index.find(key) {
         Some(place) => grow(ranked, place, weight, now),
@@ -43,11 +43,11 @@ pub(crate) fn add_weight(
 // Adds a weight to the entry at a place.
 fn grow(ranked: &mut RankedSlots, place: usize, weight: u64, now: u64)
     requires within { place < length ranked.old.slots }
-    requires slots { AreOrderedSlots now ranked.old.slots }
+    requires slots { AreOrdered now ranked.old.slots }
     requires early { now < 2 ^ 56 }
-    requires room { table_total (entries_in_slot_order ranked.old.slots) + weight < 2 ^ 56 }
+    requires room { table_total (ordered_entries ranked.old.slots) + weight < 2 ^ 56 }
     ensures { (d : Slot) → ranked.new ≡ record ranked.old {
-      slots = slice_set ranked.old.slots place (raised_slot_of_table_step weight now (slice_index_or ranked.old.slots place d));
+      slots = slice_set ranked.old.slots place (raised_slot weight now (slice_index_or ranked.old.slots place d));
     } }
 {
     let slot = ranked.slots()[place];
@@ -62,9 +62,9 @@ fn grow(ranked: &mut RankedSlots, place: usize, weight: u64, now: u64)
 // Gives a new key a slot of its own.
 fn take_room(index: &mut KeyIndex, ranked: &mut RankedSlots, key: u64, weight: u64, now: u64)
     requires room { length ranked.old.slots < ranked.old.capacity }
-    requires together { AreRankTableParts ranked.old.capacity index.old ranked.old }
+    requires together { AreParts ranked.old.capacity index.old ranked.old }
     ensures index { index.new ≡ record index.old { keys = index.old.keys ++ key ∷ [] } }
-    ensures ranked { ranked.new ≡ record ranked.old { slots = ranked.old.slots ++ fresh_slot_of_table_step key weight now ∷ [] } }
+    ensures ranked { ranked.new ≡ record ranked.old { slots = ranked.old.slots ++ entered_slot key weight now ∷ [] } }
 {
     let entry = Entry {
         key,
@@ -78,11 +78,11 @@ fn take_room(index: &mut KeyIndex, ranked: &mut RankedSlots, key: u64, weight: u
 // Gives a new key the slot that comes first: its count becomes the error of the new entry.
 fn take_over(index: &mut KeyIndex, ranked: &mut RankedSlots, key: u64, weight: u64, now: u64)
     requires full { length ranked.old.slots ≡ ranked.old.capacity }
-    requires together { AreRankTableParts ranked.old.capacity index.old ranked.old }
-    requires slots { AreOrderedSlots now ranked.old.slots }
+    requires together { AreParts ranked.old.capacity index.old ranked.old }
+    requires slots { AreOrdered now ranked.old.slots }
     requires early { now < 2 ^ 56 }
-    requires room { table_total (entries_in_slot_order ranked.old.slots) + weight < 2 ^ 56 }
-    ensures { IsTakenOverByTableStep key weight now index.old ranked.old index.new ranked.new }
+    requires room { table_total (ordered_entries ranked.old.slots) + weight < 2 ^ 56 }
+    ensures { IsTakenOver key weight now index.old ranked.old index.new ranked.new }
 {
     let place = ranked.least();
     let least = ranked.slots()[place].entry.count;

@@ -1,7 +1,7 @@
 //! The rank of a slot in one word: excess of the count over a base in 28 bits, time in 24, place in 12.
 
 ghost use Rattle.std.specs.Prelude.{◌≡◌, ◌<◌, ◌≤◌, ◌↔◌, IsTrue};
-ghost use Rattle.rank_table.specs.RankWords.{IsExactRankWord, rank_word};
+ghost use Rattle.rank_table.specs.Words.{IsExactWord, rank_word};
 
 use crate::slot::Slot;
 
@@ -31,7 +31,7 @@ pub(crate) fn word_of(base: u64, slot: &Slot, place: usize) -> u64
 /// Whether both parts of the rank fit into its word. Where one doesn't, slots of other ranks can have equal parts.
 pub(crate) fn is_exact(base: u64, slot: &Slot) -> bool
     requires { base ≤ slot.now.entry.count }
-    ensures { IsTrue result ↔ IsExactRankWord base slot.now }
+    ensures { IsTrue result ↔ IsExactWord base slot.now }
 {
     slot.entry.count - base < MOST_EXCESS && slot.time < MOST_TIME
 }

@@ -6,9 +6,9 @@ use Rattle.std.proofs.lemmas.List.Elements.{All-head, All-tail}
 use Rattle.prefix_lattice.specs.{RecordValue, total_weight}
 use Rattle.shard_state.specs.{IsSnapshot, SnapshotRepresents, SnapshotValue, snapshot_total}
 use Rattle.checkpoint.specs.declared.settings.StoreSettings.{StoreSettings}
-use Rattle.checkpoint.specs.{IsSavedBody, SavedValue, StoreHolds, newest_in_store}
-use Rattle.recovery.specs.Opening.{OpeningContinuesList}
-use Rattle.recovery.specs.Opening.{BelongingStoresAreOpened}
+use Rattle.checkpoint.specs.{IsSaved, SavedValue, StoreHolds, newest_in}
+use Rattle.recovery.specs.Reopening.{ContinuesList}
+use Rattle.recovery.specs.Reopening.{BelongingOpen}
 
 -- a snapshot that represents a list has the weight of the records before its position
 abbrev BelongingStoreHasWeights : Type 0
@@ -17,7 +17,7 @@ BelongingStoreHasWeights = (snapshot : SnapshotValue) (list : List RecordValue) 
 
 -- so it may be continued from
 belonging_store_continues : BelongingStoreHasWeights → (shards : List SnapshotValue) (lists : List (List RecordValue)) → All IsSnapshot shards
-    → AllZip SnapshotRepresents shards lists → AllZip OpeningContinuesList shards lists
+    → AllZip SnapshotRepresents shards lists → AllZip ContinuesList shards lists
 belonging_store_continues total [] [] kept represent = tt
 belonging_store_continues total [] (list ∷ lists) kept represent = absurd represent
 belonging_store_continues total (shard ∷ shards) [] kept represent = absurd represent
@@ -29,25 +29,25 @@ belonging_store_continues total (shard ∷ shards) (list ∷ lists) kept represe
 
 -- what is the newest may be saved
 belonging_store_has_newest_save : (settings : StoreSettings) (image : List ℕ) (first second : Option SavedValue) (saved : SavedValue)
-    → StoreHolds settings image first second → newest_in_store first second ≡ Some saved → IsSavedBody settings.shards settings.capacity saved
+    → StoreHolds settings image first second → newest_in first second ≡ Some saved → IsSaved settings.shards settings.capacity saved
 belonging_store_has_newest_save settings image None None saved holds is = absurd (cc is)
 belonging_store_has_newest_save settings image None (Some one) saved holds is =
     let same : one ≡ saved = cc is in
-    subst (IsSavedBody settings.shards settings.capacity) same holds.second_slot.2.is_saved
+    subst (IsSaved settings.shards settings.capacity) same holds.second_slot.2.is_saved
 belonging_store_has_newest_save settings image (Some one) None saved holds is =
     let same : one ≡ saved = cc is in
-    subst (IsSavedBody settings.shards settings.capacity) same holds.first_slot.2.is_saved
+    subst (IsSaved settings.shards settings.capacity) same holds.first_slot.2.is_saved
 belonging_store_has_newest_save settings image (Some one) (Some two) saved holds is = by_test (nat_lt one.sequence two.sequence) is
   where
-    by_test : (b : Bool) → (if b then Some two else Some one) ≡ Some saved → IsSavedBody settings.shards settings.capacity saved
+    by_test : (b : Bool) → (if b then Some two else Some one) ≡ Some saved → IsSaved settings.shards settings.capacity saved
     by_test true is =
         let same : two ≡ saved = cc is in
-        subst (IsSavedBody settings.shards settings.capacity) same holds.second_slot.2.is_saved
+        subst (IsSaved settings.shards settings.capacity) same holds.second_slot.2.is_saved
     by_test false is =
         let same : one ≡ saved = cc is in
-        subst (IsSavedBody settings.shards settings.capacity) same holds.first_slot.2.is_saved
+        subst (IsSaved settings.shards settings.capacity) same holds.first_slot.2.is_saved
 
-pub belonging_stores_are_opened : BelongingStoreHasWeights → BelongingStoresAreOpened
+pub belonging_stores_are_opened : BelongingStoreHasWeights → BelongingOpen
 belonging_stores_are_opened total settings lists image None opens of early = (None, opens, tt, refl)
 belonging_stores_are_opened total settings lists image (Some saved) opens of early =
     let is_saved = belonging_store_has_newest_save settings image opens.0 opens.1 saved opens.2 opens.3 in (

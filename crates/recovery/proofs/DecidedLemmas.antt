@@ -5,41 +5,41 @@ use Rattle.std.proofs.lemmas.Bool.{cases_lt}
 use Rattle.prefix_lattice.specs.{RecordValue}
 use Rattle.shard_state.specs.{CutValue}
 use Rattle.checkpoint.specs.declared.settings.StoreSettings.{StoreSettings}
-use Rattle.checkpoint.specs.{AreHeaderSettings, StoreHasNewest, StoreHeadersSpellOneThing, SavedValue, StoreHolds}
-use Rattle.checkpoint.specs.{StoreSlotsHoldOneThing, newest_in_store, newest_slot_in_store}
+use Rattle.checkpoint.specs.{AreSettings, HasNewest, HeadersAreOne, SavedValue, StoreHolds}
+use Rattle.checkpoint.specs.{SlotsHoldOne, newest_in, newest_slot_in}
 use Rattle.recovery.specs.declared.fault.OpenFault.{OpenFault}
 use Rattle.recovery.specs.declared.fault.OpenFault.TheVariants.{DiskFault, NotFormatted, OtherSettings, Damaged}
 use Rattle.recovery.specs.declared.fault.OpenFault.TheVariants.{OtherCapture, OutOfMemory}
-use Rattle.recovery.specs.Opening.{HasOpeningHeader, IsFirstDamagedAtOpening, IsRefusedAtOpening, MatchesListsAtOpening}
-use Rattle.recovery.specs.Opening.{OpensToBase}
-use Rattle.recovery.specs.Opening.{IsShownByOpening, OpeningsAreDecided}
+use Rattle.recovery.specs.Reopening.{HasHeader, IsFirstDamaged, RefusesOpening, MatchesLists}
+use Rattle.recovery.specs.Reopening.{OpensToBase}
+use Rattle.recovery.specs.Reopening.{IsShown, AreDecided}
 use Rattle.recovery.proofs.OpenSlotLemmas.{store_open_slot_is_sound}
 
-module _ (spell : StoreHeadersSpellOneThing) (hold : StoreSlotsHoldOneThing) (settings : StoreSettings) (lists : List (List RecordValue))
-    (image : List ℕ) (are : AreHeaderSettings settings) where
-  decided_header_is_same : (one other : StoreSettings) → HasOpeningHeader one image → HasOpeningHeader other image → one ≡ other
+module _ (spell : HeadersAreOne) (hold : SlotsHoldOne) (settings : StoreSettings) (lists : List (List RecordValue))
+    (image : List ℕ) (are : AreSettings settings) where
+  decided_header_is_same : (one other : StoreSettings) → HasHeader one image → HasHeader other image → one ≡ other
   decided_header_is_same one other header again = spell one other header.are again.are (sym header.spelled ∙ again.spelled)
 
-  decided_bytes_have_header : (first second : Option SavedValue) → StoreHolds settings image first second → HasOpeningHeader settings image
+  decided_bytes_have_header : (first second : Option SavedValue) → StoreHolds settings image first second → HasHeader settings image
   decided_bytes_have_header first second holds = record { long = holds.long; are = are; spelled = holds.header }
 
   -- which slot is the newest, and what it holds
-  decided_newest_is_same : (slot other : ℕ) (saved later : SavedValue) → StoreHasNewest settings slot saved image
-      → StoreHasNewest settings other later image → (slot ≡ other) × (saved ≡ later)
+  decided_newest_is_same : (slot other : ℕ) (saved later : SavedValue) → HasNewest settings slot saved image
+      → HasNewest settings other later image → (slot ≡ other) × (saved ≡ later)
   decided_newest_is_same slot other saved later has again =
       let same = hold settings image has.first has.second again.first again.second are has.holds again.holds in
-      let slots : newest_slot_in_store has.first has.second ≡ newest_slot_in_store again.first again.second =
-      ap (λ (held : Option SavedValue). newest_slot_in_store held has.second) same.0
-      ∙ ap (λ (held : Option SavedValue). newest_slot_in_store again.first held) same.1 in
-      let held : newest_in_store has.first has.second ≡ newest_in_store again.first again.second =
-      ap (λ (held : Option SavedValue). newest_in_store held has.second) same.0
-      ∙ ap (λ (held : Option SavedValue). newest_in_store again.first held) same.1 in
+      let slots : newest_slot_in has.first has.second ≡ newest_slot_in again.first again.second =
+      ap (λ (held : Option SavedValue). newest_slot_in held has.second) same.0
+      ∙ ap (λ (held : Option SavedValue). newest_slot_in again.first held) same.1 in
+      let held : newest_in has.first has.second ≡ newest_in again.first again.second =
+      ap (λ (held : Option SavedValue). newest_in held has.second) same.0
+      ∙ ap (λ (held : Option SavedValue). newest_in again.first held) same.1 in
       let found : Some saved ≡ Some later = sym has.newest_is ∙ held ∙ again.newest_is in (
         sym has.slot_is ∙ slots ∙ again.slot_is,
         cc found,
       )
 
-  decided_first_damage_is_same : (slot other : ℕ) → IsFirstDamagedAtOpening settings slot image → IsFirstDamagedAtOpening settings other image → slot ≡ other
+  decided_first_damage_is_same : (slot other : ℕ) → IsFirstDamaged settings slot image → IsFirstDamaged settings other image → slot ≡ other
   decided_first_damage_is_same slot other one two =
       elim (cases_lt slot other) [
         | inl lt ↦ absurd (two.first slot lt one.damaged)
@@ -50,14 +50,14 @@ module _ (spell : StoreHeadersSpellOneThing) (hold : StoreSlotsHoldOneThing) (se
       ]
 
   -- a fault that is found after the header
-  decided_damage_has_header : (slot : ℕ) → IsRefusedAtOpening settings lists image (Damaged slot) → HasOpeningHeader settings image
+  decided_damage_has_header : (slot : ℕ) → RefusesOpening settings lists image (Damaged slot) → HasHeader settings image
   decided_damage_has_header slot refused =
       ⊎_elim (λ broken. broken.0) (λ past. decided_bytes_have_header past.1.first past.1.second past.1.holds) refused
 
-  decided_capture_has_header : (stored asked : List ℕ) → IsRefusedAtOpening settings lists image (OtherCapture stored asked) → HasOpeningHeader settings image
+  decided_capture_has_header : (stored asked : List ℕ) → RefusesOpening settings lists image (OtherCapture stored asked) → HasHeader settings image
   decided_capture_has_header stored asked refused = decided_bytes_have_header refused.2.first refused.2.second refused.2.holds
 
-  decided_damage_is_same : (slot other : ℕ) → IsRefusedAtOpening settings lists image (Damaged slot) → IsRefusedAtOpening settings lists image (Damaged other)
+  decided_damage_is_same : (slot other : ℕ) → RefusesOpening settings lists image (Damaged slot) → RefusesOpening settings lists image (Damaged other)
       → slot ≡ other
   decided_damage_is_same slot other (inl one) (inl two) = decided_first_damage_is_same slot other one.1 two.1
   decided_damage_is_same slot other (inl one) (inr past) =
@@ -66,16 +66,16 @@ module _ (spell : StoreHeadersSpellOneThing) (hold : StoreSlotsHoldOneThing) (se
       absurd (store_open_slot_is_sound settings other image past.1.first past.1.second two.1.within past.1.holds two.1.damaged)
   decided_damage_is_same slot other (inr past) (inr again) = (decided_newest_is_same slot other past.0 again.0 past.1 again.1).0
 
-  damage_or_capture_is_decided : (slot : ℕ) (stored asked : List ℕ) → IsRefusedAtOpening settings lists image (Damaged slot)
-      → IsRefusedAtOpening settings lists image (OtherCapture stored asked) → ⊥
+  damage_or_capture_is_decided : (slot : ℕ) (stored asked : List ℕ) → RefusesOpening settings lists image (Damaged slot)
+      → RefusesOpening settings lists image (OtherCapture stored asked) → ⊥
   damage_or_capture_is_decided slot stored asked (inl one) capture =
       store_open_slot_is_sound settings slot image capture.2.first capture.2.second one.1.within capture.2.holds one.1.damaged
   damage_or_capture_is_decided slot stored asked (inr past) capture =
       let same = decided_newest_is_same slot capture.0 past.0 capture.1 past.1 capture.2 in
       capture.5 (capture.3 ∙ sym (ap (λ (s : SavedValue). s.digest) same.1) ∙ past.2 ∙ sym capture.4)
 
-  decided_capture_is_same : (stored asked stored_again asked_again : List ℕ) → IsRefusedAtOpening settings lists image (OtherCapture stored asked)
-      → IsRefusedAtOpening settings lists image (OtherCapture stored_again asked_again)
+  decided_capture_is_same : (stored asked stored_again asked_again : List ℕ) → RefusesOpening settings lists image (OtherCapture stored asked)
+      → RefusesOpening settings lists image (OtherCapture stored_again asked_again)
       → OtherCapture stored asked ≡ OtherCapture stored_again asked_again
   decided_capture_is_same stored asked stored_again asked_again one two =
       let same = decided_newest_is_same one.0 two.0 one.1 two.1 one.2 two.2 in
@@ -83,15 +83,15 @@ module _ (spell : StoreHeadersSpellOneThing) (hold : StoreSlotsHoldOneThing) (se
       let second : asked ≡ asked_again = one.4 ∙ sym two.4 in
       ap (λ (l : List ℕ). OtherCapture l asked) first ∙ ap (λ (l : List ℕ). OtherCapture stored_again l) second
 
-  decided_settings_are_same : (stored asked stored_again asked_again : StoreSettings) → IsRefusedAtOpening settings lists image (OtherSettings stored asked)
-      → IsRefusedAtOpening settings lists image (OtherSettings stored_again asked_again)
+  decided_settings_are_same : (stored asked stored_again asked_again : StoreSettings) → RefusesOpening settings lists image (OtherSettings stored asked)
+      → RefusesOpening settings lists image (OtherSettings stored_again asked_again)
       → OtherSettings stored asked ≡ OtherSettings stored_again asked_again
   decided_settings_are_same stored asked stored_again asked_again one two =
       ap (λ (s : StoreSettings). OtherSettings s asked) (decided_header_is_same stored stored_again one.0 two.0)
       ∙ ap (λ (s : StoreSettings). OtherSettings stored_again s) (one.1 ∙ sym two.1)
 
-  one_fault : (fault other : OpenFault) → IsShownByOpening fault → IsShownByOpening other → IsRefusedAtOpening settings lists image fault
-      → IsRefusedAtOpening settings lists image other → fault ≡ other
+  one_fault : (fault other : OpenFault) → IsShown fault → IsShown other → RefusesOpening settings lists image fault
+      → RefusesOpening settings lists image other → fault ≡ other
   one_fault DiskFault other shown too refused again = absurd (shown.not_of_disk refl)
   one_fault OutOfMemory other shown too refused again = absurd (shown.not_of_memory refl)
   one_fault NotFormatted DiskFault shown too refused again = absurd (too.not_of_disk refl)
@@ -132,14 +132,14 @@ module _ (spell : StoreHeadersSpellOneThing) (hold : StoreSlotsHoldOneThing) (se
 
   -- what a store opens to is the newest
   decided_base_is_newest : (first second opened : Option SavedValue) (slot : ℕ) (saved : SavedValue) → StoreHolds settings image first second
-      → newest_in_store first second ≡ opened → StoreHasNewest settings slot saved image → opened ≡ Some saved
+      → newest_in first second ≡ opened → HasNewest settings slot saved image → opened ≡ Some saved
   decided_base_is_newest first second opened slot saved holds opens has =
       let same = hold settings image first second has.first has.second are holds has.holds in
-      sym opens ∙ ap (λ (held : Option SavedValue). newest_in_store held second) same.0
-      ∙ ap (λ (held : Option SavedValue). newest_in_store has.first held) same.1 ∙ has.newest_is
+      sym opens ∙ ap (λ (held : Option SavedValue). newest_in held second) same.0
+      ∙ ap (λ (held : Option SavedValue). newest_in has.first held) same.1 ∙ has.newest_is
 
-  not_both : (base : Option CutValue) (fault : OpenFault) → OpensToBase settings lists image base → IsShownByOpening fault
-      → IsRefusedAtOpening settings lists image fault → ⊥
+  not_both : (base : Option CutValue) (fault : OpenFault) → OpensToBase settings lists image base → IsShown fault
+      → RefusesOpening settings lists image fault → ⊥
   not_both base DiskFault opens shown refused = shown.not_of_disk refl
   not_both base OutOfMemory opens shown refused = shown.not_of_memory refl
   not_both base NotFormatted opens shown refused = refused settings (decided_bytes_have_header opens.1.0 opens.1.1 opens.1.2)
@@ -149,12 +149,12 @@ module _ (spell : StoreHeadersSpellOneThing) (hold : StoreSlotsHoldOneThing) (se
       store_open_slot_is_sound settings slot image opens.1.0 opens.1.1 one.1.within opens.1.2 one.1.damaged
   not_both base (Damaged slot) opens shown (inr past) =
       let is = decided_base_is_newest opens.1.0 opens.1.1 opens.0 slot past.0 opens.1.2 opens.1.3 past.1 in
-      let of : MatchesListsAtOpening settings lists past.0 = subst (λ (held : Option SavedValue). IfSome held (MatchesListsAtOpening settings lists)) is
+      let of : MatchesLists settings lists past.0 = subst (λ (held : Option SavedValue). IfSome held (MatchesLists settings lists)) is
       opens.2 in
       past.3 of.continues
   not_both base (OtherCapture stored asked) opens shown capture =
       let is = decided_base_is_newest opens.1.0 opens.1.1 opens.0 capture.0 capture.1 opens.1.2 opens.1.3 capture.2 in
-      let of : MatchesListsAtOpening settings lists capture.1 = subst (λ (held : Option SavedValue). IfSome held (MatchesListsAtOpening settings lists)) is
+      let of : MatchesLists settings lists capture.1 = subst (λ (held : Option SavedValue). IfSome held (MatchesLists settings lists)) is
       opens.2 in
       capture.5 (capture.3 ∙ of.digest ∙ sym capture.4)
 
@@ -163,11 +163,11 @@ module _ (spell : StoreHeadersSpellOneThing) (hold : StoreSlotsHoldOneThing) (se
   one_base base other opens again =
       let same = hold settings image opens.1.0 opens.1.1 again.1.0 again.1.1 are opens.1.2 again.1.2 in
       let held : opens.0 ≡ again.0 =
-      sym opens.1.3 ∙ ap (λ (held : Option SavedValue). newest_in_store held opens.1.1) same.0
-      ∙ ap (λ (held : Option SavedValue). newest_in_store again.1.0 held) same.1 ∙ again.1.3 in
+      sym opens.1.3 ∙ ap (λ (held : Option SavedValue). newest_in held opens.1.1) same.0
+      ∙ ap (λ (held : Option SavedValue). newest_in again.1.0 held) same.1 ∙ again.1.3 in
       opens.3 ∙ ap (λ (held : Option SavedValue). option_map (λ (s : SavedValue). s.cut) held) held ∙ sym again.3
 
-pub openings_are_decided : StoreHeadersSpellOneThing → StoreSlotsHoldOneThing → OpeningsAreDecided
+pub openings_are_decided : HeadersAreOne → SlotsHoldOne → AreDecided
 openings_are_decided spell hold settings lists image are = record {
   one_base = one_base spell hold settings lists image are;
   one_fault = one_fault spell hold settings lists image are;

@@ -2,26 +2,26 @@
 use Rattle.std.proofs.Common.{◌≡◌, ℕ, ◌+◌, List, [], ◌∷◌, None, Some, refl, ap, inl, arith}
 use Rattle.std.specs.Prelude.{slice_index}
 use Rattle.prefix_lattice.specs.{RecordValue}
-use Rattle.shard_state.specs.{CutValue, SnapshotValue, empty_snapshot, no_snapshot_entries}
+use Rattle.shard_state.specs.{CutValue, SnapshotValue, empty_snapshot, no_entries}
 use Rattle.slot_disk.specs.{known_slots_of}
 use Rattle.slot_disk.specs.declared.fault.BeginFault.TheVariants.{TooShort}
 use Rattle.slot_disk.specs.declared.fault.BodyFault.TheVariants as body
 use Rattle.checkpoint.specs.declared.fault.DecodeFault.TheVariants as decode
 use Rattle.checkpoint.specs.declared.settings.StoreSettings.{StoreSettings}
-use Rattle.checkpoint.specs.{AreHeaderSettings, SavedValue, StoreHolds, digest_of_lists, header_of_settings}
-use Rattle.checkpoint.specs.{greatest_body_sequence, saver_of}
+use Rattle.checkpoint.specs.{AreSettings, SavedValue, StoreHolds, lists_digest, settings_header}
+use Rattle.checkpoint.specs.{greatest_sequence, saver_of}
 use Rattle.recovery.specs.declared.fault.OpenFault.TheVariants.{DiskFault, NotFormatted, OtherSettings, Damaged}
 use Rattle.recovery.specs.declared.fault.OpenFault.TheVariants.{OutOfMemory}
 use Rattle.recovery.specs.declared.opened.Opened.{Opened}
-use Rattle.recovery.specs.OpenFaults.{open_fault_of_begin, open_fault_of_body, open_fault_of_decode}
-use Rattle.recovery.specs.Opening.{HasOpeningHeader, IsDamagedAtOpening, IsFirstDamagedAtOpening, OpeningContinuesList}
-use Rattle.recovery.specs.Opening.{OpeningContinuesLists, OpeningContinuesFrom, IsRefusedAtOpening}
-use Rattle.recovery.specs.Opening.{MatchesListsAtOpening, OpensToBase, IsOpeningBase, OpeningCanGoOn}
-use Rattle.recovery.specs.Opening.{opening_base_positions, greatest_opened_sequence}
-use Rattle.recovery.specs.Opening.{IsShownByOpening}
-use Rattle.recovery.specs.OpeningParts.{IsOpeningFaultOfFrontPart, IsOpeningFaultOfBodyPart, IsOpeningFaultOfFoundPart}
-use Rattle.recovery.specs.OpeningParts.{IsOpeningFaultOfListPart, MatchesDigestAtOpening, HoldsFoundParts}
-use Rattle.recovery.specs.OpeningParts.{base_in_parts}
+use Rattle.recovery.specs.OpenFault.{begin_fault, body_fault, decode_fault}
+use Rattle.recovery.specs.Reopening.{HasHeader, IsDamaged, IsFirstDamaged, ContinuesList}
+use Rattle.recovery.specs.Reopening.{ContinuesLists, ContinuesFrom, RefusesOpening}
+use Rattle.recovery.specs.Reopening.{MatchesLists, OpensToBase, IsOpeningBase, CanGoOn}
+use Rattle.recovery.specs.Reopening.{base_positions, greatest_opened}
+use Rattle.recovery.specs.Reopening.{IsShown}
+use Rattle.recovery.specs.Found.{IsFrontFault, IsBodyFault, IsFoundFault}
+use Rattle.recovery.specs.Found.{IsListFault, MatchesDigest, HoldsFound}
+use Rattle.recovery.specs.Found.{base_in_parts}
 use Rattle.recovery.proofs.OpenSlotLemmas.{store_open_slot_is_sound}
 
 -- however records are weighed and dealt
@@ -32,7 +32,7 @@ module _ (any : StoreSettings) where
 
   -- a store of one shard with these gates and no body
   abbrev store : ℕ → ℕ → List ℕ
-  store first second = first ∷ second ∷ header_of_settings (settings 1)
+  store first second = first ∷ second ∷ settings_header (settings 1)
 
   -- a list of one packet of 100 bytes, and snapshots of none of its records and, as they say, of two
   abbrev list : List RecordValue
@@ -42,7 +42,7 @@ module _ (any : StoreSettings) where
   none_counted = empty_snapshot 2
 
   abbrev two_counted : SnapshotValue
-  two_counted = record { capacity = 2; position = 2; tables = no_snapshot_entries }
+  two_counted = record { capacity = 2; position = 2; tables = no_entries }
 
   abbrev cut : CutValue
   cut = record { capacity = 2; shards = none_counted ∷ [] }
@@ -50,63 +50,63 @@ module _ (any : StoreSettings) where
   abbrev saved : ℕ → SavedValue
   saved sequence = record { sequence = sequence; digest = []; cut = cut }
 
-  pub are_settings : AreHeaderSettings (settings 1)
+  pub are_settings : AreSettings (settings 1)
   are_settings = record { some = omega arith; few = omega arith; least = omega arith; most = omega arith }
 
-  pub header_of_one_shard : HasOpeningHeader (settings 1) (store 0 0)
+  pub header_of_one_shard : HasHeader (settings 1) (store 0 0)
   header_of_one_shard = record { long = omega arith; are = are_settings; spelled = refl }
 
-  pub not_a_header_of_two : HasOpeningHeader (settings 2) (store 0 0) → ⊥
+  pub not_a_header_of_two : HasHeader (settings 2) (store 0 0) → ⊥
   not_a_header_of_two header =
       let shards : 1 ≡ 2 = ap (λ (l : List ℕ). slice_index l 5) header.spelled in omega (arith, shards)
 
-  pub short_bytes_have_no_header : (spelled : StoreSettings) → HasOpeningHeader spelled (0 ∷ []) → ⊥
+  pub short_bytes_have_no_header : (spelled : StoreSettings) → HasHeader spelled (0 ∷ []) → ⊥
   short_bytes_have_no_header spelled header = omega (arith, header.long)
 
   -- a gate is open over no body: the bytes end before it
-  pub open_gate_is_damaged : IsDamagedAtOpening (settings 1) 0 (store 1 0)
+  pub open_gate_is_damaged : IsDamaged (settings 1) 0 (store 1 0)
   open_gate_is_damaged = record { gate = refl; no_body = λ saved holds. cc holds.1 }
 
-  pub first_gate_is_first_damaged : IsFirstDamagedAtOpening (settings 1) 0 (store 1 1)
+  pub first_gate_is_first_damaged : IsFirstDamaged (settings 1) 0 (store 1 1)
   first_gate_is_first_damaged = record {
     within = omega arith;
     damaged = record { gate = refl; no_body = λ saved holds. cc holds.1 };
     first = λ earlier lt damaged. omega (arith, lt);
   }
 
-  pub closed_gate_is_not_damaged : IsDamagedAtOpening (settings 1) 0 (store 0 0) → ⊥
+  pub closed_gate_is_not_damaged : IsDamaged (settings 1) 0 (store 0 0) → ⊥
   closed_gate_is_not_damaged damaged = cc damaged.gate
 
-  pub late_sequences_are_left_out : greatest_opened_sequence + 64 ≡ greatest_body_sequence
+  pub late_sequences_are_left_out : greatest_opened + 64 ≡ greatest_sequence
   late_sequences_are_left_out = refl
 
-  pub empty_snapshot_continues : OpeningContinuesList none_counted list
-  unfolding no_snapshot_entries
+  pub empty_snapshot_continues : ContinuesList none_counted list
+  unfolding no_entries
   empty_snapshot_continues = record { within = omega arith; counted = refl }
 
-  pub snapshot_past_the_end_does_not : OpeningContinuesList two_counted list → ⊥
+  pub snapshot_past_the_end_does_not : ContinuesList two_counted list → ⊥
   snapshot_past_the_end_does_not continues = omega (arith, continues.within)
 
-  pub empty_cut_continues : OpeningContinuesLists cut (list ∷ [])
+  pub empty_cut_continues : ContinuesLists cut (list ∷ [])
   empty_cut_continues = (empty_snapshot_continues, tt)
 
-  pub first_save_continues : OpeningContinuesFrom (saved 1) (list ∷ [])
+  pub first_save_continues : ContinuesFrom (saved 1) (list ∷ [])
   first_save_continues = record { early = omega arith; continues = empty_cut_continues }
 
-  pub last_save_does_not : OpeningContinuesFrom (saved greatest_body_sequence) (list ∷ []) → ⊥
+  pub last_save_does_not : ContinuesFrom (saved greatest_sequence) (list ∷ []) → ⊥
   last_save_does_not continues = omega (arith, continues.early)
 
-  pub short_bytes_are_refused : IsRefusedAtOpening (settings 1) (list ∷ []) (0 ∷ []) NotFormatted
+  pub short_bytes_are_refused : RefusesOpening (settings 1) (list ∷ []) (0 ∷ []) NotFormatted
   short_bytes_are_refused = short_bytes_have_no_header
 
-  pub other_settings_are_refused : IsRefusedAtOpening (settings 2) (list ∷ []) (store 0 0) (OtherSettings (settings 1) (settings 2))
+  pub other_settings_are_refused : RefusesOpening (settings 2) (list ∷ []) (store 0 0) (OtherSettings (settings 1) (settings 2))
   other_settings_are_refused = (
     header_of_one_shard,
     refl,
     λ same. let shards : 1 ≡ 2 = ap (λ (s : StoreSettings). s.shards) same in omega (arith, shards),
   )
 
-  pub broken_slot_is_refused : IsRefusedAtOpening (settings 1) (list ∷ []) (store 1 1) (Damaged 0)
+  pub broken_slot_is_refused : RefusesOpening (settings 1) (list ∷ []) (store 1 1) (Damaged 0)
   broken_slot_is_refused =
       inl (record { long = omega arith; are = are_settings; spelled = refl }, first_gate_is_first_damaged)
 
@@ -117,21 +117,21 @@ module _ (any : StoreSettings) where
   pub formatted_store_opens_to_no_base : OpensToBase (settings 1) (list ∷ []) (store 0 0) None
   formatted_store_opens_to_no_base = (None, (None, None, formatted_store_holds_nothing, refl), tt, refl)
 
-  pub formatted_store_is_not_damaged : IsDamagedAtOpening (settings 1) 1 (store 0 0) → ⊥
+  pub formatted_store_is_not_damaged : IsDamaged (settings 1) 1 (store 0 0) → ⊥
   formatted_store_is_not_damaged =
       store_open_slot_is_sound (settings 1) 1 (store 0 0) None None (omega arith) formatted_store_holds_nothing
 
-  pub no_base_is_at_0 : opening_base_positions (settings 2) None ≡ 0 ∷ 0 ∷ []
+  pub no_base_is_at_0 : base_positions (settings 2) None ≡ 0 ∷ 0 ∷ []
   no_base_is_at_0 = refl
 
-  pub base_is_at_its_positions : opening_base_positions (settings 1) (Some cut) ≡ 0 ∷ []
+  pub base_is_at_its_positions : base_positions (settings 1) (Some cut) ≡ 0 ∷ []
   base_is_at_its_positions = refl
 
   pub empty_cut_is_a_base : IsOpeningBase (settings 1) (list ∷ []) cut
   empty_cut_is_a_base = record { shape = record { as_many = refl; alike = refl }; continues = empty_cut_continues }
 
-  pub save_with_another_digest_is_not_of_the_lists : ([] ≡ digest_of_lists (settings 1) (list ∷ []) → ⊥)
-      → MatchesListsAtOpening (settings 1) (list ∷ []) (saved 1) → ⊥
+  pub save_with_another_digest_is_not_of_the_lists : ([] ≡ lists_digest (settings 1) (list ∷ []) → ⊥)
+      → MatchesLists (settings 1) (list ∷ []) (saved 1) → ⊥
   save_with_another_digest_is_not_of_the_lists other of = other of.digest
 
   -- what the opening of that store gives
@@ -139,10 +139,10 @@ module _ (any : StoreSettings) where
   opened = record {
     base = None;
     positions = 0 ∷ [];
-    saver = saver_of (known_slots_of (store 0 0)) (settings 1) (digest_of_lists (settings 1) (list ∷ [])) None;
+    saver = saver_of (known_slots_of (store 0 0)) (settings 1) (lists_digest (settings 1) (list ∷ [])) None;
   }
 
-  pub opened_store_can_go_on : OpeningCanGoOn (settings 1) (list ∷ []) opened
+  pub opened_store_can_go_on : CanGoOn (settings 1) (list ∷ []) opened
   opened_store_can_go_on = record {
     base = tt;
     positions_are = refl;
@@ -152,38 +152,38 @@ module _ (any : StoreSettings) where
     early = omega arith;
   }
 
-  pub damage_is_shown : IsShownByOpening (Damaged 0)
+  pub damage_is_shown : IsShown (Damaged 0)
   damage_is_shown = record { not_of_disk = λ same. cc same; not_of_memory = λ same. cc same }
 
-  pub disk_fault_is_not_shown : IsShownByOpening DiskFault → ⊥
+  pub disk_fault_is_not_shown : IsShown DiskFault → ⊥
   disk_fault_is_not_shown shown = shown.not_of_disk refl
 
   -- faults of the parts
-  pub short_disk_is_not_formatted : open_fault_of_begin TooShort ≡ NotFormatted
+  pub short_disk_is_not_formatted : begin_fault TooShort ≡ NotFormatted
   short_disk_is_not_formatted = refl
 
-  pub unread_body_is_damaged : open_fault_of_body body.Damaged 1 ≡ Damaged 1
+  pub unread_body_is_damaged : body_fault body.Damaged 1 ≡ Damaged 1
   unread_body_is_damaged = refl
 
-  pub undecoded_body_is_damaged : open_fault_of_decode decode.Damaged 1 ≡ Damaged 1
+  pub undecoded_body_is_damaged : decode_fault decode.Damaged 1 ≡ Damaged 1
   undecoded_body_is_damaged = refl
 
-  pub front_shows_no_damage : IsOpeningFaultOfFrontPart (settings 1) (store 1 0) (Damaged 0) → ⊥
+  pub front_shows_no_damage : IsFrontFault (settings 1) (store 1 0) (Damaged 0) → ⊥
   front_shows_no_damage is = is
 
-  pub slot_0_is_refused : IsOpeningFaultOfBodyPart (settings 1) 0 (store 1 0) (Damaged 0)
+  pub slot_0_is_refused : IsBodyFault (settings 1) 0 (store 1 0) (Damaged 0)
   slot_0_is_refused = (refl, open_gate_is_damaged)
 
-  pub memory_may_run_out : IsOpeningFaultOfFoundPart (settings 1) (store 0 0) OutOfMemory
+  pub memory_may_run_out : IsFoundFault (settings 1) (store 0 0) OutOfMemory
   memory_may_run_out = tt
 
-  pub nothing_is_no_fault_of_lists : (slot : ℕ) → IsOpeningFaultOfListPart (list ∷ []) [] None (Damaged slot) → ⊥
+  pub nothing_is_no_fault_of_lists : (slot : ℕ) → IsListFault (list ∷ []) [] None (Damaged slot) → ⊥
   nothing_is_no_fault_of_lists slot is = cc is.1
 
-  pub first_save_is_of_its_digest : MatchesDigestAtOpening (list ∷ []) [] (saved 1)
+  pub first_save_is_of_its_digest : MatchesDigest (list ∷ []) [] (saved 1)
   first_save_is_of_its_digest = record { digest_is = refl; continues = first_save_continues }
 
-  pub nothing_was_found : HoldsFoundParts (settings 1) None (store 0 0)
+  pub nothing_was_found : HoldsFound (settings 1) None (store 0 0)
   nothing_was_found = (None, None, formatted_store_holds_nothing, refl, tt)
 
   pub nothing_has_no_base : base_in_parts None ≡ None

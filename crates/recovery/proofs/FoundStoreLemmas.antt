@@ -4,24 +4,24 @@ use Rattle.std.proofs.Common.{length}
 use Rattle.std.proofs.Common.{refl, sym, ap, subst, ◌∙◌, inr, arith}
 use Rattle.prefix_lattice.specs.{RecordValue}
 use Rattle.shard_state.specs.{CutValue}
-use Rattle.slot_disk.specs.{IsStoreOfKnownSlots, KnownSlotsState, layout_front_bytes, layout_header}
+use Rattle.slot_disk.specs.{IsStoreOfKnown, KnownSlotsState, front_bytes, slot_header}
 use Rattle.checkpoint.specs.declared.newest.Newest.{Newest}
 use Rattle.checkpoint.specs.declared.settings.StoreSettings.{StoreSettings}
-use Rattle.checkpoint.specs.{AreHeaderSettings, StoreHasNewest, IsSafeForSaver, SavedValue, StoreSlotHolds}
-use Rattle.checkpoint.specs.{digest_of_lists, header_of_settings, newest_in_store}
-use Rattle.checkpoint.specs.{newest_slot_in_store, store_positions, store_sequence, saved_in, saver_of}
-use Rattle.recovery.specs.Opening.{IsDamagedAtOpening, IsRefusedAtOpening, OpensToBase}
-use Rattle.recovery.specs.OpeningParts.{HoldsFoundParts, IsOpeningFaultOfBodyPart, IsOpeningFaultOfFoundPart}
-use Rattle.recovery.specs.OpeningParts.{IsOpeningFaultOfListPart, MatchesDigestAtOpening, base_in_parts}
+use Rattle.checkpoint.specs.{AreSettings, HasNewest, IsSafeSaver, SavedValue, SlotHolds}
+use Rattle.checkpoint.specs.{lists_digest, settings_header, newest_in}
+use Rattle.checkpoint.specs.{newest_slot_in, store_positions, store_sequence, saved_in, saver_of}
+use Rattle.recovery.specs.Reopening.{IsDamaged, RefusesOpening, OpensToBase}
+use Rattle.recovery.specs.Found.{HoldsFound, IsBodyFault, IsFoundFault}
+use Rattle.recovery.specs.Found.{IsListFault, MatchesDigest, base_in_parts}
 use Rattle.recovery.specs.declared.fault.OpenFault.{OpenFault}
 use Rattle.recovery.specs.declared.fault.OpenFault.TheVariants.{DiskFault, NotFormatted, OtherSettings, Damaged}
 use Rattle.recovery.specs.declared.fault.OpenFault.TheVariants.{OtherCapture, OutOfMemory}
 use Rattle.recovery.proofs.OpenSlotLemmas.{open_slot_is_not_damaged}
 
 -- a fault of slot 0
-pub found_store_fault_at_zero : (settings : StoreSettings) (image : List ℕ) (fault : OpenFault) → layout_front_bytes ≤ length image
-    → AreHeaderSettings settings → layout_header image ≡ header_of_settings settings → IsOpeningFaultOfBodyPart settings 0 image fault
-    → IsOpeningFaultOfFoundPart settings image fault
+pub found_store_fault_at_zero : (settings : StoreSettings) (image : List ℕ) (fault : OpenFault) → front_bytes ≤ length image
+    → AreSettings settings → slot_header image ≡ settings_header settings → IsBodyFault settings 0 image fault
+    → IsFoundFault settings image fault
 found_store_fault_at_zero settings image DiskFault long are spelled is = tt
 found_store_fault_at_zero settings image OutOfMemory long are spelled is = tt
 found_store_fault_at_zero settings image NotFormatted long are spelled is = absurd is
@@ -31,15 +31,15 @@ found_store_fault_at_zero settings image (Damaged slot) long are spelled is = (
   record { long = long; are = are; spelled = spelled },
   record {
     within = omega (arith, is.0);
-    damaged = subst (λ (n : ℕ). IsDamagedAtOpening settings n image) (sym is.0) is.1;
+    damaged = subst (λ (n : ℕ). IsDamaged settings n image) (sym is.0) is.1;
     first = λ earlier lt damaged. absurd (omega (arith, lt, is.0));
   },
 )
 
 -- a fault of slot 1, where slot 0 is sound
-pub found_store_fault_at_one : (settings : StoreSettings) (image : List ℕ) (fault : OpenFault) → layout_front_bytes ≤ length image
-    → AreHeaderSettings settings → layout_header image ≡ header_of_settings settings → (held : Option SavedValue)
-    → StoreSlotHolds settings 0 image held → IsOpeningFaultOfBodyPart settings 1 image fault → IsOpeningFaultOfFoundPart settings image fault
+pub found_store_fault_at_one : (settings : StoreSettings) (image : List ℕ) (fault : OpenFault) → front_bytes ≤ length image
+    → AreSettings settings → slot_header image ≡ settings_header settings → (held : Option SavedValue)
+    → SlotHolds settings 0 image held → IsBodyFault settings 1 image fault → IsFoundFault settings image fault
 found_store_fault_at_one settings image DiskFault long are spelled held holds is = tt
 found_store_fault_at_one settings image OutOfMemory long are spelled held holds is = tt
 found_store_fault_at_one settings image NotFormatted long are spelled held holds is = absurd is
@@ -49,18 +49,18 @@ found_store_fault_at_one settings image (Damaged slot) long are spelled held hol
   record { long = long; are = are; spelled = spelled },
   record {
     within = omega (arith, is.0);
-    damaged = subst (λ (n : ℕ). IsDamagedAtOpening settings n image) (sym is.0) is.1;
+    damaged = subst (λ (n : ℕ). IsDamaged settings n image) (sym is.0) is.1;
     first = λ earlier lt damaged.
         let none : earlier ≡ 0 = omega (arith, lt, is.0) in
-        open_slot_is_not_damaged settings 0 image held holds (subst (λ (n : ℕ). IsDamagedAtOpening settings n image) none damaged);
+        open_slot_is_not_damaged settings 0 image held holds (subst (λ (n : ℕ). IsDamaged settings n image) none damaged);
   },
 )
 
 -- the newest slot of a store that was found
 found_store_has_newest : (settings : StoreSettings) (image : List ℕ) (found : Option Newest) (last : Newest) (slot : ℕ)
-    → HoldsFoundParts settings found image → found ≡ Some last → slot ≡ last.slot → StoreHasNewest settings slot (saved_in last) image
+    → HoldsFound settings found image → found ≡ Some last → slot ≡ last.slot → HasNewest settings slot (saved_in last) image
 found_store_has_newest settings image found last slot holds is at =
-    let of_last = subst (λ (f : Option Newest). HoldsFoundParts settings f image) is holds in
+    let of_last = subst (λ (f : Option Newest). HoldsFound settings f image) is holds in
     record {
       first = of_last.0;
       second = of_last.1;
@@ -71,8 +71,8 @@ found_store_has_newest settings image found last slot holds is at =
 
 -- a fault of the newest slot
 pub list_fault_of_found_store : (settings : StoreSettings) (lists : List (List RecordValue)) (image digest : List ℕ) (found : Option Newest) (fault : OpenFault)
-    → HoldsFoundParts settings found image → digest ≡ digest_of_lists settings lists → IsOpeningFaultOfListPart lists digest found fault
-    → IsRefusedAtOpening settings lists image fault
+    → HoldsFound settings found image → digest ≡ lists_digest settings lists → IsListFault lists digest found fault
+    → RefusesOpening settings lists image fault
 list_fault_of_found_store settings lists image digest found DiskFault holds of is = absurd is
 list_fault_of_found_store settings lists image digest found OutOfMemory holds of is = absurd is
 list_fault_of_found_store settings lists image digest found NotFormatted holds of is = absurd is
@@ -84,8 +84,8 @@ list_fault_of_found_store settings lists image digest found (OtherCapture stored
 
 -- what a store opens to whose newest slot was found
 pub found_store_opens_to_base : (settings : StoreSettings) (lists : List (List RecordValue)) (image digest : List ℕ) (found : Option Newest)
-    (base : Option CutValue) → HoldsFoundParts settings found image → digest ≡ digest_of_lists settings lists
-    → IfSome found (λ (last : Newest). MatchesDigestAtOpening lists digest (saved_in last)) → base ≡ base_in_parts found
+    (base : Option CutValue) → HoldsFound settings found image → digest ≡ lists_digest settings lists
+    → IfSome found (λ (last : Newest). MatchesDigest lists digest (saved_in last)) → base ≡ base_in_parts found
     → OpensToBase settings lists image base
 found_store_opens_to_base settings lists image digest None base holds of accepted is =
     (None, (holds.0, holds.1, holds.2, sym holds.3), tt, is)
@@ -97,7 +97,7 @@ found_store_opens_to_base settings lists image digest (Some last) base holds of 
 )
 
 -- if no slot is the newest, the next save goes to slot 0
-found_store_without_newest : (first second : Option SavedValue) → None ≡ newest_in_store first second → 1 ≡ newest_slot_in_store first second
+found_store_without_newest : (first second : Option SavedValue) → None ≡ newest_in first second → 1 ≡ newest_slot_in first second
 found_store_without_newest None second none = refl
 found_store_without_newest (Some one) None none = cc none
 found_store_without_newest (Some one) (Some two) none = by_test (nat_lt one.sequence two.sequence) none
@@ -108,8 +108,8 @@ found_store_without_newest (Some one) (Some two) none = by_test (nat_lt one.sequ
 
 -- the disk matches what the saver of that store knows
 pub found_store_saver_stands : (settings : StoreSettings) (slots : KnownSlotsState) (digest : List ℕ) (found : Option Newest)
-    (possible : List ℕ → Type 0) (image : List ℕ) → HoldsFoundParts settings found image → IsStoreOfKnownSlots image possible slots
-    → IsSafeForSaver (saver_of slots settings digest found) possible image
+    (possible : List ℕ → Type 0) (image : List ℕ) → HoldsFound settings found image → IsStoreOfKnown image possible slots
+    → IsSafeSaver (saver_of slots settings digest found) possible image
 found_store_saver_stands settings slots digest None possible image holds store = record {
   is_known = record {
     slots_are = store.slots_are;

@@ -1,9 +1,9 @@
-pub mod Opening
+pub mod Reopening
 -- within the crate
-pub mod OpenFaults
-pub mod OpeningParts
+pub mod OpenFault
+pub mod Found
 -- the face: what contracts of other crates cite
-pub use Rattle.recovery.specs.Opening.{OpeningCanGoOn, OpeningContinuesList, OpeningContinuesLists, IsOpeningBase}
-pub use Rattle.recovery.specs.Opening.{IsRefusedAtOpening, OpensToBase}
-pub use Rattle.recovery.specs.Opening.{opening_base_positions, greatest_opened_sequence}
-pub use Rattle.recovery.specs.Opening.{BelongingStoresAreOpened, IsShownByOpening, OpeningsAreDecided}
+pub use Rattle.recovery.specs.Reopening.{CanGoOn, ContinuesList, ContinuesLists, IsOpeningBase}
+pub use Rattle.recovery.specs.Reopening.{RefusesOpening, OpensToBase}
+pub use Rattle.recovery.specs.Reopening.{base_positions, greatest_opened}
+pub use Rattle.recovery.specs.Reopening.{BelongingOpen, IsShown, AreDecided}

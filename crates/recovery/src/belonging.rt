@@ -2,10 +2,10 @@
 
 ghost use Rattle.std.specs.Prelude.{◌≡◌, ◌≤◌, ◌<◌, ◌↔◌, ◌*◌, ◌^◌, length, take, IfErr, IfSome, IsTrue, OnOk};
 ghost use Rattle.prefix_lattice.specs.{record_limit, total_weight};
-ghost use Rattle.deal_rules.specs.{AreDealingLists};
-ghost use Rattle.checkpoint.specs.{IsSavedBody, saved_in};
-ghost use Rattle.recovery.specs.Opening.{OpeningContinuesList, OpeningContinuesLists, OpeningContinuesFrom};
-ghost use Rattle.recovery.specs.OpeningParts.{IsOpeningFaultOfListPart, MatchesDigestAtOpening};
+ghost use Rattle.deal_rules.specs.{AreDealings};
+ghost use Rattle.checkpoint.specs.{IsSaved, saved_in};
+ghost use Rattle.recovery.specs.Reopening.{ContinuesList, ContinuesLists, ContinuesFrom};
+ghost use Rattle.recovery.specs.Found.{IsListFault, MatchesDigest};
 
 use crate::OpenFault;
 use checkpoint::Newest;
@@ -23,8 +23,8 @@ pub(crate) fn check_newest(
     digest: &[u8; 32],
 ) -> Result<(), OpenFault>
     requires { IfSome newest.now (λ found. length found.saved.cut.shards ≡ length dealt.now) }
-    ensures accepted { OnOk result (IfSome newest.now (λ found. MatchesDigestAtOpening dealt.now digest.now (saved_in found))) }
-    ensures refused { IfErr result (IsOpeningFaultOfListPart dealt.now digest.now newest.now) }
+    ensures accepted { OnOk result (IfSome newest.now (λ found. MatchesDigest dealt.now digest.now (saved_in found))) }
+    ensures refused { IfErr result (IsListFault dealt.now digest.now newest.now) }
 {
     match newest {
         None => Ok(()),
@@ -34,8 +34,8 @@ pub(crate) fn check_newest(
 
 fn check_saved(newest: &Newest, dealt: &Dealt, digest: &[u8; 32]) -> Result<(), OpenFault>
     requires { length newest.now.saved.cut.shards ≡ length dealt.now }
-    ensures accepted { OnOk result (MatchesDigestAtOpening dealt.now digest.now (saved_in newest.now)) }
-    ensures refused { IfErr result (IsOpeningFaultOfListPart dealt.now digest.now (Some newest.now)) }
+    ensures accepted { OnOk result (MatchesDigest dealt.now digest.now (saved_in newest.now)) }
+    ensures refused { IfErr result (IsListFault dealt.now digest.now (Some newest.now)) }
 {
     if !are_same(&newest.saved.digest, digest) {
         return Err(OpenFault::OtherCapture {
@@ -61,7 +61,7 @@ fn are_same(stored: &[u8; 32], asked: &[u8; 32]) -> bool
 // Whether a cut may be continued from over the lists of its shards.
 fn continues_lists(cut: &Cut, dealt: &Dealt) -> bool
     requires { length cut.now.shards ≡ length dealt.now }
-    ensures { IsTrue result ↔ OpeningContinuesLists cut.now dealt.now }
+    ensures { IsTrue result ↔ ContinuesLists cut.now dealt.now }
 {
     for shard in 0..dealt.shards() {
         if !continues_list(cut.shard(shard), dealt.list(shard)) {
@@ -74,7 +74,7 @@ fn continues_lists(cut: &Cut, dealt: &Dealt) -> bool
 // Whether a snapshot may be continued from over a list.
 fn continues_list(snapshot: &Snapshot, list: &RecordList) -> bool
     requires { length list.now ≤ record_limit }
-    ensures { IsTrue result ↔ OpeningContinuesList snapshot.now list.now }
+    ensures { IsTrue result ↔ ContinuesList snapshot.now list.now }
 {
     let position = snapshot.position();
     if position > list.len() as u64 {

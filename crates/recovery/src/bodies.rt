@@ -1,11 +1,11 @@
 //! The bodies of a store.
 
 ghost use Rattle.std.specs.Prelude.{◌≡◌, ◌≤◌, ◌<◌, ℕ, is_some, option_map, IfErr, IfOk, IfSome, IsErrOf};
-ghost use Rattle.outside_io.specs.{FaultCountRose};
-ghost use Rattle.slot_disk.specs.{IfImageKnown, CrashLeavesAtAnyMoment, IsUnchangedAtMoment, known_slot_open};
+ghost use Rattle.outside_io.specs.{FaultRose};
+ghost use Rattle.slot_disk.specs.{IfImageKnown, CrashLeaves, IsUnchangedAt, known_slot_open};
 ghost use Rattle.slot_disk.specs.{known_slots_of};
-ghost use Rattle.checkpoint.specs.{AreHeaderSettings, IsSavedBody, StoreSlotHolds, saved_value};
-ghost use Rattle.recovery.specs.OpeningParts.{IsOpeningFaultOfBodyPart};
+ghost use Rattle.checkpoint.specs.{AreSettings, IsSaved, SlotHolds, saved_value};
+ghost use Rattle.recovery.specs.Found.{IsBodyFault};
 
 use crate::OpenFault;
 use crate::fault::{fault_of_body, fault_of_decode};
@@ -22,17 +22,17 @@ pub(crate) fn read_slot<D: Disk>(
     slot: u8,
 ) -> Result<Option<Saved>, OpenFault>
     requires slot { slot < 2 }
-    requires settings { AreHeaderSettings settings.now }
+    requires settings { AreSettings settings.now }
     ensures gate { IfOk result (λ held. is_some held ≡ known_slot_open slots.now slot) }
-    ensures saved { IfOk result (λ held. IfSome held (λ saved. IsSavedBody settings.now.shards settings.now.capacity (saved_value saved))) }
+    ensures saved { IfOk result (λ held. IfSome held (λ saved. IsSaved settings.now.shards settings.now.capacity (saved_value saved))) }
     ensures holds { IfOk result (λ held. IfImageKnown (D.reads disk.old)
-        (λ image. slots.now ≡ known_slots_of image → StoreSlotHolds settings.now slot image (option_map saved_value held))) }
+        (λ image. slots.now ≡ known_slots_of image → SlotHolds settings.now slot image (option_map saved_value held))) }
     ensures refused { IfErr result (λ fault. IfImageKnown (D.reads disk.old)
-        (λ image. slots.now ≡ known_slots_of image → IsOpeningFaultOfBodyPart settings.now slot image fault)) }
-    ensures unchanged { IsUnchangedAtMoment D.reads D.image_now disk.old disk.new }
-    ensures any_moment { CrashLeavesAtAnyMoment D.moment D.image_since disk.old disk.new (D.image_now disk.old) }
+        (λ image. slots.now ≡ known_slots_of image → IsBodyFault settings.now slot image fault)) }
+    ensures unchanged { IsUnchangedAt D.reads D.image_now disk.old disk.new }
+    ensures any_moment { CrashLeaves D.moment D.image_since disk.old disk.new (D.image_now disk.old) }
     ensures later { D.faults disk.old ≤ D.faults disk.new }
-    ensures fault { IsErrOf result OpenFault.DiskFault → FaultCountRose (D.faults disk.old) (D.faults disk.new) }
+    ensures fault { IsErrOf result OpenFault.DiskFault → FaultRose (D.faults disk.old) (D.faults disk.new) }
     ensures no_fault { (IsErrOf result OpenFault.DiskFault → ⊥) → D.faults disk.new ≡ D.faults disk.old }
 {
     if !slots.gate(slot) {

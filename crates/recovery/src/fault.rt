@@ -1,7 +1,7 @@
 //! Why a store was not opened.
 
 ghost use Rattle.std.specs.Prelude.{◌≡◌};
-ghost use Rattle.recovery.specs.OpenFaults.{open_fault_of_begin, open_fault_of_body, open_fault_of_decode};
+ghost use Rattle.recovery.specs.OpenFault.{begin_fault, body_fault, decode_fault};
 ghost use Rattle.recovery.specs.declared.fault.OpenFault.TheVariants.{OutOfMemory};
 
 use checkpoint::{DecodeFault, StoreSettings};
@@ -46,7 +46,7 @@ pub enum OpenFault {
 }
 
 impl From<BeginFault> for OpenFault {
-    ghost from_gives = { λ begin fault. fault ≡ open_fault_of_begin begin };
+    ghost from_gives = { λ begin fault. fault ≡ begin_fault begin };
 
     fn from(fault: BeginFault) -> OpenFault {
         match fault {
@@ -66,7 +66,7 @@ impl From<AllocError> for OpenFault {
 
 /// Why a store was not opened whose slot has a body that wasn't read.
 pub(crate) fn fault_of_body(fault: BodyFault, slot: u8) -> OpenFault
-    ensures { result ≡ open_fault_of_body fault slot }
+    ensures { result ≡ body_fault fault slot }
 {
     match fault {
         BodyFault::DiskFault => OpenFault::DiskFault,
@@ -77,7 +77,7 @@ pub(crate) fn fault_of_body(fault: BodyFault, slot: u8) -> OpenFault
 
 /// Why a store was not opened whose slot has a body that wasn't decoded.
 pub(crate) fn fault_of_decode(fault: DecodeFault, slot: u8) -> OpenFault
-    ensures { result ≡ open_fault_of_decode fault slot }
+    ensures { result ≡ decode_fault fault slot }
 {
     match fault {
         DecodeFault::Damaged => OpenFault::Damaged(slot),

@@ -1,10 +1,10 @@
 //! The gates and the header of a store.
 
 ghost use Rattle.std.specs.Prelude.{◌≡◌, ◌≤◌, ◌↔◌, ℕ, IfErr, IfOk, IsErrOf, IsTrue};
-ghost use Rattle.outside_io.specs.{FaultCountRose};
-ghost use Rattle.slot_disk.specs.{IfImageKnown, CrashLeavesAtAnyMoment, DiskMatchesKnownSlots};
-ghost use Rattle.checkpoint.specs.{AreHeaderSettings, header_of_settings};
-ghost use Rattle.recovery.specs.OpeningParts.{IsOpeningFaultOfFrontPart};
+ghost use Rattle.outside_io.specs.{FaultRose};
+ghost use Rattle.slot_disk.specs.{IfImageKnown, CrashLeaves, MatchesKnown};
+ghost use Rattle.checkpoint.specs.{AreSettings, settings_header};
+ghost use Rattle.recovery.specs.Found.{IsFrontFault};
 
 use crate::OpenFault;
 use checkpoint::{StoreSettings, read_header};
@@ -15,13 +15,13 @@ pub(crate) fn open_front<D: Disk>(
     disk: &mut D,
     settings: &StoreSettings,
 ) -> Result<Slots, OpenFault>
-    ensures stands { IfOk result (λ slots. DiskMatchesKnownSlots (D.reads disk.new) (D.image_now disk.new) slots) }
-    ensures header { IfOk result (λ slots. slots.header ≡ header_of_settings settings.now) }
-    ensures refused { IfErr result (λ fault. IfImageKnown (D.reads disk.old) (λ image. IsOpeningFaultOfFrontPart settings.now image fault)) }
+    ensures stands { IfOk result (λ slots. MatchesKnown (D.reads disk.new) (D.image_now disk.new) slots) }
+    ensures header { IfOk result (λ slots. slots.header ≡ settings_header settings.now) }
+    ensures refused { IfErr result (λ fault. IfImageKnown (D.reads disk.old) (λ image. IsFrontFault settings.now image fault)) }
     ensures reads { D.reads disk.new ≡ D.reads disk.old }
-    ensures any_moment { CrashLeavesAtAnyMoment D.moment D.image_since disk.old disk.new (D.image_now disk.old) }
+    ensures any_moment { CrashLeaves D.moment D.image_since disk.old disk.new (D.image_now disk.old) }
     ensures later { D.faults disk.old ≤ D.faults disk.new }
-    ensures fault { IsErrOf result OpenFault.DiskFault → FaultCountRose (D.faults disk.old) (D.faults disk.new) }
+    ensures fault { IsErrOf result OpenFault.DiskFault → FaultRose (D.faults disk.old) (D.faults disk.new) }
     ensures no_fault { (IsErrOf result OpenFault.DiskFault → ⊥) → D.faults disk.new ≡ D.faults disk.old }
 {
     let slots = Slots::begin(disk)?;

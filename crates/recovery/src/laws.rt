@@ -1,6 +1,6 @@
 //! What holds of openings, each law the contract of a function that does nothing.
 
-ghost use Rattle.recovery.specs.Opening.{BelongingStoresAreOpened, OpeningsAreDecided};
+ghost use Rattle.recovery.specs.Reopening.{BelongingOpen, AreDecided};
 
 use checkpoint::{headers_spell_one, stores_hold_one};
 use shard_state::snapshots_hold_weights;
@@ -8,7 +8,7 @@ use shard_state::snapshots_hold_weights;
 /// The bytes of a store open to one base over dealt records, or are refused for one fault, and never both. So each
 /// answer of `reopen` comes exactly if its condition holds, unless a call of the disk fails or memory runs out.
 pub fn openings_are_decided()
-    ensures { OpeningsAreDecided }
+    ensures { AreDecided }
 {
     headers_spell_one();
     stores_hold_one();
@@ -17,7 +17,7 @@ pub fn openings_are_decided()
 /// A store that belongs to dealt records opens to what it holds, unless its newest sequence is above 2^62 - 64. So
 /// `reopen` refuses no such store, unless a call of the disk fails or memory runs out.
 pub fn belonging_stores_are_opened()
-    ensures { BelongingStoresAreOpened }
+    ensures { BelongingOpen }
 {
     snapshots_hold_weights();
 }

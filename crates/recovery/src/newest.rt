@@ -1,14 +1,14 @@
 //! The newest of two slots.
 
 ghost use Rattle.std.specs.Prelude.{◌≡◌, option_map, IfSome};
-ghost use Rattle.checkpoint.specs.{newest_in_store, newest_slot_in_store, saved_in, saved_value};
+ghost use Rattle.checkpoint.specs.{newest_in, newest_slot_in, saved_in, saved_value};
 
 use checkpoint::{Newest, Saved};
 
 /// The newest of what the two slots hold: that with the greater sequence, the first where they are equal.
 pub(crate) fn newest_of(first: Option<Saved>, second: Option<Saved>) -> Option<Newest>
-    ensures newest { option_map saved_in result ≡ newest_in_store (option_map saved_value first) (option_map saved_value second) }
-    ensures slot { IfSome result (λ found. found.slot ≡ newest_slot_in_store (option_map saved_value first) (option_map saved_value second)) }
+    ensures newest { option_map saved_in result ≡ newest_in (option_map saved_value first) (option_map saved_value second) }
+    ensures slot { IfSome result (λ found. found.slot ≡ newest_slot_in (option_map saved_value first) (option_map saved_value second)) }
 {
     match (first, second) {
         (None, None) => None,
@@ -20,8 +20,8 @@ pub(crate) fn newest_of(first: Option<Saved>, second: Option<Saved>) -> Option<N
 
 // The newer of two.
 fn newer(first: Saved, second: Saved) -> Newest
-    ensures newest { Some (saved_in result) ≡ newest_in_store (Some (saved_value first)) (Some (saved_value second)) }
-    ensures slot { result.slot ≡ newest_slot_in_store (Some (saved_value first)) (Some (saved_value second)) }
+    ensures newest { Some (saved_in result) ≡ newest_in (Some (saved_value first)) (Some (saved_value second)) }
+    ensures slot { result.slot ≡ newest_slot_in (Some (saved_value first)) (Some (saved_value second)) }
 {
     if first.sequence < second.sequence {
         Newest {

@@ -1,11 +1,11 @@
 //! Opens a store.
 
 ghost use Rattle.std.specs.Prelude.{◌≡◌, ◌≤◌, ◌<◌, ℕ, length, option_map, IfErr, IfOk, IfSome, IsErrOf, Some};
-ghost use Rattle.outside_io.specs.{FaultCountRose};
-ghost use Rattle.slot_disk.specs.{IfImageKnown, CrashLeavesAtAnyMoment, DiskMatchesKnownSlots};
-ghost use Rattle.checkpoint.specs.{AreHeaderSettings, IsNewestForSaver, DiskMatchesSaver, header_of_settings, saved_in};
-ghost use Rattle.recovery.specs.Opening.{OpeningCanGoOn, IsRefusedAtOpening, OpensToBase, opening_base_positions};
-ghost use Rattle.recovery.specs.OpeningParts.{HoldsFoundParts, IsOpeningFaultOfFoundPart, base_in_parts};
+ghost use Rattle.outside_io.specs.{FaultRose};
+ghost use Rattle.slot_disk.specs.{IfImageKnown, CrashLeaves, MatchesKnown};
+ghost use Rattle.checkpoint.specs.{AreSettings, IsNewestSave, DiskMatches, settings_header, saved_in};
+ghost use Rattle.recovery.specs.Reopening.{CanGoOn, RefusesOpening, OpensToBase, base_positions};
+ghost use Rattle.recovery.specs.Found.{HoldsFound, IsFoundFault, base_in_parts};
 
 use crate::belonging::check_newest;
 use crate::bodies::read_slot;
@@ -31,17 +31,17 @@ pub fn reopen<D: Disk>(
     settings: &StoreSettings,
     dealt: &Dealt,
 ) -> Result<Opened, OpenFault>
-    requires settings { AreHeaderSettings settings.now }
+    requires settings { AreSettings settings.now }
     requires shards { length dealt.now ≡ settings.now.shards }
     ensures opens { IfOk result (λ opened. IfImageKnown (D.reads disk.old)
         (λ image. OpensToBase settings.now dealt.now image opened.base)) }
-    ensures stands { IfOk result (λ opened. DiskMatchesSaver (D.reads disk.new) (D.image_now disk.new) opened.saver) }
-    ensures goes_on { IfOk result (OpeningCanGoOn settings.now dealt.now) }
-    ensures refused { IfErr result (λ fault. IfImageKnown (D.reads disk.old) (λ image. IsRefusedAtOpening settings.now dealt.now image fault)) }
+    ensures stands { IfOk result (λ opened. DiskMatches (D.reads disk.new) (D.image_now disk.new) opened.saver) }
+    ensures goes_on { IfOk result (CanGoOn settings.now dealt.now) }
+    ensures refused { IfErr result (λ fault. IfImageKnown (D.reads disk.old) (λ image. RefusesOpening settings.now dealt.now image fault)) }
     ensures reads { D.reads disk.new ≡ D.reads disk.old }
-    ensures any_moment { CrashLeavesAtAnyMoment D.moment D.image_since disk.old disk.new (D.image_now disk.old) }
+    ensures any_moment { CrashLeaves D.moment D.image_since disk.old disk.new (D.image_now disk.old) }
     ensures later { D.faults disk.old ≤ D.faults disk.new }
-    ensures fault { IsErrOf result OpenFault.DiskFault → FaultCountRose (D.faults disk.old) (D.faults disk.new) }
+    ensures fault { IsErrOf result OpenFault.DiskFault → FaultRose (D.faults disk.old) (D.faults disk.new) }
     ensures no_fault { (IsErrOf result OpenFault.DiskFault → ⊥) → D.faults disk.new ≡ D.faults disk.old }
 {
     let found = find_newest(alloc, disk, settings)?;
@@ -69,16 +69,16 @@ fn find_newest<D: Disk>(
     disk: &mut D,
     settings: &StoreSettings,
 ) -> Result<Found, OpenFault>
-    requires { AreHeaderSettings settings.now }
-    ensures stands { IfOk result (λ found. DiskMatchesKnownSlots (D.reads disk.new) (D.image_now disk.new) found.slots) }
-    ensures header { IfOk result (λ found. found.slots.header ≡ header_of_settings settings.now) }
-    ensures newest { IfOk result (λ found. IsNewestForSaver settings.now found.slots found.newest) }
-    ensures holds { IfOk result (λ found. IfImageKnown (D.reads disk.old) (HoldsFoundParts settings.now found.newest)) }
-    ensures refused { IfErr result (λ fault. IfImageKnown (D.reads disk.old) (λ image. IsOpeningFaultOfFoundPart settings.now image fault)) }
+    requires { AreSettings settings.now }
+    ensures stands { IfOk result (λ found. MatchesKnown (D.reads disk.new) (D.image_now disk.new) found.slots) }
+    ensures header { IfOk result (λ found. found.slots.header ≡ settings_header settings.now) }
+    ensures newest { IfOk result (λ found. IsNewestSave settings.now found.slots found.newest) }
+    ensures holds { IfOk result (λ found. IfImageKnown (D.reads disk.old) (HoldsFound settings.now found.newest)) }
+    ensures refused { IfErr result (λ fault. IfImageKnown (D.reads disk.old) (λ image. IsFoundFault settings.now image fault)) }
     ensures reads { D.reads disk.new ≡ D.reads disk.old }
-    ensures any_moment { CrashLeavesAtAnyMoment D.moment D.image_since disk.old disk.new (D.image_now disk.old) }
+    ensures any_moment { CrashLeaves D.moment D.image_since disk.old disk.new (D.image_now disk.old) }
     ensures later { D.faults disk.old ≤ D.faults disk.new }
-    ensures fault { IsErrOf result OpenFault.DiskFault → FaultCountRose (D.faults disk.old) (D.faults disk.new) }
+    ensures fault { IsErrOf result OpenFault.DiskFault → FaultRose (D.faults disk.old) (D.faults disk.new) }
     ensures no_fault { (IsErrOf result OpenFault.DiskFault → ⊥) → D.faults disk.new ≡ D.faults disk.old }
 {
     let slots = open_front(disk, settings)?;

@@ -6,17 +6,17 @@ use Rattle.slot_disk.specs.{IfImageKnown}
 use Rattle.checkpoint.specs.declared.settings.StoreSettings.{StoreSettings}
 use Rattle.recovery.specs.declared.fault.OpenFault.TheVariants as opening
 use Rattle.recovery.specs.declared.opened.Opened.{Opened}
-use Rattle.command_words.specs.{AreLimitedSettings}
+use Rattle.command_words.specs.{AreLimited}
 use Rattle.std.specs.Prelude.{IfSome, is_some}
 use Rattle.prefix_lattice.specs.{RecordValue}
-use Rattle.hhh_report.specs.{AreCutPositionsNotPast}
+use Rattle.hhh_report.specs.{AreNotPast}
 use Rattle.shard_state.specs.{CutValue, ShardValue, core_capacity}
 use Rattle.pass_tokens.specs.{first_view}
-use Rattle.checkpoint.specs.{AreHeaderSettings, SaverState, DiskMatchesSaver}
-use Rattle.recovery.specs.{OpeningCanGoOn, IsOpeningBase, OpensToBase, opening_base_positions, greatest_opened_sequence}
+use Rattle.checkpoint.specs.{AreSettings, SaverState, DiskMatches}
+use Rattle.recovery.specs.{CanGoOn, IsOpeningBase, OpensToBase, base_positions, greatest_opened}
 use Rattle.command_words.specs.declared.settings.Settings.{Settings}
-use Rattle.report_session.specs.DealtFeed.{DealtFeedGoesOn, HasNoDealtFeedBase, IsDealtFeedBase, IsDealtFeedSaver}
-use Rattle.report_session.specs.Saves.{store_settings_for_saves-allowed, CanMakeSaves, store_settings_for_saves}
+use Rattle.report_session.specs.DealtFeed.{FeedGoesOn, HasNoBase, IsFeedBase, IsFeedSaver}
+use Rattle.report_session.specs.Saving.{saves_settings-allowed, CanMakeSaves, saves_settings}
 use Rattle.report_session.specs.Session.{session_opening, session_start}
 use Rattle.report_session.specs.declared.base.Base.{Base}
 use Rattle.run_status.specs.declared.status.Status.{Status}
@@ -27,14 +27,14 @@ use Rattle.report_session.proofs.SessionThreadLemmas.{first_session_thread_sees_
 
 -- shards may go on from the base
 pub base_goes_on : (settings : Settings) (lists : List (List RecordValue)) (base : Option CutValue)
-    → IfSome base (IsOpeningBase (store_settings_for_saves settings) lists) → IfSome base (DealtFeedGoesOn settings.capacity lists)
+    → IfSome base (IsOpeningBase (saves_settings settings) lists) → IfSome base (FeedGoesOn settings.capacity lists)
 base_goes_on settings lists None fits = tt
 base_goes_on settings lists (Some cut) fits = record { alike = fits.shape.alike; continues = fits.continues }
 
 -- the positions of the base are those at which the shards start
 pub base_starts : (settings : Settings) (lists : List (List RecordValue)) (base : Option CutValue)
-    → length lists ≡ settings.shards → IfSome base (IsOpeningBase (store_settings_for_saves settings) lists)
-    → opening_base_positions (store_settings_for_saves settings) base ≡ session_start (session_opening settings.capacity lists base)
+    → length lists ≡ settings.shards → IfSome base (IsOpeningBase (saves_settings settings) lists)
+    → base_positions (saves_settings settings) base ≡ session_start (session_opening settings.capacity lists base)
 base_starts settings lists None many fits =
     ap (λ n. replicate n 0) (sym many) ∙ sym (opening_shards_start_at_zero settings.capacity lists)
 base_starts settings lists (Some cut) many fits = sym (resumed_opening_shards_at_cut lists cut.shards fits.continues)
@@ -42,20 +42,20 @@ base_starts settings lists (Some cut) many fits = sym (resumed_opening_shards_at
 -- the saver of the base may make the saves of a session
 pub base_saver_is_ready : (settings : Settings) (lists : List (List RecordValue)) (reads : Option (List ℕ))
     (possible : List ℕ → Type 0) (opening : List ShardValue) (positions : List ℕ) (saver : Option SaverState)
-    → AreLimitedSettings settings → length opening ≡ settings.shards → core_capacity opening ≡ settings.capacity
-    → positions ≡ session_start opening → IfSome saver (IsDealtFeedSaver settings lists positions)
-    → IfSome saver (DiskMatchesSaver reads possible)
+    → AreLimited settings → length opening ≡ settings.shards → core_capacity opening ≡ settings.capacity
+    → positions ≡ session_start opening → IfSome saver (IsFeedSaver settings lists positions)
+    → IfSome saver (DiskMatches reads possible)
     → IfSome saver (CanMakeSaves reads possible opening (first_view opening) (settings.rounds + 1))
 base_saver_is_ready settings lists reads possible opening positions None limited many alike starts is stands = tt
 base_saver_is_ready settings lists reads possible opening positions (Some saver) limited many alike starts is stands =
-    let early : saver.sequence ≤ greatest_opened_sequence = is.early in
+    let early : saver.sequence ≤ greatest_opened = is.early in
     let few : settings.rounds ≤ 32 = limited.few_rounds in
     record {
       fits = record {
-        settings = subst AreHeaderSettings (sym is.settings_are) (store_settings_for_saves-allowed settings limited);
+        settings = subst AreSettings (sym is.settings_are) (saves_settings-allowed settings limited);
         shards = ap (λ (s : StoreSettings). s.shards) is.settings_are ∙ sym many;
         capacity = ap (λ (s : StoreSettings). s.capacity) is.settings_are ∙ sym alike;
-        seen = subst (λ ps. AreCutPositionsNotPast ps (map (λ trail. trail.seen) (first_view opening).trails))
+        seen = subst (λ ps. AreNotPast ps (map (λ trail. trail.seen) (first_view opening).trails))
             (first_session_thread_sees_starts opening ∙ sym starts ∙ sym is.positions_are)
             (seen_positions_not_past_self (map (λ trail. trail.seen) (first_view opening).trails));
       };
@@ -66,15 +66,15 @@ base_saver_is_ready settings lists reads possible opening positions (Some saver)
 -- the base that a store opened to
 pub opened_base : (settings : Settings) (lists : List (List RecordValue)) (store : Option (List ℕ)) (opened : Opened)
     (base : Base) → settings.store ≡ true → length lists ≡ settings.shards
-    → OpeningCanGoOn (store_settings_for_saves settings) lists opened
-    → IfImageKnown store (λ image. OpensToBase (store_settings_for_saves settings) lists image opened.base)
+    → CanGoOn (saves_settings settings) lists opened
+    → IfImageKnown store (λ image. OpensToBase (saves_settings settings) lists image opened.base)
     → base.cut ≡ opened.base → base.positions ≡ opened.positions → base.saver ≡ Some opened.saver
-    → IsDealtFeedBase settings lists store base
+    → IsFeedBase settings lists store base
 opened_base settings lists store opened base used many goes_on opens cut positions saver = record {
   begins = record {
     unused = λ unused. absurd (false≢true (sym unused ∙ used));
-    fits = subst (λ o. IfSome o (IsOpeningBase (store_settings_for_saves settings) lists)) (sym cut) goes_on.base;
-    opens = λ is_used. subst (λ o. IfImageKnown store (λ image. OpensToBase (store_settings_for_saves settings) lists image o)) (sym cut)
+    fits = subst (λ o. IfSome o (IsOpeningBase (saves_settings settings) lists)) (sym cut) goes_on.base;
+    opens = λ is_used. subst (λ o. IfImageKnown store (λ image. OpensToBase (saves_settings settings) lists image o)) (sym cut)
         opens;
   };
   used = ap is_some saver ∙ sym used;
@@ -82,7 +82,7 @@ opened_base settings lists store opened base used many goes_on opens cut positio
       positions ∙ goes_on.positions_are ∙ base_starts settings lists opened.base many goes_on.base
       ∙ ap (λ o. session_start (session_opening settings.capacity lists o)) (sym cut);
   saver =
-      subst (λ o. IfSome o (IsDealtFeedSaver settings lists base.positions)) (sym saver)
+      subst (λ o. IfSome o (IsFeedSaver settings lists base.positions)) (sym saver)
       (record {
         settings_are = goes_on.saver_settings;
         digest_is = goes_on.saver_digest;
@@ -94,9 +94,9 @@ opened_base settings lists store opened base used many goes_on opens cut positio
 -- the base without a store
 pub new_base : (settings : Settings) (lists : List (List RecordValue)) (store : Option (List ℕ)) (base : Base)
     → settings.store ≡ false → base ≡ record { cut = None; positions = replicate (length lists) 0; saver = None }
-    → IsDealtFeedBase settings lists store base
+    → IsFeedBase settings lists store base
 new_base settings lists store base unused is =
-    subst (IsDealtFeedBase settings lists store) (sym is)
+    subst (IsFeedBase settings lists store) (sym is)
     (record {
       begins = record {
         unused = λ without. refl;
@@ -110,7 +110,7 @@ new_base settings lists store base unused is =
 
 -- memory ran out before there was a base
 pub no_base : (settings : Settings) (lists : List (List RecordValue)) (store : Option (List ℕ)) (faults : ℕ)
-    (status : Status) → status ≡ OutOfMemory → HasNoDealtFeedBase settings lists store faults faults status
+    (status : Status) → status ≡ OutOfMemory → HasNoBase settings lists store faults faults status
 no_base settings lists store faults status is = record {
   fault = opening.OutOfMemory;
   status_is = is;

@@ -6,21 +6,21 @@ use Rattle.std.proofs.lemmas.List.Elements.{All-append, All-cons, All-head, All-
 use Rattle.prefix_lattice.specs.{RecordValue, shard_limit}
 use Rattle.shard_state.specs.{AreCoreShards, CutRepresents, CutValue, ShardValue}
 use Rattle.hhh_report.specs.declared.reports.Reported.{Reported}
-use Rattle.slot_disk.specs.{CrashLeavesAtAnyMoment-weaker}
+use Rattle.slot_disk.specs.{CrashLeaves-weaker}
 use Rattle.slot_disk.specs.declared.disk.Disk.{Ghosts as DiskOf}
-use Rattle.checkpoint.specs.{StoreBelongs, IsStoreOfLists, SavedValue, StoresOpenToOneThing, digest_of_lists}
+use Rattle.checkpoint.specs.{StoreBelongs, IsStoreOf, SavedValue, OpenToOne, lists_digest}
 use Rattle.checkpoint.specs.{store_sequence}
 use Rattle.checkpoint.specs.declared.settings.StoreSettings.{StoreSettings}
 use Rattle.recovery.specs.{OpensToBase}
-use Rattle.command_words.specs.{AreLimitedSettings}
+use Rattle.command_words.specs.{AreLimited}
 use Rattle.command_words.specs.declared.settings.Settings.{Settings}
-use Rattle.report_text.specs.{report_tail_text}
-use Rattle.report_session.specs.DealtFeed.{DealtFeedGoesOn}
-use Rattle.report_session.specs.Saves.{SavesBelongThroughout, SavesAreKeptOnDisk, last_of_saves, saves_after}
-use Rattle.report_session.specs.Saves.{store_settings_for_saves, store_settings_for_saves-allowed}
-use Rattle.report_session.specs.Session.{AreReportsOfCaller, SessionGoesOnFrom, IsSession, IsSessionInPart}
-use Rattle.report_session.specs.Session.{IsShownInSession, SessionBaseRepresents, SessionSaving}
-use Rattle.report_session.specs.Session.{calling_thread_reports, session_opening, session_saved_cuts}
+use Rattle.report_text.specs.{tail_text}
+use Rattle.report_session.specs.DealtFeed.{FeedGoesOn}
+use Rattle.report_session.specs.Saving.{BelongThroughout, AreKeptOnDisk, last_of_saves, saves_after}
+use Rattle.report_session.specs.Saving.{saves_settings, saves_settings-allowed}
+use Rattle.report_session.specs.Session.{AreOfCaller, GoesOnFrom, IsSession, IsSessionInPart}
+use Rattle.report_session.specs.Session.{IsShownInSession, BaseRepresents, SessionSaving}
+use Rattle.report_session.specs.Session.{caller_reports, session_opening, saved_cuts}
 use Rattle.dealt_capture.specs.{DealingRules}
 use Rattle.report_session.proofs.BaseLemmas.{base_goes_on}
 use Rattle.report_session.proofs.LastReportLemmas.{last_report_is_among_all}
@@ -34,7 +34,7 @@ use Rattle.report_session.proofs.SessionTextLemmas.{session_text_whatever_was_sa
 
 -- the shards of a run, whose base represents the lists
 belonging_session_opens_shards : (capacity : ℕ) (lists : List (List RecordValue)) (base : Option CutValue) → 1 ≤ length lists
-    → length lists ≤ shard_limit → IfSome base (DealtFeedGoesOn capacity lists) → IfSome base (λ cut. CutRepresents cut lists)
+    → length lists ≤ shard_limit → IfSome base (FeedGoesOn capacity lists) → IfSome base (λ cut. CutRepresents cut lists)
     → AreCoreShards (session_opening capacity lists base)
 belonging_session_opens_shards capacity lists None some few goes_on represents = new_opening_shards_are_shards capacity lists some few
 belonging_session_opens_shards capacity lists (Some cut) some few goes_on represents =
@@ -42,55 +42,55 @@ belonging_session_opens_shards capacity lists (Some cut) some few goes_on repres
 
 -- the base that a store of the lists opened to represents them
 belonging_session_base_of_lists : (settings : StoreSettings) (lists : List (List RecordValue)) (opened : Option SavedValue)
-    → IsStoreOfLists settings lists opened
+    → IsStoreOf settings lists opened
     → IfSome (option_map (λ (saved : SavedValue). saved.cut) opened) (λ cut. CutRepresents cut lists)
 belonging_session_base_of_lists settings lists None is = tt
 belonging_session_base_of_lists settings lists (Some saved) is = is.1
 
 -- what a store opens to after saves of cuts that represent the lists is of them
 belonging_session_saves_of_lists : (settings : StoreSettings) (lists : List (List RecordValue)) (opened : Option SavedValue) (sequence : ℕ)
-    (cuts : List CutValue) → IsStoreOfLists settings lists opened → All (λ cut. CutRepresents cut lists) cuts
-    → IsStoreOfLists settings lists (last_of_saves opened (saves_after sequence (digest_of_lists settings lists) cuts))
+    (cuts : List CutValue) → IsStoreOf settings lists opened → All (λ cut. CutRepresents cut lists) cuts
+    → IsStoreOf settings lists (last_of_saves opened (saves_after sequence (lists_digest settings lists) cuts))
 belonging_session_saves_of_lists settings lists opened sequence [] is all = is
 belonging_session_saves_of_lists settings lists opened sequence (cut ∷ cuts) is all =
     belonging_session_saves_of_lists settings lists
-    (Some (record { sequence = sequence + 1; digest = digest_of_lists settings lists; cut = cut })) (sequence + 1) cuts
+    (Some (record { sequence = sequence + 1; digest = lists_digest settings lists; cut = cut })) (sequence + 1) cuts
     (refl, All-head (λ (c : CutValue). CutRepresents c lists) cut cuts all)
     (All-tail (λ (c : CutValue). CutRepresents c lists) cut cuts all)
 
 -- a store that belonged to the lists still does after saves of cuts that represent them
-belonging_session_keeps_belonging : StoresOpenToOneThing → {D : Type 0} (d : DiskOf D)
+belonging_session_keeps_belonging : OpenToOne → {D : Type 0} (d : DiskOf D)
     → ((disk : D) (bytes : List ℕ) → d.reads disk ≡ Some bytes → d.image_now disk bytes) → (settings : Settings)
     (lists : List (List RecordValue)) (base : Option CutValue) (saved unfinished : List CutValue) (old new : D)
-    → AreLimitedSettings settings → settings.store ≡ true → SessionGoesOnFrom settings lists (d.reads old) base
+    → AreLimited settings → settings.store ≡ true → GoesOnFrom settings lists (d.reads old) base
     → (IfSome base (λ cut. CutRepresents cut lists) → All (λ cut. CutRepresents cut lists) saved)
     → (IfSome base (λ cut. CutRepresents cut lists) → All (λ cut. CutRepresents cut lists) unfinished)
     → (store : List ℕ) → d.reads old ≡ Some store
-    → ((image : List ℕ) → d.image_now old image → StoreBelongs (store_settings_for_saves settings) lists image)
-    → SavesAreKeptOnDisk d old new (store_settings_for_saves settings) lists saved unfinished
-    → SavesBelongThroughout d (store_settings_for_saves settings) lists base old new
+    → ((image : List ℕ) → d.image_now old image → StoreBelongs (saves_settings settings) lists image)
+    → AreKeptOnDisk d old new (saves_settings settings) lists saved unfinished
+    → BelongThroughout d (saves_settings settings) lists base old new
 belonging_session_keeps_belonging one d read_is_image settings lists base saved unfinished old new limited used
     begins of_saved of_unfinished store known belonged kept =
-    let of_store : StoreSettings = store_settings_for_saves settings in
-    let digest : List ℕ = digest_of_lists of_store lists in
+    let of_store : StoreSettings = saves_settings settings in
+    let digest : List ℕ = lists_digest of_store lists in
     let keeps = kept store known in
     let opened : Option SavedValue = keeps.opened in
     let sequence : ℕ = store_sequence opened in
     let held : StoreBelongs of_store lists store = belonged store (read_is_image old store known) in
     let found : OpensToBase of_store lists store base = begins.opens used store known in
-    let allowed = store_settings_for_saves-allowed settings limited in
-    let is : IsStoreOfLists of_store lists opened =
-    subst (IsStoreOfLists of_store lists) (one of_store store held.0 opened allowed held.1 keeps.opens) held.2 in
+    let allowed = saves_settings-allowed settings limited in
+    let is : IsStoreOf of_store lists opened =
+    subst (IsStoreOf of_store lists) (one of_store store held.0 opened allowed held.1 keeps.opens) held.2 in
     let represents : IfSome base (λ cut. CutRepresents cut lists) =
     subst (λ b. IfSome b (λ (cut : CutValue). CutRepresents cut lists)) (sym found.3)
     (belonging_session_base_of_lists of_store lists found.0
-    (subst (IsStoreOfLists of_store lists) (one of_store store opened found.0 allowed keeps.opens found.1) is)) in
+    (subst (IsStoreOf of_store lists) (one of_store store opened found.0 allowed keeps.opens found.1) is)) in
     let all : All (λ cut. CutRepresents cut lists) (saved ++ unfinished) =
     All-append (λ (cut : CutValue). CutRepresents cut lists) saved unfinished (of_saved represents)
     (of_unfinished represents) in
     record {
       base_represents = represents;
-      any_moment = CrashLeavesAtAnyMoment-weaker d.moment d.image_since old new _ (StoreBelongs of_store lists) keeps.any_moment
+      any_moment = CrashLeaves-weaker d.moment d.image_since old new _ (StoreBelongs of_store lists) keeps.any_moment
           (λ image was. ⊎_elim (belonged image)
           (saved_store_belongs of_store lists opened sequence (saved ++ unfinished) image is all) was);
       afterwards = λ image possible.
@@ -101,15 +101,15 @@ belonging_session_keeps_belonging one d read_is_image settings lists base saved 
 
 -- the cuts of reports of a session represent the lists, if its base does
 belonging_session_cuts_represent : SavedStoreCutsRepresent → (settings : Settings) (lists : List (List RecordValue))
-    (store : Option (List ℕ)) (base : Option CutValue) (reports : List Reported) → AreLimitedSettings settings
-    → length lists ≡ settings.shards → SessionGoesOnFrom settings lists store base
-    → SessionBaseRepresents lists base (session_opening settings.capacity lists base)
+    (store : Option (List ℕ)) (base : Option CutValue) (reports : List Reported) → AreLimited settings
+    → length lists ≡ settings.shards → GoesOnFrom settings lists store base
+    → BaseRepresents lists base (session_opening settings.capacity lists base)
     → All (IsShownInSession (session_opening settings.capacity lists base) settings) reports
     → IfSome base (λ cut. CutRepresents cut lists)
-    → All (λ cut. CutRepresents cut lists) (session_saved_cuts true (session_opening settings.capacity lists base) reports)
+    → All (λ cut. CutRepresents cut lists) (saved_cuts true (session_opening settings.capacity lists base) reports)
 belonging_session_cuts_represent represent settings lists store base reports limited many begins represents shown standing =
     let opening : List ShardValue = session_opening settings.capacity lists base in
-    subst (λ l. All (λ (cut : CutValue). CutRepresents cut l) (session_saved_cuts true opening reports))
+    subst (λ l. All (λ (cut : CutValue). CutRepresents cut l) (saved_cuts true opening reports))
     (own_report_lists_of_opening settings lists store base begins)
     (saved_store_cuts_represent represent opening settings reports
     (belonging_session_opens_shards settings.capacity lists base (subst (λ n. 1 ≤ n) (sym many) limited.some_shards)
@@ -119,40 +119,40 @@ belonging_session_cuts_represent represent settings lists store base reports lim
 -- the same, with or without a store
 belonging_session_kept_cuts : (store : Bool) (opening : List ShardValue) (lists : List (List RecordValue))
     (reports : List Reported) → store ≡ true
-    → All (λ cut. CutRepresents cut lists) (session_saved_cuts true opening reports)
-    → All (λ cut. CutRepresents cut lists) (session_saved_cuts store opening reports)
+    → All (λ cut. CutRepresents cut lists) (saved_cuts true opening reports)
+    → All (λ cut. CutRepresents cut lists) (saved_cuts store opening reports)
 belonging_session_kept_cuts store opening lists reports used all =
-    subst (λ b. All (λ (cut : CutValue). CutRepresents cut lists) (session_saved_cuts b opening reports)) (sym used) all
+    subst (λ b. All (λ (cut : CutValue). CutRepresents cut lists) (saved_cuts b opening reports)) (sym used) all
 
 -- a whole session
-pub belonging_session_completed : StoresOpenToOneThing → SavedStoreCutsRepresent → {D : Type 0} (d : DiskOf D)
+pub belonging_session_completed : OpenToOne → SavedStoreCutsRepresent → {D : Type 0} (d : DiskOf D)
     → ((disk : D) (bytes : List ℕ) → d.reads disk ≡ Some bytes → d.image_now disk bytes) → (rules : DealingRules)
     (settings : Settings) (old new : D) (store file text : List ℕ)
-    (is : IsSession settings rules (SavesAreKeptOnDisk d old new) (d.reads old) file text)
-    → AreLimitedSettings settings → settings.store ≡ true → d.reads old ≡ Some store
-    → ((image : List ℕ) → d.image_now old image → StoreBelongs (store_settings_for_saves settings) is.lists image)
-    → SavesBelongThroughout d (store_settings_for_saves settings) is.lists is.base old new
+    (is : IsSession settings rules (AreKeptOnDisk d old new) (d.reads old) file text)
+    → AreLimited settings → settings.store ≡ true → d.reads old ≡ Some store
+    → ((image : List ℕ) → d.image_now old image → StoreBelongs (saves_settings settings) is.lists image)
+    → BelongThroughout d (saves_settings settings) is.lists is.base old new
 belonging_session_completed one represent d read_is_image rules settings old new store file text is limited
     used known belonged =
     let opening : List ShardValue = session_opening settings.capacity is.lists is.base in
     let many : length is.lists ≡ settings.shards =
     own_session_lists_match_shards settings.deal (rules settings.deal) settings.shards is.records.list is.lists is.dealt.dealt in
-    let reports : List Reported = calling_thread_reports is.spelled.reports in
+    let reports : List Reported = caller_reports is.spelled.reports in
     belonging_session_keeps_belonging one d read_is_image settings is.lists is.base
-    (session_saved_cuts settings.store opening reports) [] old new limited used is.begins
+    (saved_cuts settings.store opening reports) [] old new limited used is.begins
     (λ standing. belonging_session_kept_cuts settings.store opening is.lists reports used
     (belonging_session_cuts_represent represent settings is.lists (d.reads old) is.base reports limited many is.begins is.represents
     is.spelled.are_reports.calling.shown standing))
     (λ standing. All-nil (λ (cut : CutValue). CutRepresents cut is.lists)) store known belonged (is.spelled.kept used)
 
 -- a session that broke off
-pub belonging_session_broken_off : StoresOpenToOneThing → SavedStoreCutsRepresent → {D : Type 0} (d : DiskOf D)
+pub belonging_session_broken_off : OpenToOne → SavedStoreCutsRepresent → {D : Type 0} (d : DiskOf D)
     → ((disk : D) (bytes : List ℕ) → d.reads disk ≡ Some bytes → d.image_now disk bytes) → (rules : DealingRules)
     (settings : Settings) (old new : D) (store file front : List ℕ)
-    (is : IsSessionInPart settings rules (SavesAreKeptOnDisk d old new) (d.reads old) file front)
-    → AreLimitedSettings settings → settings.store ≡ true → d.reads old ≡ Some store
-    → ((image : List ℕ) → d.image_now old image → StoreBelongs (store_settings_for_saves settings) is.lists image)
-    → SavesBelongThroughout d (store_settings_for_saves settings) is.lists is.base old new
+    (is : IsSessionInPart settings rules (AreKeptOnDisk d old new) (d.reads old) file front)
+    → AreLimited settings → settings.store ≡ true → d.reads old ≡ Some store
+    → ((image : List ℕ) → d.image_now old image → StoreBelongs (saves_settings settings) is.lists image)
+    → BelongThroughout d (saves_settings settings) is.lists is.base old new
 belonging_session_broken_off one represent d read_is_image rules settings old new store file front is limited
     used known belonged =
     let lists : List (List RecordValue) = is.lists in
@@ -163,19 +163,19 @@ belonging_session_broken_off one represent d read_is_image rules settings old ne
     let Stand : List CutValue → Type 0 = All (λ cut. CutRepresents cut lists) in
     let Standing : Type 0 = IfSome base (λ cut. CutRepresents cut lists) in
     let Kept : SessionSaving = λ saved unfinished. settings.store ≡ true
-    → SavesAreKeptOnDisk d old new (store_settings_for_saves settings) lists saved unfinished in
-    let Belonging : Type 0 = SavesBelongThroughout d (store_settings_for_saves settings) lists base old new in
-    let cuts : List Reported → List CutValue = session_saved_cuts settings.store opening in
+    → AreKeptOnDisk d old new (saves_settings settings) lists saved unfinished in
+    let Belonging : Type 0 = BelongThroughout d (saves_settings settings) lists base old new in
+    let cuts : List Reported → List CutValue = saved_cuts settings.store opening in
     let no_cut : Stand [] = All-nil (λ (cut : CutValue). CutRepresents cut lists) in
     let of : (reports : List Reported) → All (IsShownInSession opening settings) reports → Standing → Stand (cuts reports) =
     λ reports shown standing. belonging_session_kept_cuts settings.store opening lists reports used
     (belonging_session_cuts_represent represent settings lists (d.reads old) base reports limited many is.begins is.represents shown
     standing) in
     let of_rounds : (rounds : List Reported) (next : Reported) (count : ℕ)
-    → AreReportsOfCaller opening settings count (rounds ++ next ∷ []) → Standing → Stand (cuts rounds) = λ rounds next count are.
+    → AreOfCaller opening settings count (rounds ++ next ∷ []) → Standing → Stand (cuts rounds) = λ rounds next count are.
     of rounds (shown_session_front_of_all (IsShownInSession opening settings) rounds (next ∷ []) are.shown) in
     let of_next : (rounds : List Reported) (next : Reported) (count : ℕ)
-    → AreReportsOfCaller opening settings count (rounds ++ next ∷ []) → Standing → Stand (cuts (next ∷ [])) =
+    → AreOfCaller opening settings count (rounds ++ next ∷ []) → Standing → Stand (cuts (next ∷ [])) =
     λ rounds next count are.
     of (next ∷ []) (All-cons (IsShownInSession opening settings) next [] (last_report_is_among_all (IsShownInSession opening settings) rounds next are.shown)
     (All-nil (IsShownInSession opening settings))) in
@@ -185,8 +185,8 @@ belonging_session_broken_off one represent d read_is_image rules settings old ne
     → Kept saved unfinished → Belonging = λ saved unfinished of_saved of_unfinished kept.
     belonging_session_keeps_belonging one d read_is_image settings lists base saved unfinished old new limited
     used is.begins of_saved of_unfinished store known belonged (kept used) in
-    session_text_whatever_was_saved opening settings Belonging (report_tail_text is.records) front
-    (session_text_begins_saying_less opening settings Kept (λ saved unfinished. Belonging) (report_tail_text is.records) front
+    session_text_whatever_was_saved opening settings Belonging (tail_text is.records) front
+    (session_text_begins_saying_less opening settings Kept (λ saved unfinished. Belonging) (tail_text is.records) front
     (record {
       none = belongs [] [] (λ standing. no_cut) (λ standing. no_cut);
       between = λ rounds are. belongs (cuts rounds) [] (of rounds are.shown) (λ standing. no_cut);

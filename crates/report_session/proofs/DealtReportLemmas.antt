@@ -3,24 +3,24 @@ use Rattle.std.proofs.Common.{◌≡◌, ◌∙◌, ◌⊎◌, ◌++◌, [], inl
 use Rattle.std.proofs.Common.{ap, subst}
 use Rattle.std.specs.Prelude.{IfSome, is_some}
 use Rattle.std.proofs.lemmas.Bool.{false≢true}
-use Rattle.outside_io.specs.{FaultCountRose}
+use Rattle.outside_io.specs.{FaultRose}
 use Rattle.prefix_lattice.specs.{RecordValue}
 use Rattle.shard_state.specs.{CutValue}
-use Rattle.slot_disk.specs.{IfImageKnown, CrashLeavesAtAnyMoment, CrashLeavesAtAnyMoment-trans}
-use Rattle.slot_disk.specs.{CrashLeavesAtAnyMoment-weaker}
+use Rattle.slot_disk.specs.{IfImageKnown, CrashLeaves, CrashLeaves-trans}
+use Rattle.slot_disk.specs.{CrashLeaves-weaker}
 use Rattle.slot_disk.specs.declared.disk.Disk.{Ghosts as DiskOf}
-use Rattle.checkpoint.specs.{SaverState, digest_of_lists, store_sequence}
-use Rattle.recovery.specs.{IsRefusedAtOpening}
+use Rattle.checkpoint.specs.{SaverState, lists_digest, store_sequence}
+use Rattle.recovery.specs.{RefusesOpening}
 use Rattle.recovery.specs.declared.fault.OpenFault.{OpenFault}
 use Rattle.recovery.specs.declared.fault.OpenFault.TheVariants as opening
 use Rattle.command_words.specs.declared.settings.Settings.{Settings}
-use Rattle.report_session.specs.Session.{WritesAnswer, BeginsSession, SessionGoesOnFrom, SessionKeeping}
-use Rattle.report_session.specs.Session.{SessionBaseRepresents, SessionSaving, IsSessionOverShards, session_opening}
-use Rattle.report_session.specs.DealtFeed.{DealtFeedEnds, HasNoDealtFeedBase, IsDealtFeedFault, IsDealtFeedSaver}
-use Rattle.report_session.specs.DealtFeed.{DealtFeedRefusesStore, DealtFeedWrites, DealtFeedWritesInPart}
-use Rattle.report_session.specs.Rounds.{RoundFaults}
-use Rattle.report_session.specs.Saves.{KeepsSaves, OpensAsBeforeOrToSaves, SavesInPart, SavesAreKeptOnDisk}
-use Rattle.report_session.specs.Saves.{saves_after, store_settings_for_saves}
+use Rattle.report_session.specs.Session.{WritesAnswer, BeginsSession, GoesOnFrom, SessionKeeping}
+use Rattle.report_session.specs.Session.{BaseRepresents, SessionSaving, IsOverShards, session_opening}
+use Rattle.report_session.specs.DealtFeed.{FeedEnds, HasNoBase, IsFeedFault, IsFeedSaver}
+use Rattle.report_session.specs.DealtFeed.{FeedRefuses, FeedWrites, FeedWritesPart}
+use Rattle.report_session.specs.LiveRounds.{RoundFaults}
+use Rattle.report_session.specs.Saving.{KeepsSaves, OpensToSaves, SavesInPart, AreKeptOnDisk}
+use Rattle.report_session.specs.Saving.{saves_after, saves_settings}
 use Rattle.run_status.specs.{status_of_opening}
 use Rattle.run_status.specs.declared.status.Status.{Status}
 use Rattle.run_status.specs.declared.status.Status.TheVariants.{Done, BadWords, BadCapture, ReadFault, WriteFault}
@@ -29,35 +29,35 @@ use Rattle.run_status.specs.declared.status.Status.TheVariants.{OtherCapture, Au
 use Rattle.report_session.proofs.SessionTextLemmas.{session_text_begins_weaker, session_text_without_a_byte}
 use Rattle.report_session.proofs.SessionTextLemmas.{spelled_session_text_says_less}
 use Rattle.outside_io.specs.declared.sink.Sink.{Ghosts as SinkOf}
-use Rattle.report_session.specs.DealtFeed.{dealt_feed_faults}
-use Rattle.report_session.specs.Saves.{IsAsBeforeSaves}
+use Rattle.report_session.specs.DealtFeed.{feed_faults}
+use Rattle.report_session.specs.Saving.{IsAsBefore}
 
 -- what a run keeps of its store, from the opening of the store and the saves after it
 pub dealt_report_keeps_saves : {D : Type 0} (d : DiskOf D) (settings : Settings) (lists : List (List RecordValue))
     (positions : List ℕ) (saver : Option SaverState) (saved unfinished : List CutValue) (old mid new : D)
-    → is_some saver ≡ settings.store → IfSome saver (IsDealtFeedSaver settings lists positions)
-    → CrashLeavesAtAnyMoment d.moment d.image_since old mid (d.image_now old) → d.reads mid ≡ d.reads old
+    → is_some saver ≡ settings.store → IfSome saver (IsFeedSaver settings lists positions)
+    → CrashLeaves d.moment d.image_since old mid (d.image_now old) → d.reads mid ≡ d.reads old
     → SavesInPart d saver mid new saved unfinished → settings.store ≡ true
-    → SavesAreKeptOnDisk d old new (store_settings_for_saves settings) lists saved unfinished
+    → AreKeptOnDisk d old new (saves_settings settings) lists saved unfinished
 dealt_report_keeps_saves d settings lists positions None saved unfinished old mid new has is leaves same saves
     used = absurd (false≢true (has ∙ used))
 dealt_report_keeps_saves d settings lists positions (Some saver) saved unfinished old mid new has is leaves
     same saves used = λ bytes known.
-    let kept : KeepsSaves d (store_settings_for_saves settings)
-    (digest_of_lists (store_settings_for_saves settings) lists) (λ image. ⊥) saved unfinished mid new bytes =
-    subst (λ s. KeepsSaves d s (digest_of_lists (store_settings_for_saves settings) lists) (λ image. ⊥)
+    let kept : KeepsSaves d (saves_settings settings)
+    (lists_digest (saves_settings settings) lists) (λ image. ⊥) saved unfinished mid new bytes =
+    subst (λ s. KeepsSaves d s (lists_digest (saves_settings settings) lists) (λ image. ⊥)
     saved unfinished mid new bytes) is.settings_are
     (subst (λ digest. KeepsSaves d saver.settings digest (λ image. ⊥) saved unfinished mid new bytes)
     is.digest_is (saves.kept bytes (same ∙ known))) in
-    let among : List ℕ → Type 0 = λ image. OpensAsBeforeOrToSaves (store_settings_for_saves settings) kept.opened
-    (saves_after (store_sequence kept.opened) (digest_of_lists (store_settings_for_saves settings) lists) (saved ++ unfinished)) image in
+    let among : List ℕ → Type 0 = λ image. OpensToSaves (saves_settings settings) kept.opened
+    (saves_after (store_sequence kept.opened) (lists_digest (saves_settings settings) lists) (saved ++ unfinished)) image in
     record {
       opened = kept.opened;
       opens = kept.opens;
-      any_moment = CrashLeavesAtAnyMoment-trans d.moment d.image_since old mid new (λ image. d.image_now old image ⊎ among image)
-          (CrashLeavesAtAnyMoment-weaker d.moment d.image_since old mid (d.image_now old) (λ image. d.image_now old image ⊎ among image) leaves
+      any_moment = CrashLeaves-trans d.moment d.image_since old mid new (λ image. d.image_now old image ⊎ among image)
+          (CrashLeaves-weaker d.moment d.image_since old mid (d.image_now old) (λ image. d.image_now old image ⊎ among image) leaves
           (λ image was. inl was))
-          (CrashLeavesAtAnyMoment-weaker d.moment d.image_since mid new (λ image. ⊥ ⊎ among image)
+          (CrashLeaves-weaker d.moment d.image_since mid new (λ image. ⊥ ⊎ among image)
           (λ image. d.image_now old image ⊎ among image) kept.any_moment
           (λ image. ⊎_elim (λ never. absurd never) (λ held. inr held)));
       afterwards = kept.afterwards;
@@ -67,8 +67,8 @@ dealt_report_keeps_saves d settings lists positions (Some saver) saved unfinishe
 dealt_report_refuses_lists : (settings : Settings) (lists : List (List RecordValue)) (store : Option (List ℕ)) (AsBefore : Type 0)
     (fault : OpenFault) → AsBefore → (fault ≡ opening.OutOfMemory → ⊥)
     → (settings.store ≡ true) ⊎ (fault ≡ opening.OutOfMemory)
-    → IfImageKnown store (λ image. IsRefusedAtOpening (store_settings_for_saves settings) lists image fault)
-    → DealtFeedRefusesStore settings lists store AsBefore fault
+    → IfImageKnown store (λ image. RefusesOpening (saves_settings settings) lists image fault)
+    → FeedRefuses settings lists store AsBefore fault
 dealt_report_refuses_lists settings lists store AsBefore fault same other used refused = record {
   used = ⊎_elim (λ is. is) (λ no. absurd (other no)) used;
   as_before = same;
@@ -80,54 +80,54 @@ dealt_report_faults_are_equal : (sink before now : ℕ) → now ≡ before
 dealt_report_faults_are_equal sink before now same = ap (λ n. record { sink = sink; disk = n }) same
 
 dealt_report_stops_at_fault : {K D : Type 0} (k : SinkOf K) (d : DiskOf D) (settings : Settings) (lists : List (List RecordValue))
-    (tail : List ℕ) (sink : K) (old new : D) (fault : OpenFault) → IsAsBeforeSaves d old new
+    (tail : List ℕ) (sink : K) (old new : D) (fault : OpenFault) → IsAsBefore d old new
     → (settings.store ≡ true) ⊎ (fault ≡ opening.OutOfMemory)
-    → IfImageKnown (d.reads old) (λ image. IsRefusedAtOpening (store_settings_for_saves settings) lists image fault)
-    → (fault ≡ opening.DiskFault → FaultCountRose (d.faults old) (d.faults new))
+    → IfImageKnown (d.reads old) (λ image. RefusesOpening (saves_settings settings) lists image fault)
+    → (fault ≡ opening.DiskFault → FaultRose (d.faults old) (d.faults new))
     → ((fault ≡ opening.DiskFault → ⊥) → d.faults new ≡ d.faults old)
-    → DealtFeedEnds k d settings lists tail sink sink old new (status_of_opening fault)
+    → FeedEnds k d settings lists tail sink sink old new (status_of_opening fault)
 dealt_report_stops_at_fault k d settings lists tail sink old new opening.DiskFault same used refused rose kept =
     (inl (refl, same), record { rose = rose refl; sink = refl })
 dealt_report_stops_at_fault k d settings lists tail sink old new opening.OutOfMemory same used refused rose kept =
     (inl (refl, same), dealt_report_faults_are_equal (k.faults sink) (d.faults old) (d.faults new) (kept (λ is. cc is)))
 dealt_report_stops_at_fault k d settings lists tail sink old new opening.NotFormatted same used refused rose kept = (
-  dealt_report_refuses_lists settings lists (d.reads old) (IsAsBeforeSaves d old new) opening.NotFormatted same (λ is. cc is) used refused,
+  dealt_report_refuses_lists settings lists (d.reads old) (IsAsBefore d old new) opening.NotFormatted same (λ is. cc is) used refused,
   refl,
   dealt_report_faults_are_equal (k.faults sink) (d.faults old) (d.faults new) (kept (λ is. cc is)),
 )
 dealt_report_stops_at_fault k d settings lists tail sink old new (opening.Damaged slot) same used refused rose kept = (
-  dealt_report_refuses_lists settings lists (d.reads old) (IsAsBeforeSaves d old new) (opening.Damaged slot) same (λ is. cc is) used refused,
+  dealt_report_refuses_lists settings lists (d.reads old) (IsAsBefore d old new) (opening.Damaged slot) same (λ is. cc is) used refused,
   refl,
   dealt_report_faults_are_equal (k.faults sink) (d.faults old) (d.faults new) (kept (λ is. cc is)),
 )
 dealt_report_stops_at_fault k d settings lists tail sink old new (opening.OtherSettings stored asked) same used refused rose kept = (
-  dealt_report_refuses_lists settings lists (d.reads old) (IsAsBeforeSaves d old new) (opening.OtherSettings stored asked) same (λ is. cc is) used refused,
+  dealt_report_refuses_lists settings lists (d.reads old) (IsAsBefore d old new) (opening.OtherSettings stored asked) same (λ is. cc is) used refused,
   refl,
   dealt_report_faults_are_equal (k.faults sink) (d.faults old) (d.faults new) (kept (λ is. cc is)),
 )
 dealt_report_stops_at_fault k d settings lists tail sink old new (opening.OtherCapture stored asked) same used refused rose kept = (
-  dealt_report_refuses_lists settings lists (d.reads old) (IsAsBeforeSaves d old new) (opening.OtherCapture stored asked) same (λ is. cc is) used refused,
+  dealt_report_refuses_lists settings lists (d.reads old) (IsAsBefore d old new) (opening.OtherCapture stored asked) same (λ is. cc is) used refused,
   refl,
   dealt_report_faults_are_equal (k.faults sink) (d.faults old) (d.faults new) (kept (λ is. cc is)),
 )
 
 -- the store was refused, or there was no memory for the base
 pub dealt_report_ends_without_base : {K D : Type 0} (k : SinkOf K) (d : DiskOf D) (settings : Settings)
-    (lists : List (List RecordValue)) (tail : List ℕ) (sink : K) (old new : D) (status : Status) → IsAsBeforeSaves d old new
-    → HasNoDealtFeedBase settings lists (d.reads old) (d.faults old) (d.faults new) status
-    → DealtFeedEnds k d settings lists tail sink sink old new status
+    (lists : List (List RecordValue)) (tail : List ℕ) (sink : K) (old new : D) (status : Status) → IsAsBefore d old new
+    → HasNoBase settings lists (d.reads old) (d.faults old) (d.faults new) status
+    → FeedEnds k d settings lists tail sink sink old new status
 dealt_report_ends_without_base k d settings lists tail sink old new status same none =
-    subst (DealtFeedEnds k d settings lists tail sink sink old new) (sym none.status_is)
+    subst (FeedEnds k d settings lists tail sink sink old new) (sym none.status_is)
     (dealt_report_stops_at_fault k d settings lists tail sink old new none.fault same none.used none.refused none.rose none.kept)
 
 -- bytes of a session, from the base on
 dealt_report_in_part : (settings : Settings) (lists : List (List RecordValue)) (tail : List ℕ) (keeping : SessionKeeping)
     (store : Option (List ℕ)) (base : Option CutValue) (Kept : SessionSaving) (old new : Option (List ℕ))
-    → SessionGoesOnFrom settings lists store base → SessionBaseRepresents lists base (session_opening settings.capacity lists base)
+    → GoesOnFrom settings lists store base → BaseRepresents lists base (session_opening settings.capacity lists base)
     → ((saved unfinished : List CutValue) → Kept saved unfinished → settings.store ≡ true
-    → keeping (store_settings_for_saves settings) lists saved unfinished)
+    → keeping (saves_settings settings) lists saved unfinished)
     → WritesAnswer (BeginsSession (session_opening settings.capacity lists base) settings Kept tail) old new
-    → DealtFeedWritesInPart settings lists tail keeping store old new
+    → FeedWritesPart settings lists tail keeping store old new
 dealt_report_in_part settings lists tail keeping store base Kept old new begins represents keeps part = record {
   base = base;
   begins = begins;
@@ -135,7 +135,7 @@ dealt_report_in_part settings lists tail keeping store base Kept old new begins 
   writes = record {
     text = part.text;
     is_text = session_text_begins_weaker (session_opening settings.capacity lists base) settings Kept
-        (λ saved unfinished. settings.store ≡ true → keeping (store_settings_for_saves settings) lists saved unfinished) tail part.text keeps
+        (λ saved unfinished. settings.store ≡ true → keeping (saves_settings settings) lists saved unfinished) tail part.text keeps
         part.is_text;
     written = part.written;
   };
@@ -144,35 +144,35 @@ dealt_report_in_part settings lists tail keeping store base Kept old new begins 
 -- the session broke off
 pub dealt_report_ends_broken_off : {K D : Type 0} (k : SinkOf K) (d : DiskOf D) (settings : Settings)
     (lists : List (List RecordValue)) (tail : List ℕ) (base : Option CutValue) (Kept : SessionSaving) (Same : Type 0)
-    (sink written : K) (old new : D) (status : Status) → SessionGoesOnFrom settings lists (d.reads old) base
-    → SessionBaseRepresents lists base (session_opening settings.capacity lists base)
+    (sink written : K) (old new : D) (status : Status) → GoesOnFrom settings lists (d.reads old) base
+    → BaseRepresents lists base (session_opening settings.capacity lists base)
     → ((saved unfinished : List CutValue) → Kept saved unfinished → settings.store ≡ true
-    → SavesAreKeptOnDisk d old new (store_settings_for_saves settings) lists saved unfinished)
-    → (Same → IsAsBeforeSaves d old new × Kept [] [])
+    → AreKeptOnDisk d old new (saves_settings settings) lists saved unfinished)
+    → (Same → IsAsBefore d old new × Kept [] [])
     → ((written ≡ sink) × Same)
     ⊎ WritesAnswer (BeginsSession (session_opening settings.capacity lists base) settings Kept tail) (k.taken sink) (k.taken written)
-    → IsDealtFeedFault (dealt_feed_faults k d sink old) (dealt_feed_faults k d written new) status
-    → DealtFeedEnds k d settings lists tail sink written old new status
+    → IsFeedFault (feed_faults k d sink old) (feed_faults k d written new) status
+    → FeedEnds k d settings lists tail sink written old new status
 dealt_report_ends_broken_off k d settings lists tail base Kept Same sink written old new WriteFault begins represents keeps unmoved part fault = (
   ⊎_elim
-      (λ same. dealt_report_in_part settings lists tail (SavesAreKeptOnDisk d old new) (d.reads old) base Kept
+      (λ same. dealt_report_in_part settings lists tail (AreKeptOnDisk d old new) (d.reads old) base Kept
       (k.taken sink) (k.taken written) begins represents keeps
       (session_text_without_a_byte (session_opening settings.capacity lists base) settings Kept tail
       (k.taken sink) (k.taken written)
       (ap k.taken same.0) (unmoved same.1).1))
-      (λ some. dealt_report_in_part settings lists tail (SavesAreKeptOnDisk d old new) (d.reads old) base Kept
+      (λ some. dealt_report_in_part settings lists tail (AreKeptOnDisk d old new) (d.reads old) base Kept
       (k.taken sink) (k.taken written) begins represents keeps some) part,
   fault,
 )
 dealt_report_ends_broken_off k d settings lists tail base Kept Same sink written old new DiskFault begins represents keeps unmoved part fault = (
   ⊎_elim (λ same. inl (same.0, (unmoved same.1).0))
-      (λ some. inr (dealt_report_in_part settings lists tail (SavesAreKeptOnDisk d old new) (d.reads old) base Kept
+      (λ some. inr (dealt_report_in_part settings lists tail (AreKeptOnDisk d old new) (d.reads old) base Kept
       (k.taken sink) (k.taken written) begins represents keeps some)) part,
   fault,
 )
 dealt_report_ends_broken_off k d settings lists tail base Kept Same sink written old new OutOfMemory begins represents keeps unmoved part fault = (
   ⊎_elim (λ same. inl (same.0, (unmoved same.1).0))
-      (λ some. inr (dealt_report_in_part settings lists tail (SavesAreKeptOnDisk d old new) (d.reads old) base Kept
+      (λ some. inr (dealt_report_in_part settings lists tail (AreKeptOnDisk d old new) (d.reads old) base Kept
       (k.taken sink) (k.taken written) begins represents keeps some)) part,
   fault,
 )
@@ -200,10 +200,10 @@ dealt_report_ends_broken_off k d settings lists tail base Kept Same sink written
 -- the session was written whole
 pub dealt_report_is_written : (settings : Settings) (lists : List (List RecordValue)) (tail : List ℕ) (keeping : SessionKeeping)
     (store : Option (List ℕ)) (base : Option CutValue) (Kept : List CutValue → Type 0) (old new : Option (List ℕ))
-    → SessionGoesOnFrom settings lists store base → SessionBaseRepresents lists base (session_opening settings.capacity lists base)
-    → ((cuts : List CutValue) → Kept cuts → settings.store ≡ true → keeping (store_settings_for_saves settings) lists cuts [])
-    → WritesAnswer (IsSessionOverShards (session_opening settings.capacity lists base) settings Kept tail) old new
-    → DealtFeedWrites settings lists tail keeping store old new
+    → GoesOnFrom settings lists store base → BaseRepresents lists base (session_opening settings.capacity lists base)
+    → ((cuts : List CutValue) → Kept cuts → settings.store ≡ true → keeping (saves_settings settings) lists cuts [])
+    → WritesAnswer (IsOverShards (session_opening settings.capacity lists base) settings Kept tail) old new
+    → FeedWrites settings lists tail keeping store old new
 dealt_report_is_written settings lists tail keeping store base Kept old new begins represents keeps writes = record {
   base = base;
   begins = begins;
@@ -211,7 +211,7 @@ dealt_report_is_written settings lists tail keeping store base Kept old new begi
   writes = record {
     text = writes.text;
     is_text = spelled_session_text_says_less (session_opening settings.capacity lists base) settings Kept
-        (λ cuts. settings.store ≡ true → keeping (store_settings_for_saves settings) lists cuts []) tail writes.text keeps
+        (λ cuts. settings.store ≡ true → keeping (saves_settings settings) lists cuts []) tail writes.text keeps
         writes.is_text;
     written = writes.written;
   };

@@ -2,7 +2,7 @@
 use Rattle.std.proofs.Common.{◌≡◌, ℕ, List, [], ◌∷◌, map, refl}
 use Rattle.prefix_lattice.specs.{RecordValue}
 use Rattle.shard_state.specs.{ShardValue}
-use Rattle.report_session.specs.Session.{session_ends, new_session_shards, session_start}
+use Rattle.report_session.specs.Session.{session_ends, new_shards, session_start}
 use Rattle.dealt_capture.proofs.Examples.{packet}
 
 -- a shard with the packet, and one without records
@@ -10,7 +10,7 @@ abbrev pub two_lists : List (List RecordValue)
 two_lists = (packet ∷ []) ∷ [] ∷ []
 
 abbrev pub two_shards : List ShardValue
-two_shards = new_session_shards 512 two_lists
+two_shards = new_shards 512 two_lists
 
 pub start_of_two_shards : session_start two_shards ≡ 0 ∷ 0 ∷ []
 start_of_two_shards = refl

@@ -8,19 +8,19 @@ use Rattle.std.specs.Prelude.{⊤, All}
 use Rattle.shard_state.specs.{CutValue, ShardValue}
 use Rattle.hhh_report.specs.{IsSound}
 use Rattle.hhh_report.specs.declared.reports.Reported.{Reported}
-use Rattle.pass_tokens.specs.{IsOddWord, SeatValue, ShardRead, PositionWordsValue, after_reads, first_view}
-use Rattle.gate_workers.specs.{Calls, FeedHasSeenEnds, IsReportAtCall, CallReadsOnce, View, cut_at_call}
+use Rattle.pass_tokens.specs.{IsOddWord, SeatValue, ShardRead, WordsValue, after_reads, first_view}
+use Rattle.gate_workers.specs.{Calls, HasSeenEnds, IsReportAtCall, ReadsOnce, View, cut_at}
 use Rattle.gate_workers.specs.declared.gathered.Gathered.{Gathered}
-use Rattle.report_text.specs.{report_tail_text}
-use Rattle.report_session.specs.Session.{AreReportsOfCaller, SessionBreaksOffInRounds, SessionSaving}
+use Rattle.report_text.specs.{tail_text}
+use Rattle.report_session.specs.Session.{AreOfCaller, BreaksOffInRounds, SessionSaving}
 use Rattle.report_session.specs.Session.{session_part, session_parts}
-use Rattle.report_session.specs.Rounds.{RoundsBreakOff, BreaksRound, DiskFailedInRound, EndRounds, RoundFaults}
-use Rattle.report_session.specs.Rounds.{IsRoundInVain, RoundReportsOnce, SinkFailedInRound, RoundBreaksInLine}
-use Rattle.report_session.specs.Rounds.{RoundBreaksInReport, WritesRounds, WritesUnsavedRound}
-use Rattle.report_session.specs.DealtFeed.{IsDealtFeedCapture}
-use Rattle.report_session.specs.DealtFeed.{IsDealtFeedFault, IsDealtFeedResult, IsDealtFeedGathered}
-use Rattle.report_session.specs.DealtFeed.{IsDealtFeedOpening, IsDealtFeedSaveFault, FeedStartsBeforeEnds}
-use Rattle.report_session.specs.DealtFeed.{FeedBreaksOffInRounds, dealt_feed_other_reports}
+use Rattle.report_session.specs.LiveRounds.{RoundsBreakOff, BreaksRound, DiskFailed, EndRounds, RoundFaults}
+use Rattle.report_session.specs.LiveRounds.{IsInVain, ReportsOnce, SinkFailed, BreaksInLine}
+use Rattle.report_session.specs.LiveRounds.{BreaksInReport, WritesRounds, WritesUnsaved}
+use Rattle.report_session.specs.DealtFeed.{IsFeedCapture}
+use Rattle.report_session.specs.DealtFeed.{IsFeedFault, IsFeedResult, IsGathered}
+use Rattle.report_session.specs.DealtFeed.{IsFeedOpening, IsSaveFault, StartsBefore}
+use Rattle.report_session.specs.DealtFeed.{FeedBreaksOff, other_reports}
 use Rattle.report_session.specs.declared.session.Opened.{Opened}
 use Rattle.report_session.specs.declared.feed.Fed.{Fed}
 use Rattle.run_status.specs.declared.status.Status.TheVariants.{Done, BadWords, ReadFault, WriteFault, DiskFault}
@@ -46,13 +46,13 @@ sink_rose = record { sink = 4; disk = 3 }
 abbrev pub disk_rose : RoundFaults
 disk_rose = record { sink = 3; disk = 4 }
 
-pub sink_failed : SinkFailedInRound calm sink_rose
+pub sink_failed : SinkFailed calm sink_rose
 sink_failed = record { rose = omega arith; disk = refl }
 
-pub disk_failed : DiskFailedInRound calm disk_rose
+pub disk_failed : DiskFailed calm disk_rose
 disk_failed = record { rose = omega arith; sink = refl }
 
-pub disk_did_not_fail : DiskFailedInRound calm sink_rose → ⊥
+pub disk_did_not_fail : DiskFailed calm sink_rose → ⊥
 disk_did_not_fail failed = omega (arith, failed.rose)
 
 -- no cut was saved
@@ -155,7 +155,7 @@ one_round_of_one = (one_round_is_written, refl)
 
 -- with a store the cut at the positions of the report is saved, and they are written
 abbrev one_saved : List CutValue → Type 0
-one_saved cuts = cuts ≡ cut_at_call opening (0 ∷ 0 ∷ 0 ∷ 0 ∷ []) ∷ []
+one_saved cuts = cuts ≡ cut_at opening (0 ∷ 0 ∷ 0 ∷ 0 ∷ []) ∷ []
 
 pub one_round_is_saved :
     WritesRounds opening 10000 true 1 first after_one one_saved (Some []) (Some (session_part true last))
@@ -170,11 +170,11 @@ one_round_is_saved = record {
 
 -- ---- a round that broke off
 
-pub report_of_one_round : RoundReportsOnce opening 10000 first after_one report
+pub report_of_one_round : ReportsOnce opening 10000 first after_one report
 report_of_one_round = record { calls = one_call; sound = λ bases. nothing_is_sound }
 
 -- a sink with room for 7 bytes took the first line of the report
-pub report_in_part : RoundBreaksInReport opening 10000 first after_one none_unfinished (Some []) (Some (codes "report\n"))
+pub report_in_part : BreaksInReport opening 10000 first after_one none_unfinished (Some []) (Some (codes "report\n"))
 unfolding digits
 report_in_part = record {
   report = report;
@@ -193,7 +193,7 @@ abbrev saved_the_one : SessionSaving
 saved_the_one saved unfinished = one_saved saved × (unfinished ≡ [])
 
 pub line_in_part :
-    RoundBreaksInLine opening 10000 true first after_one saved_the_one (Some []) (Some (session_part false last))
+    BreaksInLine opening 10000 true first after_one saved_the_one (Some []) (Some (session_part false last))
 unfolding digits
 line_in_part = record {
   report = report;
@@ -213,27 +213,27 @@ line_in_part = record {
 abbrev unfinished_the_one : SessionSaving
 unfinished_the_one saved unfinished = (saved ≡ []) × one_saved unfinished
 
-pub unsaved_round : WritesUnsavedRound opening 10000 first after_one true unfinished_the_one (Some []) (Some (session_part false last))
+pub unsaved_round : WritesUnsaved opening 10000 first after_one true unfinished_the_one (Some []) (Some (session_part false last))
 unfolding digits
 unsaved_round = record { report = report; reports = report_of_one_round; written = refl; kept = (refl, refl) }
 
 -- a save that was made is none that is unfinished
 pub saved_round_is_not_unsaved :
-    WritesUnsavedRound opening 10000 first after_one true saved_the_one (Some []) (Some (session_part false last)) → ⊥
+    WritesUnsaved opening 10000 first after_one true saved_the_one (Some []) (Some (session_part false last)) → ⊥
 saved_round_is_not_unsaved unsaved = cc unsaved.kept.1
 
 -- where memory ran out, it was not begun
-pub round_not_saved : WritesUnsavedRound opening 10000 first after_one false none_unfinished (Some []) (Some (session_part false last))
+pub round_not_saved : WritesUnsaved opening 10000 first after_one false none_unfinished (Some []) (Some (session_part false last))
 unfolding digits
 round_not_saved = record { report = report; reports = report_of_one_round; written = refl; kept = (refl, refl) }
 
-pub each_shard_was_read_once : CallReadsOnce opening first after_one
+pub each_shard_was_read_once : ReadsOnce opening first after_one
 each_shard_was_read_once = record { reads = reads; as_many = refl; odd = no_losses; view = refl }
 
-pub round_in_vain : IsRoundInVain opening first after_one none_unfinished (Some []) (Some [])
+pub round_in_vain : IsInVain opening first after_one none_unfinished (Some []) (Some [])
 round_in_vain = record { reads = each_shard_was_read_once; unwritten = refl; kept = (refl, refl) }
 
-pub round_in_vain_writes_nothing : IsRoundInVain opening first after_one none_unfinished (Some []) (Some (codes "report\n")) → ⊥
+pub round_in_vain_writes_nothing : IsInVain opening first after_one none_unfinished (Some []) (Some (codes "report\n")) → ⊥
 round_in_vain_writes_nothing vain = cc vain.unwritten
 
 pub sink_breaks_a_round :
@@ -311,69 +311,69 @@ two_rounds_ended_in_the_first = first_round_broke_off
 
 -- ---- the feed
 
-pub dealt_capture : IsDealtFeedCapture settings in_turn header lists (report_tail_text records)
+pub dealt_capture : IsFeedCapture settings in_turn header lists (tail_text records)
 dealt_capture = record { records = records; dealt = dealt_from_the_header; is_tail = refl }
 
-pub two_shards_start_before_their_ends : FeedStartsBeforeEnds two_shards
+pub two_shards_start_before_their_ends : StartsBefore two_shards
 two_shards_start_before_their_ends = new_opening_shards_before_ends 512 two_lists
 
 -- a shard of no record can't have counted one
-pub shard_past_its_end : FeedStartsBeforeEnds (record shard { position = 1 } ∷ []) → ⊥
+pub shard_past_its_end : StartsBefore (record shard { position = 1 } ∷ []) → ⊥
 shard_past_its_end starts = let start : 1 ≤ 0 = starts 0 in omega (arith, start)
 
-pub fault_of_the_sink : IsDealtFeedFault calm sink_rose WriteFault
+pub fault_of_the_sink : IsFeedFault calm sink_rose WriteFault
 fault_of_the_sink = sink_failed
 
-pub fault_without_a_count : IsDealtFeedFault calm calm WriteFault → ⊥
+pub fault_without_a_count : IsFeedFault calm calm WriteFault → ⊥
 fault_without_a_count failed = omega (arith, failed.rose)
 
-pub fault_of_the_disk : IsDealtFeedFault calm disk_rose DiskFault
+pub fault_of_the_disk : IsFeedFault calm disk_rose DiskFault
 fault_of_the_disk = disk_failed
 
 -- a fault of the disk isn't reported as one of the sink
-pub fault_of_the_other : IsDealtFeedFault calm disk_rose WriteFault → ⊥
+pub fault_of_the_other : IsFeedFault calm disk_rose WriteFault → ⊥
 fault_of_the_other failed = omega (arith, failed.rose)
 
-pub want_of_memory : IsDealtFeedFault calm calm OutOfMemory
+pub want_of_memory : IsFeedFault calm calm OutOfMemory
 want_of_memory = refl
 
-pub want_of_memory_counts_no_fault : IsDealtFeedFault calm sink_rose OutOfMemory → ⊥
+pub want_of_memory_counts_no_fault : IsFeedFault calm sink_rose OutOfMemory → ⊥
 want_of_memory_counts_no_fault is =
     let same : 4 ≡ 3 = ap (λ (faults : RoundFaults). faults.sink) is in omega (arith, same)
 
-pub success_is_no_fault : IsDealtFeedFault calm calm Done → ⊥
+pub success_is_no_fault : IsFeedFault calm calm Done → ⊥
 success_is_no_fault fault = fault
 
 -- saves fail with the disk, or when out of memory
-pub disk_fails_a_save : IsDealtFeedSaveFault 3 4 DiskFault
+pub disk_fails_a_save : IsSaveFault 3 4 DiskFault
 disk_fails_a_save = omega arith
 
-pub memory_fails_a_save : IsDealtFeedSaveFault 3 3 OutOfMemory
+pub memory_fails_a_save : IsSaveFault 3 3 OutOfMemory
 memory_fails_a_save = refl
 
-pub sink_fails_no_save : IsDealtFeedSaveFault 3 4 WriteFault → ⊥
+pub sink_fails_no_save : IsSaveFault 3 4 WriteFault → ⊥
 sink_fails_no_save fault = fault
 
-pub bad_words_are_no_fault_of_a_session : IsDealtFeedFault calm calm (BadWords NoCommand) → ⊥
+pub bad_words_are_no_fault_of_a_session : IsFeedFault calm calm (BadWords NoCommand) → ⊥
 bad_words_are_no_fault_of_a_session fault = fault
 
 -- what two callers bring back with any passes
 pub reports_of_two_callers : (one other : SeatValue)
-    → dealt_feed_other_reports (record { pass = one; reports = last ∷ [] } ∷ record { pass = other; reports = [] } ∷ [])
+    → other_reports (record { pass = one; reports = last ∷ [] } ∷ record { pass = other; reports = [] } ∷ [])
     ≡ (last ∷ []) ∷ [] ∷ []
 reports_of_two_callers one other = refl
 
 -- a board of the shards, and its first pass
-abbrev board_of : SeatValue → PositionWordsValue
+abbrev board_of : SeatValue → WordsValue
 board_of seat = record { id = seat.table_id; opening = opening }
 
 abbrev pass_of : SeatValue → SeatValue
 pass_of seat = record seat { me = (first, []) }
 
 abbrev opened : SeatValue → Opened
-opened seat = record { board = board_of seat; pass = pass_of seat; cut = cut_at_call opening (0 ∷ 0 ∷ 0 ∷ 0 ∷ []) }
+opened seat = record { board = board_of seat; pass = pass_of seat; cut = cut_at opening (0 ∷ 0 ∷ 0 ∷ 0 ∷ []) }
 
-pub opened_shards : (seat : SeatValue) → IsDealtFeedOpening opening (opened seat)
+pub opened_shards : (seat : SeatValue) → IsFeedOpening opening (opened seat)
 opened_shards seat = record {
   opening = refl;
   pass = record { seat = record { id = refl; opening = refl; trails = refl; live = refl; slot = refl }; free = refl };
@@ -383,11 +383,11 @@ opened_shards seat = record {
 
 -- a cut of no shard isn't one of four
 pub opened_with_another_cut : (seat : SeatValue)
-    → IsDealtFeedOpening opening (record (opened seat) { cut = cut_at_call [] [] }) → ⊥
+    → IsFeedOpening opening (record (opened seat) { cut = cut_at [] [] }) → ⊥
 opened_with_another_cut seat is = cc is.shape.as_many
 
 -- lists without records are at their ends
-ends_were_seen : FeedHasSeenEnds opening first
+ends_were_seen : HasSeenEnds opening first
 ends_were_seen zero state is = subst (λ (s : ShardValue). length s.list ≤ 0) (same_Some shard state is) (omega arith)
 ends_were_seen (suc zero) state is =
     subst (λ (s : ShardValue). length s.list ≤ 0) (same_Some shard state is) (omega arith)
@@ -399,7 +399,7 @@ ends_were_seen (suc (suc (suc (suc place)))) state is = cc is
 
 -- nothing was reported, as the settings ask
 pub gathered_without_a_round : (seat : SeatValue) (gathered : Gathered) → gathered.called.items ≡ []
-    → IsDealtFeedGathered (board_of seat) settings none_saved (Some []) (Some []) (record gathered { pass = pass_of seat })
+    → IsGathered (board_of seat) settings none_saved (Some []) (Some []) (record gathered { pass = pass_of seat })
 gathered_without_a_round seat gathered nobody = record {
   pass = (opened_shards seat).pass;
   ends = ends_were_seen;
@@ -408,16 +408,16 @@ gathered_without_a_round seat gathered nobody = record {
   written = refl;
   kept = refl;
   as_many = ap length nobody;
-  callers = subst (λ called. All (AreReportsOfCaller opening settings 0) (dealt_feed_other_reports called)) (sym nobody) (All-nil _);
+  callers = subst (λ called. All (AreOfCaller opening settings 0) (other_reports called)) (sym nobody) (All-nil _);
 }
 
 -- another caller was asked for
 pub gathered_without_a_caller : (seat : SeatValue) (gathered : Gathered) → gathered.called.items ≡ []
-    → IsDealtFeedGathered (board_of seat) running none_saved (Some []) (Some []) gathered → ⊥
+    → IsGathered (board_of seat) running none_saved (Some []) (Some []) gathered → ⊥
 gathered_without_a_caller seat gathered nobody is = omega (arith, is.as_many, ap length nobody)
 
 pub fed_without_a_round : (seat : SeatValue) (fed : Fed) → fed.gathered.called.items ≡ []
-    → IsDealtFeedResult (board_of seat) settings none_saved (Some []) (Some [])
+    → IsFeedResult (board_of seat) settings none_saved (Some []) (Some [])
     (record { gathered = record fed.gathered { pass = pass_of seat }; cut = (opened seat).cut })
 fed_without_a_round seat fed nobody = record {
   gathered = gathered_without_a_round seat fed.gathered nobody;
@@ -425,11 +425,11 @@ fed_without_a_round seat fed nobody = record {
 }
 
 pub fed_with_another_cut : (seat : SeatValue) (fed : Fed)
-    → IsDealtFeedResult (board_of seat) settings none_saved (Some []) (Some []) (record fed { cut = cut_at_call [] [] }) → ⊥
+    → IsFeedResult (board_of seat) settings none_saved (Some []) (Some []) (record fed { cut = cut_at [] [] }) → ⊥
 fed_with_another_cut seat fed is = cc is.shape.as_many
 
 -- a sink with room for 7 bytes took the first line of the only round's report
-pub rounds_in_part : FeedBreaksOffInRounds opening running none_unfinished (Some []) (Some (codes "report\n"))
+pub rounds_in_part : FeedBreaksOff opening running none_unfinished (Some []) (Some (codes "report\n"))
 unfolding digits
 rounds_in_part = record {
   front = codes "report\n";
@@ -446,13 +446,13 @@ rounds_in_part = record {
 }
 
 -- without rounds nothing of them is written
-pub no_rounds_in_part : FeedBreaksOffInRounds opening settings none_unfinished (Some []) (Some (codes "report\n")) → ⊥
+pub no_rounds_in_part : FeedBreaksOff opening settings none_unfinished (Some []) (Some (codes "report\n")) → ⊥
 no_rounds_in_part in_part = none in_part.front in_part.breaks_off in_part.written
   where
     whole : (rounds : List Reported) → length rounds ≤ 0 → codes "report\n" ≡ session_parts false rounds → ⊥
     whole [] few written = cc written
     whole (one ∷ rounds) few written = omega (arith, few)
 
-    none : (text : List ℕ) → SessionBreaksOffInRounds opening settings none_unfinished text → codes "report\n" ≡ text → ⊥
+    none : (text : List ℕ) → BreaksOffInRounds opening settings none_unfinished text → codes "report\n" ≡ text → ⊥
     none text (inl between) written = whole between.rounds between.few (written ∙ between.written)
     none text (inr within) written = omega (arith, within.few)

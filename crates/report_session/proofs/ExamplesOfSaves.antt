@@ -5,32 +5,32 @@ use Rattle.std.specs.Fmt.{digits}
 use Rattle.std.proofs.lemmas.List.Elements.{All-nil, All-cons}
 use Rattle.prefix_lattice.specs.{RecordValue}
 use Rattle.deal_rules.specs.declared.deal_kind.DealKind.TheVariants.{RoundRobin}
-use Rattle.shard_state.specs.{CutValue, ShardValue, SnapshotValue, empty_snapshot, no_snapshot_entries}
+use Rattle.shard_state.specs.{CutValue, ShardValue, SnapshotValue, empty_snapshot, no_entries}
 use Rattle.hhh_report.specs.{AreReportLines}
 use Rattle.hhh_report.specs.declared.line.Line.{Line}
 use Rattle.hhh_report.specs.declared.report.Report.{Report}
 use Rattle.hhh_report.specs.declared.reports.Reported.{Reported}
 use Rattle.pass_tokens.specs.{first_view}
-use Rattle.gate_workers.specs.{cut_at_call}
+use Rattle.gate_workers.specs.{cut_at}
 use Rattle.recovery.specs.declared.fault.OpenFault.TheVariants as opening
 use Rattle.frame_records.specs.declared.records.Records.{Records}
 use Rattle.frame_records.specs.declared.weigh.Weigh.TheVariants.{Bytes}
-use Rattle.report_text.specs.{report_tail_text}
-use Rattle.slot_disk.specs.{CrashLeavesAtAnyMoment-none, known_slots_of}
+use Rattle.report_text.specs.{tail_text}
+use Rattle.slot_disk.specs.{CrashLeaves-none, known_slots_of}
 use Rattle.slot_disk.specs.declared.disk.Disk.{Ghosts as DiskOf}
-use Rattle.checkpoint.specs.{StoreBelongs, StoreOpensTo, SavedValue, SaverState, StoreHolds, digest_of_lists}
-use Rattle.checkpoint.specs.{header_of_settings, saver_of}
+use Rattle.checkpoint.specs.{StoreBelongs, StoreOpensTo, SavedValue, SaverState, StoreHolds, lists_digest}
+use Rattle.checkpoint.specs.{settings_header, saver_of}
 use Rattle.checkpoint.specs.declared.settings.StoreSettings.{StoreSettings}
 use Rattle.command_words.specs.declared.settings.Settings.{Settings}
-use Rattle.report_session.specs.DealtFeed.{DealtFeedGoesOn, HasNoDealtFeedBase, IsDealtFeedSaver}
-use Rattle.report_session.specs.Saves.{SavesBelongThroughout, SavesFitBoard, IsAsBeforeSaves, IsNoEarlierSave}
-use Rattle.report_session.specs.Saves.{KeepsSaves, OpensAsBeforeOrToSaves, SavesReopen, Saves, SavesBreakOff}
-use Rattle.report_session.specs.Saves.{SavesInPart, after_saves, saver_after_broken_saves, SavesAreKeptOnDisk}
-use Rattle.report_session.specs.Saves.{last_of_saves, SavesAreReopenedFromDisk, saves_after, store_settings_for_saves}
-use Rattle.report_session.specs.Session.{SessionGoesOnFrom, SessionReports, calling_thread_reports}
-use Rattle.report_session.specs.Session.{session_ends, last_session_positions, new_session_shards, session_opening}
-use Rattle.report_session.specs.Session.{session_part, resumed_session_shards, session_saved_cuts, session_saves}
-use Rattle.report_session.specs.Session.{session_text_of_reports, session_start}
+use Rattle.report_session.specs.DealtFeed.{FeedGoesOn, HasNoBase, IsFeedSaver}
+use Rattle.report_session.specs.Saving.{BelongThroughout, SavesFitBoard, IsAsBefore, IsNoEarlier}
+use Rattle.report_session.specs.Saving.{KeepsSaves, OpensToSaves, SavesReopen, Saves, SavesBreakOff}
+use Rattle.report_session.specs.Saving.{SavesInPart, after_saves, after_broken, AreKeptOnDisk}
+use Rattle.report_session.specs.Saving.{last_of_saves, AreReopened, saves_after, saves_settings}
+use Rattle.report_session.specs.Session.{GoesOnFrom, SessionReports, caller_reports}
+use Rattle.report_session.specs.Session.{session_ends, last_positions, new_shards, session_opening}
+use Rattle.report_session.specs.Session.{session_part, resumed_shards, saved_cuts, saves_of}
+use Rattle.report_session.specs.Session.{text_of_reports, session_start}
 use Rattle.run_status.specs.declared.status.Status.TheVariants.{NotFormatted}
 use Rattle.dealt_capture.proofs.Examples.{packet}
 use Rattle.report_session.proofs.ExamplesOfSessions.{last, opening as four_shards, settings}
@@ -40,14 +40,14 @@ abbrev one_shard : Settings
 one_shard = record settings { shards = 1; capacity = 2; store = true }
 
 abbrev pub one : StoreSettings
-one = store_settings_for_saves one_shard
+one = saves_settings one_shard
 
 -- a list of one packet
 abbrev lists : List (List RecordValue)
 lists = (packet ∷ []) ∷ []
 
 -- of a command's settings a store has these
-pub settings_of_a_store : store_settings_for_saves settings
+pub settings_of_a_store : saves_settings settings
     ≡ record { shards = 4; capacity = 512; weigh = Bytes; deal = RoundRobin }
 settings_of_a_store = refl
 
@@ -58,7 +58,7 @@ abbrev none_counted : CutValue
 none_counted = record { capacity = 2; shards = empty_snapshot 2 ∷ [] }
 
 abbrev snapshot : SnapshotValue
-snapshot = record { capacity = 2; position = 1; tables = no_snapshot_entries }
+snapshot = record { capacity = 2; position = 1; tables = no_entries }
 
 abbrev one_counted : CutValue
 one_counted = record { capacity = 2; shards = snapshot ∷ [] }
@@ -81,17 +81,17 @@ pub last_of_no_saves : last_of_saves (Some (saved 4 none_counted)) [] ≡ Some (
 last_of_no_saves = refl
 
 -- with a store the cut at the positions of each report is saved, and without one none
-pub cut_of_one_report : session_saved_cuts true four_shards (last ∷ []) ≡ cut_at_call four_shards (0 ∷ 0 ∷ 0 ∷ 0 ∷ []) ∷ []
+pub cut_of_one_report : saved_cuts true four_shards (last ∷ []) ≡ cut_at four_shards (0 ∷ 0 ∷ 0 ∷ 0 ∷ []) ∷ []
 cut_of_one_report = refl
 
-pub no_cuts_without_a_store : session_saved_cuts false four_shards (last ∷ last ∷ []) ≡ []
+pub no_cuts_without_a_store : saved_cuts false four_shards (last ∷ last ∷ []) ≡ []
 no_cuts_without_a_store = refl
 
 -- ---- what a stop leaves, of stores whose digest no test here looks into
 
 -- a store whose gates are closed
 abbrev pub formatted : List ℕ
-formatted = 0 ∷ 0 ∷ header_of_settings one
+formatted = 0 ∷ 0 ∷ settings_header one
 
 formatted_holds_nothing : StoreHolds one formatted None None
 formatted_holds_nothing = record { long = omega arith; header = refl; first_slot = refl; second_slot = refl }
@@ -100,20 +100,20 @@ pub formatted_opens_to_nothing : StoreOpensTo one formatted None
 formatted_opens_to_nothing = (None, None, formatted_holds_nothing, refl)
 
 -- a crash in the first save may leave the store as it was
-pub first_save_was_lost : OpensAsBeforeOrToSaves one None (saves_after 0 (9 ∷ []) (none_counted ∷ [])) formatted
+pub first_save_was_lost : OpensToSaves one None (saves_after 0 (9 ∷ []) (none_counted ∷ [])) formatted
 first_save_was_lost = inl formatted_opens_to_nothing
 
 -- and one in the second save a store that opens to the first
 pub second_save_was_lost : (image : List ℕ) → StoreOpensTo one image (Some (saved 1 none_counted))
-    → OpensAsBeforeOrToSaves one None (saves_after 0 (9 ∷ []) (none_counted ∷ one_counted ∷ [])) image
+    → OpensToSaves one None (saves_after 0 (9 ∷ []) (none_counted ∷ one_counted ∷ [])) image
 second_save_was_lost image opens = inr (inl opens)
 
 pub second_save_was_made : (image : List ℕ) → StoreOpensTo one image (Some (saved 2 one_counted))
-    → OpensAsBeforeOrToSaves one None (saves_after 0 (9 ∷ []) (none_counted ∷ one_counted ∷ [])) image
+    → OpensToSaves one None (saves_after 0 (9 ∷ []) (none_counted ∷ one_counted ∷ [])) image
 second_save_was_made image opens = inr (inr opens)
 
 -- but none an empty disk
-pub disk_was_emptied : OpensAsBeforeOrToSaves one None (saves_after 0 (9 ∷ []) (none_counted ∷ [])) [] → ⊥
+pub disk_was_emptied : OpensToSaves one None (saves_after 0 (9 ∷ []) (none_counted ∷ [])) [] → ⊥
 disk_was_emptied (inl opens) = omega (arith, opens.2.long)
 disk_was_emptied (inr opens) = omega (arith, opens.2.long)
 
@@ -145,7 +145,7 @@ pub no_saves_keep_the_store :
 no_saves_keep_the_store = record {
   opened = None;
   opens = formatted_opens_to_nothing;
-  any_moment = CrashLeavesAtAnyMoment-none (λ disk. disk) formatted_since 7 (λ image. ⊥ ⊎ OpensAsBeforeOrToSaves one None [] image)
+  any_moment = CrashLeaves-none (λ disk. disk) formatted_since 7 (λ image. ⊥ ⊎ OpensToSaves one None [] image)
       (λ image is. inr (subst (λ bytes. StoreOpensTo one bytes None) (sym is) formatted_opens_to_nothing));
   afterwards = λ image is. subst (λ bytes. StoreOpensTo one bytes None) (sym is) formatted_opens_to_nothing;
 }
@@ -156,20 +156,20 @@ pub unfinished_save_left_nothing :
 unfinished_save_left_nothing = record {
   opened = None;
   opens = formatted_opens_to_nothing;
-  any_moment = CrashLeavesAtAnyMoment-none (λ disk. disk) formatted_since 7
-      (λ image. ⊥ ⊎ OpensAsBeforeOrToSaves one None (saves_after 0 (9 ∷ []) (none_counted ∷ [])) image)
+  any_moment = CrashLeaves-none (λ disk. disk) formatted_since 7
+      (λ image. ⊥ ⊎ OpensToSaves one None (saves_after 0 (9 ∷ []) (none_counted ∷ [])) image)
       (λ image is. inr (inl (subst (λ bytes. StoreOpensTo one bytes None) (sym is) formatted_opens_to_nothing)));
   afterwards = λ image is. inl (subst (λ bytes. StoreOpensTo one bytes None) (sym is) formatted_opens_to_nothing);
 }
 
 -- a later save is no earlier one, in its sequence and in its positions
-pub later_cut_is_no_earlier : IsNoEarlierSave one (Some (saved 1 none_counted)) (Some (saved 2 one_counted))
+pub later_cut_is_no_earlier : IsNoEarlier one (Some (saved 1 none_counted)) (Some (saved 2 one_counted))
 later_cut_is_no_earlier = record { sequence = omega arith; positions = (omega arith, tt) }
 
-pub cut_of_fewer_records_is_earlier : IsNoEarlierSave one (Some (saved 1 one_counted)) (Some (saved 2 none_counted)) → ⊥
+pub cut_of_fewer_records_is_earlier : IsNoEarlier one (Some (saved 1 one_counted)) (Some (saved 2 none_counted)) → ⊥
 cut_of_fewer_records_is_earlier is = let past : 1 ≤ 0 = is.positions.0 in omega (arith, past)
 
-pub sequence_before_is_earlier : IsNoEarlierSave one (Some (saved 2 none_counted)) (Some (saved 1 one_counted)) → ⊥
+pub sequence_before_is_earlier : IsNoEarlier one (Some (saved 2 none_counted)) (Some (saved 1 one_counted)) → ⊥
 sequence_before_is_earlier is = let later : 2 ≤ 1 = is.sequence in omega (arith, later)
 
 -- the formatted store opens again as nothing was saved, also where the first save is unfinished
@@ -185,7 +185,7 @@ formatted_reopens unfinished = record {
 pub empty_disk_reopens : SavesReopen one None [] [] → ⊥
 empty_disk_reopens reopens = omega (arith, reopens.opens.2.long)
 
-pub first_save_may_be_unfinished : SavesAreReopenedFromDisk (disk_of formatted) 7 7 one [] [] (none_counted ∷ [])
+pub first_save_may_be_unfinished : AreReopened (disk_of formatted) 7 7 one [] [] (none_counted ∷ [])
 first_save_may_be_unfinished store known = record {
   opened = None;
   opens = subst (λ bytes. StoreOpensTo one bytes None) (cc known) formatted_opens_to_nothing;
@@ -193,28 +193,28 @@ first_save_may_be_unfinished store known = record {
 }
 
 -- where nothing is known of a disk, nothing is said of how it opens again
-pub unknown_disk_reopens : SavesAreReopenedFromDisk unknown_disk 7 8 one [] (none_counted ∷ []) []
+pub unknown_disk_reopens : AreReopened unknown_disk 7 8 one [] (none_counted ∷ []) []
 unknown_disk_reopens store told = absurd (cc told)
 
 -- a formatted store belongs to any lists, and does so throughout a session that saves nothing; an empty disk is no store
-pub formatted_store_belongs_throughout : SavesBelongThroughout (disk_of formatted) one lists None 7 7
+pub formatted_store_belongs_throughout : BelongThroughout (disk_of formatted) one lists None 7 7
 formatted_store_belongs_throughout =
     let belongs : (image : List ℕ) → image ≡ formatted → StoreBelongs one lists image = λ image is.
     subst (StoreBelongs one lists) (sym is) (None, formatted_opens_to_nothing, tt) in
     record {
       base_represents = tt;
-      any_moment = CrashLeavesAtAnyMoment-none (λ disk. disk) formatted_since 7 (StoreBelongs one lists) belongs;
+      any_moment = CrashLeaves-none (λ disk. disk) formatted_since 7 (StoreBelongs one lists) belongs;
       afterwards = belongs;
     }
 
-pub empty_disk_belongs_to_no_lists : SavesBelongThroughout (disk_of []) one lists None 7 7 → ⊥
+pub empty_disk_belongs_to_no_lists : BelongThroughout (disk_of []) one lists None 7 7 → ⊥
 empty_disk_belongs_to_no_lists belongs = omega (arith, (belongs.afterwards [] refl).1.2.long)
 
 -- without a save a crash leaves what it could have left before
-pub disk_is_as_before : IsAsBeforeSaves (disk_of formatted) 7 7
+pub disk_is_as_before : IsAsBefore (disk_of formatted) 7 7
 disk_is_as_before = record {
   same_reads = refl;
-  any_moment = CrashLeavesAtAnyMoment-none (λ disk. disk) formatted_since 7 (λ image. image ≡ formatted) (λ image is. is);
+  any_moment = CrashLeaves-none (λ disk. disk) formatted_since 7 (λ image. image ≡ formatted) (λ image is. is);
 }
 
 -- the saver of the formatted store, after two saves
@@ -222,10 +222,10 @@ abbrev saver : SaverState
 saver = saver_of (known_slots_of formatted) one (9 ∷ []) None
 
 -- after a save that was made the saver goes on from it, and an unfinished one leaves none
-pub saver_goes_on_after_a_whole_save : saver_after_broken_saves (Some saver) (one_counted ∷ []) [] ≡ Some (after_saves saver (one_counted ∷ []))
+pub saver_goes_on_after_a_whole_save : after_broken (Some saver) (one_counted ∷ []) [] ≡ Some (after_saves saver (one_counted ∷ []))
 saver_goes_on_after_a_whole_save = refl
 
-pub no_saver_after_an_unfinished_save : saver_after_broken_saves (Some saver) (one_counted ∷ []) (none_counted ∷ []) ≡ None
+pub no_saver_after_an_unfinished_save : after_broken (Some saver) (one_counted ∷ []) (none_counted ∷ []) ≡ None
 no_saver_after_an_unfinished_save = refl
 
 -- nothing was saved, and the saver is lost all the same
@@ -250,7 +250,7 @@ nothing_is_begun_without_a_saver part = let same = part.unused refl in omega (ar
 
 -- where nothing is known of a disk, nothing is said of what it keeps
 pub unknown_disk_keeps_anything :
-    SavesAreKeptOnDisk unknown_disk 7 8 one [] (none_counted ∷ []) []
+    AreKeptOnDisk unknown_disk 7 8 one [] (none_counted ∷ []) []
 unknown_disk_keeps_anything bytes told = absurd (cc told)
 
 -- ---- what a run goes on from
@@ -258,7 +258,7 @@ unknown_disk_keeps_anything bytes told = absurd (cc told)
 abbrev resumed : ShardValue
 resumed = record { list = packet ∷ []; base = snapshot; position = 1 }
 
-pub one_resumed_shard : resumed_session_shards lists (snapshot ∷ []) ≡ resumed ∷ []
+pub one_resumed_shard : resumed_shards lists (snapshot ∷ []) ≡ resumed ∷ []
 one_resumed_shard = refl
 
 pub run_goes_on_from_a_cut : session_opening 2 lists (Some one_counted) ≡ resumed ∷ []
@@ -270,7 +270,7 @@ resumed_shard_starts_at_its_cut = refl
 pub resumed_shard_ends_with_its_list : session_ends (resumed ∷ []) ≡ 1 ∷ []
 resumed_shard_ends_with_its_list = refl
 
-pub formatted_store_has_no_base : SessionGoesOnFrom one_shard lists (Some formatted) None
+pub formatted_store_has_no_base : GoesOnFrom one_shard lists (Some formatted) None
 formatted_store_has_no_base = record {
   unused = λ unused. refl;
   fits = tt;
@@ -280,24 +280,24 @@ formatted_store_has_no_base = record {
 }
 
 -- without a store no saved cut is gone on from
-pub no_base_without_a_store : SessionGoesOnFrom settings lists None (Some one_counted) → ⊥
+pub no_base_without_a_store : GoesOnFrom settings lists None (Some one_counted) → ⊥
 no_base_without_a_store goes_on = let none = goes_on.unused refl in cc none
 
 -- the cut of no record may be gone on from, in tables of its capacity alone
-pub cut_to_go_on_from : DealtFeedGoesOn 2 lists none_counted
-unfolding no_snapshot_entries
+pub cut_to_go_on_from : FeedGoesOn 2 lists none_counted
+unfolding no_entries
 cut_to_go_on_from = record { alike = refl; continues = (record { within = omega arith; counted = refl }, tt) }
 
-pub cut_of_another_capacity : DealtFeedGoesOn 4 lists none_counted → ⊥
+pub cut_of_another_capacity : FeedGoesOn 4 lists none_counted → ⊥
 cut_of_another_capacity goes_on = omega (arith, goes_on.alike)
 
 -- a saver for the packet, from the start on
-pub saver_for_the_packet : IsDealtFeedSaver one_shard lists (0 ∷ [])
-    (saver_of (known_slots_of formatted) one (digest_of_lists one lists) None)
+pub saver_for_the_packet : IsFeedSaver one_shard lists (0 ∷ [])
+    (saver_of (known_slots_of formatted) one (lists_digest one lists) None)
 saver_for_the_packet = record { settings_are = refl; digest_is = refl; early = omega arith; positions_are = refl }
 
 -- it may save what any pass reads of new shards
-pub saver_fits_new_shards : SavesFitBoard (new_session_shards 2 lists) (first_view (new_session_shards 2 lists)) saver
+pub saver_fits_new_shards : SavesFitBoard (new_shards 2 lists) (first_view (new_shards 2 lists)) saver
 saver_fits_new_shards = record {
   settings = record { some = omega arith; few = omega arith; least = omega arith; most = omega arith };
   shards = refl;
@@ -306,7 +306,7 @@ saver_fits_new_shards = record {
 }
 
 -- a store that isn't formatted gives no base, and its disk didn't fail
-pub no_base_on_an_unknown_disk : HasNoDealtFeedBase one_shard lists None 3 3 NotFormatted
+pub no_base_on_an_unknown_disk : HasNoBase one_shard lists None 3 3 NotFormatted
 no_base_on_an_unknown_disk = record {
   fault = opening.NotFormatted;
   status_is = refl;
@@ -341,15 +341,15 @@ abbrev records : Records
 records = record { list = packet ∷ []; frames = 1; not_ipv4 = 0; short = 0; bad_header = 0 }
 
 -- its positions are those of the last save, and before it those at the start
-pub positions_of_the_last_report : last_session_positions (0 ∷ []) (of_the_packet ∷ []) ≡ 1 ∷ []
+pub positions_of_the_last_report : last_positions (0 ∷ []) (of_the_packet ∷ []) ≡ 1 ∷ []
 positions_of_the_last_report = refl
 
-pub positions_before_a_report : last_session_positions (0 ∷ []) [] ≡ 0 ∷ []
+pub positions_before_a_report : last_positions (0 ∷ []) [] ≡ 0 ∷ []
 positions_before_a_report = refl
 
 -- its only cut is saved under the sequence after that of the store
-pub saves_of_a_session : session_saves one_shard (resumed ∷ []) (Some (saved 4 one_counted)) (calling_thread_reports reports)
-    ≡ record { sequence = 5; digest = digest_of_lists one lists; cut = cut_at_call (resumed ∷ []) (1 ∷ []) } ∷ []
+pub saves_of_a_session : saves_of one_shard (resumed ∷ []) (Some (saved 4 one_counted)) (caller_reports reports)
+    ≡ record { sequence = 5; digest = lists_digest one lists; cut = cut_at (resumed ∷ []) (1 ∷ []) } ∷ []
 saves_of_a_session = refl
 
 pub report_with_a_store : session_part true of_the_packet
@@ -357,20 +357,20 @@ pub report_with_a_store : session_part true of_the_packet
 unfolding digits
 report_with_a_store = refl
 
-pub session_with_a_store : session_text_of_reports true (0 ∷ []) reports (report_tail_text records)
+pub session_with_a_store : text_of_reports true (0 ∷ []) reports (tail_text records)
     ≡ codes "opened 0\nreport\nat 1\ntotal 100\nthreshold 1\nline 10.1.2.3/32 20.1.2.3/32 100 100\ndone\nsaved 1\n"
     ++ codes "frames 1\nskipped 0 0 0\nend\n"
 unfolding digits
 session_with_a_store = refl
 
 -- a second run over the same capture goes on at its end
-pub resumed_session : session_text_of_reports true (session_start (resumed ∷ [])) reports (report_tail_text records)
+pub resumed_session : text_of_reports true (session_start (resumed ∷ [])) reports (tail_text records)
     ≡ codes "opened 1\nreport\nat 1\ntotal 100\nthreshold 1\nline 10.1.2.3/32 20.1.2.3/32 100 100\ndone\nsaved 1\n"
     ++ codes "frames 1\nskipped 0 0 0\nend\n"
 unfolding digits
 resumed_session = refl
 
-pub session_without_a_store : session_text_of_reports false (0 ∷ []) reports (report_tail_text records)
+pub session_without_a_store : text_of_reports false (0 ∷ []) reports (tail_text records)
     ≡ codes "opened 0\nreport\nat 1\ntotal 100\nthreshold 1\nline 10.1.2.3/32 20.1.2.3/32 100 100\ndone\n"
     ++ codes "frames 1\nskipped 0 0 0\nend\n"
 unfolding digits

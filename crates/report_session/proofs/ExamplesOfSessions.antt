@@ -10,33 +10,33 @@ use Rattle.std.proofs.lemmas.List.Elements.{All-nil, All-cons, All-replicate}
 use Rattle.prefix_lattice.specs.{RecordValue, NodeValue, IsPrefixKey, IsNode, node_index, node_of_prefix, prefix_key}
 use Rattle.deal_rules.specs.declared.deal_kind.DealKind.TheVariants.{RoundRobin}
 use Rattle.deal_rules.specs.{IsDealing}
-use Rattle.shard_state.specs.{CutValue, IsShard, IsSnapshot, ShardValue, empty_snapshot, snapshot_entries_at}
-use Rattle.shard_state.specs.{no_snapshot_entries}
-use Rattle.shard_state.specs.{CoreBasesRepresent, SnapshotRepresents, snapshot_table_at}
+use Rattle.shard_state.specs.{CutValue, IsShard, IsSnapshot, ShardValue, empty_snapshot, entries_at}
+use Rattle.shard_state.specs.{no_entries}
+use Rattle.shard_state.specs.{BasesRepresent, SnapshotRepresents, table_at}
 use Rattle.space_saving.specs.declared.entry.Entry.{Entry}
-use Rattle.space_saving.specs.{AreTableEntries, interval_in_table, table_total}
+use Rattle.space_saving.specs.{AreTableEntries, interval_in, table_total}
 use Rattle.hhh_report.specs.{AreReportLines, IsSound, IsThreshold}
-use Rattle.hhh_output.specs.{IsLineOfReport, IsReportOf}
+use Rattle.hhh_output.specs.{IsLineOf, IsReportOf}
 use Rattle.hhh_report.specs.declared.line.Line.{Line}
 use Rattle.hhh_report.specs.declared.report.Report.{Report}
 use Rattle.hhh_report.specs.declared.reports.Reported.{Reported}
-use Rattle.gate_workers.specs.{IsReportAtCall, cut_at_call}
+use Rattle.gate_workers.specs.{IsReportAtCall, cut_at}
 use Rattle.pcap_frames.specs.declared.file_order.FileOrder.TheVariants.{Little}
-use Rattle.pcap_frames.specs.{number_in_file_order, header_magic_order}
-use Rattle.frame_records.specs.{CaptureFileHasFrames}
+use Rattle.pcap_frames.specs.{number_in_order, order_of_magic}
+use Rattle.frame_records.specs.{FileHasFrames}
 use Rattle.frame_records.specs.declared.records.Records.{Records}
 use Rattle.frame_records.specs.declared.weigh.Weigh.TheVariants.{Bytes}
-use Rattle.report_text.specs.{report_tail_text}
+use Rattle.report_text.specs.{tail_text}
 use Rattle.command_words.specs.declared.settings.Settings.{Settings}
 use Rattle.dealt_capture.specs.{AreDealtRecords, DealingRules}
-use Rattle.report_session.specs.Session.{AreReportsOfCaller, AreSessionReports, BeginsSession}
-use Rattle.report_session.specs.Session.{SessionBreaksOffInRounds, SessionBreaksOffAround, SessionBreaksOffLater}
-use Rattle.report_session.specs.Session.{SessionGoesOnFrom, IsSession, IsSessionInPart, IsShownInSession}
-use Rattle.report_session.specs.Session.{IsStrictSessionBeginning, SessionKeeping, session_after_saves}
-use Rattle.report_session.specs.Session.{session_saved_cuts, NeverFallInSession, SessionBaseRepresents, SessionSaving}
-use Rattle.report_session.specs.Session.{SessionReports, IsSessionOverShards, calling_thread_reports}
-use Rattle.report_session.specs.Session.{session_caller_parts, new_session_shards, session_opening, session_part}
-use Rattle.report_session.specs.Session.{session_parts, session_rest, session_save_line, session_text_of_reports}
+use Rattle.report_session.specs.Session.{AreOfCaller, AreReports, BeginsSession}
+use Rattle.report_session.specs.Session.{BreaksOffInRounds, BreaksOffAround, BreaksOffLater}
+use Rattle.report_session.specs.Session.{GoesOnFrom, IsSession, IsSessionInPart, IsShownInSession}
+use Rattle.report_session.specs.Session.{IsStrictBeginning, SessionKeeping, rest_after_saves}
+use Rattle.report_session.specs.Session.{saved_cuts, NeverFall, BaseRepresents, SessionSaving}
+use Rattle.report_session.specs.Session.{SessionReports, IsOverShards, caller_reports}
+use Rattle.report_session.specs.Session.{caller_parts, new_shards, session_opening, session_part}
+use Rattle.report_session.specs.Session.{session_parts, session_rest, save_line, text_of_reports}
 use Rattle.report_session.specs.Session.{session_start}
 use Rattle.report_session.proofs.Examples.{header, two_shards}
 use Rattle.report_session.proofs.ShownSessionLemmas.{shown_session_report, shown_session_reports}
@@ -64,8 +64,8 @@ in_turn kind place rec shards number = number ≡ place % shards
 abbrev pub keeps_nothing : SessionKeeping
 keeps_nothing asked dealt saved unfinished = ⊥
 
-pub header_is_a_capture : CaptureFileHasFrames header []
-unfolding number_in_file_order header_magic_order
+pub header_is_a_capture : FileHasFrames header []
+unfolding number_in_order order_of_magic
 header_is_a_capture = (
   Little,
   record {
@@ -80,18 +80,18 @@ abbrev pub lists : List (List RecordValue)
 lists = [] ∷ [] ∷ [] ∷ [] ∷ []
 
 abbrev pub opening : List ShardValue
-opening = new_session_shards 512 lists
+opening = new_shards 512 lists
 
 abbrev pub shard : ShardValue
 shard = record { list = []; base = empty_snapshot 512; position = 0 }
 
 -- no table has an entry
-nothing_counted : (node : NodeValue) → IsNode node → snapshot_entries_at node (empty_snapshot 512) ≡ []
-unfolding no_snapshot_entries
+nothing_counted : (node : NodeValue) → IsNode node → entries_at node (empty_snapshot 512) ≡ []
+unfolding no_entries
 nothing_counted node is_node = get_or-replicate 25 (node_index node) [] [] (omega (arith, is_node.source, is_node.dest))
 
 empty_tables : IsSnapshot (empty_snapshot 512)
-unfolding no_snapshot_entries
+unfolding no_entries
 empty_tables = record {
   least = omega arith;
   most = omega arith;
@@ -110,7 +110,7 @@ empty_tables = record {
 }
 
 empty_shard : IsShard shard
-unfolding no_snapshot_entries
+unfolding no_entries
 empty_shard = record {
   few = omega arith;
   begun = omega arith;
@@ -123,7 +123,7 @@ empty_shard = record {
 
 -- the cut at their ends
 abbrev cut : CutValue
-cut = cut_at_call opening (0 ∷ 0 ∷ 0 ∷ 0 ∷ [])
+cut = cut_at opening (0 ∷ 0 ∷ 0 ∷ 0 ∷ [])
 
 -- its report has no line
 pub no_lines : AreReportLines []
@@ -146,13 +146,13 @@ least_threshold = record {
 }
 
 high_of_nothing : (node : NodeValue) (key : ℕ) → IsNode node
-    → (interval_in_table (snapshot_table_at node (empty_snapshot 512)) key).high ≡ 0
+    → (interval_in (table_at node (empty_snapshot 512)) key).high ≡ 0
 high_of_nothing node key is_node =
-    ap (λ entries. (interval_in_table (record { capacity = 512; entries = entries }) key).high)
+    ap (λ entries. (interval_in (record { capacity = 512; entries = entries }) key).high)
     (nothing_counted node is_node)
 
-nothing_is_heavy : (line : Line) → IsLineOfReport cut 1 [] line → ⊥
-unfolding no_snapshot_entries
+nothing_is_heavy : (line : Line) → IsLineOf cut 1 [] line → ⊥
+unfolding no_entries
 nothing_is_heavy line is_line =
     let is_node : IsNode (node_of_prefix line.prefix) = record {
       source = is_line.is_prefix.source.few;
@@ -162,7 +162,7 @@ nothing_is_heavy line is_line =
     omega (arith, is_line.high, is_line.heavy, nothing)
 
 report_of_nothing : IsReportOf cut 10000 report
-unfolding no_snapshot_entries
+unfolding no_entries
 report_of_nothing = record {
   positions = refl;
   total = refl;
@@ -204,10 +204,10 @@ report_is_shown = shown_with 0 0
 abbrev later : Reported
 later = record { report = record report { positions = 1 ∷ 0 ∷ 0 ∷ 0 ∷ [] }; saved = None }
 
-pub nothing_is_saved_without_a_store : session_save_line false (1 ∷ []) ≡ []
+pub nothing_is_saved_without_a_store : save_line false (1 ∷ []) ≡ []
 nothing_is_saved_without_a_store = refl
 
-pub one_position_was_saved : session_save_line true (1 ∷ []) ≡ codes "saved 1\n"
+pub one_position_was_saved : save_line true (1 ∷ []) ≡ codes "saved 1\n"
 unfolding digits
 one_position_was_saved = refl
 
@@ -229,7 +229,7 @@ unfolding digits
 text_of_two_reports = refl
 
 -- nothing is saved after the reports of the other callers
-pub text_of_two_callers : session_caller_parts ((later ∷ []) ∷ (last ∷ []) ∷ []) ≡ session_part false later ++ session_part false last
+pub text_of_two_callers : caller_parts ((later ∷ []) ∷ (last ∷ []) ∷ []) ≡ session_part false later ++ session_part false last
 unfolding digits
 text_of_two_callers = refl
 
@@ -251,20 +251,20 @@ once_more x xs up (suc i) (suc j) d le inside = up i j d (omega (arith, le)) (om
 pub one_number : (x : ℕ) → IsNonDecreasing (x ∷ [])
 one_number x = IsNonDecreasingBy-short (λ x. x) (x ∷ []) (omega arith)
 
-pub one_report_does_not_fall : NeverFallInSession (session_start opening) (last ∷ [])
+pub one_report_does_not_fall : NeverFall (session_start opening) (last ∷ [])
 one_report_does_not_fall place inside = once_more _ [] (one_number _)
 
-two_reports_do_not_fall : NeverFallInSession (session_start opening) (last ∷ last ∷ [])
+two_reports_do_not_fall : NeverFall (session_start opening) (last ∷ last ∷ [])
 two_reports_do_not_fall place inside =
     let position = slice_index (session_start opening) place in
     once_more position (position ∷ []) (once_more position [] (one_number position))
 
 -- the first shard began at 1
-pub report_before_the_start : NeverFallInSession (1 ∷ 0 ∷ 0 ∷ 0 ∷ []) (last ∷ []) → ⊥
+pub report_before_the_start : NeverFall (1 ∷ 0 ∷ 0 ∷ 0 ∷ []) (last ∷ []) → ⊥
 report_before_the_start never =
     let later : 1 ≤ 0 = never 0 (omega arith) 0 1 0 (omega arith) (omega arith) in omega (arith, later)
 
-pub one_report_with : (rounds callers : ℕ) → AreReportsOfCaller opening (with_rounds rounds callers) 1 (last ∷ [])
+pub one_report_with : (rounds callers : ℕ) → AreOfCaller opening (with_rounds rounds callers) 1 (last ∷ [])
 one_report_with rounds callers = record {
   as_many = refl;
   shown =
@@ -272,27 +272,27 @@ one_report_with rounds callers = record {
   never_fall = one_report_does_not_fall;
 }
 
-pub one_report : AreReportsOfCaller opening settings 1 (last ∷ [])
+pub one_report : AreOfCaller opening settings 1 (last ∷ [])
 one_report = one_report_with 0 0
 
-pub no_reports : AreReportsOfCaller opening settings 0 []
+pub no_reports : AreOfCaller opening settings 0 []
 no_reports = record { as_many = refl; shown = All-nil _; never_fall = λ place inside. one_number _ }
 
-pub no_report_is_not_one : AreReportsOfCaller opening settings 1 [] → ⊥
+pub no_report_is_not_one : AreOfCaller opening settings 1 [] → ⊥
 no_report_is_not_one are = cc are.as_many
 
 -- no rounds, and no other callers
 abbrev pub reports : SessionReports
 reports = record { rounds = []; callers = []; last = last }
 
-pub calling_thread_makes_the_last_report : calling_thread_reports reports ≡ last ∷ []
+pub calling_thread_makes_the_last_report : caller_reports reports ≡ last ∷ []
 calling_thread_makes_the_last_report = refl
 
-pub reports_of_the_session : AreSessionReports opening settings reports
+pub reports_of_the_session : AreReports opening settings reports
 reports_of_the_session = record { calling = one_report; at_ends = refl; as_many = refl; callers = All-nil _ }
 
 -- the last report doesn't count the packet of the first shard
-pub last_report_before_an_end : AreSessionReports two_shards settings reports → ⊥
+pub last_report_before_an_end : AreReports two_shards settings reports → ⊥
 last_report_before_an_end are = cc are.at_ends
 
 -- with a round and another caller
@@ -302,7 +302,7 @@ running = with_rounds 1 1
 abbrev running_reports : SessionReports
 running_reports = record { rounds = last ∷ []; callers = (last ∷ []) ∷ []; last = last }
 
-pub reports_of_a_running_session : AreSessionReports opening running running_reports
+pub reports_of_a_running_session : AreReports opening running running_reports
 reports_of_a_running_session = record {
   calling = record {
     as_many = refl;
@@ -313,11 +313,11 @@ reports_of_a_running_session = record {
   };
   at_ends = refl;
   as_many = refl;
-  callers = All-cons (AreReportsOfCaller opening running 1) (last ∷ []) [] (one_report_with 1 1) (All-nil _);
+  callers = All-cons (AreOfCaller opening running 1) (last ∷ []) [] (one_report_with 1 1) (All-nil _);
 }
 
 -- the other caller is missing
-pub session_without_its_caller : AreSessionReports opening running (record running_reports { callers = [] }) → ⊥
+pub session_without_its_caller : AreReports opening running (record running_reports { callers = [] }) → ⊥
 session_without_its_caller are = cc are.as_many
 
 -- ---- the session
@@ -328,25 +328,25 @@ records = record { list = []; frames = 0; not_ipv4 = 0; short = 0; bad_header = 
 abbrev pub text : List ℕ
 text = codes "opened 0 0 0 0\nreport\nat 0 0 0 0\ntotal 0\nthreshold 1\ndone\nframes 0\nskipped 0 0 0\nend\n"
 
-pub text_of_the_session : session_text_of_reports false (session_start opening) reports (report_tail_text records) ≡ text
+pub text_of_the_session : text_of_reports false (session_start opening) reports (tail_text records) ≡ text
 unfolding digits
 text_of_the_session = refl
 
-pub text_of_a_running_session : session_text_of_reports false (session_start opening) running_reports (codes "end\n")
+pub text_of_a_running_session : text_of_reports false (session_start opening) running_reports (codes "end\n")
     ≡ codes "opened 0 0 0 0\n" ++ session_part false last ++ session_part false last ++ session_part false last
     ++ codes "end\n"
 unfolding digits
 text_of_a_running_session = refl
 
 -- with a store, the cuts of the calling thread are saved, and not that of the other caller
-pub text_of_a_saving_session : session_text_of_reports true (session_start opening) running_reports (codes "end\n")
+pub text_of_a_saving_session : text_of_reports true (session_start opening) running_reports (codes "end\n")
     ≡ codes "opened 0 0 0 0\n" ++ session_part true last ++ session_part false last ++ session_part true last
     ++ codes "end\n"
 unfolding digits
 text_of_a_saving_session = refl
 
 -- no cut was saved
-spelled_where : (Kept : List CutValue → Type 0) → Kept [] → IsSessionOverShards opening settings Kept (report_tail_text records) text
+spelled_where : (Kept : List CutValue → Type 0) → Kept [] → IsOverShards opening settings Kept (tail_text records) text
 spelled_where Kept kept = record {
   reports = reports;
   are_reports = reports_of_the_session;
@@ -354,7 +354,7 @@ spelled_where Kept kept = record {
   kept = kept;
 }
 
-pub session_is_spelled : IsSessionOverShards opening settings (λ cuts. ⊤) (report_tail_text records) text
+pub session_is_spelled : IsOverShards opening settings (λ cuts. ⊤) (tail_text records) text
 session_is_spelled = spelled_where (λ cuts. ⊤) tt
 
 dealt_in_turn : IsDealing RoundRobin (in_turn RoundRobin) 4 [] lists
@@ -373,21 +373,21 @@ dealt_from_the_header = record {
 }
 
 -- without a store a run goes on from nothing, whatever its disk holds
-pub begins_anew : (store : Option (List ℕ)) → SessionGoesOnFrom settings lists store None
+pub begins_anew : (store : Option (List ℕ)) → GoesOnFrom settings lists store None
 begins_anew store = record { unused = λ unused. refl; fits = tt; opens = λ used. absurd (cc used) }
 
 nothing_represents : SnapshotRepresents (empty_snapshot 512) []
-unfolding no_snapshot_entries
+unfolding no_entries
 nothing_represents = record {
   within = omega arith;
   shape = refl;
   tables = λ node is_node. nothing_counted node is_node;
 }
 
-pub tables_of_no_records : CoreBasesRepresent opening
+pub tables_of_no_records : BasesRepresent opening
 tables_of_no_records = All-replicate (λ shard. SnapshotRepresents shard.base shard.list) 4 shard nothing_represents
 
-pub new_shards_represent : SessionBaseRepresents lists None (session_opening 512 lists None)
+pub new_shards_represent : BaseRepresents lists None (session_opening 512 lists None)
 new_shards_represent none = tables_of_no_records
 
 pub session_over_the_header : IsSession settings in_turn keeps_nothing None header text
@@ -409,16 +409,16 @@ saves_nothing saved unfinished = (saved ≡ []) × (unfinished ≡ [])
 
 -- a sink with room for 12 bytes took a part of the first line
 pub first_bytes_of_the_session :
-    BeginsSession opening settings saves_nothing (report_tail_text records) (codes "opened 0 0 0")
+    BeginsSession opening settings saves_nothing (tail_text records) (codes "opened 0 0 0")
 unfolding digits
 first_bytes_of_the_session = inl (((codes " 0\n", refl), omega arith), (refl, refl))
 
 -- a whole text doesn't begin itself strictly
-pub whole_text_begins_nothing_more : IsStrictSessionBeginning (codes "end\n") (codes "end\n") → ⊥
+pub whole_text_begins_nothing_more : IsStrictBeginning (codes "end\n") (codes "end\n") → ⊥
 whole_text_begins_nothing_more begins = omega (arith, begins.1)
 
 -- memory may run out after the first line, before any round
-pub broken_off_before_the_rounds : BeginsSession opening settings saves_nothing (report_tail_text records)
+pub broken_off_before_the_rounds : BeginsSession opening settings saves_nothing (tail_text records)
     (codes "opened 0 0 0 0\n")
 unfolding digits
 broken_off_before_the_rounds = inr (inl (
@@ -428,7 +428,7 @@ broken_off_before_the_rounds = inr (inl (
 ))
 
 -- and one with room for 22 bytes a part of the report of the first round
-pub broken_off_in_a_round : SessionBreaksOffInRounds opening running saves_nothing (codes "report\n")
+pub broken_off_in_a_round : BreaksOffInRounds opening running saves_nothing (codes "report\n")
 unfolding digits
 broken_off_in_a_round = inr (record {
   rounds = [];
@@ -440,41 +440,41 @@ broken_off_in_a_round = inr (record {
   written = refl;
 })
 
-pub bytes_of_a_round : BeginsSession opening running saves_nothing (report_tail_text records) (codes "opened 0 0 0 0\nreport\n")
+pub bytes_of_a_round : BeginsSession opening running saves_nothing (tail_text records) (codes "opened 0 0 0 0\nreport\n")
 unfolding digits
 bytes_of_a_round = inr (inl (codes "report\n", broken_off_in_a_round, refl))
 
 -- ---- a text, the save of a cut, and the line after it
 
 abbrev one_cut : List CutValue
-one_cut = session_saved_cuts true opening (last ∷ [])
+one_cut = saved_cuts true opening (last ∷ [])
 
 -- in the line the cut was saved, though none of its bytes may be written
 pub broken_off_in_the_line :
-    SessionBreaksOffAround (codes "done\n") (codes "saved 0\n") one_cut (λ saved unfinished. (saved ≡ one_cut) × (unfinished ≡ []))
+    BreaksOffAround (codes "done\n") (codes "saved 0\n") one_cut (λ saved unfinished. (saved ≡ one_cut) × (unfinished ≡ []))
     (codes "done\n")
 broken_off_in_the_line = inr (inr ([], ((codes "saved 0\n", refl), omega arith), refl, (refl, refl)))
 
 -- in the save it may be, or not
 pub broken_off_in_the_save :
-    SessionBreaksOffAround (codes "done\n") (codes "saved 0\n") one_cut (λ saved unfinished. (saved ≡ []) × (unfinished ≡ one_cut))
+    BreaksOffAround (codes "done\n") (codes "saved 0\n") one_cut (λ saved unfinished. (saved ≡ []) × (unfinished ≡ one_cut))
     (codes "done\n")
 broken_off_in_the_save = inr (inl (refl, (refl, refl)))
 
 -- and before it, it isn't
 pub broken_off_before_the_save :
-    SessionBreaksOffAround (codes "done\n") (codes "saved 0\n") one_cut (λ saved unfinished. (saved ≡ []) × (unfinished ≡ []))
+    BreaksOffAround (codes "done\n") (codes "saved 0\n") one_cut (λ saved unfinished. (saved ≡ []) × (unfinished ≡ []))
     (codes "do")
 broken_off_before_the_save = inl ((codes "ne\n", refl), (refl, refl))
 
 -- the cuts of the rounds before come first
 pub cuts_of_a_round_before :
-    session_after_saves true opening (last ∷ []) (λ saved unfinished. (saved ≡ one_cut) × (unfinished ≡ [])) [] []
+    rest_after_saves true opening (last ∷ []) (λ saved unfinished. (saved ≡ one_cut) × (unfinished ≡ [])) [] []
 cuts_of_a_round_before = (refl, refl)
 
 -- no session begins with a report
 pub session_without_a_first_line :
-    BeginsSession opening settings saves_nothing (report_tail_text records) (codes "report\n") → ⊥
+    BeginsSession opening settings saves_nothing (tail_text records) (codes "report\n") → ⊥
 unfolding digits
 session_without_a_first_line (inl (first, kept)) =
     let same : 111 ≡ 114 = ap (λ bytes. get_or bytes 0 0) first.0.1 in omega (arith, same)
@@ -484,7 +484,7 @@ session_without_a_first_line (inr (inr later)) =
     let same : 114 ≡ 111 = ap (λ bytes. get_or bytes 0 0) later.written in omega (arith, same)
 
 -- the last lines broke off
-pub broken_off_in_the_last_lines : SessionBreaksOffLater opening settings saves_nothing (report_tail_text records)
+pub broken_off_in_the_last_lines : BreaksOffLater opening settings saves_nothing (tail_text records)
     (codes "opened 0 0 0 0\nreport\nat 0 0 0 0\ntotal 0\nthreshold 1\ndone\nframes")
 unfolding digits
 broken_off_in_the_last_lines = record {
@@ -495,7 +495,7 @@ broken_off_in_the_last_lines = record {
   written = refl;
 }
 
-pub most_bytes_of_the_session : BeginsSession opening settings saves_nothing (report_tail_text records)
+pub most_bytes_of_the_session : BeginsSession opening settings saves_nothing (tail_text records)
     (codes "opened 0 0 0 0\nreport\nat 0 0 0 0\ntotal 0\nthreshold 1\ndone\nframes")
 most_bytes_of_the_session = inr (inr broken_off_in_the_last_lines)
 

@@ -7,19 +7,19 @@ use Rattle.std.proofs.lemmas.List.{length-map, map-append, length-replicate}
 use Rattle.std.proofs.lemmas.List.Elements.{All-map, All-replicate}
 use Rattle.std.proofs.lemmas.List.Sums.{get_or-le-sum_by}
 use Rattle.prefix_lattice.specs.{RecordValue, record_limit, shard_limit}
-use Rattle.deal_rules.specs.{AreDealingLists}
+use Rattle.deal_rules.specs.{AreDealings}
 use Rattle.std.proofs.Common.{Option, None, Some}
 use Rattle.std.specs.Prelude.{IfSome}
 use Rattle.std.specs.List.{AllZip}
 use Rattle.std.proofs.lemmas.List.Elements.{All-cons, All-head, All-nil, All-tail}
-use Rattle.shard_state.specs.{AreCoreShards, CoreBasesRepresent, CutValue, IsCut, ShardValue, SnapshotRepresents}
+use Rattle.shard_state.specs.{AreCoreShards, BasesRepresent, CutValue, IsCut, ShardValue, SnapshotRepresents}
 use Rattle.shard_state.specs.{IsSnapshot, SnapshotValue, core_capacity, empty_snapshot, cut_positions}
 use Rattle.shard_state.specs.{core_lists}
-use Rattle.report_text.specs.{ReportTextShowsPositions}
-use Rattle.recovery.specs.{OpeningContinuesList}
-use Rattle.report_session.specs.DealtFeed.{DealtFeedGoesOn, FeedStartsBeforeEnds}
-use Rattle.report_session.specs.Session.{SessionBaseRepresents, new_session_shards, session_opening}
-use Rattle.report_session.specs.Session.{resumed_session_shards, session_start}
+use Rattle.report_text.specs.{ShowsPositions}
+use Rattle.recovery.specs.{ContinuesList}
+use Rattle.report_session.specs.DealtFeed.{FeedGoesOn, StartsBefore}
+use Rattle.report_session.specs.Session.{BaseRepresents, new_shards, session_opening}
+use Rattle.report_session.specs.Session.{resumed_shards, session_start}
 
 -- of few records in all each list has few
 pub opening_shards_have_few_records : (most : ℕ) (lists : List (List RecordValue)) → sum_by (λ list. length list) lists ≤ most
@@ -29,20 +29,20 @@ opening_shards_have_few_records most lists few k d lt =
 
 -- one more shard
 pub opening_shards_grow_by_one : (capacity : ℕ) (lists : List (List RecordValue)) (list : List RecordValue)
-    → new_session_shards capacity (lists ++ list ∷ [])
-    ≡ new_session_shards capacity lists ++ record { list = list; base = empty_snapshot capacity; position = 0 } ∷ []
+    → new_shards capacity (lists ++ list ∷ [])
+    ≡ new_shards capacity lists ++ record { list = list; base = empty_snapshot capacity; position = 0 } ∷ []
 opening_shards_grow_by_one capacity lists list =
     map-append (λ list. record { list = list; base = empty_snapshot capacity; position = 0 }) lists (list ∷ [])
 
 -- they start at 0
 pub opening_shards_start_at_zero : (capacity : ℕ) (lists : List (List RecordValue))
-    → session_start (new_session_shards capacity lists) ≡ replicate (length lists) 0
+    → session_start (new_shards capacity lists) ≡ replicate (length lists) 0
 opening_shards_start_at_zero capacity [] = refl
 opening_shards_start_at_zero capacity (list ∷ lists) = ap (λ zeros. 0 ∷ zeros) (opening_shards_start_at_zero capacity lists)
 
 -- zeros for 1 to 16 lists are positions that a text can show
-pub opening_shard_zeros_are_positions : (lists : List (List RecordValue)) → AreDealingLists lists
-    → ReportTextShowsPositions (replicate (length lists) 0)
+pub opening_shard_zeros_are_positions : (lists : List (List RecordValue)) → AreDealings lists
+    → ShowsPositions (replicate (length lists) 0)
 opening_shard_zeros_are_positions lists shards = record {
   some = subst (λ n. 1 ≤ n) (sym (length-replicate (length lists) 0)) shards.some;
   few = subst (λ n. n ≤ 16) (sym (length-replicate (length lists) 0)) shards.few;
@@ -50,63 +50,63 @@ opening_shard_zeros_are_positions lists shards = record {
 }
 
 -- their lists are those that were dealt
-pub new_opening_shards_as_dealt : (capacity : ℕ) (lists : List (List RecordValue)) → core_lists (new_session_shards capacity lists) ≡ lists
+pub new_opening_shards_as_dealt : (capacity : ℕ) (lists : List (List RecordValue)) → core_lists (new_shards capacity lists) ≡ lists
 new_opening_shards_as_dealt capacity [] = refl
 new_opening_shards_as_dealt capacity (list ∷ lists) = ap (λ rest. list ∷ rest) (new_opening_shards_as_dealt capacity lists)
 
 pub new_opening_shards_have_capacity : (capacity : ℕ) (lists : List (List RecordValue)) → 1 ≤ length lists
-    → core_capacity (new_session_shards capacity lists) ≡ capacity
+    → core_capacity (new_shards capacity lists) ≡ capacity
 new_opening_shards_have_capacity capacity [] some = absurd (omega (arith, some))
 new_opening_shards_have_capacity capacity (list ∷ lists) some = refl
 
 -- they are shards of one capacity
 pub new_opening_shards_are_shards : (capacity : ℕ) (lists : List (List RecordValue)) → 1 ≤ length lists → length lists ≤ shard_limit
-    → AreCoreShards (new_session_shards capacity lists)
+    → AreCoreShards (new_shards capacity lists)
 new_opening_shards_are_shards capacity lists some few = record {
   some = subst (λ n. 1 ≤ n) (sym (length-map lists _)) some;
   few = subst (λ n. n ≤ shard_limit) (sym (length-map lists _)) few;
   alike =
-      All-map (λ (shard : ShardValue). shard.base.capacity ≡ core_capacity (new_session_shards capacity lists)) _ lists
+      All-map (λ (shard : ShardValue). shard.base.capacity ≡ core_capacity (new_shards capacity lists)) _ lists
       (λ k d lt. sym (new_opening_shards_have_capacity capacity lists some));
 }
 
 -- and their bases represent their lists
 pub new_opening_shards_represent : (capacity : ℕ) (lists : List (List RecordValue))
     → ((capacity : ℕ) (list : List RecordValue) → SnapshotRepresents (empty_snapshot capacity) list)
-    → CoreBasesRepresent (new_session_shards capacity lists)
+    → BasesRepresent (new_shards capacity lists)
 new_opening_shards_represent capacity lists begins =
     All-map (λ (shard : ShardValue). SnapshotRepresents shard.base shard.list) _ lists (λ k d lt. begins capacity _)
 
 -- and they start before the ends of their lists
-pub new_opening_shards_before_ends : (capacity : ℕ) (lists : List (List RecordValue)) → FeedStartsBeforeEnds (new_session_shards capacity lists)
+pub new_opening_shards_before_ends : (capacity : ℕ) (lists : List (List RecordValue)) → StartsBefore (new_shards capacity lists)
 new_opening_shards_before_ends capacity [] shard = omega arith
 new_opening_shards_before_ends capacity (list ∷ lists) zero = omega arith
 new_opening_shards_before_ends capacity (list ∷ lists) (suc shard) = new_opening_shards_before_ends capacity lists shard
 
 -- as many shards as lists
-resumed_opening_shards_count : (lists : List (List RecordValue)) (bases : List SnapshotValue) → AllZip OpeningContinuesList bases lists
-    → length (resumed_session_shards lists bases) ≡ length lists
+resumed_opening_shards_count : (lists : List (List RecordValue)) (bases : List SnapshotValue) → AllZip ContinuesList bases lists
+    → length (resumed_shards lists bases) ≡ length lists
 resumed_opening_shards_count [] bases continues = refl
 resumed_opening_shards_count (list ∷ lists) [] continues = absurd continues
 resumed_opening_shards_count (list ∷ lists) (base ∷ bases) continues =
-    let rest : length (resumed_session_shards lists bases) ≡ length lists = resumed_opening_shards_count lists bases continues.1 in
+    let rest : length (resumed_shards lists bases) ≡ length lists = resumed_opening_shards_count lists bases continues.1 in
     omega (arith, rest)
 
 resumed_opening_shards_alike : (capacity : ℕ) (lists : List (List RecordValue)) (bases : List SnapshotValue)
     → All (λ (snapshot : SnapshotValue). snapshot.capacity ≡ capacity) bases
-    → All (λ (shard : ShardValue). shard.base.capacity ≡ capacity) (resumed_session_shards lists bases)
+    → All (λ (shard : ShardValue). shard.base.capacity ≡ capacity) (resumed_shards lists bases)
 resumed_opening_shards_alike capacity [] bases alike = All-nil (λ (shard : ShardValue). shard.base.capacity ≡ capacity)
 resumed_opening_shards_alike capacity (list ∷ lists) [] alike = All-nil (λ (shard : ShardValue). shard.base.capacity ≡ capacity)
 resumed_opening_shards_alike capacity (list ∷ lists) (base ∷ bases) alike =
     All-cons (λ (shard : ShardValue). shard.base.capacity ≡ capacity)
-    (record { list = list; base = base; position = base.position }) (resumed_session_shards lists bases)
+    (record { list = list; base = base; position = base.position }) (resumed_shards lists bases)
     (All-head (λ (snapshot : SnapshotValue). snapshot.capacity ≡ capacity) base bases alike)
     (resumed_opening_shards_alike capacity lists bases
     (All-tail (λ (snapshot : SnapshotValue). snapshot.capacity ≡ capacity) base bases alike))
 
 resumed_opening_shards_capacity : (capacity : ℕ) (lists : List (List RecordValue)) (bases : List SnapshotValue) → 1 ≤ length lists
-    → AllZip OpeningContinuesList bases lists → All (λ (snapshot : SnapshotValue). snapshot.capacity ≡ capacity) bases
-    → core_capacity (resumed_session_shards lists bases) ≡ capacity
+    → AllZip ContinuesList bases lists → All (λ (snapshot : SnapshotValue). snapshot.capacity ≡ capacity) bases
+    → core_capacity (resumed_shards lists bases) ≡ capacity
 resumed_opening_shards_capacity capacity [] bases some continues alike = absurd (omega (arith, some))
 resumed_opening_shards_capacity capacity (list ∷ lists) [] some continues alike = absurd continues
 resumed_opening_shards_capacity capacity (list ∷ lists) (base ∷ bases) some continues alike =
@@ -114,23 +114,23 @@ resumed_opening_shards_capacity capacity (list ∷ lists) (base ∷ bases) some 
 
 -- they are shards of one capacity
 pub resumed_opening_shards_are_shards : (cut : CutValue) (lists : List (List RecordValue)) → 1 ≤ length lists
-    → length lists ≤ shard_limit → AllZip OpeningContinuesList cut.shards lists
+    → length lists ≤ shard_limit → AllZip ContinuesList cut.shards lists
     → All (λ (snapshot : SnapshotValue). snapshot.capacity ≡ cut.capacity) cut.shards
-    → AreCoreShards (resumed_session_shards lists cut.shards)
+    → AreCoreShards (resumed_shards lists cut.shards)
 resumed_opening_shards_are_shards cut lists some few continues alike =
-    let many : length (resumed_session_shards lists cut.shards) ≡ length lists = resumed_opening_shards_count lists cut.shards continues in
-    let capacity_is : core_capacity (resumed_session_shards lists cut.shards) ≡ cut.capacity =
+    let many : length (resumed_shards lists cut.shards) ≡ length lists = resumed_opening_shards_count lists cut.shards continues in
+    let capacity_is : core_capacity (resumed_shards lists cut.shards) ≡ cut.capacity =
     resumed_opening_shards_capacity cut.capacity lists cut.shards some continues alike in
     record {
       some = subst (λ n. 1 ≤ n) (sym many) some;
       few = subst (λ n. n ≤ shard_limit) (sym many) few;
       alike =
-          subst (λ n. All (λ (shard : ShardValue). shard.base.capacity ≡ n) (resumed_session_shards lists cut.shards))
+          subst (λ n. All (λ (shard : ShardValue). shard.base.capacity ≡ n) (resumed_shards lists cut.shards))
           (sym capacity_is) (resumed_opening_shards_alike cut.capacity lists cut.shards alike);
     }
 
 resumed_opening_shards_before_ends : (lists : List (List RecordValue)) (bases : List SnapshotValue)
-    → AllZip OpeningContinuesList bases lists → FeedStartsBeforeEnds (resumed_session_shards lists bases)
+    → AllZip ContinuesList bases lists → StartsBefore (resumed_shards lists bases)
 resumed_opening_shards_before_ends [] bases continues shard = omega arith
 resumed_opening_shards_before_ends (list ∷ lists) [] continues shard = absurd continues
 resumed_opening_shards_before_ends (list ∷ lists) (base ∷ bases) continues zero = continues.0.within
@@ -138,17 +138,17 @@ resumed_opening_shards_before_ends (list ∷ lists) (base ∷ bases) continues (
     resumed_opening_shards_before_ends lists bases continues.1 shard
 
 resumed_opening_shards_represent : (lists : List (List RecordValue)) (bases : List SnapshotValue)
-    → AllZip SnapshotRepresents bases lists → CoreBasesRepresent (resumed_session_shards lists bases)
+    → AllZip SnapshotRepresents bases lists → BasesRepresent (resumed_shards lists bases)
 resumed_opening_shards_represent [] bases represent = All-nil (λ (shard : ShardValue). SnapshotRepresents shard.base shard.list)
 resumed_opening_shards_represent (list ∷ lists) [] represent = absurd represent
 resumed_opening_shards_represent (list ∷ lists) (base ∷ bases) represent =
     All-cons (λ (shard : ShardValue). SnapshotRepresents shard.base shard.list)
-    (record { list = list; base = base; position = base.position }) (resumed_session_shards lists bases) represent.0
+    (record { list = list; base = base; position = base.position }) (resumed_shards lists bases) represent.0
     (resumed_opening_shards_represent lists bases represent.1)
 
 -- they start at the positions of the cut
-pub resumed_opening_shards_at_cut : (lists : List (List RecordValue)) (bases : List SnapshotValue) → AllZip OpeningContinuesList bases lists
-    → session_start (resumed_session_shards lists bases) ≡ map (λ (snapshot : SnapshotValue). snapshot.position) bases
+pub resumed_opening_shards_at_cut : (lists : List (List RecordValue)) (bases : List SnapshotValue) → AllZip ContinuesList bases lists
+    → session_start (resumed_shards lists bases) ≡ map (λ (snapshot : SnapshotValue). snapshot.position) bases
 resumed_opening_shards_at_cut [] [] continues = refl
 resumed_opening_shards_at_cut [] (base ∷ bases) continues = absurd continues
 resumed_opening_shards_at_cut (list ∷ lists) [] continues = absurd continues
@@ -157,12 +157,12 @@ resumed_opening_shards_at_cut (list ∷ lists) (base ∷ bases) continues =
 
 -- the shards of a run, from the base on
 pub opening_shards_count : (capacity : ℕ) (lists : List (List RecordValue)) (base : Option CutValue)
-    → IfSome base (DealtFeedGoesOn capacity lists) → length (session_opening capacity lists base) ≡ length lists
+    → IfSome base (FeedGoesOn capacity lists) → length (session_opening capacity lists base) ≡ length lists
 opening_shards_count capacity lists None goes_on = length-map lists _
 opening_shards_count capacity lists (Some cut) goes_on = resumed_opening_shards_count lists cut.shards goes_on.continues
 
 pub opening_shards_have_capacity : (capacity : ℕ) (lists : List (List RecordValue)) (base : Option CutValue)
-    → AreDealingLists lists → IfSome base (DealtFeedGoesOn capacity lists) → IfSome base IsCut
+    → AreDealings lists → IfSome base (FeedGoesOn capacity lists) → IfSome base IsCut
     → core_capacity (session_opening capacity lists base) ≡ capacity
 opening_shards_have_capacity capacity lists None shards goes_on kept = new_opening_shards_have_capacity capacity lists shards.some
 opening_shards_have_capacity capacity lists (Some cut) shards goes_on kept =
@@ -170,21 +170,21 @@ opening_shards_have_capacity capacity lists (Some cut) shards goes_on kept =
     (subst (λ n. All (λ (snapshot : SnapshotValue). snapshot.capacity ≡ n) cut.shards) goes_on.alike kept.alike)
 
 pub opening_shards_are_shards : (capacity : ℕ) (lists : List (List RecordValue)) (base : Option CutValue)
-    → AreDealingLists lists → IfSome base (DealtFeedGoesOn capacity lists) → IfSome base IsCut
+    → AreDealings lists → IfSome base (FeedGoesOn capacity lists) → IfSome base IsCut
     → AreCoreShards (session_opening capacity lists base)
 opening_shards_are_shards capacity lists None shards goes_on kept = new_opening_shards_are_shards capacity lists shards.some shards.few
 opening_shards_are_shards capacity lists (Some cut) shards goes_on kept =
     resumed_opening_shards_are_shards cut lists shards.some shards.few goes_on.continues kept.alike
 
 pub opening_shards_before_ends : (capacity : ℕ) (lists : List (List RecordValue)) (base : Option CutValue)
-    → IfSome base (DealtFeedGoesOn capacity lists) → FeedStartsBeforeEnds (session_opening capacity lists base)
+    → IfSome base (FeedGoesOn capacity lists) → StartsBefore (session_opening capacity lists base)
 opening_shards_before_ends capacity lists None goes_on = new_opening_shards_before_ends capacity lists
 opening_shards_before_ends capacity lists (Some cut) goes_on =
     resumed_opening_shards_before_ends lists cut.shards goes_on.continues
 
 pub opening_shards_represent : (capacity : ℕ) (lists : List (List RecordValue)) (base : Option CutValue)
     → ((capacity : ℕ) (list : List RecordValue) → SnapshotRepresents (empty_snapshot capacity) list)
-    → SessionBaseRepresents lists base (session_opening capacity lists base)
+    → BaseRepresents lists base (session_opening capacity lists base)
 opening_shards_represent capacity lists None begins = λ of_lists. new_opening_shards_represent capacity lists begins
 opening_shards_represent capacity lists (Some cut) begins = λ of_lists. resumed_opening_shards_represent lists cut.shards of_lists.shards
 
@@ -199,11 +199,11 @@ opening_shards_with_base_cut base cut is kept = subst (λ o. IfSome o IsCut) is 
 pub resumed_opening_shards_grow : (states all : List ShardValue) (state : ShardValue) (list : List RecordValue) (base : SnapshotValue)
     (lists : List (List RecordValue)) (bases : List SnapshotValue)
     → state ≡ record { list = list; base = base; position = base.position }
-    → states ++ resumed_session_shards (list ∷ lists) (base ∷ bases) ≡ all
-    → (states ++ state ∷ []) ++ resumed_session_shards lists bases ≡ all
+    → states ++ resumed_shards (list ∷ lists) (base ∷ bases) ≡ all
+    → (states ++ state ∷ []) ++ resumed_shards lists bases ≡ all
 resumed_opening_shards_grow states all state list base lists bases is before =
-    append_assoc states (state ∷ []) (resumed_session_shards lists bases)
-    ∙ ap (λ s. states ++ s ∷ resumed_session_shards lists bases) is ∙ before
+    append_assoc states (state ∷ []) (resumed_shards lists bases)
+    ∙ ap (λ s. states ++ s ∷ resumed_shards lists bases) is ∙ before
 
 opening_shard_positions_are_small : (bases : List SnapshotValue) → All IsSnapshot bases
     → All (λ position. position ≤ record_limit) (map (λ (snapshot : SnapshotValue). snapshot.position) bases)
@@ -213,15 +213,15 @@ opening_shard_positions_are_small bases kept =
 
 -- a text can show the positions at which the shards of a run start
 pub opening_shards_have_positions : (capacity : ℕ) (lists : List (List RecordValue)) (base : Option CutValue)
-    → AreDealingLists lists → IfSome base (DealtFeedGoesOn capacity lists) → IfSome base IsCut
-    → ReportTextShowsPositions (session_start (session_opening capacity lists base))
+    → AreDealings lists → IfSome base (FeedGoesOn capacity lists) → IfSome base IsCut
+    → ShowsPositions (session_start (session_opening capacity lists base))
 opening_shards_have_positions capacity lists None shards goes_on kept =
-    subst ReportTextShowsPositions (sym (opening_shards_start_at_zero capacity lists)) (opening_shard_zeros_are_positions lists shards)
+    subst ShowsPositions (sym (opening_shards_start_at_zero capacity lists)) (opening_shard_zeros_are_positions lists shards)
 opening_shards_have_positions capacity lists (Some cut) shards goes_on kept =
-    let starts : session_start (resumed_session_shards lists cut.shards) ≡ cut_positions cut =
+    let starts : session_start (resumed_shards lists cut.shards) ≡ cut_positions cut =
     resumed_opening_shards_at_cut lists cut.shards goes_on.continues in
-    let many : length (session_start (resumed_session_shards lists cut.shards)) ≡ length lists =
-    length-map (resumed_session_shards lists cut.shards) _ ∙ resumed_opening_shards_count lists cut.shards goes_on.continues in
+    let many : length (session_start (resumed_shards lists cut.shards)) ≡ length lists =
+    length-map (resumed_shards lists cut.shards) _ ∙ resumed_opening_shards_count lists cut.shards goes_on.continues in
     record {
       some = subst (λ n. 1 ≤ n) (sym many) shards.some;
       few = subst (λ n. n ≤ 16) (sym many) shards.few;

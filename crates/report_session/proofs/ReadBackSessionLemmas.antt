@@ -14,14 +14,14 @@ use Rattle.pcap_frames.specs.{FrameValue, frame_count_limit}
 use Rattle.frame_records.specs.{AreRecordsOf}
 use Rattle.frame_records.specs.declared.records.Records.{Records}
 use Rattle.hhh_report.specs.declared.reports.Reported.{Reported}
-use Rattle.report_text.specs.{ReportTextShowsPositions, IsTextSession as IsShowableSession, IsSessionText}
-use Rattle.report_text.specs.{printed_session_text}
+use Rattle.report_text.specs.{ShowsPositions, IsTextSession as IsShowableSession, IsSessionText}
+use Rattle.report_text.specs.{printed_text}
 use Rattle.report_text.specs.{session_text}
 use Rattle.report_text.specs.declared.session.Session.{Session}
-use Rattle.command_words.specs.{AreLimitedSettings}
+use Rattle.command_words.specs.{AreLimited}
 use Rattle.command_words.specs.declared.settings.Settings.{Settings}
 use Rattle.report_session.specs.Session.{IsSession, IsShownInSession, SessionKeeping, SessionReports, session_ends}
-use Rattle.report_session.specs.Session.{session_opening, session_reports_in, session_start}
+use Rattle.report_session.specs.Session.{session_opening, reports_in, session_start}
 use Rattle.dealt_capture.specs.{DealingRules}
 use Rattle.report_session.proofs.BaseLemmas.{base_goes_on}
 use Rattle.report_session.proofs.LastReportLemmas.{last_report_is_among_all}
@@ -36,7 +36,7 @@ use Rattle.report_session.proofs.BoundedReportLemmas.{bounded_report_lists_if_ke
 
 -- a session is printed as its text
 abbrev pub PrintsOwnSession : Type 0
-PrintsOwnSession = (session : Session) → printed_session_text session ≡ session_text session
+PrintsOwnSession = (session : Session) → printed_text session ≡ session_text session
 
 -- a count of some frames is a number of 64 bits
 own_session_count_is_bounded : (counts : FrameValue → Bool) (frames : List FrameValue) (count : ℕ) → length frames ≤ frame_count_limit
@@ -54,9 +54,9 @@ own_session_shows_something store reports =
 
 -- what the text of a session says is a session that a text can show
 own_session_is_showable : (settings : Settings) (opened : List ℕ) (reports : SessionReports) (records : Records)
-    (frames : List FrameValue) → ReportTextShowsPositions opened → length opened ≡ settings.shards
+    (frames : List FrameValue) → ShowsPositions opened → length opened ≡ settings.shards
     → length frames ≤ frame_count_limit → AreRecordsOf settings.weigh frames records
-    → All (λ reported. IsBoundedReport settings.shards reported.report) (session_reports_in reports)
+    → All (λ reported. IsBoundedReport settings.shards reported.report) (reports_in reports)
     → IsShowableSession (shown_session settings.store opened reports records)
 own_session_is_showable settings opened reports records frames positions many few are fit =
     let fits = shown_session_keeps_property (λ (reported : Reported). IsBoundedReport settings.shards reported.report) settings.store reports
@@ -96,10 +96,10 @@ own_session_lists_match_shards kind may_answer shards records lists dealing =
     ap length dealing.dealt.parted ∙ length-map _ _ ∙ length-range_with_len 0 shards
 
 -- the positions at which shards start, where their lists are small
-own_session_starts_are_positions : (opening : List ShardValue) (settings : Settings) → AreLimitedSettings settings
+own_session_starts_are_positions : (opening : List ShardValue) (settings : Settings) → AreLimited settings
     → length opening ≡ settings.shards
     → ((shard : ℕ) → get_or (session_start opening) shard 0 ≤ get_or (session_ends opening) shard 0)
-    → All (λ shard. IsBoundedReportList shard.list) opening → ReportTextShowsPositions (session_start opening)
+    → All (λ shard. IsBoundedReportList shard.list) opening → ShowsPositions (session_start opening)
 own_session_starts_are_positions opening settings limited many before small =
     let as_many : length (session_start opening) ≡ settings.shards = length-map opening _ ∙ many in
     let ends : All (λ position. position ≤ record_limit) (session_ends opening) =
@@ -116,7 +116,7 @@ own_session_starts_are_positions opening settings limited many before small =
 
 -- the session that `report` writes is one, if the saved cut that it went on from represents the lists
 pub own_session_is_valid : PrintsOwnSession → (settings : Settings) (rules : DealingRules) (keeping : SessionKeeping) (store : Option (List ℕ))
-    (file text : List ℕ) (is : IsSession settings rules keeping store file text) → AreLimitedSettings settings
+    (file text : List ℕ) (is : IsSession settings rules keeping store file text) → AreLimited settings
     → IfSome is.base (λ cut. CutRepresents cut is.lists)
     → IsSessionText text (shown_session settings.store (session_start (session_opening settings.capacity is.lists is.base))
     is.spelled.reports is.records)
@@ -142,7 +142,7 @@ own_session_is_valid prints settings rules keeping store file text is limited re
     record {
       is_session = own_session_is_showable settings (session_start opening) reports is.records is.dealt.frames starts
           (length-map opening _ ∙ many) is.dealt.capture.1.limit is.dealt.are_records
-          (λ k d lt. bounded_report_if_sound opening settings is.lists (get_or (session_reports_in reports) k d) limited many many_lists
+          (λ k d lt. bounded_report_if_sound opening settings is.lists (get_or (reports_in reports) k d) limited many many_lists
           small_lists (shown k d lt) (sound k d lt));
       spelled = is.spelled.spelled ∙ shown_session_prints_the_same settings.store (session_start opening) reports is.records ∙ prints known;
     }
@@ -150,7 +150,7 @@ own_session_is_valid prints settings rules keeping store file text is limited re
 -- all its reports are sound: as many as each caller made rounds, with the calling thread, and the last
 pub own_session_reads_back : PrintsOwnSession → (settings : Settings) (rules : DealingRules) (keeping : SessionKeeping)
     (store : Option (List ℕ)) (file text : List ℕ) (is : IsSession settings rules keeping store file text)
-    → AreLimitedSettings settings → IfSome is.base (λ cut. CutRepresents cut is.lists)
+    → AreLimited settings → IfSome is.base (λ cut. CutRepresents cut is.lists)
     → (known : Session) × IsSessionText text known × All (IsOwnReportSound settings is.lists) known.reports
     × (length known.reports ≡ (settings.callers + 1) * settings.rounds + 1)
 own_session_reads_back prints settings rules keeping store file text is limited represents =

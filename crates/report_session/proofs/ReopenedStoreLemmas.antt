@@ -6,22 +6,22 @@ use Rattle.std.specs.List.Sorted.{IsNonDecreasing}
 use Rattle.std.proofs.lemmas.List.{length-map}
 use Rattle.std.proofs.lemmas.List.Elements.{All-head, All-tail}
 use Rattle.prefix_lattice.specs.{RecordValue}
-use Rattle.hhh_report.specs.{AreCutPositionsNotPast}
+use Rattle.hhh_report.specs.{AreNotPast}
 use Rattle.shard_state.specs.{CutValue, ShardValue, cut_positions}
 use Rattle.hhh_report.specs.declared.reports.Reported.{Reported}
-use Rattle.gate_workers.specs.{cut_at_call}
-use Rattle.checkpoint.specs.{StoreOpensTo, SavedValue, StoresOpenToOneThing, digest_of_lists, store_positions}
+use Rattle.gate_workers.specs.{cut_at}
+use Rattle.checkpoint.specs.{StoreOpensTo, SavedValue, OpenToOne, lists_digest, store_positions}
 use Rattle.checkpoint.specs.{store_sequence}
 use Rattle.checkpoint.specs.declared.settings.StoreSettings.{StoreSettings}
-use Rattle.report_text.specs.{report_tail_text}
-use Rattle.recovery.specs.{IsOpeningBase, OpensToBase, opening_base_positions}
-use Rattle.command_words.specs.{AreLimitedSettings}
+use Rattle.report_text.specs.{tail_text}
+use Rattle.recovery.specs.{IsOpeningBase, OpensToBase, base_positions}
+use Rattle.command_words.specs.{AreLimited}
 use Rattle.command_words.specs.declared.settings.Settings.{Settings}
-use Rattle.report_session.specs.Saves.{SavesAreKeptOnDisk, last_of_saves, SavesAreReopenedFromDisk, saves_after}
-use Rattle.report_session.specs.Saves.{store_settings_for_saves, store_settings_for_saves-allowed}
-use Rattle.report_session.specs.Session.{AreReportsOfCaller, SessionGoesOnFrom, IsSession, IsSessionInPart}
-use Rattle.report_session.specs.Session.{SessionSaving, session_after_saves, last_session_positions, session_opening}
-use Rattle.report_session.specs.Session.{session_saved_cuts, session_start}
+use Rattle.report_session.specs.Saving.{AreKeptOnDisk, last_of_saves, AreReopened, saves_after}
+use Rattle.report_session.specs.Saving.{saves_settings, saves_settings-allowed}
+use Rattle.report_session.specs.Session.{AreOfCaller, GoesOnFrom, IsSession, IsSessionInPart}
+use Rattle.report_session.specs.Session.{SessionSaving, rest_after_saves, last_positions, session_opening}
+use Rattle.report_session.specs.Session.{saved_cuts, session_start}
 use Rattle.dealt_capture.specs.{DealingRules}
 use Rattle.report_session.proofs.BaseLemmas.{base_starts}
 use Rattle.report_session.proofs.LastReportLemmas.{last_report_is_among_all}
@@ -51,7 +51,7 @@ reopened_store_rises_on shards positions next later rises = record {
 -- the report after these isn't before the last of them
 reopened_store_next_not_before : (shards : ℕ) (positions : List ℕ) (reports : List Reported) (next : Reported)
     → RisesInReopenedStore shards positions (reports ++ next ∷ [])
-    → AreCutPositionsNotPast (last_session_positions positions reports) next.report.positions
+    → AreNotPast (last_positions positions reports) next.report.positions
 reopened_store_next_not_before shards positions [] next rises =
     let many : length positions ≡ shards = rises.many in
     let of_next : length next.report.positions ≡ shards =
@@ -77,12 +77,12 @@ reopened_store_sequence opened sequence digest (cut ∷ later) same =
 reopened_store_positions : (settings : StoreSettings) (opening : List ShardValue) (digest positions : List ℕ)
     (opened : Option SavedValue) (sequence : ℕ) (reports more : List Reported) → store_positions settings opened ≡ positions
     → All (λ reported. length reported.report.positions ≡ length opening) (reports ++ more)
-    → store_positions settings (last_of_saves opened (saves_after sequence digest (session_saved_cuts true opening reports)))
-    ≡ last_session_positions positions reports
+    → store_positions settings (last_of_saves opened (saves_after sequence digest (saved_cuts true opening reports)))
+    ≡ last_positions positions reports
 reopened_store_positions settings opening digest positions opened sequence [] more same each = same
 reopened_store_positions settings opening digest positions opened sequence (next ∷ later) more same each =
     reopened_store_positions settings opening digest next.report.positions
-    (Some (record { sequence = sequence + 1; digest = digest; cut = cut_at_call opening next.report.positions })) (sequence + 1)
+    (Some (record { sequence = sequence + 1; digest = digest; cut = cut_at opening next.report.positions })) (sequence + 1)
     later more
     (seen_positions_of_cut opening next.report.positions
     (All-head (λ (reported : Reported). length reported.report.positions ≡ length opening) next (later ++ more) each))
@@ -90,32 +90,32 @@ reopened_store_positions settings opening digest positions opened sequence (next
 
 -- the positions of a base are those that the store opened to
 reopened_store_base_positions : (settings : StoreSettings) (opened : Option SavedValue)
-    → store_positions settings opened ≡ opening_base_positions settings (option_map (λ (saved : SavedValue). saved.cut) opened)
+    → store_positions settings opened ≡ base_positions settings (option_map (λ (saved : SavedValue). saved.cut) opened)
 reopened_store_base_positions settings None = refl
 reopened_store_base_positions settings (Some saved) = refl
 
 -- the positions at which the shards start are those that the store opened to
-reopened_store_start_positions : StoresOpenToOneThing → (settings : Settings) (lists : List (List RecordValue)) (store : List ℕ)
-    (base : Option CutValue) (opened : Option SavedValue) → AreLimitedSettings settings → length lists ≡ settings.shards
-    → IfSome base (IsOpeningBase (store_settings_for_saves settings) lists) → OpensToBase (store_settings_for_saves settings) lists store base
-    → StoreOpensTo (store_settings_for_saves settings) store opened
-    → store_positions (store_settings_for_saves settings) opened ≡ session_start (session_opening settings.capacity lists base)
+reopened_store_start_positions : OpenToOne → (settings : Settings) (lists : List (List RecordValue)) (store : List ℕ)
+    (base : Option CutValue) (opened : Option SavedValue) → AreLimited settings → length lists ≡ settings.shards
+    → IfSome base (IsOpeningBase (saves_settings settings) lists) → OpensToBase (saves_settings settings) lists store base
+    → StoreOpensTo (saves_settings settings) store opened
+    → store_positions (saves_settings settings) opened ≡ session_start (session_opening settings.capacity lists base)
 reopened_store_start_positions one settings lists store base opened limited many fits found opens =
     let same : found.0 ≡ opened =
-    one (store_settings_for_saves settings) store found.0 opened (store_settings_for_saves-allowed settings limited) found.1 opens in
-    reopened_store_base_positions (store_settings_for_saves settings) opened
-    ∙ ap (opening_base_positions (store_settings_for_saves settings))
+    one (saves_settings settings) store found.0 opened (saves_settings-allowed settings limited) found.1 opens in
+    reopened_store_base_positions (saves_settings settings) opened
+    ∙ ap (base_positions (saves_settings settings))
     (sym (found.3 ∙ ap (option_map (λ (saved : SavedValue). saved.cut)) same))
     ∙ base_starts settings lists base many fits
 
 -- after whole saves alone the store opens to the last of them
 reopened_store_after_whole_saves : {D : Type 0} (d : DiskOf D) (settings : StoreSettings) (lists : List (List RecordValue))
-    (saved : List CutValue) (old new : D) → SavesAreKeptOnDisk d old new settings lists saved []
-    → SavesAreReopenedFromDisk d old new settings lists saved []
+    (saved : List CutValue) (old new : D) → AreKeptOnDisk d old new settings lists saved []
+    → AreReopened d old new settings lists saved []
 reopened_store_after_whole_saves d settings lists saved old new kept = λ store known.
     let keeps = kept store known in
     let last : Option SavedValue =
-    last_of_saves keeps.opened (saves_after (store_sequence keeps.opened) (digest_of_lists settings lists) saved) in
+    last_of_saves keeps.opened (saves_after (store_sequence keeps.opened) (lists_digest settings lists) saved) in
     record {
       opened = keeps.opened;
       opens = keeps.opens;
@@ -128,33 +128,33 @@ reopened_store_after_whole_saves d settings lists saved old new kept = λ store 
     }
 
 -- where the save of the next report is unfinished, the store opens to the last one before it, or to it
-reopened_store_after_broken_save : StoresOpenToOneThing → {D : Type 0} (d : DiskOf D) (settings : Settings) (lists : List (List RecordValue))
-    (base : Option CutValue) (count : ℕ) (rounds : List Reported) (next : Reported) (old new : D) → AreLimitedSettings settings
-    → length lists ≡ settings.shards → settings.store ≡ true → SessionGoesOnFrom settings lists (d.reads old) base
-    → AreReportsOfCaller (session_opening settings.capacity lists base) settings count (rounds ++ next ∷ [])
-    → SavesAreKeptOnDisk d old new (store_settings_for_saves settings) lists
-    (session_saved_cuts true (session_opening settings.capacity lists base) rounds)
-    (session_saved_cuts true (session_opening settings.capacity lists base) (next ∷ []))
-    → SavesAreReopenedFromDisk d old new (store_settings_for_saves settings) lists
-    (session_saved_cuts true (session_opening settings.capacity lists base) rounds)
-    (session_saved_cuts true (session_opening settings.capacity lists base) (next ∷ []))
+reopened_store_after_broken_save : OpenToOne → {D : Type 0} (d : DiskOf D) (settings : Settings) (lists : List (List RecordValue))
+    (base : Option CutValue) (count : ℕ) (rounds : List Reported) (next : Reported) (old new : D) → AreLimited settings
+    → length lists ≡ settings.shards → settings.store ≡ true → GoesOnFrom settings lists (d.reads old) base
+    → AreOfCaller (session_opening settings.capacity lists base) settings count (rounds ++ next ∷ [])
+    → AreKeptOnDisk d old new (saves_settings settings) lists
+    (saved_cuts true (session_opening settings.capacity lists base) rounds)
+    (saved_cuts true (session_opening settings.capacity lists base) (next ∷ []))
+    → AreReopened d old new (saves_settings settings) lists
+    (saved_cuts true (session_opening settings.capacity lists base) rounds)
+    (saved_cuts true (session_opening settings.capacity lists base) (next ∷ []))
 reopened_store_after_broken_save one d settings lists base count rounds next old new limited many used begins
     are kept = λ store known.
     let keeps = kept store known in
     let opening : List ShardValue = session_opening settings.capacity lists base in
-    let digest : List ℕ = digest_of_lists (store_settings_for_saves settings) lists in
+    let digest : List ℕ = lists_digest (saves_settings settings) lists in
     let sequence : ℕ = store_sequence keeps.opened in
-    let cuts : List CutValue = session_saved_cuts true opening rounds in
+    let cuts : List CutValue = saved_cuts true opening rounds in
     let last : Option SavedValue = last_of_saves keeps.opened (saves_after sequence digest cuts) in
-    let cut : CutValue = cut_at_call opening next.report.positions in
+    let cut : CutValue = cut_at opening next.report.positions in
     let starts : length (session_start opening) ≡ length opening = length-map opening _ in
     let rises : RisesInReopenedStore (length opening) (session_start opening) (rounds ++ next ∷ []) = record {
       many = starts;
       each = λ k d lt. (are.shown k d lt).is_report.as_many;
       never_fall = λ shard inside. are.never_fall shard (omega (arith, inside, starts));
     } in
-    let positions : store_positions (store_settings_for_saves settings) last ≡ last_session_positions (session_start opening) rounds =
-    reopened_store_positions (store_settings_for_saves settings) opening digest (session_start opening) keeps.opened sequence rounds (next ∷ [])
+    let positions : store_positions (saves_settings settings) last ≡ last_positions (session_start opening) rounds =
+    reopened_store_positions (saves_settings settings) opening digest (session_start opening) keeps.opened sequence rounds (next ∷ [])
     (reopened_store_start_positions one settings lists store base keeps.opened limited many begins.fits (begins.opens used store known)
     keeps.opens) rises.each in
     let counted : store_sequence last ≡ sequence + length cuts = reopened_store_sequence keeps.opened sequence digest cuts refl in
@@ -162,12 +162,12 @@ reopened_store_after_broken_save one d settings lists base count rounds next old
       opened = keeps.opened;
       opens = keeps.opens;
       again = λ image possible. ⊎_elim
-          (λ (opens : StoreOpensTo (store_settings_for_saves settings) image last). record {
+          (λ (opens : StoreOpensTo (saves_settings settings) image last). record {
             found = last;
             opens = opens;
             no_earlier = record {
               sequence = omega arith;
-              positions = seen_positions_not_past_self (store_positions (store_settings_for_saves settings) last);
+              positions = seen_positions_not_past_self (store_positions (saves_settings settings) last);
             };
             exact = λ none. refl;
           })
@@ -176,8 +176,8 @@ reopened_store_after_broken_save one d settings lists base count rounds next old
             opens = opens;
             no_earlier = record {
               sequence = omega (arith, counted);
-              positions = subst (λ ps. AreCutPositionsNotPast ps (cut_positions cut)) (sym positions)
-                  (subst (AreCutPositionsNotPast (last_session_positions (session_start opening) rounds))
+              positions = subst (λ ps. AreNotPast ps (cut_positions cut)) (sym positions)
+                  (subst (AreNotPast (last_positions (session_start opening) rounds))
                   (sym (seen_positions_of_cut opening next.report.positions (last_report_is_among_all
                   (λ (reported : Reported). length reported.report.positions ≡ length opening) rounds next rises.each)))
                   (reopened_store_next_not_before (length opening) (session_start opening) rounds next rises));
@@ -188,36 +188,36 @@ reopened_store_after_broken_save one d settings lists base count rounds next old
     }
 
 -- the same of what a session keeps, with or without a store
-reopened_store_of_session : StoresOpenToOneThing → {D : Type 0} (d : DiskOf D) (settings : Settings) (lists : List (List RecordValue))
-    (base : Option CutValue) (count : ℕ) (rounds : List Reported) (next : Reported) (old new : D) → AreLimitedSettings settings
-    → length lists ≡ settings.shards → SessionGoesOnFrom settings lists (d.reads old) base
-    → AreReportsOfCaller (session_opening settings.capacity lists base) settings count (rounds ++ next ∷ [])
-    → session_after_saves settings.store (session_opening settings.capacity lists base) rounds (λ saved unfinished.
+reopened_store_of_session : OpenToOne → {D : Type 0} (d : DiskOf D) (settings : Settings) (lists : List (List RecordValue))
+    (base : Option CutValue) (count : ℕ) (rounds : List Reported) (next : Reported) (old new : D) → AreLimited settings
+    → length lists ≡ settings.shards → GoesOnFrom settings lists (d.reads old) base
+    → AreOfCaller (session_opening settings.capacity lists base) settings count (rounds ++ next ∷ [])
+    → rest_after_saves settings.store (session_opening settings.capacity lists base) rounds (λ saved unfinished.
     settings.store ≡ true
-    → SavesAreKeptOnDisk d old new (store_settings_for_saves settings) lists saved unfinished)
-    [] (session_saved_cuts settings.store (session_opening settings.capacity lists base) (next ∷ []))
-    → session_after_saves settings.store (session_opening settings.capacity lists base) rounds (λ saved unfinished.
-    settings.store ≡ true → SavesAreReopenedFromDisk d old new (store_settings_for_saves settings) lists saved unfinished)
-    [] (session_saved_cuts settings.store (session_opening settings.capacity lists base) (next ∷ []))
+    → AreKeptOnDisk d old new (saves_settings settings) lists saved unfinished)
+    [] (saved_cuts settings.store (session_opening settings.capacity lists base) (next ∷ []))
+    → rest_after_saves settings.store (session_opening settings.capacity lists base) rounds (λ saved unfinished.
+    settings.store ≡ true → AreReopened d old new (saves_settings settings) lists saved unfinished)
+    [] (saved_cuts settings.store (session_opening settings.capacity lists base) (next ∷ []))
 reopened_store_of_session one d settings lists base count rounds next old new limited many begins are
     kept = λ used.
     let opening : List ShardValue = session_opening settings.capacity lists base in
     let Kept : List CutValue → List CutValue → Type 0 =
-    SavesAreKeptOnDisk d old new (store_settings_for_saves settings) lists in
-    let Less : List CutValue → List CutValue → Type 0 = SavesAreReopenedFromDisk d old new (store_settings_for_saves settings) lists in
-    let cuts : List CutValue = session_saved_cuts true opening rounds in
-    let one_more : List CutValue = session_saved_cuts true opening (next ∷ []) in
-    subst (λ b. Less (session_saved_cuts b opening rounds ++ []) (session_saved_cuts b opening (next ∷ []))) (sym used)
+    AreKeptOnDisk d old new (saves_settings settings) lists in
+    let Less : List CutValue → List CutValue → Type 0 = AreReopened d old new (saves_settings settings) lists in
+    let cuts : List CutValue = saved_cuts true opening rounds in
+    let one_more : List CutValue = saved_cuts true opening (next ∷ []) in
+    subst (λ b. Less (saved_cuts b opening rounds ++ []) (saved_cuts b opening (next ∷ []))) (sym used)
     (subst (λ list. Less list one_more) (sym (append-nil cuts))
     (reopened_store_after_broken_save one d settings lists base count rounds next old new limited many used
     begins are
     (subst (λ list. Kept list one_more) (append-nil cuts)
-    (subst (λ b. Kept (session_saved_cuts b opening rounds ++ []) (session_saved_cuts b opening (next ∷ []))) used (kept used)))))
+    (subst (λ b. Kept (saved_cuts b opening rounds ++ []) (saved_cuts b opening (next ∷ []))) used (kept used)))))
 
 -- a whole session
 pub reopened_store_after_completion : {D : Type 0} (d : DiskOf D) (rules : DealingRules) (settings : Settings) (old new : D) (file text : List ℕ)
-    → IsSession settings rules (SavesAreKeptOnDisk d old new) (d.reads old) file text
-    → IsSession settings rules (SavesAreReopenedFromDisk d old new) (d.reads old) file text
+    → IsSession settings rules (AreKeptOnDisk d old new) (d.reads old) file text
+    → IsSession settings rules (AreReopened d old new) (d.reads old) file text
 reopened_store_after_completion d rules settings old new file text session = record {
   records = session.records;
   lists = session.lists;
@@ -227,18 +227,18 @@ reopened_store_after_completion d rules settings old new file text session = rec
   represents = session.represents;
   spelled = spelled_session_text_says_less (session_opening settings.capacity session.lists session.base) settings
       (λ cuts. settings.store ≡ true
-      → SavesAreKeptOnDisk d old new (store_settings_for_saves settings) session.lists cuts [])
-      (λ cuts. settings.store ≡ true → SavesAreReopenedFromDisk d old new (store_settings_for_saves settings) session.lists cuts [])
-      (report_tail_text session.records) text
-      (λ cuts kept used. reopened_store_after_whole_saves d (store_settings_for_saves settings) session.lists cuts
+      → AreKeptOnDisk d old new (saves_settings settings) session.lists cuts [])
+      (λ cuts. settings.store ≡ true → AreReopened d old new (saves_settings settings) session.lists cuts [])
+      (tail_text session.records) text
+      (λ cuts kept used. reopened_store_after_whole_saves d (saves_settings settings) session.lists cuts
       old new (kept used)) session.spelled;
 }
 
 -- a session that broke off
-pub reopened_store_after_breaking_off : StoresOpenToOneThing → {D : Type 0} (d : DiskOf D) (rules : DealingRules) (settings : Settings) (old new : D)
-    (file front : List ℕ) → AreLimitedSettings settings
-    → IsSessionInPart settings rules (SavesAreKeptOnDisk d old new) (d.reads old) file front
-    → IsSessionInPart settings rules (SavesAreReopenedFromDisk d old new) (d.reads old) file front
+pub reopened_store_after_breaking_off : OpenToOne → {D : Type 0} (d : DiskOf D) (rules : DealingRules) (settings : Settings) (old new : D)
+    (file front : List ℕ) → AreLimited settings
+    → IsSessionInPart settings rules (AreKeptOnDisk d old new) (d.reads old) file front
+    → IsSessionInPart settings rules (AreReopened d old new) (d.reads old) file front
 reopened_store_after_breaking_off one d rules settings old new file front limited session =
     let lists : List (List RecordValue) = session.lists in
     let base : Option CutValue = session.base in
@@ -246,12 +246,12 @@ reopened_store_after_breaking_off one d rules settings old new file front limite
     let many : length lists ≡ settings.shards =
     own_session_lists_match_shards settings.deal (rules settings.deal) settings.shards session.records.list lists session.dealt.dealt in
     let Kept : SessionSaving = λ saved unfinished. settings.store ≡ true
-    → SavesAreKeptOnDisk d old new (store_settings_for_saves settings) lists saved unfinished in
+    → AreKeptOnDisk d old new (saves_settings settings) lists saved unfinished in
     let Less : SessionSaving = λ saved unfinished. settings.store ≡ true
-    → SavesAreReopenedFromDisk d old new (store_settings_for_saves settings) lists saved unfinished in
+    → AreReopened d old new (saves_settings settings) lists saved unfinished in
     let finished : (saved : List CutValue) → Kept saved [] → Less saved [] = λ saved kept used.
-    reopened_store_after_whole_saves d (store_settings_for_saves settings) lists saved old new (kept used) in
-    let cuts : List Reported → List CutValue = session_saved_cuts settings.store opening in
+    reopened_store_after_whole_saves d (saves_settings settings) lists saved old new (kept used) in
+    let cuts : List Reported → List CutValue = saved_cuts settings.store opening in
     record {
       records = session.records;
       lists = lists;
@@ -259,7 +259,7 @@ reopened_store_after_breaking_off one d rules settings old new file front limite
       base = base;
       begins = session.begins;
       represents = session.represents;
-      begun = session_text_begins_saying_less opening settings Kept Less (report_tail_text session.records) front
+      begun = session_text_begins_saying_less opening settings Kept Less (tail_text session.records) front
           (record {
             none = finished [];
             between = λ rounds are. finished (cuts rounds);

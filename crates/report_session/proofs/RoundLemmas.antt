@@ -6,47 +6,47 @@ use Rattle.std.specs.Prelude.{⊤, is_some, option_map}
 use Rattle.std.proofs.Common.{Ok, Err}
 use Rattle.std.specs.Result.{IfErr, IsErrAnd}
 use Rattle.std.specs.declared.result.Result.{Result}
-use Rattle.outside_io.specs.{FaultCountRose}
+use Rattle.outside_io.specs.{FaultRose}
 use Rattle.std.proofs.Common.{length, append-nil, append_assoc}
 use Rattle.std.specs.List.{flat_map}
 use Rattle.std.specs.Io.KnownBytes.{Appends}
 use Rattle.std.proofs.KnownBytes.{Appends-trans, Appends-nil}
 use Rattle.std.proofs.lemmas.List.Elements.{All-nil, All-cons, All-head, All-tail, All-append}
-use Rattle.shard_state.specs.{AreCoreShards, CoreBasesRepresent, CutValue, IsShard, ShardValue, core_capacity}
+use Rattle.shard_state.specs.{AreCoreShards, BasesRepresent, CutValue, IsShard, ShardValue, core_capacity}
 use Rattle.shard_state.specs.{core_lists, shard_state_at}
 use Rattle.prefix_lattice.specs.{record_limit}
 use Rattle.hhh_report.specs.{IsSound}
 use Rattle.hhh_report.specs.declared.report.Report.{Report}
 use Rattle.hhh_report.specs.declared.reports.Reported.{Reported}
-use Rattle.gate_workers.specs.{Calls, IsReportAtCall, CallReadsOnce, View, states_at_call}
-use Rattle.report_text.specs.{ReportTextShowsPositions}
-use Rattle.report_session.specs.DealtFeed.{IsDealtFeedSaveFault}
-use Rattle.report_session.specs.Rounds.{RoundsBreakOff, BreaksRound, EndRounds, RoundFaults, IsRoundInVain}
-use Rattle.report_session.specs.Rounds.{RoundBreaksInLine, RoundBreaksInReport, WritesRounds, WritesUnsavedRound}
-use Rattle.report_session.specs.Session.{SessionSaving, session_after_saves, session_part, session_parts}
-use Rattle.report_session.specs.Session.{session_saved_cuts}
+use Rattle.gate_workers.specs.{Calls, IsReportAtCall, ReadsOnce, View, states_at}
+use Rattle.report_text.specs.{ShowsPositions}
+use Rattle.report_session.specs.DealtFeed.{IsSaveFault}
+use Rattle.report_session.specs.LiveRounds.{RoundsBreakOff, BreaksRound, EndRounds, RoundFaults, IsInVain}
+use Rattle.report_session.specs.LiveRounds.{BreaksInLine, BreaksInReport, WritesRounds, WritesUnsaved}
+use Rattle.report_session.specs.Session.{SessionSaving, rest_after_saves, session_part, session_parts}
+use Rattle.report_session.specs.Session.{saved_cuts}
 use Rattle.run_status.specs.declared.status.Status.{Status}
 use Rattle.run_status.specs.declared.status.Status.TheVariants.{Done, BadWords, BadCapture, ReadFault, WriteFault}
 use Rattle.run_status.specs.declared.status.Status.TheVariants.{DiskFault, NotFormatted, Damaged, OtherSettings}
 use Rattle.run_status.specs.declared.status.Status.TheVariants.{OtherCapture, AuditNo, BadReport, OutOfMemory}
-use Rattle.report_session.proofs.SaveLemmas.{session_saved_cuts-append_saves}
+use Rattle.report_session.proofs.SaveLemmas.{saved_cuts-append_saves}
 
 -- positions within the lists of shards are positions that a text can show
 round_positions_are_within : (opening : List ShardValue) (positions : List ℕ) → length positions ≡ length opening
-    → All IsShard (states_at_call opening positions) → All (λ position. position ≤ record_limit) positions
+    → All IsShard (states_at opening positions) → All (λ position. position ≤ record_limit) positions
 round_positions_are_within [] [] many kept = All-nil (λ position. position ≤ record_limit)
 round_positions_are_within [] (position ∷ positions) many kept = absurd (omega (arith, many))
 round_positions_are_within (shard ∷ rest) [] many kept = absurd (omega (arith, many))
 round_positions_are_within (shard ∷ rest) (position ∷ positions) many kept =
     let is_shard : IsShard (shard_state_at position shard) =
-    All-head IsShard (shard_state_at position shard) (states_at_call rest positions) kept in
+    All-head IsShard (shard_state_at position shard) (states_at rest positions) kept in
     All-cons (λ position. position ≤ record_limit) position positions
     (omega (arith, is_shard.few, is_shard.within))
     (round_positions_are_within rest positions (omega (arith, many))
-    (All-tail IsShard (shard_state_at position shard) (states_at_call rest positions) kept))
+    (All-tail IsShard (shard_state_at position shard) (states_at rest positions) kept))
 
 pub round_report_has_positions : (opening : List ShardValue) (phi : ℕ) (report : Report) → AreCoreShards opening
-    → IsReportAtCall opening phi report → ReportTextShowsPositions report.positions
+    → IsReportAtCall opening phi report → ShowsPositions report.positions
 round_report_has_positions opening phi report shards at = record {
   some = subst (λ n. 1 ≤ n) (sym at.as_many) shards.some;
   few = subst (λ n. n ≤ 16) (sym at.as_many) shards.few;
@@ -71,17 +71,17 @@ flat_map-append_rounds f (x ∷ xs) ys =
     ap (λ rest. f x ++ rest) (flat_map-append_rounds f xs ys) ∙ sym (append_assoc (f x) (flat_map f xs) (flat_map f ys))
 
 -- no report, no saved cut
-pub session_saved_cuts-no_rounds : (store : Bool) (opening : List ShardValue) → session_saved_cuts store opening [] ≡ []
-session_saved_cuts-no_rounds false opening = refl
-session_saved_cuts-no_rounds true opening = refl
+pub saved_cuts-no_rounds : (store : Bool) (opening : List ShardValue) → saved_cuts store opening [] ≡ []
+saved_cuts-no_rounds false opening = refl
+saved_cuts-no_rounds true opening = refl
 
 -- one round that was written whole
 pub writes_one_round : (opening : List ShardValue) (phi : ℕ) (before now : View) (store : Bool)
     (Kept : List CutValue → Type 0) (old new : Option (List ℕ)) (report : Report)
     → Calls opening phi 1 before now (record { report = report; saved = None } ∷ [])
-    → (CoreBasesRepresent opening → IsSound report (core_lists opening) (core_capacity opening) phi)
+    → (BasesRepresent opening → IsSound report (core_lists opening) (core_capacity opening) phi)
     → Appends old new (session_part store (record { report = report; saved = None }))
-    → Kept (session_saved_cuts store opening (record { report = report; saved = None } ∷ []))
+    → Kept (saved_cuts store opening (record { report = report; saved = None } ∷ []))
     → WritesRounds opening phi store 1 before now Kept old new
 writes_one_round opening phi before now store Kept old new report calls sound written kept = record {
   reports = record { report = report; saved = None } ∷ [];
@@ -104,7 +104,7 @@ writes_no_round opening phi now store Kept old calls kept = record {
   sound = λ bases.
       All-nil (λ (reported : Reported). IsSound reported.report (core_lists opening) (core_capacity opening) phi);
   written = Appends-nil old;
-  kept = subst Kept (sym (session_saved_cuts-no_rounds store opening)) kept;
+  kept = subst Kept (sym (saved_cuts-no_rounds store opening)) kept;
 }
 
 -- rounds that follow rounds of the same pass are rounds
@@ -131,8 +131,8 @@ writes_more_rounds opening phi rounds more before middle now store First Second 
       (Appends-trans old between new (session_parts store one.reports) (session_parts store two.reports) one.written
       two.written);
   kept =
-      subst Both (sym (session_saved_cuts-append_saves store opening one.reports two.reports))
-      (both (session_saved_cuts store opening one.reports) (session_saved_cuts store opening two.reports) one.kept two.kept);
+      subst Both (sym (saved_cuts-append_saves store opening one.reports two.reports))
+      (both (saved_cuts store opening one.reports) (saved_cuts store opening two.reports) one.kept two.kept);
 }
 
 -- rounds of which less is said
@@ -165,13 +165,13 @@ all_rounds_were_made opening shards phi made rounds before now store Kept KeptIn
 -- a round whose cut wasn't saved, of which less is said
 unsaved_round_says_less : (opening : List ShardValue) (phi : ℕ) (before now : View) (unfinished : Bool) (Kept Less : SessionSaving)
     (old new : Option (List ℕ)) → ((saved unfinished : List CutValue) → Kept saved unfinished → Less saved unfinished)
-    → WritesUnsavedRound opening phi before now unfinished Kept old new
-    → WritesUnsavedRound opening phi before now unfinished Less old new
+    → WritesUnsaved opening phi before now unfinished Kept old new
+    → WritesUnsaved opening phi before now unfinished Less old new
 unsaved_round_says_less opening phi before now unfinished Kept Less old new less unsaved = record {
   report = unsaved.report;
   reports = unsaved.reports;
   written = unsaved.written;
-  kept = less [] (session_saved_cuts unfinished opening (record { report = unsaved.report; saved = None } ∷ [])) unsaved.kept;
+  kept = less [] (saved_cuts unfinished opening (record { report = unsaved.report; saved = None } ∷ [])) unsaved.kept;
 }
 
 -- a round that broke off, of which less is said
@@ -182,19 +182,19 @@ broken_round_says_less : (opening : List ShardValue) (phi : ℕ) (before now : V
     → BreaksRound opening phi store before now Less old new faults_before faults_now status
 broken_round_says_less opening phi before now store Kept Less old new faults_before faults_now WriteFault less broken = (
   ⊎_elim
-      (λ (part : RoundBreaksInReport opening phi before now Kept old new). inl (record {
+      (λ (part : BreaksInReport opening phi before now Kept old new). inl (record {
         report = part.report;
         reports = part.reports;
         written = part.written;
         kept = less [] [] part.kept;
       }))
-      (λ (part : RoundBreaksInLine opening phi store before now Kept old new). inr (record {
+      (λ (part : BreaksInLine opening phi store before now Kept old new). inr (record {
         report = part.report;
         reports = part.reports;
         between = part.between;
         whole = part.whole;
         written = part.written;
-        kept = less (session_saved_cuts store opening (record { report = part.report; saved = None } ∷ [])) [] part.kept;
+        kept = less (saved_cuts store opening (record { report = part.report; saved = None } ∷ [])) [] part.kept;
       })) broken.0,
   broken.1,
 )
@@ -202,7 +202,7 @@ broken_round_says_less opening phi before now store Kept Less old new faults_bef
     (broken.0, unsaved_round_says_less opening phi before now true Kept Less old new less broken.1, broken.2)
 broken_round_says_less opening phi before now store Kept Less old new faults_before faults_now OutOfMemory less broken = (
   ⊎_elim
-      (λ (vain : IsRoundInVain opening before now Kept old new).
+      (λ (vain : IsInVain opening before now Kept old new).
       inl (record { reads = vain.reads; unwritten = vain.unwritten; kept = less [] [] vain.kept }))
       (λ unsaved. inr (unsaved.0, unsaved_round_says_less opening phi before now false Kept Less old new less unsaved.1)) broken.0,
   broken.1,
@@ -244,9 +244,9 @@ ended_rounds_say_less opening phi rounds before now store Kept KeptInPart Less o
       between = off.between;
       written = off.written;
       broken =
-          broken_round_says_less opening phi off.middle now store (session_after_saves store opening off.written.reports KeptInPart)
-          (session_after_saves store opening off.written.reports Less) off.between new faults_before faults_now status
-          (λ saved unfinished kept. less (session_saved_cuts store opening off.written.reports ++ saved) unfinished kept) off.broken;
+          broken_round_says_less opening phi off.middle now store (rest_after_saves store opening off.written.reports KeptInPart)
+          (rest_after_saves store opening off.written.reports Less) off.between new faults_before faults_now status
+          (λ saved unfinished kept. less (saved_cuts store opening off.written.reports ++ saved) unfinished kept) off.broken;
     }
 
 -- a round broke off
@@ -268,9 +268,9 @@ one_round_broke_off opening shards phi share made rounds before middle now store
       between = between;
       written = written_rounds_say_less opening phi made before middle store Kept old between written;
       broken =
-          broken_round_says_less opening phi middle now store KeptInRound (session_after_saves store opening written.reports KeptInPart)
+          broken_round_says_less opening phi middle now store KeptInRound (rest_after_saves store opening written.reports KeptInPart)
           between new faults_before faults_now status
-          (λ saved unfinished kept. both (session_saved_cuts store opening written.reports) saved unfinished written.kept kept)
+          (λ saved unfinished kept. both (saved_cuts store opening written.reports) saved unfinished written.kept kept)
           (subst (λ b. BreaksRound opening phi b middle now KeptInRound between new faults_before faults_now status)
           round_saver_stays_or_none
           (subst (λ n. BreaksRound opening n stored middle now KeptInRound between new faults_before faults_now status)
@@ -282,22 +282,22 @@ one_round_broke_off opening shards phi share made rounds before middle now store
 -- the sink failed in a round
 pub round_broken_by_sink : (opening : List ShardValue) (phi : ℕ) (before now : View) (store : Bool) (Kept : SessionSaving)
     (old new : Option (List ℕ)) (sink_before sink_between sink_now disk_before disk_now : ℕ) (status : Status)
-    → (status ≡ WriteFault) × FaultCountRose sink_between sink_now → sink_between ≡ sink_before → disk_now ≡ disk_before
-    → RoundBreaksInReport opening phi before now Kept old new ⊎ RoundBreaksInLine opening phi store before now Kept old new
+    → (status ≡ WriteFault) × FaultRose sink_between sink_now → sink_between ≡ sink_before → disk_now ≡ disk_before
+    → BreaksInReport opening phi before now Kept old new ⊎ BreaksInLine opening phi store before now Kept old new
     → BreaksRound opening phi store before now Kept old new (record { sink = sink_before; disk = disk_before })
     (record { sink = sink_now; disk = disk_now }) status
 round_broken_by_sink opening phi before now store Kept old new sink_before sink_between sink_now disk_before disk_now status failed
     earlier same part =
     subst (BreaksRound opening phi store before now Kept old new (record { sink = sink_before; disk = disk_before })
     (record { sink = sink_now; disk = disk_now })) (sym failed.0)
-    (part, record { rose = subst (λ n. FaultCountRose n sink_now) earlier failed.1; disk = same })
+    (part, record { rose = subst (λ n. FaultRose n sink_now) earlier failed.1; disk = same })
 
 -- the cut of a round wasn't saved
 pub round_broken_at_saving : (opening : List ShardValue) (phi : ℕ) (before now : View) (store : Bool) (Kept : SessionSaving)
     (old new : Option (List ℕ)) (sink_before sink_now disk_before disk_now : ℕ) (status : Status)
-    → store ≡ true → IsDealtFeedSaveFault disk_before disk_now status → sink_now ≡ sink_before
-    → (status ≡ DiskFault → WritesUnsavedRound opening phi before now true Kept old new)
-    → (status ≡ OutOfMemory → WritesUnsavedRound opening phi before now false Kept old new)
+    → store ≡ true → IsSaveFault disk_before disk_now status → sink_now ≡ sink_before
+    → (status ≡ DiskFault → WritesUnsaved opening phi before now true Kept old new)
+    → (status ≡ OutOfMemory → WritesUnsaved opening phi before now false Kept old new)
     → BreaksRound opening phi store before now Kept old new (record { sink = sink_before; disk = disk_before })
     (record { sink = sink_now; disk = disk_now }) status
 round_broken_at_saving opening phi before now store Kept old new sink_before sink_now disk_before disk_now DiskFault used fault same
@@ -332,7 +332,7 @@ round_broken_at_saving opening phi before now store Kept old new sink_before sin
 -- memory ran out before a round was written
 pub round_broken_by_memory : {T : Type 0} (result : Result T Status) (opening : List ShardValue) (phi : ℕ) (before now : View)
     (store : Bool) (Kept : SessionSaving) (old : Option (List ℕ)) (faults : RoundFaults)
-    → IsErrAnd result (λ status. status ≡ OutOfMemory) → CallReadsOnce opening before now → Kept [] []
+    → IsErrAnd result (λ status. status ≡ OutOfMemory) → ReadsOnce opening before now → Kept [] []
     → IfErr result (BreaksRound opening phi store before now Kept old old faults faults)
 round_broken_by_memory (Ok value) opening phi before now store Kept old faults none reads kept = tt
 round_broken_by_memory (Err status) opening phi before now store Kept old faults is reads kept =

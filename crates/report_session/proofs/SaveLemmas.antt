@@ -7,19 +7,19 @@ use Rattle.std.proofs.lemmas.List.{length-append, map-append}
 use Rattle.shard_state.specs.{CutValue, ShardValue}
 use Rattle.hhh_report.specs.declared.report.Report.{Report}
 use Rattle.hhh_report.specs.declared.reports.Reported.{Reported}
-use Rattle.gate_workers.specs.{cut_at_call}
-use Rattle.slot_disk.specs.{IfImageKnown, CrashLeavesAtAnyMoment, CrashLeavesAtAnyMoment-none}
-use Rattle.slot_disk.specs.{CrashLeavesAtAnyMoment-trans, CrashLeavesAtAnyMoment-weaker}
+use Rattle.gate_workers.specs.{cut_at}
+use Rattle.slot_disk.specs.{IfImageKnown, CrashLeaves, CrashLeaves-none}
+use Rattle.slot_disk.specs.{CrashLeaves-trans, CrashLeaves-weaker}
 use Rattle.slot_disk.specs.declared.disk.Disk.{Ghosts as DiskOf}
-use Rattle.checkpoint.specs.{AreHeaderSettings, IsKnownToSaver, StoreOpensAsOldOrNew, StoreOpensTo, SavedValue}
-use Rattle.checkpoint.specs.{SaverState, DiskMatchesSaver, StoresOpenToOneThing}
-use Rattle.checkpoint.specs.{saver_after_save, newest_in_store, next_saved, store_sequence}
+use Rattle.checkpoint.specs.{AreSettings, IsKnownSaver, OpensOldOrNew, StoreOpensTo, SavedValue}
+use Rattle.checkpoint.specs.{SaverState, DiskMatches, OpenToOne}
+use Rattle.checkpoint.specs.{saver_after, newest_in, next_saved, store_sequence}
 use Rattle.checkpoint.specs.declared.settings.StoreSettings.{StoreSettings}
-use Rattle.report_session.specs.DealtFeed.{DealtFeedCanSaveCut}
-use Rattle.report_session.specs.Saves.{KeepsSaves, OpensAsBeforeOrToSaves, Saves, SavesCuts, SavesInPart}
-use Rattle.report_session.specs.Saves.{SavesBreakOff, SavesInTurn, after_saves, saver_after_broken_saves}
-use Rattle.report_session.specs.Saves.{last_of_saves, saves_after}
-use Rattle.report_session.specs.Session.{session_saved_cuts}
+use Rattle.report_session.specs.DealtFeed.{CanSaveCut}
+use Rattle.report_session.specs.Saving.{KeepsSaves, OpensToSaves, Saves, SavesCuts, SavesInPart}
+use Rattle.report_session.specs.Saving.{SavesBreakOff, SavesInTurn, after_saves, after_broken}
+use Rattle.report_session.specs.Saving.{last_of_saves, saves_after}
+use Rattle.report_session.specs.Session.{saved_cuts}
 
 -- one save after others
 pub saves_after-append_saves : (sequence : ℕ) (digest : List ℕ) (cuts later : List CutValue)
@@ -46,7 +46,7 @@ save_takes_next_sequence opened digest (cut ∷ cuts) =
     ∙ omega arith
 
 opens_at_earlier_saves : (settings : StoreSettings) (opened : Option SavedValue) (saves later : List SavedValue) (image : List ℕ)
-    → OpensAsBeforeOrToSaves settings opened saves image → OpensAsBeforeOrToSaves settings opened (saves ++ later) image
+    → OpensToSaves settings opened saves image → OpensToSaves settings opened (saves ++ later) image
 opens_at_earlier_saves settings opened [] [] image opens = opens
 opens_at_earlier_saves settings opened [] (saved ∷ later) image opens = inl opens
 opens_at_earlier_saves settings opened (saved ∷ saves) later image (inl opens) = inl opens
@@ -54,7 +54,7 @@ opens_at_earlier_saves settings opened (saved ∷ saves) later image (inr among)
     inr (opens_at_earlier_saves settings (Some saved) saves later image among)
 
 opens_at_later_saves : (settings : StoreSettings) (opened : Option SavedValue) (saves later : List SavedValue) (image : List ℕ)
-    → OpensAsBeforeOrToSaves settings (last_of_saves opened saves) later image → OpensAsBeforeOrToSaves settings opened (saves ++ later) image
+    → OpensToSaves settings (last_of_saves opened saves) later image → OpensToSaves settings opened (saves ++ later) image
 opens_at_later_saves settings opened [] later image among = among
 opens_at_later_saves settings opened (saved ∷ saves) later image among =
     inr (opens_at_later_saves settings (Some saved) saves later image among)
@@ -66,8 +66,8 @@ save_leaves_bytes_known old None bytes known is = cc (known, is)
 save_leaves_bytes_known old (Some now) bytes known is = (now, refl)
 
 -- saves that follow others, into the store that these left
-kept_saves_follow : StoresOpenToOneThing → {D : Type 0} (d : DiskOf D) (settings : StoreSettings) (digest : List ℕ) (Earlier : List ℕ → Type 0)
-    (cuts later unfinished : List CutValue) (old mid new : D) (store between : List ℕ) → AreHeaderSettings settings
+kept_saves_follow : OpenToOne → {D : Type 0} (d : DiskOf D) (settings : StoreSettings) (digest : List ℕ) (Earlier : List ℕ → Type 0)
+    (cuts later unfinished : List CutValue) (old mid new : D) (store between : List ℕ) → AreSettings settings
     → d.image_now mid between → KeepsSaves d settings digest Earlier cuts [] old mid store
     → KeepsSaves d settings digest (λ image. ⊥) later unfinished mid new between
     → KeepsSaves d settings digest Earlier (cuts ++ later) unfinished old new store
@@ -94,45 +94,45 @@ kept_saves_follow one {D} d settings digest Earlier cuts later unfinished old mi
     record {
       opened = opened;
       opens = first.opens;
-      any_moment = CrashLeavesAtAnyMoment-trans d.moment d.image_since old mid new
-          (λ image. Earlier image ⊎ OpensAsBeforeOrToSaves settings opened all image)
-          (CrashLeavesAtAnyMoment-weaker d.moment d.image_since old mid
-          (λ image. Earlier image ⊎ OpensAsBeforeOrToSaves settings opened (saves_after start digest (cuts ++ [])) image)
-          (λ image. Earlier image ⊎ OpensAsBeforeOrToSaves settings opened all image) first.any_moment
+      any_moment = CrashLeaves-trans d.moment d.image_since old mid new
+          (λ image. Earlier image ⊎ OpensToSaves settings opened all image)
+          (CrashLeaves-weaker d.moment d.image_since old mid
+          (λ image. Earlier image ⊎ OpensToSaves settings opened (saves_after start digest (cuts ++ [])) image)
+          (λ image. Earlier image ⊎ OpensToSaves settings opened all image) first.any_moment
           (λ image. ⊎_elim (λ earlier. inl earlier)
-          (λ among. inr (subst (λ list. OpensAsBeforeOrToSaves settings opened list image) (sym parted)
+          (λ among. inr (subst (λ list. OpensToSaves settings opened list image) (sym parted)
           (opens_at_earlier_saves settings opened saves next image
-          (subst (λ list. OpensAsBeforeOrToSaves settings opened (saves_after start digest list) image) (append-nil cuts) among))))))
-          (CrashLeavesAtAnyMoment-weaker d.moment d.image_since mid new
-          (λ image. ⊥ ⊎ OpensAsBeforeOrToSaves settings second.opened next image)
-          (λ image. Earlier image ⊎ OpensAsBeforeOrToSaves settings opened all image) second.any_moment
+          (subst (λ list. OpensToSaves settings opened (saves_after start digest list) image) (append-nil cuts) among))))))
+          (CrashLeaves-weaker d.moment d.image_since mid new
+          (λ image. ⊥ ⊎ OpensToSaves settings second.opened next image)
+          (λ image. Earlier image ⊎ OpensToSaves settings opened all image) second.any_moment
           (λ image. ⊎_elim (λ never. absurd never)
-          (λ among. inr (subst (λ list. OpensAsBeforeOrToSaves settings opened list image) (sym parted)
+          (λ among. inr (subst (λ list. OpensToSaves settings opened list image) (sym parted)
           (opens_at_later_saves settings opened saves next image
-          (subst (λ held. OpensAsBeforeOrToSaves settings held next image) same among))))));
+          (subst (λ held. OpensToSaves settings held next image) same among))))));
       afterwards = λ image is.
-          subst (λ held. OpensAsBeforeOrToSaves settings held
+          subst (λ held. OpensToSaves settings held
           (saves_after (start + length (cuts ++ later)) digest unfinished) image) (sym last)
-          (subst (λ n. OpensAsBeforeOrToSaves settings (last_of_saves second.opened (saves_after then digest later))
+          (subst (λ n. OpensToSaves settings (last_of_saves second.opened (saves_after then digest later))
           (saves_after n digest unfinished) image) (omega (arith, sequence, length-append cuts later))
           (second.afterwards image is));
     }
 
 -- what a save may leave at any moment
-save_leaves : StoresOpenToOneThing → {D : Type 0} (d : DiskOf D)
-    (saver : SaverState) (cut : CutValue) (old new : D) (bytes : List ℕ) → AreHeaderSettings saver.settings
-    → (store : IsKnownToSaver saver bytes)
-    → CrashLeavesAtAnyMoment d.moment d.image_since old new (StoreOpensAsOldOrNew saver.settings bytes (next_saved saver cut))
-    → CrashLeavesAtAnyMoment d.moment d.image_since old new (λ image. ⊥ ⊎ OpensAsBeforeOrToSaves saver.settings (newest_in_store store.first store.second)
-    (saves_after (store_sequence (newest_in_store store.first store.second)) saver.digest (cut ∷ [])) image)
+save_leaves : OpenToOne → {D : Type 0} (d : DiskOf D)
+    (saver : SaverState) (cut : CutValue) (old new : D) (bytes : List ℕ) → AreSettings saver.settings
+    → (store : IsKnownSaver saver bytes)
+    → CrashLeaves d.moment d.image_since old new (OpensOldOrNew saver.settings bytes (next_saved saver cut))
+    → CrashLeaves d.moment d.image_since old new (λ image. ⊥ ⊎ OpensToSaves saver.settings (newest_in store.first store.second)
+    (saves_after (store_sequence (newest_in store.first store.second)) saver.digest (cut ∷ [])) image)
 save_leaves one d saver cut old new bytes are store any_moment =
-    let opened : Option SavedValue = newest_in_store store.first store.second in
+    let opened : Option SavedValue = newest_in store.first store.second in
     let saved : SavedValue = next_saved saver cut in
     let same : saved ≡ record { sequence = store_sequence opened + 1; digest = saver.digest; cut = cut } =
     ap (λ n. record { sequence = n + 1; digest = saver.digest; cut = cut }) store.sequence_is in
     let was : StoreOpensTo saver.settings bytes opened = (store.first, store.second, store.holds, refl) in
-    CrashLeavesAtAnyMoment-weaker d.moment d.image_since old new (StoreOpensAsOldOrNew saver.settings bytes saved)
-    (λ image. ⊥ ⊎ OpensAsBeforeOrToSaves saver.settings opened
+    CrashLeaves-weaker d.moment d.image_since old new (OpensOldOrNew saver.settings bytes saved)
+    (λ image. ⊥ ⊎ OpensToSaves saver.settings opened
     (saves_after (store_sequence opened) saver.digest (cut ∷ [])) image) any_moment
     (λ image. ⊎_elim
     (λ alike. inr (inl (subst (StoreOpensTo saver.settings image)
@@ -140,21 +140,21 @@ save_leaves one d saver cut old new bytes are store any_moment =
     (λ is_new. inr (inr (subst (λ s. StoreOpensTo saver.settings image (Some s)) same is_new))))
 
 -- one save, as its contract states it
-pub one_save : StoresOpenToOneThing → {D : Type 0} (d : DiskOf D) (saver : SaverState) (cut : CutValue) (old new : D)
-    → AreHeaderSettings saver.settings → DiskMatchesSaver (d.reads old) (d.image_now old) saver
+pub one_save : OpenToOne → {D : Type 0} (d : DiskOf D) (saver : SaverState) (cut : CutValue) (old new : D)
+    → AreSettings saver.settings → DiskMatches (d.reads old) (d.image_now old) saver
     → is_some (d.reads new) ≡ is_some (d.reads old)
-    → DiskMatchesSaver (d.reads new) (d.image_now new) (saver_after_save saver cut)
+    → DiskMatches (d.reads new) (d.image_now new) (saver_after saver cut)
     → IfImageKnown (d.reads new) (λ bytes. (image : List ℕ) → d.image_now new image
     → StoreOpensTo saver.settings image (Some (next_saved saver cut)))
     → IfImageKnown (d.reads old)
-    (λ bytes. CrashLeavesAtAnyMoment d.moment d.image_since old new (StoreOpensAsOldOrNew saver.settings bytes (next_saved saver cut)))
+    (λ bytes. CrashLeaves d.moment d.image_since old new (OpensOldOrNew saver.settings bytes (next_saved saver cut)))
     → SavesCuts d saver (cut ∷ []) old new
 one_save one d saver cut old new are before known stands opens any_moment = record {
   known = known;
   stands = stands;
   kept = λ bytes is.
       let store = (before bytes is).is_known in
-      let opened : Option SavedValue = newest_in_store store.first store.second in
+      let opened : Option SavedValue = newest_in store.first store.second in
       let same : next_saved saver cut ≡ record { sequence = store_sequence opened + 1; digest = saver.digest; cut = cut } =
       ap (λ n. record { sequence = n + 1; digest = saver.digest; cut = cut }) store.sequence_is in
       record {
@@ -168,47 +168,47 @@ one_save one d saver cut old new are before known stands opens any_moment = reco
 }
 
 -- an unfinished save, as its contract states it
-unfinished_save : StoresOpenToOneThing → {D : Type 0} (d : DiskOf D) (saver : SaverState) (cut : CutValue) (old new : D)
-    → AreHeaderSettings saver.settings → DiskMatchesSaver (d.reads old) (d.image_now old) saver
+unfinished_save : OpenToOne → {D : Type 0} (d : DiskOf D) (saver : SaverState) (cut : CutValue) (old new : D)
+    → AreSettings saver.settings → DiskMatches (d.reads old) (d.image_now old) saver
     → ((disk : D) (t : ℕ) (image : List ℕ) → t ≤ d.moment disk → d.image_now disk image → d.image_since disk t image)
     → IfImageKnown (d.reads old)
-    (λ bytes. CrashLeavesAtAnyMoment d.moment d.image_since old new (StoreOpensAsOldOrNew saver.settings bytes (next_saved saver cut)))
+    (λ bytes. CrashLeaves d.moment d.image_since old new (OpensOldOrNew saver.settings bytes (next_saved saver cut)))
     → SavesInPart d (Some saver) old new [] (cut ∷ [])
 unfinished_save one d saver cut old new are before now_is_since any_moment = record {
   unused = λ none. cc none;
   kept = λ bytes is.
       let store = (before bytes is).is_known in
-      let opened : Option SavedValue = newest_in_store store.first store.second in
+      let opened : Option SavedValue = newest_in store.first store.second in
       let leaves = save_leaves one d saver cut old new bytes are store (any_moment bytes is) in
       record {
         opened = opened;
         opens = (store.first, store.second, store.holds, refl);
         any_moment = leaves;
         afterwards = λ image now.
-            subst (λ n. OpensAsBeforeOrToSaves saver.settings opened (saves_after n saver.digest (cut ∷ [])) image) (omega arith)
+            subst (λ n. OpensToSaves saver.settings opened (saves_after n saver.digest (cut ∷ [])) image) (omega arith)
             (⊎_elim (λ never. absurd never) (λ among. among)
             (leaves.each image (now_is_since new (d.moment old) image leaves.later now)));
       };
 }
 
 -- and by whichever saver is there
-pub unfinished_save_of : StoresOpenToOneThing → {D : Type 0} (d : DiskOf D) (before : Option SaverState) (saver : SaverState)
+pub unfinished_save_of : OpenToOne → {D : Type 0} (d : DiskOf D) (before : Option SaverState) (saver : SaverState)
     (cut : CutValue) (old new : D) → before ≡ Some saver
-    → IfSome before (DealtFeedCanSaveCut (d.reads old) (d.image_now old) cut)
+    → IfSome before (CanSaveCut (d.reads old) (d.image_now old) cut)
     → ((disk : D) (t : ℕ) (image : List ℕ) → t ≤ d.moment disk → d.image_now disk image → d.image_since disk t image)
     → IfImageKnown (d.reads old)
-    (λ bytes. CrashLeavesAtAnyMoment d.moment d.image_since old new (StoreOpensAsOldOrNew saver.settings bytes (next_saved saver cut)))
+    (λ bytes. CrashLeaves d.moment d.image_since old new (OpensOldOrNew saver.settings bytes (next_saved saver cut)))
     → SavesInPart d before old new [] (cut ∷ [])
 unfinished_save_of one d before saver cut old new is can now_is_since any_moment =
-    let may : DealtFeedCanSaveCut (d.reads old) (d.image_now old) cut saver =
-    subst (λ s. IfSome s (DealtFeedCanSaveCut (d.reads old) (d.image_now old) cut)) is can in
+    let may : CanSaveCut (d.reads old) (d.image_now old) cut saver =
+    subst (λ s. IfSome s (CanSaveCut (d.reads old) (d.image_now old) cut)) is can in
     subst (λ s. SavesInPart d s old new [] (cut ∷ [])) (sym is)
     (unfinished_save one d saver cut old new may.settings may.stands now_is_since any_moment)
 
 -- no save
 pub no_save : {D : Type 0} (d : DiskOf D) (before : Option SaverState) (disk : D)
     → ((image : List ℕ) → d.image_since disk (d.moment disk) image → d.image_now disk image)
-    → IfSome before (DiskMatchesSaver (d.reads disk) (d.image_now disk))
+    → IfSome before (DiskMatches (d.reads disk) (d.image_now disk))
     → SavesInTurn d before before disk disk []
 no_save d None disk only_now stands = record { saver = refl; saves = refl }
 no_save d (Some saver) disk only_now stands = record {
@@ -220,16 +220,16 @@ no_save d (Some saver) disk only_now stands = record {
         let store = stands bytes is in
         let first = store.is_known.first in
         let second = store.is_known.second in
-        let was : StoreOpensTo saver.settings bytes (newest_in_store first second) = (first, second, store.is_known.holds, refl) in
+        let was : StoreOpensTo saver.settings bytes (newest_in first second) = (first, second, store.is_known.holds, refl) in
         record {
-          opened = newest_in_store first second;
+          opened = newest_in first second;
           opens = was;
-          any_moment = CrashLeavesAtAnyMoment-none d.moment d.image_since disk
-              (λ image. ⊥ ⊎ StoreOpensTo saver.settings image (newest_in_store first second))
-              (λ image since. inr (subst (λ i. StoreOpensTo saver.settings i (newest_in_store first second))
+          any_moment = CrashLeaves-none d.moment d.image_since disk
+              (λ image. ⊥ ⊎ StoreOpensTo saver.settings image (newest_in first second))
+              (λ image since. inr (subst (λ i. StoreOpensTo saver.settings i (newest_in first second))
               (sym (store.only image (only_now image since))) was));
           afterwards = λ image now.
-              subst (λ i. StoreOpensTo saver.settings i (newest_in_store first second)) (sym (store.only image now)) was;
+              subst (λ i. StoreOpensTo saver.settings i (newest_in first second)) (sym (store.only image now)) was;
         };
   };
 }
@@ -242,16 +242,16 @@ fold-append_saves f start (x ∷ xs) ys = fold-append_saves f (f start x) xs ys
 -- saves leave the settings and the digest of their saver
 pub saves_leave_settings : (saver : SaverState) (cuts : List CutValue) → (after_saves saver cuts).settings ≡ saver.settings
 saves_leave_settings saver [] = refl
-saves_leave_settings saver (cut ∷ cuts) = saves_leave_settings (saver_after_save saver cut) cuts
+saves_leave_settings saver (cut ∷ cuts) = saves_leave_settings (saver_after saver cut) cuts
 
 pub saves_leave_digest : (saver : SaverState) (cuts : List CutValue) → (after_saves saver cuts).digest ≡ saver.digest
 saves_leave_digest saver [] = refl
-saves_leave_digest saver (cut ∷ cuts) = saves_leave_digest (saver_after_save saver cut) cuts
+saves_leave_digest saver (cut ∷ cuts) = saves_leave_digest (saver_after saver cut) cuts
 
 pub saves_raise_sequence : (saver : SaverState) (cuts : List CutValue)
     → (after_saves saver cuts).sequence ≡ saver.sequence + length cuts
 saves_raise_sequence saver [] = omega arith
-saves_raise_sequence saver (cut ∷ cuts) = saves_raise_sequence (saver_after_save saver cut) cuts ∙ omega arith
+saves_raise_sequence saver (cut ∷ cuts) = saves_raise_sequence (saver_after saver cut) cuts ∙ omega arith
 
 -- what is kept by the saver after these saves is kept by the one before them
 saves_kept_as_before : {D : Type 0} (d : DiskOf D)
@@ -265,8 +265,8 @@ saves_kept_as_before d saver cuts saved unfinished mid new store kept =
     (subst (λ digest. KeepsSaves d (after_saves saver cuts).settings digest (λ image. ⊥) saved
     unfinished mid new store) (saves_leave_digest saver cuts) kept)
 
-saves_of_cuts_follow : StoresOpenToOneThing → {D : Type 0} (d : DiskOf D) (saver : SaverState) (cuts later : List CutValue)
-    (old mid new : D) → AreHeaderSettings saver.settings
+saves_of_cuts_follow : OpenToOne → {D : Type 0} (d : DiskOf D) (saver : SaverState) (cuts later : List CutValue)
+    (old mid new : D) → AreSettings saver.settings
     → ((disk : D) (bytes : List ℕ) → d.reads disk ≡ Some bytes → d.image_now disk bytes)
     → SavesCuts d saver cuts old mid
     → SavesCuts d (after_saves saver cuts) later mid new
@@ -274,7 +274,7 @@ saves_of_cuts_follow : StoresOpenToOneThing → {D : Type 0} (d : DiskOf D) (sav
 saves_of_cuts_follow one d saver cuts later old mid new are is_image first second = record {
   known = second.known ∙ first.known;
   stands =
-      subst (DiskMatchesSaver (d.reads new) (d.image_now new)) (sym (fold-append_saves saver_after_save saver cuts later)) second.stands;
+      subst (DiskMatches (d.reads new) (d.image_now new)) (sym (fold-append_saves saver_after saver cuts later)) second.stands;
   kept = λ bytes is.
       let between = save_leaves_bytes_known (d.reads old) (d.reads mid) bytes first.known is in
       kept_saves_follow one d saver.settings saver.digest (λ image. ⊥) cuts later [] old mid new bytes
@@ -284,8 +284,8 @@ saves_of_cuts_follow one d saver cuts later old mid new are is_image first secon
 }
 
 -- saves after saves
-pub saves_follow : StoresOpenToOneThing → {D : Type 0} (d : DiskOf D) (before between after : Option SaverState)
-    (cuts later : List CutValue) (old mid new : D) → IfSome before (λ saver. AreHeaderSettings saver.settings)
+pub saves_follow : OpenToOne → {D : Type 0} (d : DiskOf D) (before between after : Option SaverState)
+    (cuts later : List CutValue) (old mid new : D) → IfSome before (λ saver. AreSettings saver.settings)
     → ((disk : D) (bytes : List ℕ) → d.reads disk ≡ Some bytes → d.image_now disk bytes)
     → SavesInTurn d before between old mid cuts
     → SavesInTurn d between after mid new later
@@ -300,7 +300,7 @@ saves_follow one d (Some saver) between after cuts later old mid new are is_imag
     let then : SavesInTurn d (Some (after_saves saver cuts)) after mid new later =
     subst (λ s. SavesInTurn d s after mid new later) first.saver second in
     record {
-      saver = then.saver ∙ ap Some (sym (fold-append_saves saver_after_save saver cuts later));
+      saver = then.saver ∙ ap Some (sym (fold-append_saves saver_after saver cuts later));
       saves = saves_of_cuts_follow one d saver cuts later old mid new are is_image first.saves
           then.saves;
     }
@@ -317,7 +317,7 @@ part_of_saves d (Some saver) old new cuts saves =
 -- nothing was saved into a disk that is untouched
 pub no_save_into_untouched_disk : {D : Type 0} (d : DiskOf D) (before : Option SaverState) (old new : D)
     → ((disk : D) (image : List ℕ) → d.image_since disk (d.moment disk) image → d.image_now disk image)
-    → IfSome before (DiskMatchesSaver (d.reads old) (d.image_now old)) → new ≡ old
+    → IfSome before (DiskMatches (d.reads old) (d.image_now old)) → new ≡ old
     → SavesInPart d before old new [] []
 no_save_into_untouched_disk d before old new only_now stands same =
     subst (λ disk. SavesInPart d before old disk [] []) (sym same)
@@ -325,14 +325,14 @@ no_save_into_untouched_disk d before old new only_now stands same =
     (no_save d before old (only_now old) stands).saves)
 
 -- the saver after no save
-no_save_keeps_saver : (saver : Option SaverState) → saver ≡ saver_after_broken_saves saver [] []
+no_save_keeps_saver : (saver : Option SaverState) → saver ≡ after_broken saver [] []
 no_save_keeps_saver None = refl
 no_save_keeps_saver (Some saver) = refl
 
 -- saves that broke off before the first, into a disk that is untouched, and with the saver as it was
 pub no_save_broke_off : {D : Type 0} (d : DiskOf D) (before after : Option SaverState) (old new : D)
     → ((disk : D) (image : List ℕ) → d.image_since disk (d.moment disk) image → d.image_now disk image)
-    → IfSome before (DiskMatchesSaver (d.reads old) (d.image_now old)) → after ≡ before → new ≡ old
+    → IfSome before (DiskMatches (d.reads old) (d.image_now old)) → after ≡ before → new ≡ old
     → SavesBreakOff d before after old new [] []
 no_save_broke_off d before after old new only_now stands same_saver same = record {
   saver = same_saver ∙ no_save_keeps_saver before;
@@ -351,15 +351,15 @@ whole_saves_broke_off d before after old new cuts saves = record {
 -- the saver after saves, and then after saves that broke off
 saver_after_more_saves : (before between : Option SaverState) (cuts saved unfinished : List CutValue)
     → between ≡ option_map (λ saver. after_saves saver cuts) before
-    → saver_after_broken_saves between saved unfinished ≡ saver_after_broken_saves before (cuts ++ saved) unfinished
+    → after_broken between saved unfinished ≡ after_broken before (cuts ++ saved) unfinished
 saver_after_more_saves before between cuts saved (cut ∷ more) is = refl
 saver_after_more_saves None between cuts saved [] is = ap (option_map (λ saver. after_saves saver saved)) is
 saver_after_more_saves (Some saver) between cuts saved [] is =
-    ap (option_map (λ saver. after_saves saver saved)) is ∙ ap Some (sym (fold-append_saves saver_after_save saver cuts saved))
+    ap (option_map (λ saver. after_saves saver saved)) is ∙ ap Some (sym (fold-append_saves saver_after saver cuts saved))
 
 -- what broke off after saves
-pub broken_off_save_follows : StoresOpenToOneThing → {D : Type 0} (d : DiskOf D) (before between : Option SaverState)
-    (cuts saved unfinished : List CutValue) (old mid new : D) → IfSome before (λ saver. AreHeaderSettings saver.settings)
+pub broken_off_save_follows : OpenToOne → {D : Type 0} (d : DiskOf D) (before between : Option SaverState)
+    (cuts saved unfinished : List CutValue) (old mid new : D) → IfSome before (λ saver. AreSettings saver.settings)
     → ((disk : D) (bytes : List ℕ) → d.reads disk ≡ Some bytes → d.image_now disk bytes)
     → SavesInTurn d before between old mid cuts
     → SavesInPart d between mid new saved unfinished
@@ -379,8 +379,8 @@ broken_off_save_follows one d (Some saver) between cuts saved unfinished old mid
     }
 
 -- and the saver after it
-pub broken_saves_follow : StoresOpenToOneThing → {D : Type 0} (d : DiskOf D) (before between after : Option SaverState)
-    (cuts saved unfinished : List CutValue) (old mid new : D) → IfSome before (λ saver. AreHeaderSettings saver.settings)
+pub broken_saves_follow : OpenToOne → {D : Type 0} (d : DiskOf D) (before between after : Option SaverState)
+    (cuts saved unfinished : List CutValue) (old mid new : D) → IfSome before (λ saver. AreSettings saver.settings)
     → ((disk : D) (bytes : List ℕ) → d.reads disk ≡ Some bytes → d.image_now disk bytes)
     → SavesInTurn d before between old mid cuts
     → SavesBreakOff d between after mid new saved unfinished
@@ -393,10 +393,10 @@ broken_saves_follow one d before between after cuts saved unfinished old mid new
     }
 
 -- the cuts saved after some reports and more
-pub session_saved_cuts-append_saves : (store : Bool) (opening : List ShardValue) (reports later : List Reported)
-    → session_saved_cuts store opening (reports ++ later) ≡ session_saved_cuts store opening reports ++ session_saved_cuts store opening later
-session_saved_cuts-append_saves false opening reports later = refl
-session_saved_cuts-append_saves true opening reports later = map-append (λ (r : Reported). cut_at_call opening r.report.positions) reports later
+pub saved_cuts-append_saves : (store : Bool) (opening : List ShardValue) (reports later : List Reported)
+    → saved_cuts store opening (reports ++ later) ≡ saved_cuts store opening reports ++ saved_cuts store opening later
+saved_cuts-append_saves false opening reports later = refl
+saved_cuts-append_saves true opening reports later = map-append (λ (r : Reported). cut_at opening r.report.positions) reports later
 
 -- without a saver there are no cuts
 pub no_saver_no_save : {D : Type 0} (d : DiskOf D) (before after : Option SaverState) (old new : D) (cuts : List CutValue)
@@ -408,9 +408,9 @@ no_saver_no_save d (Some saver) after old new cuts none saves = cc none
 
 -- the cut that is saved after one report
 pub save_of_reported_cut : (store : Bool) (opening : List ShardValue) (report : Report) (cut : CutValue)
-    (Kept : List CutValue → Type 0) → cut ≡ cut_at_call opening report.positions
+    (Kept : List CutValue → Type 0) → cut ≡ cut_at opening report.positions
     → (store ≡ false → Kept (cut ∷ []) → Kept []) → Kept (cut ∷ [])
-    → Kept (session_saved_cuts store opening (record { report = report; saved = None } ∷ []))
+    → Kept (saved_cuts store opening (record { report = report; saved = None } ∷ []))
 save_of_reported_cut false opening report cut Kept is none kept = none refl kept
 save_of_reported_cut true opening report cut Kept is none kept = subst (λ c. Kept (c ∷ [])) is kept
 

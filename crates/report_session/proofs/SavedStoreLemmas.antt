@@ -5,29 +5,29 @@ use Rattle.std.specs.Prelude.{IsSomeAnd}
 use Rattle.std.proofs.lemmas.List.{length-append, length-map, map-append}
 use Rattle.std.proofs.lemmas.List.Elements.{All-head, All-map, All-tail}
 use Rattle.prefix_lattice.specs.{RecordValue}
-use Rattle.shard_state.specs.{AreCoreShards, CoreBasesRepresent, CutRepresents, CutValue, ShardValue, core_capacity}
+use Rattle.shard_state.specs.{AreCoreShards, BasesRepresent, CutRepresents, CutValue, ShardValue, core_capacity}
 use Rattle.shard_state.specs.{core_lists}
 use Rattle.shard_state.specs.{cut_positions}
 use Rattle.hhh_report.specs.{AreReportLines, IsSameReport}
 use Rattle.hhh_output.specs.{IsReportOf}
 use Rattle.hhh_report.specs.declared.report.Report.{Report}
 use Rattle.hhh_report.specs.declared.reports.Reported.{Reported}
-use Rattle.gate_workers.specs.{IsReportAtCall, cut_at_call}
-use Rattle.checkpoint.specs.{StoreBelongs, IsStoreOfLists, SavedValue, digest_of_lists, store_sequence}
+use Rattle.gate_workers.specs.{IsReportAtCall, cut_at}
+use Rattle.checkpoint.specs.{StoreBelongs, IsStoreOf, SavedValue, lists_digest, store_sequence}
 use Rattle.checkpoint.specs.declared.settings.StoreSettings.{StoreSettings}
 use Rattle.command_words.specs.declared.settings.Settings.{Settings}
 use Rattle.report_text.specs.{report_text}
-use Rattle.report_session.specs.Saves.{OpensAsBeforeOrToSaves, last_of_saves, saves_after, store_settings_for_saves}
-use Rattle.report_session.specs.Session.{AreSessionReports, IsShownInSession, SessionReports}
-use Rattle.report_session.specs.Session.{calling_thread_reports, session_ends, session_saved_cuts}
-use Rattle.report_session.specs.Session.{session_saves}
+use Rattle.report_session.specs.Saving.{OpensToSaves, last_of_saves, saves_after, saves_settings}
+use Rattle.report_session.specs.Session.{AreReports, IsShownInSession, SessionReports}
+use Rattle.report_session.specs.Session.{caller_reports, session_ends, saved_cuts}
+use Rattle.report_session.specs.Session.{saves_of}
 use Rattle.report_session.proofs.LastReportLemmas.{LastReportTextIsUnique, last_report_is_among_all}
 use Rattle.report_session.proofs.SeenPositionLemmas.{seen_positions_of_cut}
 
 -- the cut of a report of the pure core represents the lists, if the bases do
 abbrev pub SavedStoreCutsRepresent : Type 0
 SavedStoreCutsRepresent = (opening : List ShardValue) (phi : ℕ) (report : Report) → AreCoreShards opening → IsReportAtCall opening phi report
-    → CoreBasesRepresent opening → CutRepresents (cut_at_call opening report.positions) (core_lists opening)
+    → BasesRepresent opening → CutRepresents (cut_at opening report.positions) (core_lists opening)
 
 -- cuts that represent the same lists have one report
 abbrev pub SavedStoreReportIsUnique : Type 0
@@ -43,9 +43,9 @@ saved_store_ends_by_lists (shard ∷ rest) = ap (λ ends. length shard.list ∷ 
 -- the last reports of two runs over the same lists
 pub saved_store_sessions_end_alike : SavedStoreReportIsUnique → SavedStoreCutsRepresent → LastReportTextIsUnique → (opening other_opening : List ShardValue)
     (settings other : Settings) (reports others : SessionReports) → AreCoreShards opening → AreCoreShards other_opening
-    → CoreBasesRepresent opening → CoreBasesRepresent other_opening → core_lists opening ≡ core_lists other_opening
+    → BasesRepresent opening → BasesRepresent other_opening → core_lists opening ≡ core_lists other_opening
     → core_capacity opening ≡ core_capacity other_opening → settings.phi ≡ other.phi
-    → AreSessionReports opening settings reports → AreSessionReports other_opening other others
+    → AreReports opening settings reports → AreReports other_opening other others
     → report_text reports.last.report ≡ report_text others.last.report
 saved_store_sessions_end_alike one represent text opening other_opening settings other reports others shards other_shards bases other_bases
     lists capacity phi are are_other =
@@ -55,46 +55,46 @@ saved_store_sessions_end_alike one represent text opening other_opening settings
     last_report_is_among_all (IsShownInSession other_opening other) others.rounds others.last are_other.calling.shown in
     let report : Report = reports.last.report in
     let last : Report = others.last.report in
-    let positions : cut_positions (cut_at_call opening report.positions) ≡ cut_positions (cut_at_call other_opening last.positions) =
+    let positions : cut_positions (cut_at opening report.positions) ≡ cut_positions (cut_at other_opening last.positions) =
     seen_positions_of_cut opening report.positions first.is_report.as_many ∙ are.at_ends ∙ saved_store_ends_by_lists opening
     ∙ ap (map (λ (list : List RecordValue). length list)) lists ∙ sym (saved_store_ends_by_lists other_opening)
     ∙ sym are_other.at_ends ∙ sym (seen_positions_of_cut other_opening last.positions second.is_report.as_many) in
     text report last
-    (one (cut_at_call opening report.positions) (cut_at_call other_opening last.positions) (core_lists opening) settings.phi report last
+    (one (cut_at opening report.positions) (cut_at other_opening last.positions) (core_lists opening) settings.phi report last
     capacity positions (represent opening settings.phi report shards first.is_report bases)
-    (subst (CutRepresents (cut_at_call other_opening last.positions)) (sym lists)
+    (subst (CutRepresents (cut_at other_opening last.positions)) (sym lists)
     (represent other_opening other.phi last other_shards second.is_report other_bases))
     report.are_lines last.are_lines first.is_report.is
-    (subst (λ n. IsReportOf (cut_at_call other_opening last.positions) n last) (sym phi) second.is_report.is))
+    (subst (λ n. IsReportOf (cut_at other_opening last.positions) n last) (sym phi) second.is_report.is))
 
 -- what is saved of these reports is of the lists
 pub saved_store_belongs : (settings : StoreSettings) (lists : List (List RecordValue)) (opened : Option SavedValue)
-    (sequence : ℕ) (cuts : List CutValue) (image : List ℕ) → IsStoreOfLists settings lists opened
+    (sequence : ℕ) (cuts : List CutValue) (image : List ℕ) → IsStoreOf settings lists opened
     → All (λ cut. CutRepresents cut lists) cuts
-    → OpensAsBeforeOrToSaves settings opened (saves_after sequence (digest_of_lists settings lists) cuts) image
+    → OpensToSaves settings opened (saves_after sequence (lists_digest settings lists) cuts) image
     → StoreBelongs settings lists image
 saved_store_belongs settings lists opened sequence [] image of_lists all opens = (opened, opens, of_lists)
 saved_store_belongs settings lists opened sequence (cut ∷ cuts) image of_lists all (inl opens) = (opened, opens, of_lists)
 saved_store_belongs settings lists opened sequence (cut ∷ cuts) image of_lists all (inr among) =
     saved_store_belongs settings lists
-    (Some (record { sequence = sequence + 1; digest = digest_of_lists settings lists; cut = cut })) (sequence + 1) cuts image
+    (Some (record { sequence = sequence + 1; digest = lists_digest settings lists; cut = cut })) (sequence + 1) cuts image
     (refl, All-head (λ c. CutRepresents c lists) cut cuts all) (All-tail (λ c. CutRepresents c lists) cut cuts all) among
 
 pub saved_store_cuts_represent : SavedStoreCutsRepresent → (opening : List ShardValue) (settings : Settings) (reports : List Reported)
-    → AreCoreShards opening → CoreBasesRepresent opening → All (IsShownInSession opening settings) reports
-    → All (λ cut. CutRepresents cut (core_lists opening)) (session_saved_cuts true opening reports)
+    → AreCoreShards opening → BasesRepresent opening → All (IsShownInSession opening settings) reports
+    → All (λ cut. CutRepresents cut (core_lists opening)) (saved_cuts true opening reports)
 saved_store_cuts_represent represent opening settings reports shards bases shown =
-    All-map (λ cut. CutRepresents cut (core_lists opening)) (λ (r : Reported). cut_at_call opening r.report.positions) reports
+    All-map (λ cut. CutRepresents cut (core_lists opening)) (λ (r : Reported). cut_at opening r.report.positions) reports
     (λ k d lt. represent opening settings.phi _ shards (shown k d lt).is_report bases)
 
 pub saved_store_of_session_belongs : SavedStoreCutsRepresent → (opening : List ShardValue) (settings : Settings) (reports : List Reported)
-    (opened : Option SavedValue) (image : List ℕ) → AreCoreShards opening → CoreBasesRepresent opening
-    → All (IsShownInSession opening settings) reports → IsStoreOfLists (store_settings_for_saves settings) (core_lists opening) opened
-    → OpensAsBeforeOrToSaves (store_settings_for_saves settings) opened (session_saves settings opening opened reports) image
-    → StoreBelongs (store_settings_for_saves settings) (core_lists opening) image
+    (opened : Option SavedValue) (image : List ℕ) → AreCoreShards opening → BasesRepresent opening
+    → All (IsShownInSession opening settings) reports → IsStoreOf (saves_settings settings) (core_lists opening) opened
+    → OpensToSaves (saves_settings settings) opened (saves_of settings opening opened reports) image
+    → StoreBelongs (saves_settings settings) (core_lists opening) image
 saved_store_of_session_belongs represent opening settings reports opened image shards bases shown of_lists among =
-    saved_store_belongs (store_settings_for_saves settings) (core_lists opening) opened (store_sequence opened)
-    (session_saved_cuts true opening reports) image of_lists
+    saved_store_belongs (saves_settings settings) (core_lists opening) opened (store_sequence opened)
+    (saved_cuts true opening reports) image of_lists
     (saved_store_cuts_represent represent opening settings reports shards bases shown) among
 
 -- the last of some saves
@@ -107,19 +107,19 @@ saved_store_holds_newest opened sequence digest (first ∷ cuts) cut =
     ∙ ap (λ n. Some (record { sequence = n; digest = digest; cut = cut })) (omega arith)
 
 pub saved_store_stands_at_ends : (opening : List ShardValue) (settings : Settings) (reports : SessionReports)
-    (opened : Option SavedValue) → AreSessionReports opening settings reports
-    → IsSomeAnd (last_of_saves opened (session_saves settings opening opened (calling_thread_reports reports))) (λ saved.
+    (opened : Option SavedValue) → AreReports opening settings reports
+    → IsSomeAnd (last_of_saves opened (saves_of settings opening opened (caller_reports reports))) (λ saved.
     (cut_positions saved.cut ≡ session_ends opening) × (saved.sequence ≡ store_sequence opened + (settings.rounds + 1)))
 saved_store_stands_at_ends opening settings reports opened are =
-    let f : Reported → CutValue = λ reported. cut_at_call opening reported.report.positions in
-    let digest : List ℕ = digest_of_lists (store_settings_for_saves settings) (core_lists opening) in
+    let f : Reported → CutValue = λ reported. cut_at opening reported.report.positions in
+    let digest : List ℕ = lists_digest (saves_settings settings) (core_lists opening) in
     let first : IsShownInSession opening settings reports.last =
     last_report_is_among_all (IsShownInSession opening settings) reports.rounds reports.last are.calling.shown in
-    let parted : session_saved_cuts true opening (calling_thread_reports reports) ≡ map f reports.rounds ++ f reports.last ∷ [] =
+    let parted : saved_cuts true opening (caller_reports reports) ≡ map f reports.rounds ++ f reports.last ∷ [] =
     map-append f reports.rounds (reports.last ∷ []) in
     let many : length (map f reports.rounds) ≡ length reports.rounds = length-map reports.rounds f in
-    let all : length (calling_thread_reports reports) ≡ settings.rounds + 1 = are.calling.as_many in
-    let last_one : length (calling_thread_reports reports) ≡ length reports.rounds + 1 =
+    let all : length (caller_reports reports) ≡ settings.rounds + 1 = are.calling.as_many in
+    let last_one : length (caller_reports reports) ≡ length reports.rounds + 1 =
     length-append reports.rounds (reports.last ∷ []) in
     subst (λ held. IsSomeAnd held (λ (saved : SavedValue). (cut_positions saved.cut ≡ session_ends opening)
     × (saved.sequence ≡ store_sequence opened + (settings.rounds + 1))))

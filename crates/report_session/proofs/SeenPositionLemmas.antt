@@ -5,24 +5,24 @@ use Rattle.std.proofs.Common.{length, map, fold, get_or, true}
 use Rattle.std.specs.Prelude.{IfSome, is_some, option_map, slice_index}
 use Rattle.std.specs.List.Sorted.{IsNonDecreasing}
 use Rattle.std.proofs.lemmas.List.{length-map}
-use Rattle.hhh_report.specs.{AreCutPositionsNotPast}
+use Rattle.hhh_report.specs.{AreNotPast}
 use Rattle.shard_state.specs.{CutValue, HasCoreShape, ShardValue, core_capacity, cut_positions}
-use Rattle.shard_state.specs.{snapshot_of_shard}
+use Rattle.shard_state.specs.{snapshot_of}
 use Rattle.hhh_report.specs.declared.report.Report.{Report}
 use Rattle.hhh_report.specs.declared.reports.Reported.{Reported}
-use Rattle.pass_tokens.specs.{ShardRead, after_reads, seen_in_view}
-use Rattle.gate_workers.specs.{Calls, Trail, View, cut_at_call, states_at_call}
-use Rattle.checkpoint.specs.{AreHeaderSettings, SaverState, DiskMatchesSaver, greatest_body_sequence}
-use Rattle.report_session.specs.DealtFeed.{DealtFeedCanSaveCut}
-use Rattle.report_session.specs.Saves.{CanMakeSaves, SavesFitBoard, SavesInTurn, after_saves}
-use Rattle.report_session.specs.Session.{session_saved_cuts}
+use Rattle.pass_tokens.specs.{ShardRead, after_reads, seen_in}
+use Rattle.gate_workers.specs.{Calls, Trail, View, cut_at, states_at}
+use Rattle.checkpoint.specs.{AreSettings, SaverState, DiskMatches, greatest_sequence}
+use Rattle.report_session.specs.DealtFeed.{CanSaveCut}
+use Rattle.report_session.specs.Saving.{CanMakeSaves, SavesFitBoard, SavesInTurn, after_saves}
+use Rattle.report_session.specs.Session.{saved_cuts}
 use Rattle.report_session.proofs.RoundLemmas.{round_makes_report}
 use Rattle.report_session.proofs.SaveLemmas.{saves_raise_sequence}
 use Rattle.slot_disk.specs.declared.disk.Disk.{Ghosts as DiskOf}
 
 -- the positions of the cut of the pure core
 pub seen_positions_of_cut : (opening : List ShardValue) (positions : List ℕ) → length positions ≡ length opening
-    → cut_positions (cut_at_call opening positions) ≡ positions
+    → cut_positions (cut_at opening positions) ≡ positions
 seen_positions_of_cut [] [] many = refl
 seen_positions_of_cut [] (position ∷ positions) many = absurd (omega (arith, many))
 seen_positions_of_cut (shard ∷ rest) [] many = absurd (omega (arith, many))
@@ -31,7 +31,7 @@ seen_positions_of_cut (shard ∷ rest) (position ∷ positions) many =
 
 -- and its shape
 seen_position_snapshot_count : (opening : List ShardValue) (positions : List ℕ) → length positions ≡ length opening
-    → length (map snapshot_of_shard (states_at_call opening positions)) ≡ length opening
+    → length (map snapshot_of (states_at opening positions)) ≡ length opening
 seen_position_snapshot_count [] [] many = refl
 seen_position_snapshot_count [] (position ∷ positions) many = absurd (omega (arith, many))
 seen_position_snapshot_count (shard ∷ rest) [] many = absurd (omega (arith, many))
@@ -39,13 +39,13 @@ seen_position_snapshot_count (shard ∷ rest) (position ∷ positions) many =
     let tail = seen_position_snapshot_count rest positions (omega (arith, many)) in omega (arith, tail)
 
 pub seen_position_cut_has_shape : (opening : List ShardValue) (positions : List ℕ) → length positions ≡ length opening
-    → HasCoreShape (length opening) (core_capacity opening) (cut_at_call opening positions)
+    → HasCoreShape (length opening) (core_capacity opening) (cut_at opening positions)
 seen_position_cut_has_shape opening positions many = record { as_many = seen_position_snapshot_count opening positions many; alike = refl }
 
 -- positions that aren't past others, shard by shard
 pub seen_positions_are_not_past : (earlier later : List ℕ) → length earlier ≡ length later
     → ((shard : ℕ) → shard < length later → slice_index earlier shard ≤ slice_index later shard)
-    → AreCutPositionsNotPast earlier later
+    → AreNotPast earlier later
 seen_positions_are_not_past [] [] many each = tt
 seen_positions_are_not_past [] (next ∷ later) many each = absurd (omega (arith, many))
 seen_positions_are_not_past (position ∷ earlier) [] many each = absurd (omega (arith, many))
@@ -55,7 +55,7 @@ seen_positions_are_not_past (position ∷ earlier) (next ∷ later) many each = 
 )
 
 -- and back
-pub seen_position_is_not_past : (earlier later : List ℕ) (shard : ℕ) → AreCutPositionsNotPast earlier later → shard < length later
+pub seen_position_is_not_past : (earlier later : List ℕ) (shard : ℕ) → AreNotPast earlier later → shard < length later
     → slice_index earlier shard ≤ slice_index later shard
 seen_position_is_not_past [] [] shard past inside = absurd (omega (arith, inside))
 seen_position_is_not_past [] (next ∷ later) shard past inside = absurd past
@@ -64,14 +64,14 @@ seen_position_is_not_past (position ∷ earlier) (next ∷ later) zero past insi
 seen_position_is_not_past (position ∷ earlier) (next ∷ later) (suc shard) past inside =
     seen_position_is_not_past earlier later shard past.1 (omega (arith, inside))
 
-pub seen_positions_same_length : (earlier later : List ℕ) → AreCutPositionsNotPast earlier later → length earlier ≡ length later
+pub seen_positions_same_length : (earlier later : List ℕ) → AreNotPast earlier later → length earlier ≡ length later
 seen_positions_same_length [] [] past = refl
 seen_positions_same_length [] (next ∷ later) past = absurd past
 seen_positions_same_length (position ∷ earlier) [] past = absurd past
 seen_positions_same_length (position ∷ earlier) (next ∷ later) past =
     let tail = seen_positions_same_length earlier later past.1 in omega (arith, tail)
 
-pub seen_positions_not_past_self : (positions : List ℕ) → AreCutPositionsNotPast positions positions
+pub seen_positions_not_past_self : (positions : List ℕ) → AreNotPast positions positions
 seen_positions_not_past_self [] = tt
 seen_positions_not_past_self (position ∷ positions) = (omega arith, seen_positions_not_past_self positions)
 
@@ -127,7 +127,7 @@ seen_positions_are_reported opening phi before now report trails calls =
 pub seen_positions_not_past_report : (opening : List ShardValue) (phi : ℕ) (before now : View) (report : Report)
     (positions : List ℕ) → length before.trails ≡ length opening
     → Calls opening phi 1 before now (record { report = report; saved = None } ∷ [])
-    → AreCutPositionsNotPast positions (map (λ (trail : Trail). trail.seen) before.trails) → AreCutPositionsNotPast positions report.positions
+    → AreNotPast positions (map (λ (trail : Trail). trail.seen) before.trails) → AreNotPast positions report.positions
 seen_positions_not_past_report opening phi before now report positions trails calls past =
     let at = round_makes_report opening phi before now report calls in
     let many : length report.positions ≡ length opening = at.as_many in
@@ -137,33 +137,33 @@ seen_positions_not_past_report opening phi before now report positions trails ca
     seen_positions_same_length positions (map (λ (trail : Trail). trail.seen) before.trails) past in
     seen_positions_are_not_past positions report.positions (omega (arith, many, seen, long, trails))
     (λ shard inside.
-    let first : slice_index positions shard ≤ seen_in_view shard before =
+    let first : slice_index positions shard ≤ seen_in shard before =
     seen_position_is_not_past positions (map (λ (trail : Trail). trail.seen) before.trails) shard past
     (omega (arith, inside, many, seen, trails)) in
-    let second : seen_in_view shard before ≤ slice_index report.positions shard =
-    seen_position_before_one_read calls.reads report.positions shard (seen_in_view shard before) calls.positions
+    let second : seen_in shard before ≤ slice_index report.positions shard =
+    seen_position_before_one_read calls.reads report.positions shard (seen_in shard before) calls.positions
     (calls.never_fall shard (omega (arith, inside, many))) in
     omega (arith, first, second))
 
 -- a saver that may save what a round reads may save its cut
 pub seen_positions_can_be_saved : (reads : Option (List ℕ)) (possible : List ℕ → Type 0) (opening : List ShardValue) (phi : ℕ)
     (before now : View) (report : Report) (saver : Option SaverState) (cut : CutValue)
-    → cut ≡ cut_at_call opening report.positions → length before.trails ≡ length opening
+    → cut ≡ cut_at opening report.positions → length before.trails ≡ length opening
     → Calls opening phi 1 before now (record { report = report; saved = None } ∷ [])
-    → IfSome saver (CanMakeSaves reads possible opening before 1) → IfSome saver (DealtFeedCanSaveCut reads possible cut)
+    → IfSome saver (CanMakeSaves reads possible opening before 1) → IfSome saver (CanSaveCut reads possible cut)
 seen_positions_can_be_saved reads possible opening phi before now report None cut is trails calls can = tt
 seen_positions_can_be_saved reads possible opening phi before now report (Some saver) cut is trails calls can =
     let at = round_makes_report opening phi before now report calls in
-    let shape : HasCoreShape (length opening) (core_capacity opening) (cut_at_call opening report.positions) =
+    let shape : HasCoreShape (length opening) (core_capacity opening) (cut_at opening report.positions) =
     seen_position_cut_has_shape opening report.positions at.as_many in
     record {
       settings = can.fits.settings;
       stands = can.stands;
       early = can.early;
       shape = subst (HasCoreShape saver.settings.shards saver.settings.capacity) (sym is)
-          (subst (λ n. HasCoreShape n saver.settings.capacity (cut_at_call opening report.positions)) (sym can.fits.shards)
-          (subst (λ n. HasCoreShape (length opening) n (cut_at_call opening report.positions)) (sym can.fits.capacity) shape));
-      no_earlier = subst (AreCutPositionsNotPast saver.positions)
+          (subst (λ n. HasCoreShape n saver.settings.capacity (cut_at opening report.positions)) (sym can.fits.shards)
+          (subst (λ n. HasCoreShape (length opening) n (cut_at opening report.positions)) (sym can.fits.capacity) shape));
+      no_earlier = subst (AreNotPast saver.positions)
           (sym (ap cut_positions is ∙ seen_positions_of_cut opening report.positions at.as_many))
           (seen_positions_not_past_report opening phi before now report saver.positions trails calls can.fits.seen);
     }
@@ -171,7 +171,7 @@ seen_positions_can_be_saved reads possible opening phi before now report (Some s
 -- and the next one after it
 pub seen_positions_fit_next_saver : (reads : Option (List ℕ)) (possible : List ℕ → Type 0) (opening : List ShardValue) (phi : ℕ)
     (before now : View) (report : Report) (saver next : Option SaverState) (cut : CutValue)
-    → cut ≡ cut_at_call opening report.positions → length before.trails ≡ length opening
+    → cut ≡ cut_at opening report.positions → length before.trails ≡ length opening
     → Calls opening phi 1 before now (record { report = report; saved = None } ∷ [])
     → IfSome saver (CanMakeSaves reads possible opening before 1)
     → next ≡ option_map (λ saver. after_saves saver (cut ∷ [])) saver → IfSome next (SavesFitBoard opening now)
@@ -187,27 +187,27 @@ seen_positions_fit_next_saver reads possible opening phi before now report (Some
       settings = can.fits.settings;
       shards = can.fits.shards;
       capacity = can.fits.capacity;
-      seen = subst (AreCutPositionsNotPast (cut_positions cut)) positions (seen_positions_not_past_self (cut_positions cut));
+      seen = subst (AreNotPast (cut_positions cut)) positions (seen_positions_not_past_self (cut_positions cut));
     })
 
 -- how many cuts are saved after some reports with a store
 seen_position_saved_count : (opening : List ShardValue) (reports : List Reported)
-    → length (session_saved_cuts true opening reports) ≡ length reports
+    → length (saved_cuts true opening reports) ≡ length reports
 seen_position_saved_count opening reports = length-map reports _
 
 -- after some rounds the saver may make the saves of the remaining ones
 pub seen_positions_allow_more_saves : {D : Type 0} (d : DiskOf D) (opening : List ShardValue) (view : View)
     (before saver : Option SaverState) (reports : List Reported) (old new : D) (made count rounds : ℕ)
     → length reports ≡ made → made + count ≤ rounds → IfSome saver (SavesFitBoard opening view)
-    → SavesInTurn d before saver old new (session_saved_cuts (is_some before) opening reports)
-    → IfSome before (λ saver. saver.sequence + rounds ≤ greatest_body_sequence)
+    → SavesInTurn d before saver old new (saved_cuts (is_some before) opening reports)
+    → IfSome before (λ saver. saver.sequence + rounds ≤ greatest_sequence)
     → IfSome saver (CanMakeSaves (d.reads new) (d.image_now new) opening view count)
 seen_positions_allow_more_saves d opening view None saver reports old new made count rounds many few fits
     saves early =
     subst (λ o. IfSome o (CanMakeSaves (d.reads new) (d.image_now new) opening view count)) (sym saves.saver) tt
 seen_positions_allow_more_saves d opening view (Some first) saver reports old new made count rounds many few
     fits saves early =
-    let cuts : List CutValue = session_saved_cuts true opening reports in
+    let cuts : List CutValue = saved_cuts true opening reports in
     let now : SaverState = after_saves first cuts in
     let sequence : now.sequence ≡ first.sequence + length cuts = saves_raise_sequence first cuts in
     let as_many : length cuts ≡ length reports = seen_position_saved_count opening reports in
@@ -227,23 +227,23 @@ seen_positions_fit_saver reads possible opening view count (Some saver) can = ca
 
 pub seen_positions_saver_stands : (reads : Option (List ℕ)) (possible : List ℕ → Type 0) (opening : List ShardValue) (view : View)
     (count : ℕ) (saver : Option SaverState) → IfSome saver (CanMakeSaves reads possible opening view count)
-    → IfSome saver (DiskMatchesSaver reads possible)
+    → IfSome saver (DiskMatches reads possible)
 seen_positions_saver_stands reads possible opening view count None can = tt
 seen_positions_saver_stands reads possible opening view count (Some saver) can = can.stands
 
 pub seen_positions_saver_is_early : (reads : Option (List ℕ)) (possible : List ℕ → Type 0) (opening : List ShardValue) (view : View)
     (count : ℕ) (saver : Option SaverState) → IfSome saver (CanMakeSaves reads possible opening view count)
-    → IfSome saver (λ saver. saver.sequence + count ≤ greatest_body_sequence)
+    → IfSome saver (λ saver. saver.sequence + count ≤ greatest_sequence)
 seen_positions_saver_is_early reads possible opening view count None can = tt
 seen_positions_saver_is_early reads possible opening view count (Some saver) can = can.early
 
 pub seen_positions_allowed_settings : (reads : Option (List ℕ)) (possible : List ℕ → Type 0) (opening : List ShardValue) (view : View)
     (count : ℕ) (saver : Option SaverState) → IfSome saver (CanMakeSaves reads possible opening view count)
-    → IfSome saver (λ saver. AreHeaderSettings saver.settings)
+    → IfSome saver (λ saver. AreSettings saver.settings)
 seen_positions_allowed_settings reads possible opening view count None can = tt
 seen_positions_allowed_settings reads possible opening view count (Some saver) can = can.fits.settings
 
 pub seen_positions_cut_saver_stands : (reads : Option (List ℕ)) (possible : List ℕ → Type 0) (cut : CutValue) (saver : Option SaverState)
-    → IfSome saver (DealtFeedCanSaveCut reads possible cut) → IfSome saver (DiskMatchesSaver reads possible)
+    → IfSome saver (CanSaveCut reads possible cut) → IfSome saver (DiskMatches reads possible)
 seen_positions_cut_saver_stands reads possible cut None can = tt
 seen_positions_cut_saver_stands reads possible cut (Some saver) can = can.stands

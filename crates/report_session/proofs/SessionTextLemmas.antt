@@ -3,47 +3,47 @@ use Rattle.std.proofs.Common.{◌≡◌, ◌∙◌, ◌≤◌, ◌<◌, ◌+◌,
 use Rattle.std.proofs.Common.{refl, sym, ap, ap₂, subst, arith, length, map, append_assoc, get_or}
 use Rattle.std.specs.Prelude.{codes, decimal, slice_index}
 use Rattle.std.specs.List.{join_with_byte}
-use Rattle.prefix_lattice.specs.{prefix_text_space}
+use Rattle.prefix_lattice.specs.{text_space}
 use Rattle.std.specs.List.Sorted.{IsNonDecreasing}
 use Rattle.std.specs.Io.KnownBytes.{Appends}
 use Rattle.std.proofs.KnownBytes.{Appends-nil, Appends-trans}
 use Rattle.std.proofs.lemmas.List.{length-append, length-map, map-append}
 use Rattle.std.proofs.lemmas.List.Elements.{All-append, All-cons, All-head, All-map, All-nil, All-tail}
 use Rattle.std.proofs.lemmas.List.Sorted.{IsNonDecreasingBy-push}
-use Rattle.outside_io.specs.{AppendsBeginning, IsBeginning}
+use Rattle.outside_io.specs.{AppendsPart, IsBeginning}
 use Rattle.std.proofs.Common.{Bool}
 use Rattle.shard_state.specs.{CutValue, IsShard, ShardValue, shard_state_at}
 use Rattle.hhh_report.specs.declared.reports.Reported.{Reported}
-use Rattle.gate_workers.specs.{states_at_call}
-use Rattle.pass_tokens.specs.{PositionWordsValue}
+use Rattle.gate_workers.specs.{states_at}
+use Rattle.pass_tokens.specs.{WordsValue}
 use Rattle.command_words.specs.declared.settings.Settings.{Settings}
-use Rattle.report_text.specs.{report_mark_text, report_text}
+use Rattle.report_text.specs.{mark_text, report_text}
 use Rattle.report_text.specs.declared.mark.Mark.TheVariants.{Opened}
-use Rattle.report_session.specs.Session.{WritesAnswer, AreReportsOfCaller, AreSessionReports, BeginsSession}
-use Rattle.report_session.specs.Session.{SessionBreaksOffAround, SessionBreaksOffInRounds, IsShownInSession}
-use Rattle.report_session.specs.Session.{IsStrictSessionBeginning, SessionSaving, IsSessionOverShards}
-use Rattle.report_session.specs.Session.{session_after_saves, calling_thread_reports, session_caller_parts}
-use Rattle.report_session.specs.Session.{session_ends, session_parts, session_saved_cuts, session_save_line}
+use Rattle.report_session.specs.Session.{WritesAnswer, AreOfCaller, AreReports, BeginsSession}
+use Rattle.report_session.specs.Session.{BreaksOffAround, BreaksOffInRounds, IsShownInSession}
+use Rattle.report_session.specs.Session.{IsStrictBeginning, SessionSaving, IsOverShards}
+use Rattle.report_session.specs.Session.{rest_after_saves, caller_reports, caller_parts}
+use Rattle.report_session.specs.Session.{session_ends, session_parts, saved_cuts, save_line}
 use Rattle.report_session.specs.Session.{session_start}
-use Rattle.report_session.specs.DealtFeed.{IsDealtFeedResult, IsDealtFeedRest, FeedStartsBeforeEnds}
-use Rattle.report_session.specs.DealtFeed.{FeedBreaksOffInRounds, dealt_feed_other_reports}
+use Rattle.report_session.specs.DealtFeed.{IsFeedResult, IsFeedRest, StartsBefore}
+use Rattle.report_session.specs.DealtFeed.{FeedBreaksOff, other_reports}
 use Rattle.report_session.specs.declared.feed.Fed.{Fed}
 use Rattle.report_session.specs.declared.session.Rest.{Rest}
 
 -- the first line was written in part
 pub session_text_breaks_in_line : (opening : List ShardValue) (settings : Settings) (Kept : SessionSaving) (tail line : List ℕ)
-    (old new : Option (List ℕ)) → line ≡ report_mark_text Opened (session_start opening) → AppendsBeginning old new line → Kept [] []
+    (old new : Option (List ℕ)) → line ≡ mark_text Opened (session_start opening) → AppendsPart old new line → Kept [] []
     → WritesAnswer (BeginsSession opening settings Kept tail) old new
 session_text_breaks_in_line opening settings Kept tail line old new is written kept = record {
   text = written.front;
-  is_text = inl (subst (IsStrictSessionBeginning written.front) is (written.is_beginning, written.cut), kept);
+  is_text = inl (subst (IsStrictBeginning written.front) is (written.is_beginning, written.cut), kept);
   written = written.appended;
 }
 
 -- the first line, and rounds in part
 pub session_text_breaks_in_rounds : (opening : List ShardValue) (settings : Settings) (Kept : SessionSaving) (tail line : List ℕ)
-    (old between new : Option (List ℕ)) → line ≡ report_mark_text Opened (session_start opening) → Appends old between line
-    → FeedBreaksOffInRounds opening settings Kept between new → WritesAnswer (BeginsSession opening settings Kept tail) old new
+    (old between new : Option (List ℕ)) → line ≡ mark_text Opened (session_start opening) → Appends old between line
+    → FeedBreaksOff opening settings Kept between new → WritesAnswer (BeginsSession opening settings Kept tail) old new
 session_text_breaks_in_rounds opening settings Kept tail line old between new is first part = record {
   text = line ++ part.front;
   is_text = inr (inl (part.front, part.breaks_off, ap (λ first. first ++ part.front) is));
@@ -51,9 +51,9 @@ session_text_breaks_in_rounds opening settings Kept tail line old between new is
 }
 
 -- rounds that were made whole, as rounds in part
-pub session_text_of_fed_rounds : (board : PositionWordsValue) (settings : Settings) (Kept : List CutValue → Type 0) (KeptInPart : SessionSaving)
+pub session_text_of_fed_rounds : (board : WordsValue) (settings : Settings) (Kept : List CutValue → Type 0) (KeptInPart : SessionSaving)
     (old new : Option (List ℕ)) (fed : Fed) → ((cuts : List CutValue) → Kept cuts → KeptInPart cuts [])
-    → IsDealtFeedResult board settings Kept old new fed → FeedBreaksOffInRounds board.opening settings KeptInPart old new
+    → IsFeedResult board settings Kept old new fed → FeedBreaksOff board.opening settings KeptInPart old new
 session_text_of_fed_rounds board settings Kept KeptInPart old new fed part is =
     let gathered = is.gathered in
     let many : length gathered.rounds ≡ settings.rounds = gathered.are_rounds.as_many in
@@ -62,24 +62,24 @@ session_text_of_fed_rounds board settings Kept KeptInPart old new fed part is =
       breaks_off = inl (record {
         rounds = gathered.rounds;
         few = omega (arith, many);
-        are_reports = subst (λ n. AreReportsOfCaller board.opening settings n gathered.rounds) (sym many) gathered.are_rounds;
+        are_reports = subst (λ n. AreOfCaller board.opening settings n gathered.rounds) (sym many) gathered.are_rounds;
         written = refl;
-        kept = part (session_saved_cuts settings.store board.opening gathered.rounds) gathered.kept;
+        kept = part (saved_cuts settings.store board.opening gathered.rounds) gathered.kept;
       });
       written = gathered.written;
     }
 
 -- a report's positions are within the lists
 pub session_text_within_ends : (opening : List ShardValue) (positions : List ℕ) (shard : ℕ) → length positions ≡ length opening
-    → All IsShard (states_at_call opening positions) → slice_index positions shard ≤ slice_index (session_ends opening) shard
+    → All IsShard (states_at opening positions) → slice_index positions shard ≤ slice_index (session_ends opening) shard
 session_text_within_ends [] [] shard many kept = omega arith
 session_text_within_ends [] (position ∷ positions) shard many kept = absurd (omega (arith, many))
 session_text_within_ends (first ∷ rest) [] shard many kept = absurd (omega (arith, many))
 session_text_within_ends (first ∷ rest) (position ∷ positions) zero many kept =
-    (All-head IsShard (shard_state_at position first) (states_at_call rest positions) kept).within
+    (All-head IsShard (shard_state_at position first) (states_at rest positions) kept).within
 session_text_within_ends (first ∷ rest) (position ∷ positions) (suc shard) many kept =
     session_text_within_ends rest positions shard (omega (arith, many))
-    (All-tail IsShard (shard_state_at position first) (states_at_call rest positions) kept)
+    (All-tail IsShard (shard_state_at position first) (states_at rest positions) kept)
 
 -- numbers that never fall, and one more that is at least each of them
 session_text_numbers_never_fall : (numbers : List ℕ) (last : ℕ) → IsNonDecreasing numbers → All (λ number. number ≤ last) numbers
@@ -89,8 +89,8 @@ session_text_numbers_never_fall numbers last up below =
 
 -- the rounds of the calling thread, and the last report
 session_text_with_last : (opening : List ShardValue) (settings : Settings) (count : ℕ) (reports : List Reported) (last : Reported)
-    → FeedStartsBeforeEnds opening → AreReportsOfCaller opening settings count reports → IsShownInSession opening settings last
-    → last.report.positions ≡ session_ends opening → AreReportsOfCaller opening settings (count + 1) (reports ++ last ∷ [])
+    → StartsBefore opening → AreOfCaller opening settings count reports → IsShownInSession opening settings last
+    → last.report.positions ≡ session_ends opening → AreOfCaller opening settings (count + 1) (reports ++ last ∷ [])
 session_text_with_last opening settings count reports last starts are shown ends = record {
   as_many = omega (arith, length-append reports (last ∷ []), are.as_many);
   shown =
@@ -116,20 +116,20 @@ session_text_with_last opening settings count reports last starts are shown ends
 -- a session of which less is said
 pub spelled_session_text_says_less : (opening : List ShardValue) (settings : Settings) (Kept Less : List CutValue → Type 0)
     (tail text : List ℕ) → ((cuts : List CutValue) → Kept cuts → Less cuts)
-    → IsSessionOverShards opening settings Kept tail text → IsSessionOverShards opening settings Less tail text
+    → IsOverShards opening settings Kept tail text → IsOverShards opening settings Less tail text
 spelled_session_text_says_less opening settings Kept Less tail text less session = record {
   reports = session.reports;
   are_reports = session.are_reports;
   spelled = session.spelled;
-  kept = less (session_saved_cuts settings.store opening (calling_thread_reports session.reports)) session.kept;
+  kept = less (saved_cuts settings.store opening (caller_reports session.reports)) session.kept;
 }
 
 -- the reports of a whole session
-session_text_of_all_reports : (board : PositionWordsValue) (settings : Settings) (Fed_kept : List CutValue → Type 0) (tail : List ℕ)
-    (old new : Option (List ℕ)) (fed : Fed) (rest : Rest) → FeedStartsBeforeEnds board.opening
-    → (is : IsDealtFeedResult board settings Fed_kept old new fed) → (end : IsDealtFeedRest board settings fed.gathered.called.items tail rest)
-    → AreSessionReports board.opening settings
-    (record { rounds = is.gathered.rounds; callers = dealt_feed_other_reports fed.gathered.called.items; last = end.last })
+session_text_of_all_reports : (board : WordsValue) (settings : Settings) (Fed_kept : List CutValue → Type 0) (tail : List ℕ)
+    (old new : Option (List ℕ)) (fed : Fed) (rest : Rest) → StartsBefore board.opening
+    → (is : IsFeedResult board settings Fed_kept old new fed) → (end : IsFeedRest board settings fed.gathered.called.items tail rest)
+    → AreReports board.opening settings
+    (record { rounds = is.gathered.rounds; callers = other_reports fed.gathered.called.items; last = end.last })
 session_text_of_all_reports board settings Fed_kept tail old new fed rest starts is end = record {
   calling = session_text_with_last board.opening settings settings.rounds is.gathered.rounds end.last starts is.gathered.are_rounds
       end.shown end.at_ends;
@@ -139,25 +139,25 @@ session_text_of_all_reports board settings Fed_kept tail old new fed rest starts
 }
 
 -- a whole session
-pub session_text_is_spelled : (board : PositionWordsValue) (settings : Settings) (Fed_kept Kept : List CutValue → Type 0)
+pub session_text_is_spelled : (board : WordsValue) (settings : Settings) (Fed_kept Kept : List CutValue → Type 0)
     (tail line : List ℕ) (old new : Option (List ℕ)) (fed : Fed) (rest : Rest)
-    → FeedStartsBeforeEnds board.opening → line ≡ report_mark_text Opened (session_start board.opening)
-    → (is : IsDealtFeedResult board settings Fed_kept old new fed) → (end : IsDealtFeedRest board settings fed.gathered.called.items tail rest)
-    → Kept (session_saved_cuts settings.store board.opening (is.gathered.rounds ++ end.last ∷ []))
-    → IsSessionOverShards board.opening settings Kept tail
+    → StartsBefore board.opening → line ≡ mark_text Opened (session_start board.opening)
+    → (is : IsFeedResult board settings Fed_kept old new fed) → (end : IsFeedRest board settings fed.gathered.called.items tail rest)
+    → Kept (saved_cuts settings.store board.opening (is.gathered.rounds ++ end.last ∷ []))
+    → IsOverShards board.opening settings Kept tail
     (line ++ (session_parts settings.store is.gathered.rounds ++ (rest.front.items ++ rest.back.items)))
 session_text_is_spelled board settings Fed_kept Kept tail line old new fed rest starts is_line is end kept =
     let store : Bool = settings.store in
-    let callers : List ℕ = session_caller_parts (dealt_feed_other_reports fed.gathered.called.items) in
+    let callers : List ℕ = caller_parts (other_reports fed.gathered.called.items) in
     let report : List ℕ = report_text end.last.report in
-    let saved : List ℕ = session_save_line store end.last.report.positions in
+    let saved : List ℕ = save_line store end.last.report.positions in
     let texts : rest.front.items ++ rest.back.items ≡ callers ++ ((report ++ saved) ++ tail) =
     ap₂ (λ a b. a ++ b) end.front_is end.back_is ∙ append_assoc callers report (saved ++ tail)
     ∙ ap (λ t. callers ++ t) (sym (append_assoc report saved tail)) in
     record {
       reports = record {
         rounds = is.gathered.rounds;
-        callers = dealt_feed_other_reports fed.gathered.called.items;
+        callers = other_reports fed.gathered.called.items;
         last = end.last;
       };
       are_reports = session_text_of_all_reports board settings Fed_kept tail old new fed rest starts is end;
@@ -168,9 +168,9 @@ session_text_is_spelled board settings Fed_kept Kept tail line old new fed rest 
 -- the whole session was written
 pub session_text_is_written : (opening : List ShardValue) (settings : Settings) (Kept : List CutValue → Type 0)
     (tail line rounds rest : List ℕ) (old first second new : Option (List ℕ))
-    → IsSessionOverShards opening settings Kept tail (line ++ (rounds ++ rest))
+    → IsOverShards opening settings Kept tail (line ++ (rounds ++ rest))
     → Appends old first line → Appends first second rounds → Appends second new rest
-    → WritesAnswer (IsSessionOverShards opening settings Kept tail) old new
+    → WritesAnswer (IsOverShards opening settings Kept tail) old new
 session_text_is_written opening settings Kept tail line rounds rest old first second new spelled one two three = record {
   text = line ++ (rounds ++ rest);
   is_text = spelled;
@@ -182,30 +182,30 @@ session_text_is_written opening settings Kept tail line rounds rest old first se
 pub session_text_around_save : (before after other_before other_after : List ℕ) (cut other_cut : List CutValue) (Kept Less : SessionSaving)
     (front : List ℕ) → before ≡ other_before → after ≡ other_after → (Kept [] [] → Less [] [])
     → (Kept [] cut → Less [] other_cut) → (Kept cut [] → Less other_cut [])
-    → SessionBreaksOffAround before after cut Kept front → SessionBreaksOffAround other_before other_after other_cut Less front
+    → BreaksOffAround before after cut Kept front → BreaksOffAround other_before other_after other_cut Less front
 session_text_around_save before after other_before other_after cut other_cut Kept Less front same_before same_after none unfinished saved
     (inl (begins, kept)) = inl (subst (IsBeginning front) same_before begins, none kept)
 session_text_around_save before after other_before other_after cut other_cut Kept Less front same_before same_after none unfinished saved
     (inr (inl (whole, kept))) = inr (inl (whole ∙ same_before, unfinished kept))
 session_text_around_save before after other_before other_after cut other_cut Kept Less front same_before same_after none unfinished saved
     (inr (inr (more, short, parted, kept))) =
-    inr (inr (more, subst (IsStrictSessionBeginning more) same_after short, parted ∙ ap (λ text. text ++ more) same_before, saved kept))
+    inr (inr (more, subst (IsStrictBeginning more) same_after short, parted ∙ ap (λ text. text ++ more) same_before, saved kept))
 
 -- what became of the last cut of a session (Rest) is what became of all its cuts (Kept), after those of its rounds
 abbrev pub SessionTextFollowsSaves : Bool → List ShardValue → List Reported → Reported → CutValue → (Rest Kept : SessionSaving) → Type 0
 SessionTextFollowsSaves store opening rounds last cut Rest Kept =
-    (Rest [] [] → session_after_saves store opening rounds Kept [] [])
-    × (Rest [] (cut ∷ []) → session_after_saves store opening rounds Kept [] (session_saved_cuts store opening (last ∷ [])))
-    × (Rest (cut ∷ []) [] → session_after_saves store opening rounds Kept (session_saved_cuts store opening (last ∷ [])) [])
+    (Rest [] [] → rest_after_saves store opening rounds Kept [] [])
+    × (Rest [] (cut ∷ []) → rest_after_saves store opening rounds Kept [] (saved_cuts store opening (last ∷ [])))
+    × (Rest (cut ∷ []) [] → rest_after_saves store opening rounds Kept (saved_cuts store opening (last ∷ [])) [])
 
 -- the session was written but for a part of its rest
-pub session_text_breaks_in_rest : (board : PositionWordsValue) (settings : Settings) (Fed_kept : List CutValue → Type 0)
+pub session_text_breaks_in_rest : (board : WordsValue) (settings : Settings) (Fed_kept : List CutValue → Type 0)
     (KeptInRest KeptInPart : SessionSaving) (tail line : List ℕ) (old first second new : Option (List ℕ)) (fed : Fed)
-    (rest : Rest) → FeedStartsBeforeEnds board.opening → line ≡ report_mark_text Opened (session_start board.opening)
-    → (is : IsDealtFeedResult board settings Fed_kept first second fed)
-    → (end : IsDealtFeedRest board settings fed.gathered.called.items tail rest) → Appends old first line
+    (rest : Rest) → StartsBefore board.opening → line ≡ mark_text Opened (session_start board.opening)
+    → (is : IsFeedResult board settings Fed_kept first second fed)
+    → (end : IsFeedRest board settings fed.gathered.called.items tail rest) → Appends old first line
     → SessionTextFollowsSaves settings.store board.opening is.gathered.rounds end.last rest.cut KeptInRest KeptInPart
-    → WritesAnswer (SessionBreaksOffAround rest.front.items rest.back.items (rest.cut ∷ []) KeptInRest) second new
+    → WritesAnswer (BreaksOffAround rest.front.items rest.back.items (rest.cut ∷ []) KeptInRest) second new
     → WritesAnswer (BeginsSession board.opening settings KeptInPart tail) old new
 session_text_breaks_in_rest board settings Fed_kept KeptInRest KeptInPart tail line old first second new fed rest starts is_line is
     end one kept part =
@@ -215,16 +215,16 @@ session_text_breaks_in_rest board settings Fed_kept KeptInRest KeptInPart tail l
       is_text = inr (inr (record {
         reports = record {
           rounds = is.gathered.rounds;
-          callers = dealt_feed_other_reports fed.gathered.called.items;
+          callers = other_reports fed.gathered.called.items;
           last = end.last;
         };
         are_reports = session_text_of_all_reports board settings Fed_kept tail first second fed rest starts is end;
         more = part.text;
         breaks_off = session_text_around_save rest.front.items rest.back.items
-            (session_caller_parts (dealt_feed_other_reports fed.gathered.called.items) ++ report_text end.last.report)
-            (session_save_line settings.store end.last.report.positions ++ tail) (rest.cut ∷ [])
-            (session_saved_cuts settings.store board.opening (end.last ∷ [])) KeptInRest
-            (session_after_saves settings.store board.opening is.gathered.rounds KeptInPart) part.text end.front_is end.back_is
+            (caller_parts (other_reports fed.gathered.called.items) ++ report_text end.last.report)
+            (save_line settings.store end.last.report.positions ++ tail) (rest.cut ∷ [])
+            (saved_cuts settings.store board.opening (end.last ∷ [])) KeptInRest
+            (rest_after_saves settings.store board.opening is.gathered.rounds KeptInPart) part.text end.front_is end.back_is
             kept.0 kept.1 kept.2 part.is_text;
         written = ap (λ text. text ++ (rounds ++ part.text)) is_line;
       }));
@@ -237,37 +237,37 @@ session_text_breaks_in_rest board settings Fed_kept KeptInRest KeptInPart tail l
 -- were, and before, in and after the save of a report that follows some rounds
 pub record SessionTextSaysLess (opening : List ShardValue) (settings : Settings) (Kept Less : SessionSaving) : Type 0 where
   pub none : Kept [] [] → Less [] []
-  pub between : (rounds : List Reported) → AreReportsOfCaller opening settings (length rounds) rounds
-      → Kept (session_saved_cuts settings.store opening rounds) [] → Less (session_saved_cuts settings.store opening rounds) []
+  pub between : (rounds : List Reported) → AreOfCaller opening settings (length rounds) rounds
+      → Kept (saved_cuts settings.store opening rounds) [] → Less (saved_cuts settings.store opening rounds) []
   pub before : (count : ℕ) (rounds : List Reported) (next : Reported)
-      → AreReportsOfCaller opening settings count (rounds ++ next ∷ [])
-      → session_after_saves settings.store opening rounds Kept [] [] → session_after_saves settings.store opening rounds Less [] []
+      → AreOfCaller opening settings count (rounds ++ next ∷ [])
+      → rest_after_saves settings.store opening rounds Kept [] [] → rest_after_saves settings.store opening rounds Less [] []
   pub unfinished : (count : ℕ) (rounds : List Reported) (next : Reported)
-      → AreReportsOfCaller opening settings count (rounds ++ next ∷ [])
-      → session_after_saves settings.store opening rounds Kept [] (session_saved_cuts settings.store opening (next ∷ []))
-      → session_after_saves settings.store opening rounds Less [] (session_saved_cuts settings.store opening (next ∷ []))
+      → AreOfCaller opening settings count (rounds ++ next ∷ [])
+      → rest_after_saves settings.store opening rounds Kept [] (saved_cuts settings.store opening (next ∷ []))
+      → rest_after_saves settings.store opening rounds Less [] (saved_cuts settings.store opening (next ∷ []))
   pub saved : (count : ℕ) (rounds : List Reported) (next : Reported)
-      → AreReportsOfCaller opening settings count (rounds ++ next ∷ [])
-      → session_after_saves settings.store opening rounds Kept (session_saved_cuts settings.store opening (next ∷ [])) []
-      → session_after_saves settings.store opening rounds Less (session_saved_cuts settings.store opening (next ∷ [])) []
+      → AreOfCaller opening settings count (rounds ++ next ∷ [])
+      → rest_after_saves settings.store opening rounds Kept (saved_cuts settings.store opening (next ∷ [])) []
+      → rest_after_saves settings.store opening rounds Less (saved_cuts settings.store opening (next ∷ [])) []
 
 -- a session that broke off, of which less is said
 session_text_around_says_less : (opening : List ShardValue) (settings : Settings) (Kept Less : SessionSaving) (count : ℕ) (rounds : List Reported)
     (next : Reported) (before after front : List ℕ) → SessionTextSaysLess opening settings Kept Less
-    → AreReportsOfCaller opening settings count (rounds ++ next ∷ [])
-    → SessionBreaksOffAround before after (session_saved_cuts settings.store opening (next ∷ []))
-    (session_after_saves settings.store opening rounds Kept) front
-    → SessionBreaksOffAround before after (session_saved_cuts settings.store opening (next ∷ []))
-    (session_after_saves settings.store opening rounds Less) front
+    → AreOfCaller opening settings count (rounds ++ next ∷ [])
+    → BreaksOffAround before after (saved_cuts settings.store opening (next ∷ []))
+    (rest_after_saves settings.store opening rounds Kept) front
+    → BreaksOffAround before after (saved_cuts settings.store opening (next ∷ []))
+    (rest_after_saves settings.store opening rounds Less) front
 session_text_around_says_less opening settings Kept Less count rounds next before after front less are breaks =
-    let cut : List CutValue = session_saved_cuts settings.store opening (next ∷ []) in
-    session_text_around_save before after before after cut cut (session_after_saves settings.store opening rounds Kept)
-    (session_after_saves settings.store opening rounds Less) front refl refl (less.before count rounds next are)
+    let cut : List CutValue = saved_cuts settings.store opening (next ∷ []) in
+    session_text_around_save before after before after cut cut (rest_after_saves settings.store opening rounds Kept)
+    (rest_after_saves settings.store opening rounds Less) front refl refl (less.before count rounds next are)
     (less.unfinished count rounds next are) (less.saved count rounds next are) breaks
 
 session_text_rounds_say_less : (opening : List ShardValue) (settings : Settings) (Kept Less : SessionSaving) (front : List ℕ)
-    → SessionTextSaysLess opening settings Kept Less → SessionBreaksOffInRounds opening settings Kept front
-    → SessionBreaksOffInRounds opening settings Less front
+    → SessionTextSaysLess opening settings Kept Less → BreaksOffInRounds opening settings Kept front
+    → BreaksOffInRounds opening settings Less front
 session_text_rounds_say_less opening settings Kept Less front less (inl between) = inl (record {
   rounds = between.rounds;
   few = between.few;
@@ -282,7 +282,7 @@ session_text_rounds_say_less opening settings Kept Less front less (inr within) 
   are_reports = within.are_reports;
   more = within.more;
   breaks_off = session_text_around_says_less opening settings Kept Less (length within.rounds + 1) within.rounds within.next
-      (report_text within.next.report) (session_save_line settings.store within.next.report.positions) within.more less
+      (report_text within.next.report) (save_line settings.store within.next.report.positions) within.more less
       within.are_reports within.breaks_off;
   written = within.written;
 })
@@ -298,15 +298,15 @@ session_text_begins_saying_less opening settings Kept Less tail front less (inr 
   are_reports = later.are_reports;
   more = later.more;
   breaks_off = session_text_around_says_less opening settings Kept Less (settings.rounds + 1) later.reports.rounds later.reports.last
-      (session_caller_parts later.reports.callers ++ report_text later.reports.last.report)
-      (session_save_line settings.store later.reports.last.report.positions ++ tail) later.more less
+      (caller_parts later.reports.callers ++ report_text later.reports.last.report)
+      (save_line settings.store later.reports.last.report.positions ++ tail) later.more less
       later.are_reports.calling later.breaks_off;
   written = later.written;
 }))
 
 -- what is said whatever cuts were saved
 session_text_around_any_saves : (before after : List ℕ) (cut : List CutValue) (Said : Type 0) (front : List ℕ)
-    → SessionBreaksOffAround before after cut (λ saved unfinished. Said) front → Said
+    → BreaksOffAround before after cut (λ saved unfinished. Said) front → Said
 session_text_around_any_saves before after cut Said front (inl (begins, said)) = said
 session_text_around_any_saves before after cut Said front (inr (inl (whole, said))) = said
 session_text_around_any_saves before after cut Said front (inr (inr (more, short, parted, said))) = said
@@ -316,19 +316,19 @@ pub session_text_whatever_was_saved : (opening : List ShardValue) (settings : Se
 session_text_whatever_was_saved opening settings Said tail front (inl (short, said)) = said
 session_text_whatever_was_saved opening settings Said tail front (inr (inl (more, inl between, parted))) = between.kept
 session_text_whatever_was_saved opening settings Said tail front (inr (inl (more, inr within, parted))) =
-    session_text_around_any_saves (report_text within.next.report) (session_save_line settings.store within.next.report.positions)
-    (session_saved_cuts settings.store opening (within.next ∷ [])) Said within.more within.breaks_off
+    session_text_around_any_saves (report_text within.next.report) (save_line settings.store within.next.report.positions)
+    (saved_cuts settings.store opening (within.next ∷ [])) Said within.more within.breaks_off
 session_text_whatever_was_saved opening settings Said tail front (inr (inr later)) =
-    session_text_around_any_saves (session_caller_parts later.reports.callers ++ report_text later.reports.last.report)
-    (session_save_line settings.store later.reports.last.report.positions ++ tail)
-    (session_saved_cuts settings.store opening (later.reports.last ∷ [])) Said later.more later.breaks_off
+    session_text_around_any_saves (caller_parts later.reports.callers ++ report_text later.reports.last.report)
+    (save_line settings.store later.reports.last.report.positions ++ tail)
+    (saved_cuts settings.store opening (later.reports.last ∷ [])) Said later.more later.breaks_off
 
 -- where less is said of any cuts
 pub session_text_begins_weaker : (opening : List ShardValue) (settings : Settings) (Kept Less : SessionSaving) (tail front : List ℕ)
     → ((saved unfinished : List CutValue) → Kept saved unfinished → Less saved unfinished)
     → BeginsSession opening settings Kept tail front → BeginsSession opening settings Less tail front
 session_text_begins_weaker opening settings Kept Less tail front less =
-    let cuts : List Reported → List CutValue = session_saved_cuts settings.store opening in
+    let cuts : List Reported → List CutValue = saved_cuts settings.store opening in
     session_text_begins_saying_less opening settings Kept Less tail front
     (record {
       none = less [] [];
@@ -339,15 +339,15 @@ session_text_begins_weaker opening settings Kept Less tail front less =
     })
 
 -- the first line of a session isn't empty
-session_text_line_is_some : (positions : List ℕ) → 0 < length (report_mark_text Opened positions)
+session_text_line_is_some : (positions : List ℕ) → 0 < length (mark_text Opened positions)
 session_text_line_is_some positions =
-    omega (arith, length-append (join_with_byte prefix_text_space (codes "opened" ∷ map decimal positions)) (codes "\n"))
+    omega (arith, length-append (join_with_byte text_space (codes "opened" ∷ map decimal positions)) (codes "\n"))
 
 -- no byte was written
 pub session_text_without_a_byte : (opening : List ShardValue) (settings : Settings) (Kept : SessionSaving) (tail : List ℕ)
     (old new : Option (List ℕ)) → new ≡ old → Kept [] [] → WritesAnswer (BeginsSession opening settings Kept tail) old new
 session_text_without_a_byte opening settings Kept tail old new same kept = record {
   text = [];
-  is_text = inl (((report_mark_text Opened (session_start opening), refl), session_text_line_is_some (session_start opening)), kept);
+  is_text = inl (((mark_text Opened (session_start opening), refl), session_text_line_is_some (session_start opening)), kept);
   written = subst (λ o. Appends old o []) (sym same) (Appends-nil old);
 }

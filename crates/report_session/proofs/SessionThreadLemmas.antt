@@ -12,32 +12,32 @@ use Rattle.std.proofs.KnownBytes.{Appends-trans, Appends-nil}
 use Rattle.std.proofs.lemmas.List.{length-map, take_more}
 use Rattle.std.proofs.lemmas.List.Elements.{All-map, All-append, All-cons, All-head, All-nil, All-tail}
 use Rattle.std.proofs.lemmas.List.Sorted.{IsNonDecreasingBy-short}
-use Rattle.shard_state.specs.{CoreBasesRepresent, CutValue, IsShard, ShardValue, core_capacity, core_lists}
+use Rattle.shard_state.specs.{BasesRepresent, CutValue, IsShard, ShardValue, core_capacity, core_lists}
 use Rattle.shard_state.specs.{shard_state_at}
 use Rattle.hhh_report.specs.{IsSound}
 use Rattle.hhh_report.specs.declared.report.Report.{Report}
 use Rattle.hhh_report.specs.declared.reports.Reported.{Reported}
-use Rattle.pass_tokens.specs.{first_view, newcomer_view, seen_in_view, view as view_of}
-use Rattle.gate_workers.specs.{AreSoundThreadReports, Calls, ThreadsBringBack, CallingThreadMakesRounds}
-use Rattle.gate_workers.specs.{FeedHasSeenEnds, View, states_at_call}
+use Rattle.pass_tokens.specs.{first_view, newcomer_view, seen_in, view as view_of}
+use Rattle.gate_workers.specs.{AreSoundReports, Calls, BringBack, MakesRounds}
+use Rattle.gate_workers.specs.{HasSeenEnds, View, states_at}
 use Rattle.gate_workers.specs.declared.gathered.Called.{Called}
 use Rattle.gate_workers.specs.declared.gathered.Gathered.{Gathered}
 use Rattle.gate_workers.specs.declared.plan.ThreadPlan.{ThreadPlan}
 use Rattle.command_words.specs.declared.settings.Settings.{Settings}
 use Rattle.report_text.specs.{report_text}
-use Rattle.report_session.specs.DealtFeed.{FeedBreaksOffInRounds, DealtFeedMakesSteps, dealt_feed_other_reports}
-use Rattle.report_session.specs.Rounds.{RoundsBreakOff, EndRounds, RoundFaults, IsRoundInVain, RoundReportsOnce}
-use Rattle.report_session.specs.Rounds.{RoundBreaksInLine, RoundBreaksInReport, WritesRounds, WritesUnsavedRound}
-use Rattle.report_session.specs.Session.{AreReportsOfCaller, SessionBreaksOffAround, IsShownInSession}
-use Rattle.report_session.specs.Session.{SessionSaving, session_after_saves, session_caller_parts, session_ends}
-use Rattle.report_session.specs.Session.{session_part, session_parts, session_saved_cuts, session_save_line}
+use Rattle.report_session.specs.DealtFeed.{FeedBreaksOff, MakesSteps, other_reports}
+use Rattle.report_session.specs.LiveRounds.{RoundsBreakOff, EndRounds, RoundFaults, IsInVain, ReportsOnce}
+use Rattle.report_session.specs.LiveRounds.{BreaksInLine, BreaksInReport, WritesRounds, WritesUnsaved}
+use Rattle.report_session.specs.Session.{AreOfCaller, BreaksOffAround, IsShownInSession}
+use Rattle.report_session.specs.Session.{SessionSaving, rest_after_saves, caller_parts, session_ends}
+use Rattle.report_session.specs.Session.{session_part, session_parts, saved_cuts, save_line}
 use Rattle.report_session.specs.Session.{session_start}
 use Rattle.run_status.specs.declared.status.Status.{Status}
 use Rattle.run_status.specs.declared.status.Status.TheVariants.{Done, BadWords, BadCapture, ReadFault, WriteFault}
 use Rattle.run_status.specs.declared.status.Status.TheVariants.{DiskFault, NotFormatted, Damaged, OtherSettings}
 use Rattle.run_status.specs.declared.status.Status.TheVariants.{OtherCapture, AuditNo, BadReport, OutOfMemory}
 use Rattle.report_session.proofs.RoundLemmas.{RoundsFollowRounds, flat_map-append_rounds, round_makes_report}
-use Rattle.report_session.proofs.RoundLemmas.{session_saved_cuts-no_rounds}
+use Rattle.report_session.proofs.RoundLemmas.{saved_cuts-no_rounds}
 use Rattle.report_session.proofs.SeenPositionLemmas.{seen_position_report_count, seen_position_before_one_read}
 
 -- a view has seen the positions at which shards start, and no others
@@ -60,8 +60,8 @@ new_session_thread_sees_starts opening view seen = map-map_of_session_threads _ 
 -- what a caller with such a view reports in its rounds
 pub session_thread_reports_of_calls : (opening : List ShardValue) (settings : Settings) (rounds : ℕ) (before now : View)
     (reports : List Reported) → core_capacity opening ≡ settings.capacity → HasSessionThreadSeenStarts opening before
-    → Calls opening settings.phi rounds before now reports → (CoreBasesRepresent opening → AreSoundThreadReports opening settings.phi reports)
-    → AreReportsOfCaller opening settings rounds reports
+    → Calls opening settings.phi rounds before now reports → (BasesRepresent opening → AreSoundReports opening settings.phi reports)
+    → AreOfCaller opening settings rounds reports
 session_thread_reports_of_calls opening settings rounds before now reports alike seen calls sound = record {
   as_many = seen_position_report_count opening settings.phi rounds before now reports calls;
   shown = λ k d lt. record {
@@ -86,27 +86,27 @@ session_thread_breaks_in_round : (opening : List ShardValue) (settings : Setting
     (old between new : Option (List ℕ)) (reports : List Reported) (report : Report) (more : List ℕ)
     → core_capacity opening ≡ settings.capacity → HasSessionThreadSeenStarts opening before → RoundsFollowRounds opening before
     → whole < settings.rounds → Calls opening settings.phi whole before middle reports
-    → (CoreBasesRepresent opening → AreSoundThreadReports opening settings.phi reports)
+    → (BasesRepresent opening → AreSoundReports opening settings.phi reports)
     → Appends old between (session_parts settings.store reports)
-    → RoundReportsOnce opening settings.phi middle now report
-    → SessionBreaksOffAround (report_text report) (session_save_line settings.store report.positions)
-    (session_saved_cuts settings.store opening (record { report = report; saved = None } ∷ []))
-    (session_after_saves settings.store opening reports Kept) more
-    → Appends between new more → FeedBreaksOffInRounds opening settings Kept old new
+    → ReportsOnce opening settings.phi middle now report
+    → BreaksOffAround (report_text report) (save_line settings.store report.positions)
+    (saved_cuts settings.store opening (record { report = report; saved = None } ∷ []))
+    (rest_after_saves settings.store opening reports Kept) more
+    → Appends between new more → FeedBreaksOff opening settings Kept old new
 session_thread_breaks_in_round opening settings whole before middle now Kept old between new reports report more alike seen follow few made
     sound written once breaks_off appended =
     let next : Reported = record { report = report; saved = None } in
     let all : List Reported = reports ++ next ∷ [] in
     let calls : Calls opening settings.phi (whole + 1) before now all =
     follow settings.phi whole 1 middle now reports (next ∷ []) made once.calls in
-    let are_sound : CoreBasesRepresent opening → AreSoundThreadReports opening settings.phi all =
+    let are_sound : BasesRepresent opening → AreSoundReports opening settings.phi all =
     λ bases.
     All-append (λ (reported : Reported). IsSound reported.report (core_lists opening) (core_capacity opening) settings.phi)
     reports (next ∷ []) (sound bases)
     (All-cons (λ (reported : Reported). IsSound reported.report (core_lists opening) (core_capacity opening) settings.phi)
     next [] (once.sound bases)
     (All-nil (λ (reported : Reported). IsSound reported.report (core_lists opening) (core_capacity opening) settings.phi))) in
-    let are : AreReportsOfCaller opening settings (whole + 1) all =
+    let are : AreOfCaller opening settings (whole + 1) all =
     session_thread_reports_of_calls opening settings (whole + 1) before now all alike seen calls are_sound in
     let many : length reports ≡ whole = seen_position_report_count opening settings.phi whole before middle reports made in
     record {
@@ -115,7 +115,7 @@ session_thread_breaks_in_round opening settings whole before middle now Kept old
         rounds = reports;
         next = next;
         few = omega (arith, few, many);
-        are_reports = subst (λ n. AreReportsOfCaller opening settings (n + 1) all) (sym many) are;
+        are_reports = subst (λ n. AreOfCaller opening settings (n + 1) all) (sym many) are;
         more = more;
         breaks_off = breaks_off;
         written = refl;
@@ -128,19 +128,19 @@ session_thread_between_rounds : (opening : List ShardValue) (settings : Settings
     (old between new : Option (List ℕ)) (reports : List Reported)
     → core_capacity opening ≡ settings.capacity → HasSessionThreadSeenStarts opening before
     → whole ≤ settings.rounds → Calls opening settings.phi whole before middle reports
-    → (CoreBasesRepresent opening → AreSoundThreadReports opening settings.phi reports)
+    → (BasesRepresent opening → AreSoundReports opening settings.phi reports)
     → Appends old between (session_parts settings.store reports) → new ≡ between
-    → Kept (session_saved_cuts settings.store opening reports) [] → FeedBreaksOffInRounds opening settings Kept old new
+    → Kept (saved_cuts settings.store opening reports) [] → FeedBreaksOff opening settings Kept old new
 session_thread_between_rounds opening settings whole before middle Kept old between new reports alike seen few made sound written same
     kept =
-    let are : AreReportsOfCaller opening settings whole reports =
+    let are : AreOfCaller opening settings whole reports =
     session_thread_reports_of_calls opening settings whole before middle reports alike seen made sound in
     record {
       front = session_parts settings.store reports;
       breaks_off = inl (record {
         rounds = reports;
         few = omega (arith, few, are.as_many);
-        are_reports = subst (λ n. AreReportsOfCaller opening settings n reports) (sym are.as_many) are;
+        are_reports = subst (λ n. AreOfCaller opening settings n reports) (sym are.as_many) are;
         written = refl;
         kept = kept;
       });
@@ -153,12 +153,12 @@ session_thread_unsaved_round : (opening : List ShardValue) (settings : Settings)
     → core_capacity opening ≡ settings.capacity → HasSessionThreadSeenStarts opening before → RoundsFollowRounds opening before
     → (off : RoundsBreakOff opening settings.phi settings.store settings.rounds before now Kept old new faults_before faults_now
     status)
-    → (unsaved : WritesUnsavedRound opening settings.phi off.middle now unfinished
-    (session_after_saves settings.store opening off.written.reports Kept) off.between new)
-    → SessionBreaksOffAround (report_text unsaved.report) (session_save_line settings.store unsaved.report.positions)
-    (session_saved_cuts settings.store opening (record { report = unsaved.report; saved = None } ∷ []))
-    (session_after_saves settings.store opening off.written.reports Kept) (report_text unsaved.report)
-    → FeedBreaksOffInRounds opening settings Kept old new
+    → (unsaved : WritesUnsaved opening settings.phi off.middle now unfinished
+    (rest_after_saves settings.store opening off.written.reports Kept) off.between new)
+    → BreaksOffAround (report_text unsaved.report) (save_line settings.store unsaved.report.positions)
+    (saved_cuts settings.store opening (record { report = unsaved.report; saved = None } ∷ []))
+    (rest_after_saves settings.store opening off.written.reports Kept) (report_text unsaved.report)
+    → FeedBreaksOff opening settings Kept old new
 session_thread_unsaved_round opening settings before now Kept old new faults_before faults_now status unfinished alike seen follow off
     unsaved breaks_off =
     let whole = off.written in
@@ -171,16 +171,16 @@ session_thread_broken_rounds : (opening : List ShardValue) (settings : Settings)
     (old new : Option (List ℕ)) (faults_before faults_now : RoundFaults) (status : Status)
     → core_capacity opening ≡ settings.capacity → HasSessionThreadSeenStarts opening before → RoundsFollowRounds opening before
     → RoundsBreakOff opening settings.phi settings.store settings.rounds before now Kept old new faults_before faults_now status
-    → FeedBreaksOffInRounds opening settings Kept old new
+    → FeedBreaksOff opening settings Kept old new
 session_thread_broken_rounds opening settings before now Kept old new faults_before faults_now WriteFault alike seen follow off =
     let whole = off.written in
-    let After : SessionSaving = session_after_saves settings.store opening whole.reports Kept in
+    let After : SessionSaving = rest_after_saves settings.store opening whole.reports Kept in
     ⊎_elim
-    (λ (part : RoundBreaksInReport opening settings.phi off.middle now After off.between new).
+    (λ (part : BreaksInReport opening settings.phi off.middle now After off.between new).
     session_thread_breaks_in_round opening settings off.whole before off.middle now Kept old off.between new whole.reports part.report
     part.written.front alike seen follow off.few whole.calls whole.sound whole.written part.reports
     (inl (part.written.is_beginning, part.kept)) part.written.appended)
-    (λ (part : RoundBreaksInLine opening settings.phi settings.store off.middle now After off.between new).
+    (λ (part : BreaksInLine opening settings.phi settings.store off.middle now After off.between new).
     let text : List ℕ = report_text part.report in
     let line : List ℕ = part.written.front in
     session_thread_breaks_in_round opening settings off.whole before off.middle now Kept old off.between new whole.reports part.report
@@ -193,17 +193,17 @@ session_thread_broken_rounds opening settings before now Kept old new faults_bef
     unsaved
     (inr (inl (
       refl,
-      subst (λ store. session_after_saves settings.store opening off.written.reports Kept []
-          (session_saved_cuts store opening (record { report = unsaved.report; saved = None } ∷ []))) (sym off.broken.0) unsaved.kept,
+      subst (λ store. rest_after_saves settings.store opening off.written.reports Kept []
+          (saved_cuts store opening (record { report = unsaved.report; saved = None } ∷ []))) (sym off.broken.0) unsaved.kept,
     )))
 session_thread_broken_rounds opening settings before now Kept old new faults_before faults_now OutOfMemory alike seen follow off =
     let whole = off.written in
     let few : off.whole < settings.rounds = off.few in
     ⊎_elim
-    (λ (vain : IsRoundInVain opening off.middle now (session_after_saves settings.store opening whole.reports Kept) off.between new).
+    (λ (vain : IsInVain opening off.middle now (rest_after_saves settings.store opening whole.reports Kept) off.between new).
     session_thread_between_rounds opening settings off.whole before off.middle Kept old off.between new whole.reports alike seen
     (omega (arith, few)) whole.calls whole.sound whole.written vain.unwritten
-    (subst (λ cuts. Kept cuts []) (append-nil (session_saved_cuts settings.store opening whole.reports)) vain.kept))
+    (subst (λ cuts. Kept cuts []) (append-nil (saved_cuts settings.store opening whole.reports)) vain.kept))
     (λ unsaved.
     session_thread_unsaved_round opening settings before now Kept old new faults_before faults_now OutOfMemory false alike seen follow
     off unsaved.1
@@ -237,19 +237,19 @@ session_thread_ended_rounds : (opening : List ShardValue) (settings : Settings) 
     → ((cuts : List CutValue) → Kept cuts → KeptInPart cuts [])
     → EndRounds opening settings.phi settings.store settings.rounds before now Kept KeptInPart old new faults_before
     faults_now stop
-    → FeedBreaksOffInRounds opening settings KeptInPart old new
+    → FeedBreaksOff opening settings KeptInPart old new
 session_thread_ended_rounds opening settings before now Kept KeptInPart old new faults_before faults_now None alike seen follow part
     ended =
     let whole = ended.0 in
     session_thread_between_rounds opening settings settings.rounds before now KeptInPart old new new whole.reports alike seen (omega arith)
-    whole.calls whole.sound whole.written refl (part (session_saved_cuts settings.store opening whole.reports) whole.kept)
+    whole.calls whole.sound whole.written refl (part (saved_cuts settings.store opening whole.reports) whole.kept)
 session_thread_ended_rounds opening settings before now Kept KeptInPart old new faults_before faults_now (Some status) alike seen
     follow part ended =
     session_thread_broken_rounds opening settings before now KeptInPart old new faults_before faults_now status alike seen follow ended
 
 -- no round was begun
 session_thread_without_round : (opening : List ShardValue) (settings : Settings) (Kept : SessionSaving) (old new : Option (List ℕ))
-    → new ≡ old → Kept [] [] → FeedBreaksOffInRounds opening settings Kept old new
+    → new ≡ old → Kept [] [] → FeedBreaksOff opening settings Kept old new
 session_thread_without_round opening settings Kept old new same kept = record {
   front = [];
   breaks_off = inl (record {
@@ -261,7 +261,7 @@ session_thread_without_round opening settings Kept old new same kept = record {
       never_fall = λ shard inside. IsNonDecreasingBy-short (λ x. x) (slice_index (session_start opening) shard ∷ []) (omega arith);
     };
     written = refl;
-    kept = subst (λ cuts. Kept cuts []) (sym (session_saved_cuts-no_rounds settings.store opening)) kept;
+    kept = subst (λ cuts. Kept cuts []) (sym (saved_cuts-no_rounds settings.store opening)) kept;
   });
   written = subst (λ o. Appends old o []) (sym same) (Appends-nil old);
 }
@@ -278,8 +278,8 @@ pub session_threads_leave_rounds : (same : Type 0) (relates : View → View → 
     → length before.trails ≡ length opening → Calls opening phi rounds before middle reports
     → Calls opening phi more middle now later → Calls opening phi (rounds + more) before now (reports ++ later))
     → ((cuts : List CutValue) → Kept cuts → KeptInPart cuts [])
-    → (same → (new ≡ old) × KeptInPart [] []) → same ⊎ CallingThreadMakesRounds relates passes view
-    → FeedBreaksOffInRounds opening settings KeptInPart old new
+    → (same → (new ≡ old) × KeptInPart [] []) → same ⊎ MakesRounds relates passes view
+    → FeedBreaksOff opening settings KeptInPart old new
 session_threads_leave_rounds same relates opening settings passes view Kept KeptInPart old new faults_before faults_now stop first alike
     ends follow part unmoved (inl is_same) =
     session_thread_without_round opening settings KeptInPart old new (unmoved is_same).0 (unmoved is_same).1
@@ -301,9 +301,9 @@ session_threads_leave_rounds same relates opening settings passes view Kept Kept
 -- either the threads were run, or memory ran out before
 pub session_threads_ran_or_not : {E : Type 0} (same : Type 0) (relates : View → View → Type 0) (opening : List ShardValue)
     (plan : ThreadPlan) (view : View) (result : Result Gathered E)
-    → IfOk result (ThreadsBringBack opening plan relates view)
-    → OnErr result (same ⊎ CallingThreadMakesRounds relates (plan.workers + plan.callers) view)
-    → same ⊎ CallingThreadMakesRounds relates (plan.workers + plan.callers) view
+    → IfOk result (BringBack opening plan relates view)
+    → OnErr result (same ⊎ MakesRounds relates (plan.workers + plan.callers) view)
+    → same ⊎ MakesRounds relates (plan.workers + plan.callers) view
 session_threads_ran_or_not same relates opening plan view (Ok gathered) gathers memory = inr gathers.rounds
 session_threads_ran_or_not same relates opening plan view (Err error) gathers memory = memory
 
@@ -342,12 +342,12 @@ pub session_threads_gathered_all : (relates : View → View → Type 0) (opening
     → plan.phi ≡ settings.phi → plan.rounds ≡ settings.rounds → plan.callers ≡ settings.callers
     → ((before now : View) → relates before now
     → WritesRounds before.opening settings.phi settings.store settings.rounds before now Kept old new)
-    → ThreadsBringBack opening plan relates view gathered
-    → (CoreBasesRepresent opening → All (λ (called : Called). AreSoundThreadReports opening plan.phi called.reports) gathered.called.items)
-    → (rounds : List Reported) × AreReportsOfCaller opening settings settings.rounds rounds
+    → BringBack opening plan relates view gathered
+    → (BasesRepresent opening → All (λ (called : Called). AreSoundReports opening plan.phi called.reports) gathered.called.items)
+    → (rounds : List Reported) × AreOfCaller opening settings settings.rounds rounds
     × Appends old new (session_parts settings.store rounds) × (length gathered.called.items ≡ settings.callers)
-    × All (AreReportsOfCaller opening settings settings.rounds) (dealt_feed_other_reports gathered.called.items)
-    × Kept (session_saved_cuts settings.store opening rounds)
+    × All (AreOfCaller opening settings settings.rounds) (other_reports gathered.called.items)
+    × Kept (saved_cuts settings.store opening rounds)
 session_threads_gathered_all relates opening settings plan view gathered Kept old new first alike phi rounds callers ends gathers
     sound =
     let before : View = record view { splits = view.splits + (plan.workers + plan.callers) } in
@@ -361,7 +361,7 @@ session_threads_gathered_all relates opening settings plan view gathered Kept ol
           whole.sound,
       whole.written,
       gathers.as_many_callers ∙ callers,
-      All-map (AreReportsOfCaller opening settings settings.rounds) (λ (called : Called). called.reports)
+      All-map (AreOfCaller opening settings settings.rounds) (λ (called : Called). called.reports)
           gathered.called.items
           (λ k d lt.
           let called : Called = get_or gathered.called.items k d in
@@ -371,24 +371,24 @@ session_threads_gathered_all relates opening settings plan view gathered Kept ol
           (subst (λ n. Calls opening settings.phi n (newcomer_view start) (view_of called.pass) called.reports) rounds
           (subst (λ n. Calls opening n plan.rounds (newcomer_view start) (view_of called.pass) called.reports) phi
           (gathers.called k d lt)))
-          (λ bases. subst (λ n. AreSoundThreadReports opening n called.reports) phi (sound bases k d lt))),
+          (λ bases. subst (λ n. AreSoundReports opening n called.reports) phi (sound bases k d lt))),
       whole.kept,
     )
 
 -- rounds that were all made split off no pass, and took in none
 pub session_thread_rounds_make_steps : (opening : List ShardValue) (phi rounds : ℕ) (before now : View) (store : Bool)
     (Kept : List CutValue → Type 0) (old new : Option (List ℕ)) → WritesRounds opening phi store rounds before now Kept old new
-    → DealtFeedMakesSteps before now
+    → MakesSteps before now
 session_thread_rounds_make_steps opening phi rounds before now store Kept old new written =
-    subst (DealtFeedMakesSteps before) (sym written.calls.view) refl
+    subst (MakesSteps before) (sym written.calls.view) refl
 
-pub session_thread_made_no_step : (before now : View) → now ≡ before → DealtFeedMakesSteps before now
-session_thread_made_no_step before now same = subst (DealtFeedMakesSteps before) (sym same) refl
+pub session_thread_made_no_step : (before now : View) → now ≡ before → MakesSteps before now
+session_thread_made_no_step before now same = subst (MakesSteps before) (sym same) refl
 
 -- what the threads of a plan bring back, of which less is said
 session_threads_say_less : (relates less : View → View → Type 0) (opening : List ShardValue) (plan : ThreadPlan) (view : View)
     (gathered : Gathered) → ((before now : View) → relates before now → less before now)
-    → ThreadsBringBack opening plan relates view gathered → ThreadsBringBack opening plan less view gathered
+    → BringBack opening plan relates view gathered → BringBack opening plan less view gathered
 session_threads_say_less relates less opening plan view gathered implies back = record {
   rounds = record {
     now = back.rounds.now;
@@ -405,9 +405,9 @@ session_threads_say_less relates less opening plan view gathered implies back = 
 -- the same of the plan that was asked for
 pub session_threads_ran_as_planned : (relates less : View → View → Type 0) (opening : List ShardValue) (plan asked : ThreadPlan)
     (view : View) (gathered : Gathered) → plan ≡ asked → ((before now : View) → relates before now → less before now)
-    → ThreadsBringBack opening plan relates view gathered → ThreadsBringBack opening asked less view gathered
+    → BringBack opening plan relates view gathered → BringBack opening asked less view gathered
 session_threads_ran_as_planned relates less opening plan asked view gathered same implies back =
-    subst (λ p. ThreadsBringBack opening p less view gathered) same
+    subst (λ p. BringBack opening p less view gathered) same
     (session_threads_say_less relates less opening plan view gathered implies back)
 
 -- one more report of a caller, none of whose cuts is saved
@@ -423,21 +423,21 @@ session_thread_adds_report reports index d inside =
 
 -- the reports of one of several callers
 pub session_thread_caller_at_index : (called : List Called) (index : ℕ) (d : Called)
-    → get_or (dealt_feed_other_reports called) index d.reports ≡ (get_or called index d).reports
+    → get_or (other_reports called) index d.reports ≡ (get_or called index d).reports
 session_thread_caller_at_index [] index d = refl
 session_thread_caller_at_index (first ∷ rest) zero d = refl
 session_thread_caller_at_index (first ∷ rest) (suc index) d = session_thread_caller_at_index rest index d
 
 -- one more caller's reports
 pub session_thread_adds_caller : (called : List Called) (index : ℕ) (d : Called) → index < length called
-    → session_caller_parts (take (index + 1) (dealt_feed_other_reports called))
-    ≡ session_caller_parts (take index (dealt_feed_other_reports called)) ++ session_parts false (get_or called index d).reports
+    → caller_parts (take (index + 1) (other_reports called))
+    ≡ caller_parts (take index (other_reports called)) ++ session_parts false (get_or called index d).reports
 session_thread_adds_caller called index d inside =
-    let callers : List (List Reported) = dealt_feed_other_reports called in
+    let callers : List (List Reported) = other_reports called in
     let within : index < length callers = omega (arith, inside, length-map called (λ (caller : Called). caller.reports)) in
-    ap session_caller_parts (take_more callers index d.reports within)
+    ap caller_parts (take_more callers index d.reports within)
     ∙ flat_map-append_rounds (session_parts false) (take index callers) (get_or callers index d.reports ∷ [])
-    ∙ ap (λ rest. session_caller_parts (take index callers) ++ rest)
+    ∙ ap (λ rest. caller_parts (take index callers) ++ rest)
     (append-nil (session_parts false (get_or callers index d.reports)) ∙ ap (session_parts false) (session_thread_caller_at_index called index d))
 
 session_thread_index_is_inside : {A : Type 0} (xs : List A) (index : ℕ) (x : A) → slice_get xs index ≡ Some x → index < length xs
@@ -448,7 +448,7 @@ session_thread_index_is_inside (first ∷ rest) (suc index) x is = let within : 
 
 -- positions that are neither before nor past the ends of lists
 session_thread_positions_at_ends : (opening : List ShardValue) (positions : List ℕ) → length positions ≡ length opening
-    → All IsShard (states_at_call opening positions)
+    → All IsShard (states_at opening positions)
     → ((shard : ℕ) (state : ShardValue) → slice_get opening shard ≡ Some state
     → length state.list ≤ slice_index positions shard)
     → positions ≡ session_ends opening
@@ -457,18 +457,18 @@ session_thread_positions_at_ends [] (position ∷ positions) many kept behind = 
 session_thread_positions_at_ends (shard ∷ rest) [] many kept behind = absurd (omega (arith, many))
 session_thread_positions_at_ends (shard ∷ rest) (position ∷ positions) many kept behind =
     let is_shard : IsShard (shard_state_at position shard) =
-    All-head IsShard (shard_state_at position shard) (states_at_call rest positions) kept in
+    All-head IsShard (shard_state_at position shard) (states_at rest positions) kept in
     let first : position ≡ length shard.list = omega (arith, is_shard.within, behind 0 shard refl) in
     ap₂ (λ p ps. p ∷ ps) first
     (session_thread_positions_at_ends rest positions (omega (arith, many))
-    (All-tail IsShard (shard_state_at position shard) (states_at_call rest positions) kept)
+    (All-tail IsShard (shard_state_at position shard) (states_at rest positions) kept)
     (λ index state is. behind (suc index) state is))
 
 -- a report that was read after the ends of all lists were seen is that over all records
 pub session_thread_reports_at_ends : (opening : List ShardValue) (settings : Settings) (before now : View) (report : Report)
-    → core_capacity opening ≡ settings.capacity → FeedHasSeenEnds opening before
+    → core_capacity opening ≡ settings.capacity → HasSeenEnds opening before
     → Calls opening settings.phi 1 before now (record { report = report; saved = None } ∷ [])
-    → (CoreBasesRepresent opening → IsSound report (core_lists opening) (core_capacity opening) settings.phi)
+    → (BasesRepresent opening → IsSound report (core_lists opening) (core_capacity opening) settings.phi)
     → IsShownInSession opening settings (record { report = report; saved = None }) × (report.positions ≡ session_ends opening)
 session_thread_reports_at_ends opening settings before now report alike ends calls sound =
     let is_report = round_makes_report opening settings.phi before now report calls in (
@@ -479,8 +479,8 @@ session_thread_reports_at_ends opening settings before now report alike ends cal
       },
       session_thread_positions_at_ends opening report.positions is_report.as_many is_report.kept
           (λ shard state is.
-          let seen : length state.list ≤ seen_in_view shard before = ends shard state is in
-          let read = seen_position_before_one_read calls.reads report.positions shard (seen_in_view shard before) calls.positions
+          let seen : length state.list ≤ seen_in shard before = ends shard state is in
+          let read = seen_position_before_one_read calls.reads report.positions shard (seen_in shard before) calls.positions
           (calls.never_fall shard (session_thread_index_is_inside opening shard state is)) in omega (arith, seen, read)),
     )
 

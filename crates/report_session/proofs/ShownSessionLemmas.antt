@@ -11,13 +11,13 @@ use Rattle.std.proofs.lemmas.List.Elements.{All-append, All-cons, All-head, All-
 use Rattle.shard_state.specs.{ShardValue}
 use Rattle.hhh_report.specs.declared.reports.Reported.{Reported}
 use Rattle.frame_records.specs.declared.records.Records.{Records}
-use Rattle.report_text.specs.{report_mark_text, printed_session_text, report_text, report_tail_text}
+use Rattle.report_text.specs.{mark_text, printed_text, report_text, tail_text}
 use Rattle.report_text.specs.declared.mark.Mark.TheVariants.{Opened, Saved}
 use Rattle.report_text.specs.declared.session.Session.{Session}
 use Rattle.command_words.specs.declared.settings.Settings.{Settings}
-use Rattle.report_session.specs.Session.{AreReportsOfCaller, AreSessionReports, SessionReports}
-use Rattle.report_session.specs.Session.{calling_thread_reports, session_caller_parts, session_part}
-use Rattle.report_session.specs.Session.{session_parts, session_reports_in, session_text_of_reports}
+use Rattle.report_session.specs.Session.{AreOfCaller, AreReports, SessionReports}
+use Rattle.report_session.specs.Session.{caller_reports, caller_parts, session_part}
+use Rattle.report_session.specs.Session.{session_parts, reports_in, text_of_reports}
 use Rattle.report_session.proofs.LastReportLemmas.{last_report_is_among_all}
 
 -- a report of a session as its text shows it: with the positions of its cut, if that was saved
@@ -47,7 +47,7 @@ shown_session store opened reports records = record {
 -- the line that says that a cut was saved, as it is printed
 abbrev shown_session_saved_line : Option (List ℕ) → List ℕ
 shown_session_saved_line None = []
-shown_session_saved_line (Some positions) = report_mark_text Saved positions
+shown_session_saved_line (Some positions) = mark_text Saved positions
 
 -- a report of a session, as it is printed
 abbrev shown_session_report_bytes : Reported → List ℕ
@@ -65,7 +65,7 @@ shown_session_prints_each store (reported ∷ reports) =
     ap₂ (λ front behind. front ++ behind) (shown_session_prints_report store reported) (shown_session_prints_each store reports)
 
 shown_session_prints_callers : (callers : List (List Reported))
-    → flat_map shown_session_report_bytes (map (shown_session_report false) (flat_map (λ made. made) callers)) ≡ session_caller_parts callers
+    → flat_map shown_session_report_bytes (map (shown_session_report false) (flat_map (λ made. made) callers)) ≡ caller_parts callers
 shown_session_prints_callers [] = refl
 shown_session_prints_callers (reports ∷ callers) =
     ap (flat_map shown_session_report_bytes) (map-append (shown_session_report false) reports (flat_map (λ made. made) callers))
@@ -74,7 +74,7 @@ shown_session_prints_callers (reports ∷ callers) =
 
 shown_session_prints_all : (store : Bool) (reports : SessionReports)
     → flat_map shown_session_report_bytes (shown_session_reports store reports)
-    ≡ session_parts store reports.rounds ++ (session_caller_parts reports.callers ++ session_part store reports.last)
+    ≡ session_parts store reports.rounds ++ (caller_parts reports.callers ++ session_part store reports.last)
 shown_session_prints_all store reports =
     let others = map (shown_session_report false) (flat_map (λ made. made) reports.callers) in
     flat_map-append shown_session_report_bytes (map (shown_session_report store) reports.rounds) (others ++ shown_session_report store reports.last ∷ [])
@@ -89,13 +89,13 @@ shown_session_groups rounds callers last tail = simp append_assoc
 
 -- the text of a session is that of what it says
 pub shown_session_prints_the_same : (store : Bool) (opened : List ℕ) (reports : SessionReports) (records : Records)
-    → session_text_of_reports store opened reports (report_tail_text records) ≡ printed_session_text (shown_session store opened reports records)
+    → text_of_reports store opened reports (tail_text records) ≡ printed_text (shown_session store opened reports records)
 shown_session_prints_the_same store opened reports records =
     sym
-    (ap (λ text. report_mark_text Opened opened ++ text)
-    (ap (λ text. text ++ report_tail_text records) (shown_session_prints_all store reports)
-    ∙ shown_session_groups (session_parts store reports.rounds) (session_caller_parts reports.callers) (session_part store reports.last)
-    (report_tail_text records)))
+    (ap (λ text. mark_text Opened opened ++ text)
+    (ap (λ text. text ++ tail_text records) (shown_session_prints_all store reports)
+    ∙ shown_session_groups (session_parts store reports.rounds) (caller_parts reports.callers) (session_part store reports.last)
+    (tail_text records)))
 
 -- what holds of two lists together holds of each
 pub shown_session_front_of_all : {A : Type 0} (P : A → Type 0) (xs ys : List A) → All P (xs ++ ys) → All P xs
@@ -130,13 +130,13 @@ shown_session_reports_are_shown store reports =
 -- what holds of each report of a session holds of each that its text shows
 pub shown_session_keeps_property : (P : Reported → Type 0) (store : Bool) (reports : SessionReports)
     → ((store : Bool) (reported : Reported) → P reported → P (shown_session_report store reported))
-    → All P (session_reports_in reports) → All P (shown_session_reports store reports)
+    → All P (reports_in reports) → All P (shown_session_reports store reports)
 shown_session_keeps_property P store reports keeps all =
     let others = flat_map (λ made. made) reports.callers in
-    let calling = shown_session_front_of_all P (calling_thread_reports reports) others all in
+    let calling = shown_session_front_of_all P (caller_reports reports) others all in
     let rounds = shown_session_front_of_all P reports.rounds (reports.last ∷ []) calling in
     let last = last_report_is_among_all P reports.rounds reports.last calling in
-    let called = shown_session_back_of_all P (calling_thread_reports reports) others all in
+    let called = shown_session_back_of_all P (caller_reports reports) others all in
     All-append P (map (shown_session_report store) reports.rounds)
     (map (shown_session_report false) others ++ shown_session_report store reports.last ∷ [])
     (All-map P (shown_session_report store) reports.rounds (λ k d lt. keeps store _ (rounds k d lt)))
@@ -146,19 +146,19 @@ shown_session_keeps_property P store reports keeps all =
 
 -- how many reports callers made
 shown_session_count_of_callers : (opening : List ShardValue) (settings : Settings) (count : ℕ) (callers : List (List Reported))
-    → All (AreReportsOfCaller opening settings count) callers
+    → All (AreOfCaller opening settings count) callers
     → length (flat_map (λ made. made) callers) ≡ length callers * count
 shown_session_count_of_callers opening settings count [] all = omega arith
 shown_session_count_of_callers opening settings count (reports ∷ callers) all =
-    let first : AreReportsOfCaller opening settings count reports =
-    All-head (AreReportsOfCaller opening settings count) reports callers all in
+    let first : AreOfCaller opening settings count reports =
+    All-head (AreOfCaller opening settings count) reports callers all in
     let rest = shown_session_count_of_callers opening settings count callers
-    (All-tail (AreReportsOfCaller opening settings count) reports callers all) in
+    (All-tail (AreOfCaller opening settings count) reports callers all) in
     omega (arith, first.as_many, rest, length-append reports (flat_map (λ made. made) callers))
 
 -- how many reports the text of a session shows
 pub shown_session_report_count : (opening : List ShardValue) (settings : Settings) (store : Bool) (reports : SessionReports)
-    → AreSessionReports opening settings reports
+    → AreReports opening settings reports
     → length (shown_session_reports store reports) ≡ (settings.callers + 1) * settings.rounds + 1
 shown_session_report_count opening settings store reports are =
     let others = flat_map (λ made. made) reports.callers in

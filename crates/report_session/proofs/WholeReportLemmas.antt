@@ -5,18 +5,18 @@ use Rattle.shard_state.specs.{ShardValue}
 use Rattle.hhh_report.specs.{IsSameReport}
 use Rattle.hhh_output.specs.{IsReportOf}
 use Rattle.hhh_report.specs.declared.report.Report.{Report}
-use Rattle.gate_workers.specs.{IsReportAtCall, cut_at_call}
+use Rattle.gate_workers.specs.{IsReportAtCall, cut_at}
 use Rattle.command_words.specs.declared.settings.Settings.{Settings}
-use Rattle.report_session.specs.Session.{session_ends, new_session_shards, IsWholeReport, IsShownInSession}
+use Rattle.report_session.specs.Session.{session_ends, new_shards, IsWholeReport, IsShownInSession}
 use Rattle.report_session.proofs.LastReportLemmas.{LastReportIsUnique}
 use Rattle.std.proofs.Common.{None}
-use Rattle.shard_state.specs.{CoreBasesRepresent, core_lists}
+use Rattle.shard_state.specs.{BasesRepresent, core_lists}
 use Rattle.hhh_report.specs.{IsSound}
 use Rattle.report_session.proofs.OpeningShardLemmas.{new_opening_shards_as_dealt}
 
 -- the report that is shown at the ends of new shards counts all their records
 pub whole_report_counts_all_records : (settings : Settings) (lists : List (List RecordValue)) (opening : List ShardValue) (report : Report)
-    → opening ≡ new_session_shards settings.capacity lists → CoreBasesRepresent (new_session_shards settings.capacity lists)
+    → opening ≡ new_shards settings.capacity lists → BasesRepresent (new_shards settings.capacity lists)
     → IsShownInSession opening settings (record { report = report; saved = None }) → report.positions ≡ session_ends opening
     → IsWholeReport settings lists report
 whole_report_counts_all_records settings lists opening report same bases shown at_ends = record {
@@ -25,7 +25,7 @@ whole_report_counts_all_records settings lists opening report same bases shown a
   is_sound =
       subst (λ l. IsSound report l settings.capacity settings.phi)
       (ap core_lists same ∙ new_opening_shards_as_dealt settings.capacity lists)
-      (shown.is_sound (subst CoreBasesRepresent (sym same) bases));
+      (shown.is_sound (subst BasesRepresent (sym same) bases));
 }
 
 -- the report at the ends of shards
@@ -35,9 +35,9 @@ pub whole_reports_agree : LastReportIsUnique → (opening other_opening : List S
     → IsReportAtCall other_opening other_phi other → other.positions ≡ session_ends other_opening → IsSameReport report other
 whole_reports_agree one opening other_opening phi other_phi report other same_opening same_phi is at_ends is_other
     other_at_ends =
-    let same_cut : cut_at_call other_opening other.positions ≡ cut_at_call opening report.positions =
-    ap (cut_at_call other_opening) other_at_ends ∙ ap (λ o. cut_at_call o (session_ends o)) (sym same_opening)
-    ∙ ap (cut_at_call opening) (sym at_ends) in
-    one (cut_at_call opening report.positions) phi report other report.are_lines other.are_lines is.is
-    (subst (λ n. IsReportOf (cut_at_call opening report.positions) n other) (sym same_phi)
+    let same_cut : cut_at other_opening other.positions ≡ cut_at opening report.positions =
+    ap (cut_at other_opening) other_at_ends ∙ ap (λ o. cut_at o (session_ends o)) (sym same_opening)
+    ∙ ap (cut_at opening) (sym at_ends) in
+    one (cut_at opening report.positions) phi report other report.are_lines other.are_lines is.is
+    (subst (λ n. IsReportOf (cut_at opening report.positions) n other) (sym same_phi)
     (subst (λ cut. IsReportOf cut other_phi other) same_cut is_other.is))

@@ -1,14 +1,14 @@
-pub mod Saves
+pub mod Saving
 pub mod Session
-pub mod Rounds
+pub mod LiveRounds
 pub mod DealtFeed
 -- the face: what contracts of other crates cite
-pub use Rattle.report_session.specs.Saves.{IsAsBeforeSaves, IsAsBeforeSaves-untouched, SavesAreKeptOnDisk}
-pub use Rattle.report_session.specs.Saves.{store_settings_for_saves, store_settings_for_saves-allowed}
+pub use Rattle.report_session.specs.Saving.{IsAsBefore, IsAsBefore-untouched, AreKeptOnDisk}
+pub use Rattle.report_session.specs.Saving.{saves_settings, saves_settings-allowed}
 pub use Rattle.report_session.specs.Session.{BeginsSession, IsWholeReport, IsSession, IsSessionInPart}
-pub use Rattle.report_session.specs.Session.{IsSessionOverShards, SessionGoesOnFrom, SessionKeeping, WritesAnswer}
-pub use Rattle.report_session.specs.Session.{session_opening, session_reports_in}
-pub use Rattle.report_session.specs.Rounds.{RoundFaults}
-pub use Rattle.report_session.specs.DealtFeed.{IsDealtFeedCapture}
-pub use Rattle.report_session.specs.DealtFeed.{DealtFeedEnds, DealtFeedRefusesStore, DealtFeedWrites}
-pub use Rattle.report_session.specs.DealtFeed.{DealtFeedWritesInPart}
+pub use Rattle.report_session.specs.Session.{IsOverShards, GoesOnFrom, SessionKeeping, WritesAnswer}
+pub use Rattle.report_session.specs.Session.{session_opening, reports_in}
+pub use Rattle.report_session.specs.LiveRounds.{RoundFaults}
+pub use Rattle.report_session.specs.DealtFeed.{IsFeedCapture}
+pub use Rattle.report_session.specs.DealtFeed.{FeedEnds, FeedRefuses, FeedWrites}
+pub use Rattle.report_session.specs.DealtFeed.{FeedWritesPart}

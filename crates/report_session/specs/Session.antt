@@ -5,39 +5,39 @@ use Rattle.std.specs.List.{flat_map}
 use Rattle.std.specs.List.Sorted.{IsNonDecreasing}
 use Rattle.outside_io.specs.{IsBeginning}
 use Rattle.prefix_lattice.specs.{RecordValue}
-use Rattle.shard_state.specs.{CoreBasesRepresent, CutRepresents, CutValue, ShardValue, SnapshotValue, empty_snapshot}
+use Rattle.shard_state.specs.{BasesRepresent, CutRepresents, CutValue, ShardValue, SnapshotValue, empty_snapshot}
 use Rattle.shard_state.specs.{core_lists}
 use Rattle.hhh_report.specs.{IsSound}
 use Rattle.hhh_report.specs.declared.report.Report.{Report}
 use Rattle.hhh_report.specs.declared.reports.Reported.{Reported}
-use Rattle.gate_workers.specs.{IsReportAtCall, cut_at_call}
+use Rattle.gate_workers.specs.{IsReportAtCall, cut_at}
 use Rattle.frame_records.specs.declared.records.Records.{Records}
 use Rattle.slot_disk.specs.{IfImageKnown}
 use Rattle.checkpoint.specs.declared.settings.StoreSettings.{StoreSettings}
-use Rattle.checkpoint.specs.{SavedValue, digest_of_lists, store_sequence}
+use Rattle.checkpoint.specs.{SavedValue, lists_digest, store_sequence}
 use Rattle.recovery.specs.{IsOpeningBase, OpensToBase}
 use Rattle.command_words.specs.declared.settings.Settings.{Settings}
-use Rattle.report_text.specs.{report_mark_text, report_text, report_tail_text}
+use Rattle.report_text.specs.{mark_text, report_text, tail_text}
 use Rattle.report_text.specs.declared.mark.Mark.TheVariants.{Opened, Saved}
-use Rattle.report_session.specs.Saves.{saves_after, store_settings_for_saves}
+use Rattle.report_session.specs.Saving.{saves_after, saves_settings}
 use Rattle.std.specs.Io.KnownBytes.{Appends}
 use Rattle.dealt_capture.specs.{DealingRules, AreDealtRecords}
 
 -- new shards of dealt lists, none of whose records is counted: their tables, of this capacity, are empty
-abbrev pub new_session_shards : ℕ → List (List RecordValue) → List ShardValue
-new_session_shards capacity lists = map (λ list. record { list = list; base = empty_snapshot capacity; position = 0 }) lists
+abbrev pub new_shards : ℕ → List (List RecordValue) → List ShardValue
+new_shards capacity lists = map (λ list. record { list = list; base = empty_snapshot capacity; position = 0 }) lists
 
 -- the shards of dealt lists that go on from saved snapshots, one for each
-abbrev pub resumed_session_shards : List (List RecordValue) → List SnapshotValue → List ShardValue
-resumed_session_shards [] bases = []
-resumed_session_shards (list ∷ lists) [] = []
-resumed_session_shards (list ∷ lists) (base ∷ bases) =
-    record { list = list; base = base; position = base.position } ∷ resumed_session_shards lists bases
+abbrev pub resumed_shards : List (List RecordValue) → List SnapshotValue → List ShardValue
+resumed_shards [] bases = []
+resumed_shards (list ∷ lists) [] = []
+resumed_shards (list ∷ lists) (base ∷ bases) =
+    record { list = list; base = base; position = base.position } ∷ resumed_shards lists bases
 
 -- the shards of dealt lists as a run begins: they go on from a saved cut, or are new
 abbrev pub session_opening : ℕ → List (List RecordValue) → Option CutValue → List ShardValue
-session_opening capacity lists None = new_session_shards capacity lists
-session_opening capacity lists (Some cut) = resumed_session_shards lists cut.shards
+session_opening capacity lists None = new_shards capacity lists
+session_opening capacity lists (Some cut) = resumed_shards lists cut.shards
 
 -- the positions at which shards start
 abbrev pub session_start : List ShardValue → List ℕ
@@ -49,30 +49,30 @@ session_ends opening = map (λ shard. length shard.list) opening
 
 -- the saved cut that a run goes on from: what its store opens to over the dealt lists, where the bytes of the disk are
 -- known; none where no gate of the store is open, or without a store
-pub record SessionGoesOnFrom (settings : Settings) (lists : List (List RecordValue)) (store : Option (List ℕ))
+pub record GoesOnFrom (settings : Settings) (lists : List (List RecordValue)) (store : Option (List ℕ))
     (base : Option CutValue) : Type 0 where
   pub unused : settings.store ≡ false → base ≡ None
-  pub fits : IfSome base (IsOpeningBase (store_settings_for_saves settings) lists)
-  pub opens : settings.store ≡ true → IfImageKnown store (λ image. OpensToBase (store_settings_for_saves settings) lists image base)
+  pub fits : IfSome base (IsOpeningBase (saves_settings settings) lists)
+  pub opens : settings.store ≡ true → IfImageKnown store (λ image. OpensToBase (saves_settings settings) lists image base)
 
 -- a report that a session shows: that of the tables at its own positions, and sound over the records themselves, where
 -- the tables with which the shards began are those of their records
 pub record IsShownInSession (opening : List ShardValue) (settings : Settings) (reported : Reported) : Type 0 where
   pub is_report : IsReportAtCall opening settings.phi reported.report
-  pub is_sound : CoreBasesRepresent opening → IsSound reported.report (core_lists opening) settings.capacity settings.phi
+  pub is_sound : BasesRepresent opening → IsSound reported.report (core_lists opening) settings.capacity settings.phi
 
 -- from these positions on, the positions of one caller's reports never fall
-abbrev pub NeverFallInSession : List ℕ → List Reported → Type 0
-NeverFallInSession opened reports = (shard : ℕ) → shard < length opened
+abbrev pub NeverFall : List ℕ → List Reported → Type 0
+NeverFall opened reports = (shard : ℕ) → shard < length opened
     → IsNonDecreasing
     (slice_index opened shard ∷ map (λ reported. slice_index reported.report.positions shard) reports)
 
 -- this many reports of one caller: each is shown, and their positions never fall
-pub record AreReportsOfCaller (opening : List ShardValue) (settings : Settings) (count : ℕ) (reports : List Reported)
+pub record AreOfCaller (opening : List ShardValue) (settings : Settings) (count : ℕ) (reports : List Reported)
     : Type 0 where
   pub as_many : length reports ≡ count
   pub shown : All (IsShownInSession opening settings) reports
-  pub never_fall : NeverFallInSession (session_start opening) reports
+  pub never_fall : NeverFall (session_start opening) reports
 
 -- the reports of a session: those of the calling thread's rounds, those of each other caller, and the last one
 pub record SessionReports : Type 0 where
@@ -81,76 +81,76 @@ pub record SessionReports : Type 0 where
   pub last : Reported
 
 -- those of the calling thread: its rounds, and the last one
-abbrev pub calling_thread_reports : SessionReports → List Reported
-calling_thread_reports reports = reports.rounds ++ reports.last ∷ []
+abbrev pub caller_reports : SessionReports → List Reported
+caller_reports reports = reports.rounds ++ reports.last ∷ []
 
 -- all reports of a session: those of the calling thread, and those of the other callers
-abbrev pub session_reports_in : SessionReports → List Reported
-session_reports_in reports = calling_thread_reports reports ++ flat_map (λ made. made) reports.callers
+abbrev pub reports_in : SessionReports → List Reported
+reports_in reports = caller_reports reports ++ flat_map (λ made. made) reports.callers
 
 -- the reports that the settings ask for: the calling thread makes its rounds and the last report, which counts all
 -- records, and each other caller makes as many rounds
-pub record AreSessionReports (opening : List ShardValue) (settings : Settings) (reports : SessionReports)
+pub record AreReports (opening : List ShardValue) (settings : Settings) (reports : SessionReports)
     : Type 0 where
-  pub calling : AreReportsOfCaller opening settings (settings.rounds + 1) (calling_thread_reports reports)
+  pub calling : AreOfCaller opening settings (settings.rounds + 1) (caller_reports reports)
   pub at_ends : reports.last.report.positions ≡ session_ends opening
   pub as_many : length reports.callers ≡ settings.callers
-  pub callers : All (AreReportsOfCaller opening settings settings.rounds) reports.callers
+  pub callers : All (AreOfCaller opening settings settings.rounds) reports.callers
 
 -- the cuts that are saved after these reports: with a store, the cut at the positions of each
-abbrev pub session_saved_cuts : Bool → List ShardValue → List Reported → List CutValue
-session_saved_cuts store opening reports =
-    if store then map (λ reported. cut_at_call opening reported.report.positions) reports else []
+abbrev pub saved_cuts : Bool → List ShardValue → List Reported → List CutValue
+saved_cuts store opening reports =
+    if store then map (λ reported. cut_at opening reported.report.positions) reports else []
 
 -- what the cuts of these reports are saved as, in a store that opened to this before
-abbrev pub session_saves : Settings → List ShardValue → Option SavedValue → List Reported → List SavedValue
-session_saves settings opening opened reports =
-    saves_after (store_sequence opened) (digest_of_lists (store_settings_for_saves settings) (core_lists opening))
-    (session_saved_cuts true opening reports)
+abbrev pub saves_of : Settings → List ShardValue → Option SavedValue → List Reported → List SavedValue
+saves_of settings opening opened reports =
+    saves_after (store_sequence opened) (lists_digest (saves_settings settings) (core_lists opening))
+    (saved_cuts true opening reports)
 
 -- the positions of the last of these reports, or those at the start where there is none
-abbrev pub last_session_positions : List ℕ → List Reported → List ℕ
-last_session_positions start [] = start
-last_session_positions start (reported ∷ later) = last_session_positions reported.report.positions later
+abbrev pub last_positions : List ℕ → List Reported → List ℕ
+last_positions start [] = start
+last_positions start (reported ∷ later) = last_positions reported.report.positions later
 
 -- the line that follows a report of the calling thread: with a store, the positions of the cut that was saved
-abbrev pub session_save_line : Bool → List ℕ → List ℕ
-session_save_line store positions = if store then report_mark_text Saved positions else []
+abbrev pub save_line : Bool → List ℕ → List ℕ
+save_line store positions = if store then mark_text Saved positions else []
 
 -- a report, and that line
 abbrev pub session_part : Bool → Reported → List ℕ
-session_part store reported = report_text reported.report ++ session_save_line store reported.report.positions
+session_part store reported = report_text reported.report ++ save_line store reported.report.positions
 
 -- one report after the other
 abbrev pub session_parts : Bool → List Reported → List ℕ
 session_parts store reports = flat_map (session_part store) reports
 
 -- the reports of the other callers, one caller after the other: none of their cuts is saved
-abbrev pub session_caller_parts : List (List Reported) → List ℕ
-session_caller_parts callers = flat_map (session_parts false) callers
+abbrev pub caller_parts : List (List Reported) → List ℕ
+caller_parts callers = flat_map (session_parts false) callers
 
 -- the text of a session after its first line and its rounds: the reports of the other callers, the last report, and the
 -- last lines
 abbrev pub session_rest : Bool → List (List Reported) → Reported → List ℕ → List ℕ
-session_rest store callers last tail = session_caller_parts callers ++ (session_part store last ++ tail)
+session_rest store callers last tail = caller_parts callers ++ (session_part store last ++ tail)
 
 -- the text of a session: the positions at the start, the reports of the calling thread's rounds, and the rest
-abbrev pub session_text_of_reports : Bool → List ℕ → SessionReports → List ℕ → List ℕ
-session_text_of_reports store opened reports tail =
-    report_mark_text Opened opened
+abbrev pub text_of_reports : Bool → List ℕ → SessionReports → List ℕ → List ℕ
+text_of_reports store opened reports tail =
+    mark_text Opened opened
     ++ (session_parts store reports.rounds ++ session_rest store reports.callers reports.last tail)
 
 -- the session over shards, which ends with the lines `tail`. Kept says what became of the cuts that were saved
-pub record IsSessionOverShards (opening : List ShardValue) (settings : Settings) (Kept : List CutValue → Type 0)
+pub record IsOverShards (opening : List ShardValue) (settings : Settings) (Kept : List CutValue → Type 0)
     (tail text : List ℕ) : Type 0 where
   pub reports : SessionReports
-  pub are_reports : AreSessionReports opening settings reports
-  pub spelled : text ≡ session_text_of_reports settings.store (session_start opening) reports tail
-  pub kept : Kept (session_saved_cuts settings.store opening (calling_thread_reports reports))
+  pub are_reports : AreReports opening settings reports
+  pub spelled : text ≡ text_of_reports settings.store (session_start opening) reports tail
+  pub kept : Kept (saved_cuts settings.store opening (caller_reports reports))
 
 -- a strict prefix of a text
-abbrev pub IsStrictSessionBeginning : List ℕ → List ℕ → Type 0
-IsStrictSessionBeginning front text = IsBeginning front text × (length front < length text)
+abbrev pub IsStrictBeginning : List ℕ → List ℕ → Type 0
+IsStrictBeginning front text = IsBeginning front text × (length front < length text)
 
 -- what became of the cuts that a session saves: those that were saved, and one whose save is unfinished, if any
 abbrev pub SessionSaving : Type 1
@@ -158,62 +158,62 @@ SessionSaving = (saved unfinished : List CutValue) → Type 0
 
 -- bytes of a text, a save and a second text, in this order, that broke off: in the first text or after it, when nothing was
 -- saved; in the save, which is unfinished; or in the second text, after the save
-abbrev pub SessionBreaksOffAround : (before after : List ℕ) → (cut : List CutValue) → SessionSaving → (front : List ℕ) → Type 0
-SessionBreaksOffAround before after cut Kept front =
+abbrev pub BreaksOffAround : (before after : List ℕ) → (cut : List CutValue) → SessionSaving → (front : List ℕ) → Type 0
+BreaksOffAround before after cut Kept front =
     (IsBeginning front before × Kept [] [])
     ⊎ (((front ≡ before) × Kept [] cut)
-    ⊎ ((more : List ℕ) × IsStrictSessionBeginning more after × (front ≡ before ++ more) × Kept cut []))
+    ⊎ ((more : List ℕ) × IsStrictBeginning more after × (front ≡ before ++ more) × Kept cut []))
 
 -- what became of the cuts of a session whose first ones are those of these reports, and were saved
-abbrev pub session_after_saves : Bool → List ShardValue → List Reported → SessionSaving → SessionSaving
-session_after_saves store opening reports Kept saved unfinished = Kept (session_saved_cuts store opening reports ++ saved) unfinished
+abbrev pub rest_after_saves : Bool → List ShardValue → List Reported → SessionSaving → SessionSaving
+rest_after_saves store opening reports Kept saved unfinished = Kept (saved_cuts store opening reports ++ saved) unfinished
 
 -- bytes of rounds of the calling thread that broke off before the first round, between two of them, or after the last one
-pub record SessionBreaksOffBetween (opening : List ShardValue) (settings : Settings) (Kept : SessionSaving) (front : List ℕ)
+pub record BreaksOffBetween (opening : List ShardValue) (settings : Settings) (Kept : SessionSaving) (front : List ℕ)
     : Type 0 where
   pub rounds : List Reported
   pub few : length rounds ≤ settings.rounds
-  pub are_reports : AreReportsOfCaller opening settings (length rounds) rounds
+  pub are_reports : AreOfCaller opening settings (length rounds) rounds
   pub written : front ≡ session_parts settings.store rounds
-  pub kept : Kept (session_saved_cuts settings.store opening rounds) []
+  pub kept : Kept (saved_cuts settings.store opening rounds) []
 
 -- bytes of rounds that broke off within one: those before it were whole
-pub record SessionBreaksOffWithin (opening : List ShardValue) (settings : Settings) (Kept : SessionSaving) (front : List ℕ)
+pub record BreaksOffWithin (opening : List ShardValue) (settings : Settings) (Kept : SessionSaving) (front : List ℕ)
     : Type 0 where
   pub rounds : List Reported
   pub next : Reported
   pub few : length rounds < settings.rounds
-  pub are_reports : AreReportsOfCaller opening settings (length rounds + 1) (rounds ++ next ∷ [])
+  pub are_reports : AreOfCaller opening settings (length rounds + 1) (rounds ++ next ∷ [])
   pub more : List ℕ
-  pub breaks_off : SessionBreaksOffAround (report_text next.report) (session_save_line settings.store next.report.positions)
-      (session_saved_cuts settings.store opening (next ∷ [])) (session_after_saves settings.store opening rounds Kept) more
+  pub breaks_off : BreaksOffAround (report_text next.report) (save_line settings.store next.report.positions)
+      (saved_cuts settings.store opening (next ∷ [])) (rest_after_saves settings.store opening rounds Kept) more
   pub written : front ≡ session_parts settings.store rounds ++ more
 
 -- bytes of rounds that broke off
-abbrev pub SessionBreaksOffInRounds : List ShardValue → Settings → SessionSaving → List ℕ → Type 0
-SessionBreaksOffInRounds opening settings Kept front =
-    SessionBreaksOffBetween opening settings Kept front ⊎ SessionBreaksOffWithin opening settings Kept front
+abbrev pub BreaksOffInRounds : List ShardValue → Settings → SessionSaving → List ℕ → Type 0
+BreaksOffInRounds opening settings Kept front =
+    BreaksOffBetween opening settings Kept front ⊎ BreaksOffWithin opening settings Kept front
 
 -- bytes with which a session begins that broke off after its rounds: some of a session that exists, but not all
-pub record SessionBreaksOffLater (opening : List ShardValue) (settings : Settings) (Kept : SessionSaving) (tail front : List ℕ)
+pub record BreaksOffLater (opening : List ShardValue) (settings : Settings) (Kept : SessionSaving) (tail front : List ℕ)
     : Type 0 where
   pub reports : SessionReports
-  pub are_reports : AreSessionReports opening settings reports
+  pub are_reports : AreReports opening settings reports
   pub more : List ℕ
-  pub breaks_off : SessionBreaksOffAround (session_caller_parts reports.callers ++ report_text reports.last.report)
-      (session_save_line settings.store reports.last.report.positions ++ tail)
-      (session_saved_cuts settings.store opening (reports.last ∷ []))
-      (session_after_saves settings.store opening reports.rounds Kept) more
-  pub written : front ≡ report_mark_text Opened (session_start opening) ++ (session_parts settings.store reports.rounds ++ more)
+  pub breaks_off : BreaksOffAround (caller_parts reports.callers ++ report_text reports.last.report)
+      (save_line settings.store reports.last.report.positions ++ tail)
+      (saved_cuts settings.store opening (reports.last ∷ []))
+      (rest_after_saves settings.store opening reports.rounds Kept) more
+  pub written : front ≡ mark_text Opened (session_start opening) ++ (session_parts settings.store reports.rounds ++ more)
 
 -- bytes with which a session begins that broke off: in its first line, when nothing was saved yet; in its rounds; or later.
 -- Kept says what became of the cuts that it saves
 abbrev pub BeginsSession : List ShardValue → Settings → SessionSaving → (tail front : List ℕ) → Type 0
 BeginsSession opening settings Kept tail front =
-    (IsStrictSessionBeginning front (report_mark_text Opened (session_start opening)) × Kept [] [])
-    ⊎ (((more : List ℕ) × SessionBreaksOffInRounds opening settings Kept more
-    × (front ≡ report_mark_text Opened (session_start opening) ++ more))
-    ⊎ SessionBreaksOffLater opening settings Kept tail front)
+    (IsStrictBeginning front (mark_text Opened (session_start opening)) × Kept [] [])
+    ⊎ (((more : List ℕ) × BreaksOffInRounds opening settings Kept more
+    × (front ≡ mark_text Opened (session_start opening) ++ more))
+    ⊎ BreaksOffLater opening settings Kept tail front)
 
 -- what a run does to the disk of its store: for the store's settings, the dealt lists, the cuts that were saved, and one
 -- whose save is unfinished, if any
@@ -222,8 +222,8 @@ SessionKeeping = StoreSettings → List (List RecordValue) → SessionSaving
 
 -- if the cut that a run goes on from represents the lists, or there is none, the bases of the shards represent theirs,
 -- so that each report is sound
-abbrev pub SessionBaseRepresents : List (List RecordValue) → Option CutValue → List ShardValue → Type 0
-SessionBaseRepresents lists base opening = IfSome base (λ cut. CutRepresents cut lists) → CoreBasesRepresent opening
+abbrev pub BaseRepresents : List (List RecordValue) → Option CutValue → List ShardValue → Type 0
+BaseRepresents lists base opening = IfSome base (λ cut. CutRepresents cut lists) → BasesRepresent opening
 
 -- the session over a capture: its records are dealt to the shards, counted from the base on and reported. With a store,
 -- each cut of the calling thread is saved
@@ -233,10 +233,10 @@ pub record IsSession (settings : Settings) (rules : DealingRules) (keeping : Ses
   pub lists : List (List RecordValue)
   pub dealt : AreDealtRecords settings rules file records lists
   pub base : Option CutValue
-  pub begins : SessionGoesOnFrom settings lists store base
-  pub represents : SessionBaseRepresents lists base (session_opening settings.capacity lists base)
-  pub spelled : IsSessionOverShards (session_opening settings.capacity lists base) settings
-      (λ cuts. settings.store ≡ true → keeping (store_settings_for_saves settings) lists cuts []) (report_tail_text records) text
+  pub begins : GoesOnFrom settings lists store base
+  pub represents : BaseRepresents lists base (session_opening settings.capacity lists base)
+  pub spelled : IsOverShards (session_opening settings.capacity lists base) settings
+      (λ cuts. settings.store ≡ true → keeping (saves_settings settings) lists cuts []) (tail_text records) text
 
 -- the bytes that were written of a session over a capture that broke off. With a store, they say which cuts were saved, and
 -- which save is unfinished
@@ -246,15 +246,15 @@ pub record IsSessionInPart (settings : Settings) (rules : DealingRules) (keeping
   pub lists : List (List RecordValue)
   pub dealt : AreDealtRecords settings rules file records lists
   pub base : Option CutValue
-  pub begins : SessionGoesOnFrom settings lists store base
-  pub represents : SessionBaseRepresents lists base (session_opening settings.capacity lists base)
+  pub begins : GoesOnFrom settings lists store base
+  pub represents : BaseRepresents lists base (session_opening settings.capacity lists base)
   pub begun : BeginsSession (session_opening settings.capacity lists base) settings
-      (λ saved unfinished. settings.store ≡ true → keeping (store_settings_for_saves settings) lists saved unfinished) (report_tail_text records) front
+      (λ saved unfinished. settings.store ≡ true → keeping (saves_settings settings) lists saved unfinished) (tail_text records) front
 
 -- the report over all records of dealt lists, which new tables counted; it is sound
 pub record IsWholeReport (settings : Settings) (lists : List (List RecordValue)) (report : Report) : Type 0 where
-  pub is_report : IsReportAtCall (new_session_shards settings.capacity lists) settings.phi report
-  pub at_ends : report.positions ≡ session_ends (new_session_shards settings.capacity lists)
+  pub is_report : IsReportAtCall (new_shards settings.capacity lists) settings.phi report
+  pub at_ends : report.positions ≡ session_ends (new_shards settings.capacity lists)
   pub is_sound : IsSound report lists settings.capacity settings.phi
 
 -- bytes of this kind were appended to what the sink held

@@ -1,11 +1,11 @@
 //! What a run goes on from: the newest cut of its store, or nothing.
 
 ghost use Rattle.std.specs.Prelude.{◌≡◌, true, false, length, replicate, IfErr, IfOk, IfSome, OnOk};
-ghost use Rattle.slot_disk.specs.{CrashLeavesAtAnyMoment};
-ghost use Rattle.checkpoint.specs.{AreHeaderSettings, DiskMatchesSaver};
-ghost use Rattle.command_words.specs.{AreLimitedSettings};
-ghost use Rattle.report_session.specs.DealtFeed.{HasNoDealtFeedBase, IsDealtFeedBase};
-ghost use Rattle.report_session.specs.Saves.{store_settings_for_saves as settings_of_store};
+ghost use Rattle.slot_disk.specs.{CrashLeaves};
+ghost use Rattle.checkpoint.specs.{AreSettings, DiskMatches};
+ghost use Rattle.command_words.specs.{AreLimited};
+ghost use Rattle.report_session.specs.DealtFeed.{HasNoBase, IsFeedBase};
+ghost use Rattle.report_session.specs.Saving.{saves_settings as settings_of_store};
 ghost use Rattle.run_status.specs.declared.status.Status.TheVariants.{OutOfMemory};
 
 use checkpoint::{Saver, StoreSettings};
@@ -36,14 +36,14 @@ pub(crate) fn open_base<D: Disk>(
     dealt: &Dealt,
     disk: &mut D,
 ) -> Result<Base, Status>
-    requires limited { AreLimitedSettings settings.now }
+    requires limited { AreLimited settings.now }
     requires shards { length dealt.now ≡ settings.now.shards }
-    ensures base { IfOk result (IsDealtFeedBase settings.now dealt.now (D.reads disk.old)) }
-    ensures stands { IfOk result (λ base. IfSome base.saver (DiskMatchesSaver (D.reads disk.new) (D.image_now disk.new))) }
-    ensures refused { IfErr result (HasNoDealtFeedBase settings.now dealt.now (D.reads disk.old) (D.faults disk.old) (D.faults disk.new)) }
+    ensures base { IfOk result (IsFeedBase settings.now dealt.now (D.reads disk.old)) }
+    ensures stands { IfOk result (λ base. IfSome base.saver (DiskMatches (D.reads disk.new) (D.image_now disk.new))) }
+    ensures refused { IfErr result (HasNoBase settings.now dealt.now (D.reads disk.old) (D.faults disk.old) (D.faults disk.new)) }
     ensures no_fault { OnOk result (D.faults disk.new ≡ D.faults disk.old) }
     ensures reads { D.reads disk.new ≡ D.reads disk.old }
-    ensures any_moment { CrashLeavesAtAnyMoment D.moment D.image_since disk.old disk.new (D.image_now disk.old) }
+    ensures any_moment { CrashLeaves D.moment D.image_since disk.old disk.new (D.image_now disk.old) }
     ensures unused { settings.now.store ≡ false → disk.new ≡ disk.old }
 {
     if settings.store {
@@ -60,15 +60,15 @@ fn open_store<D: Disk>(
     dealt: &Dealt,
     disk: &mut D,
 ) -> Result<Base, Status>
-    requires limited { AreLimitedSettings settings.now }
+    requires limited { AreLimited settings.now }
     requires used { settings.now.store ≡ true }
     requires shards { length dealt.now ≡ settings.now.shards }
-    ensures base { IfOk result (IsDealtFeedBase settings.now dealt.now (D.reads disk.old)) }
-    ensures stands { IfOk result (λ base. IfSome base.saver (DiskMatchesSaver (D.reads disk.new) (D.image_now disk.new))) }
-    ensures refused { IfErr result (HasNoDealtFeedBase settings.now dealt.now (D.reads disk.old) (D.faults disk.old) (D.faults disk.new)) }
+    ensures base { IfOk result (IsFeedBase settings.now dealt.now (D.reads disk.old)) }
+    ensures stands { IfOk result (λ base. IfSome base.saver (DiskMatches (D.reads disk.new) (D.image_now disk.new))) }
+    ensures refused { IfErr result (HasNoBase settings.now dealt.now (D.reads disk.old) (D.faults disk.old) (D.faults disk.new)) }
     ensures no_fault { OnOk result (D.faults disk.new ≡ D.faults disk.old) }
     ensures reads { D.reads disk.new ≡ D.reads disk.old }
-    ensures any_moment { CrashLeavesAtAnyMoment D.moment D.image_since disk.old disk.new (D.image_now disk.old) }
+    ensures any_moment { CrashLeaves D.moment D.image_since disk.old disk.new (D.image_now disk.old) }
 {
     match reopen(alloc, disk, &store_settings(settings), dealt) {
         Ok(opened) => Ok(base_from(opened)),
@@ -118,9 +118,9 @@ fn zero_positions(alloc: Global, shards: u32) -> Result<Positions, AllocError>
 
 /// The settings of the store of a command.
 pub fn store_settings(settings: &Settings) -> StoreSettings
-    requires { AreLimitedSettings settings.now }
+    requires { AreLimited settings.now }
     ensures settings { result ≡ settings_of_store settings.now }
-    ensures allowed { AreHeaderSettings (settings_of_store settings.now) }
+    ensures allowed { AreSettings (settings_of_store settings.now) }
 {
     StoreSettings {
         shards: settings.shards,

@@ -2,11 +2,11 @@
 
 ghost use Rattle.std.specs.Prelude.{◌≡◌, length, IfErr, IfOk, IfSome, None, OnErr, OnOk, is_some};
 ghost use Rattle.shard_state.specs.{HasCoreShape, core_capacity};
-ghost use Rattle.pass_tokens.specs.{IsPassOfBoard, first_view, view};
-ghost use Rattle.command_words.specs.{AreLimitedSettings, AreWideSettings};
-ghost use Rattle.report_session.specs.DealtFeed.{IsDealtFeedFault, IsDealtFeedResult, IsDealtFeedGathered};
-ghost use Rattle.report_session.specs.DealtFeed.{FeedBreaksOffInRounds, DealtFeedRunsPlan, dealt_feed_plan};
-ghost use Rattle.report_session.specs.Saves.{CanMakeSaves, SavesInPart, SavesInTurn};
+ghost use Rattle.pass_tokens.specs.{IsPassOf, first_view, view};
+ghost use Rattle.command_words.specs.{AreLimited, AreWide};
+ghost use Rattle.report_session.specs.DealtFeed.{IsFeedFault, IsFeedResult, IsGathered};
+ghost use Rattle.report_session.specs.DealtFeed.{FeedBreaksOff, RunsPlan, feed_plan};
+ghost use Rattle.report_session.specs.Saving.{CanMakeSaves, SavesInPart, SavesInTurn};
 
 use crate::LiveRounds;
 use checkpoint::Saver;
@@ -45,21 +45,21 @@ pub(crate) fn feed<'a, R: Threads + Wait + Sync, K: Sink, D: Disk, G: Gate + Syn
     saver: &'a mut Option<Saver>,
     gate: &'a G,
 ) -> Result<Fed, Status>
-    requires limited { AreLimitedSettings settings.now }
-    requires wide { AreWideSettings settings.now }
-    requires pass { IsPassOfBoard board.now pass }
+    requires limited { AreLimited settings.now }
+    requires wide { AreWide settings.now }
+    requires pass { IsPassOf board.now pass }
     requires view { view pass ≡ first_view board.now.opening }
     requires shape { HasCoreShape (length board.now.opening) (core_capacity board.now.opening) cut }
     requires alike { core_capacity board.now.opening ≡ settings.now.capacity }
     requires used { is_some saver.old ≡ settings.now.store }
     requires can_save { IfSome saver.old (CanMakeSaves (D.reads disk.old) (D.image_now disk.old) board.now.opening (view pass) settings.now.rounds) }
-    ensures ran { IfOk result (λ fed. DealtFeedRunsPlan board.now settings.now (view pass) fed.gathered) }
-    ensures fed { IfOk result (IsDealtFeedResult board.now settings.now
+    ensures ran { IfOk result (λ fed. RunsPlan board.now settings.now (view pass) fed.gathered) }
+    ensures fed { IfOk result (IsFeedResult board.now settings.now
         (SavesInTurn D.Disk saver.old saver.new disk.old disk.new) (K.taken sink.old) (K.taken sink.new)) }
     ensures faults { OnOk result ((K.faults sink.new ≡ K.faults sink.old) × (D.faults disk.new ≡ D.faults disk.old)) }
-    ensures part { OnErr result (FeedBreaksOffInRounds board.now.opening settings.now
+    ensures part { OnErr result (FeedBreaksOff board.now.opening settings.now
         (SavesInPart D.Disk saver.old disk.old disk.new) (K.taken sink.old) (K.taken sink.new)) }
-    ensures fault { IfErr result (IsDealtFeedFault (record { sink = K.faults sink.old; disk = D.faults disk.old })
+    ensures fault { IfErr result (IsFeedFault (record { sink = K.faults sink.old; disk = D.faults disk.old })
         (record { sink = K.faults sink.new; disk = D.faults disk.new })) }
     ensures unused { saver.old ≡ None → (saver.new ≡ None) × (disk.new ≡ disk.old) }
 {
@@ -90,9 +90,9 @@ fn run_feed<R: Threads + Wait + Sync, K: Sink, D: Disk, G: Gate + Sync>(
     rounds: &mut LiveRounds<'_, K, D, G>,
     gate: &G,
 ) -> Result<Gathered, Status>
-    requires limited { AreLimitedSettings settings.now }
-    requires wide { AreWideSettings settings.now }
-    requires pass { IsPassOfBoard board.now pass }
+    requires limited { AreLimited settings.now }
+    requires wide { AreWide settings.now }
+    requires pass { IsPassOf board.now pass }
     requires view { view pass ≡ first_view board.now.opening }
     requires alike { core_capacity board.now.opening ≡ settings.now.capacity }
     requires shape { HasCoreShape (length board.now.opening) (core_capacity board.now.opening) rounds.old.cut.now }
@@ -108,16 +108,16 @@ fn run_feed<R: Threads + Wait + Sync, K: Sink, D: Disk, G: Gate + Sync>(
     ensures same_saver { rounds.new.saver.ghost_name ≡ rounds.old.saver.ghost_name }
     ensures same_cut { rounds.new.cut.ghost_name ≡ rounds.old.cut.ghost_name }
     ensures shape { HasCoreShape (length board.now.opening) (core_capacity board.now.opening) rounds.new.cut.now }
-    ensures ran { IfOk result (DealtFeedRunsPlan board.now settings.now (view pass)) }
-    ensures fed { IfOk result (IsDealtFeedGathered board.now settings.now
+    ensures ran { IfOk result (RunsPlan board.now settings.now (view pass)) }
+    ensures fed { IfOk result (IsGathered board.now settings.now
         (SavesInTurn D.Disk rounds.old.saver.now rounds.new.saver.now rounds.old.disk.now rounds.new.disk.now)
         (K.taken rounds.old.sink.now) (K.taken rounds.new.sink.now)) }
     ensures faults { OnOk result ((K.faults rounds.new.sink.now ≡ K.faults rounds.old.sink.now)
         × (D.faults rounds.new.disk.now ≡ D.faults rounds.old.disk.now)) }
-    ensures part { OnErr result (FeedBreaksOffInRounds board.now.opening settings.now
+    ensures part { OnErr result (FeedBreaksOff board.now.opening settings.now
         (SavesInPart D.Disk rounds.old.saver.now rounds.old.disk.now rounds.new.disk.now)
         (K.taken rounds.old.sink.now) (K.taken rounds.new.sink.now)) }
-    ensures fault { IfErr result (IsDealtFeedFault (record { sink = K.faults rounds.old.sink.now; disk = D.faults rounds.old.disk.now })
+    ensures fault { IfErr result (IsFeedFault (record { sink = K.faults rounds.old.sink.now; disk = D.faults rounds.old.disk.now })
         (record { sink = K.faults rounds.new.sink.now; disk = D.faults rounds.new.disk.now })) }
     ensures unused { rounds.old.saver.now ≡ None → (rounds.new.saver.now ≡ None) × (rounds.new.disk.now ≡ rounds.old.disk.now) }
 {
@@ -132,7 +132,7 @@ fn run_feed<R: Threads + Wait + Sync, K: Sink, D: Disk, G: Gate + Sync>(
 
 /// The threads that the settings ask for.
 pub(crate) fn plan_of(settings: &Settings) -> ThreadPlan
-    ensures { result ≡ dealt_feed_plan settings.now }
+    ensures { result ≡ feed_plan settings.now }
 {
     ThreadPlan {
         workers: settings.workers,

@@ -5,23 +5,23 @@ ghost use Rattle.std.specs.Prelude.{IsSomeAnd};
 ghost use Rattle.prefix_lattice.specs.{RecordValue};
 ghost use Rattle.deal_rules.specs.declared.deal_kind.DealKind.{DealKind};
 ghost use Rattle.hhh_report.specs.declared.reports.Reported.{Reported};
-ghost use Rattle.command_words.specs.{AreLimitedSettings};
+ghost use Rattle.command_words.specs.{AreLimited};
 ghost use Rattle.command_words.specs.declared.settings.Settings.{Settings};
-ghost use Rattle.report_text.specs.{IsSessionText, report_mark_text, report_text};
+ghost use Rattle.report_text.specs.{IsSessionText, mark_text, report_text};
 ghost use Rattle.report_text.specs.declared.mark.Mark.TheVariants.{Opened};
 ghost use Rattle.report_text.specs.declared.session.Session.{Session};
-ghost use Rattle.shard_state.specs.{AreCoreShards, CoreBasesRepresent, CutRepresents};
+ghost use Rattle.shard_state.specs.{AreCoreShards, BasesRepresent, CutRepresents};
 ghost use Rattle.shard_state.specs.{ShardValue, core_capacity, core_lists, cut_positions};
 ghost use Rattle.checkpoint.specs.declared.settings.StoreSettings.{StoreSettings};
-ghost use Rattle.checkpoint.specs.{StoreBelongs, IsStoreOfLists, StoreOpensTo, SavedValue};
+ghost use Rattle.checkpoint.specs.{StoreBelongs, IsStoreOf, StoreOpensTo, SavedValue};
 ghost use Rattle.checkpoint.specs.{store_sequence};
-ghost use Rattle.report_session.specs.Session.{AreSessionReports, IsSession, IsSessionInPart, IsShownInSession};
-ghost use Rattle.report_session.specs.Session.{SessionReports, calling_thread_reports, session_ends};
-ghost use Rattle.report_session.specs.Session.{new_session_shards, session_part, session_reports_in, session_saves};
-ghost use Rattle.report_session.specs.Session.{session_text_of_reports, session_start, IsWholeReport};
-ghost use Rattle.dealt_capture.specs.{rules_by_formula};
-ghost use Rattle.report_session.specs.Saves.{SavesBelongThroughout, OpensAsBeforeOrToSaves, SavesAreKeptOnDisk};
-ghost use Rattle.report_session.specs.Saves.{last_of_saves, SavesAreReopenedFromDisk, store_settings_for_saves};
+ghost use Rattle.report_session.specs.Session.{AreReports, IsSession, IsSessionInPart, IsShownInSession};
+ghost use Rattle.report_session.specs.Session.{SessionReports, caller_reports, session_ends};
+ghost use Rattle.report_session.specs.Session.{new_shards, session_part, reports_in, saves_of};
+ghost use Rattle.report_session.specs.Session.{text_of_reports, session_start, IsWholeReport};
+ghost use Rattle.dealt_capture.specs.{rules_by};
+ghost use Rattle.report_session.specs.Saving.{BelongThroughout, OpensToSaves, AreKeptOnDisk};
+ghost use Rattle.report_session.specs.Saving.{last_of_saves, AreReopened, saves_settings};
 ghost use Rattle.hhh_report.specs.{IsSameReport, IsSound};
 ghost use Rattle.hhh_report.specs.declared.report.Report.{Report};
 
@@ -35,8 +35,8 @@ use slot_disk::Disk;
 /// numbers of workers, callers and rounds, the block and the threads, its bytes are the same.
 pub fn last_reports_are_one()
     ensures { (lists : List (List RecordValue)) (settings other : Settings) (reports others : SessionReports) → settings.capacity ≡ other.capacity
-        → settings.phi ≡ other.phi → AreSessionReports (new_session_shards settings.capacity lists) settings reports
-        → AreSessionReports (new_session_shards other.capacity lists) other others
+        → settings.phi ≡ other.phi → AreReports (new_shards settings.capacity lists) settings reports
+        → AreReports (new_shards other.capacity lists) other others
         → report_text reports.last.report ≡ report_text others.last.report }
 {
     a_cut_has_one_report();
@@ -46,18 +46,18 @@ pub fn last_reports_are_one()
 /// A session without rounds has one report, the last one, whatever the numbers of workers and callers.
 pub fn sessions_without_rounds_have_one_report()
     ensures { (opening : List ShardValue) (settings : Settings) (reports : SessionReports) (tail : List ℕ) → settings.rounds ≡ 0
-        → AreSessionReports opening settings reports
-        → session_text_of_reports settings.store (session_start opening) reports tail
-        ≡ report_mark_text Opened (session_start opening) ++ (session_part settings.store reports.last ++ tail) }
+        → AreReports opening settings reports
+        → text_of_reports settings.store (session_start opening) reports tail
+        ≡ mark_text Opened (session_start opening) ++ (session_part settings.store reports.last ++ tail) }
 {}
 
 /// The last reports of two sessions over the same dealt lists have one text, also where their shards went on from saved
 /// cuts, if the tables of these were those of their records: a run that was stopped and goes on ends as if it had not been.
 pub fn resumed_sessions_end_alike()
     ensures { (opening other_opening : List ShardValue) (settings other : Settings) (reports others : SessionReports)
-        → AreCoreShards opening → AreCoreShards other_opening → CoreBasesRepresent opening → CoreBasesRepresent other_opening
+        → AreCoreShards opening → AreCoreShards other_opening → BasesRepresent opening → BasesRepresent other_opening
         → core_lists opening ≡ core_lists other_opening → core_capacity opening ≡ core_capacity other_opening
-        → settings.phi ≡ other.phi → AreSessionReports opening settings reports → AreSessionReports other_opening other others
+        → settings.phi ≡ other.phi → AreReports opening settings reports → AreReports other_opening other others
         → report_text reports.last.report ≡ report_text others.last.report }
 {
     standing_cuts_have_one_report();
@@ -69,10 +69,10 @@ pub fn resumed_sessions_end_alike()
 /// the store did before and the shards began with tables of their records.
 pub fn saves_belong()
     ensures { (opening : List ShardValue) (settings : Settings) (reports : List Reported) (opened : Option SavedValue) (image : List ℕ)
-        → AreCoreShards opening → CoreBasesRepresent opening → All (IsShownInSession opening settings) reports
-        → IsStoreOfLists (store_settings_for_saves settings) (core_lists opening) opened
-        → OpensAsBeforeOrToSaves (store_settings_for_saves settings) opened (session_saves settings opening opened reports) image
-        → StoreBelongs (store_settings_for_saves settings) (core_lists opening) image }
+        → AreCoreShards opening → BasesRepresent opening → All (IsShownInSession opening settings) reports
+        → IsStoreOf (saves_settings settings) (core_lists opening) opened
+        → OpensToSaves (saves_settings settings) opened (saves_of settings opening opened reports) image
+        → StoreBelongs (saves_settings settings) (core_lists opening) image }
 {
     reported_cuts_represent();
 }
@@ -81,8 +81,8 @@ pub fn saves_belong()
 /// and its sequence has risen by one for each report of the calling thread.
 pub fn last_saves_are_at_the_ends()
     ensures { (opening : List ShardValue) (settings : Settings) (reports : SessionReports) (opened : Option SavedValue)
-        → AreSessionReports opening settings reports
-        → IsSomeAnd (last_of_saves opened (session_saves settings opening opened (calling_thread_reports reports))) (λ saved.
+        → AreReports opening settings reports
+        → IsSomeAnd (last_of_saves opened (saves_of settings opening opened (caller_reports reports))) (λ saved.
         (cut_positions saved.cut ≡ session_ends opening) × (saved.sequence ≡ store_sequence opened + (settings.rounds + 1))) }
 {}
 
@@ -93,14 +93,14 @@ pub fn last_saves_are_at_the_ends()
 /// settings of a session that broke off have to be within their limits.
 pub fn sessions_lose_no_save<D: Disk>()
     ensures whole { (formula : DealKind → ℕ → RecordValue → ℕ → ℕ) (before now : D) (settings : Settings) (file text : List ℕ)
-        → IsSession settings (rules_by_formula formula) (SavesAreKeptOnDisk D.Disk before now)
+        → IsSession settings (rules_by formula) (AreKeptOnDisk D.Disk before now)
         (D.reads before) file text
-        → IsSession settings (rules_by_formula formula) (SavesAreReopenedFromDisk D.Disk before now) (D.reads before) file text }
+        → IsSession settings (rules_by formula) (AreReopened D.Disk before now) (D.reads before) file text }
     ensures in_part { (formula : DealKind → ℕ → RecordValue → ℕ → ℕ) (before now : D) (settings : Settings) (file front : List ℕ)
-        → AreLimitedSettings settings
-        → IsSessionInPart settings (rules_by_formula formula)
-        (SavesAreKeptOnDisk D.Disk before now) (D.reads before) file front
-        → IsSessionInPart settings (rules_by_formula formula) (SavesAreReopenedFromDisk D.Disk before now) (D.reads before) file front }
+        → AreLimited settings
+        → IsSessionInPart settings (rules_by formula)
+        (AreKeptOnDisk D.Disk before now) (D.reads before) file front
+        → IsSessionInPart settings (rules_by formula) (AreReopened D.Disk before now) (D.reads before) file front }
 {
     stores_open_to_one();
 }
@@ -114,17 +114,17 @@ pub fn stores_belong_throughout<D: Disk>()
     ensures formatted { (settings : StoreSettings) (lists : List (List RecordValue)) (image : List ℕ) → StoreOpensTo settings image None
         → StoreBelongs settings lists image }
     ensures whole { (formula : DealKind → ℕ → RecordValue → ℕ → ℕ) (before now : D) (settings : Settings) (store file text : List ℕ)
-        (is : IsSession settings (rules_by_formula formula)
-        (SavesAreKeptOnDisk D.Disk before now) (D.reads before) file text)
-        → AreLimitedSettings settings → settings.store ≡ true → D.reads before ≡ Some store
-        → ((image : List ℕ) → D.image_now before image → StoreBelongs (store_settings_for_saves settings) is.lists image)
-        → SavesBelongThroughout D.Disk (store_settings_for_saves settings) is.lists is.base before now }
+        (is : IsSession settings (rules_by formula)
+        (AreKeptOnDisk D.Disk before now) (D.reads before) file text)
+        → AreLimited settings → settings.store ≡ true → D.reads before ≡ Some store
+        → ((image : List ℕ) → D.image_now before image → StoreBelongs (saves_settings settings) is.lists image)
+        → BelongThroughout D.Disk (saves_settings settings) is.lists is.base before now }
     ensures in_part { (formula : DealKind → ℕ → RecordValue → ℕ → ℕ) (before now : D) (settings : Settings) (store file front : List ℕ)
-        (is : IsSessionInPart settings (rules_by_formula formula)
-        (SavesAreKeptOnDisk D.Disk before now) (D.reads before) file front)
-        → AreLimitedSettings settings → settings.store ≡ true → D.reads before ≡ Some store
-        → ((image : List ℕ) → D.image_now before image → StoreBelongs (store_settings_for_saves settings) is.lists image)
-        → SavesBelongThroughout D.Disk (store_settings_for_saves settings) is.lists is.base before now }
+        (is : IsSessionInPart settings (rules_by formula)
+        (AreKeptOnDisk D.Disk before now) (D.reads before) file front)
+        → AreLimited settings → settings.store ≡ true → D.reads before ≡ Some store
+        → ((image : List ℕ) → D.image_now before image → StoreBelongs (saves_settings settings) is.lists image)
+        → BelongThroughout D.Disk (saves_settings settings) is.lists is.base before now }
 {
     stores_open_to_one();
     reported_cuts_represent();
@@ -143,9 +143,9 @@ pub fn whole_reports_are_one()
 /// from a saved cut, if the tables of this were those of its records.
 pub fn own_reports_are_sound<D: Disk>()
     ensures { (formula : DealKind → ℕ → RecordValue → ℕ → ℕ) (before now : D) (settings : Settings) (store : Option (List ℕ)) (file text : List ℕ)
-        (is : IsSession settings (rules_by_formula formula) (SavesAreKeptOnDisk D.Disk before now) store file text)
+        (is : IsSession settings (rules_by formula) (AreKeptOnDisk D.Disk before now) store file text)
         → IfSome is.base (λ cut. CutRepresents cut is.lists)
-        → All (λ reported. IsSound reported.report is.lists settings.capacity settings.phi) (session_reports_in is.spelled.reports) }
+        → All (λ reported. IsSound reported.report is.lists settings.capacity settings.phi) (reports_in is.spelled.reports) }
 {}
 
 /// Where each kind of dealing is a formula, what `report` writes over a capture is the text of a session, whose reports are
@@ -153,7 +153,7 @@ pub fn own_reports_are_sound<D: Disk>()
 /// tables of this have to be those of its records.
 pub fn sessions_read_back<D: Disk>()
     ensures { (formula : DealKind → ℕ → RecordValue → ℕ → ℕ) (before now : D) (settings : Settings) (store : Option (List ℕ)) (file text : List ℕ)
-        (is : IsSession settings (rules_by_formula formula) (SavesAreKeptOnDisk D.Disk before now) store file text) → AreLimitedSettings settings
+        (is : IsSession settings (rules_by formula) (AreKeptOnDisk D.Disk before now) store file text) → AreLimited settings
         → IfSome is.base (λ cut. CutRepresents cut is.lists) → (known : Session) × IsSessionText text known
         × All (λ reported. IsSound reported.report is.lists settings.capacity settings.phi) known.reports
         × (length known.reports ≡ (settings.callers + 1) * settings.rounds + 1) }

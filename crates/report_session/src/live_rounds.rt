@@ -2,11 +2,11 @@
 
 ghost use Rattle.std.specs.Prelude.{◌≡◌, ◌≤◌, length, IfErr, IfSome, OnOk, None, is_some};
 ghost use Rattle.shard_state.specs.{HasCoreShape, core_capacity};
-ghost use Rattle.hhh_report.specs.{threshold_million};
+ghost use Rattle.hhh_report.specs.{million};
 ghost use Rattle.hhh_output.specs.{IsWideShare};
-ghost use Rattle.pass_tokens.specs.{IsPassOfBoard, view};
-ghost use Rattle.report_session.specs.Rounds.{BreaksRound, EndRounds, WritesRounds};
-ghost use Rattle.report_session.specs.Saves.{CanMakeSaves, SavesBreakOff, SavesFitBoard, SavesInTurn};
+ghost use Rattle.pass_tokens.specs.{IsPassOf, view};
+ghost use Rattle.report_session.specs.LiveRounds.{BreaksRound, EndRounds, WritesRounds};
+ghost use Rattle.report_session.specs.Saving.{CanMakeSaves, SavesBreakOff, SavesFitBoard, SavesInTurn};
 
 use crate::saving::{save_cut, saved_line};
 use crate::writing::write;
@@ -50,13 +50,13 @@ pub struct LiveRounds<'a, K: Sink, D: Disk, G: Gate> {
 impl<K: Sink, D: Disk, G: Gate> Rounds for LiveRounds<'_, K, D, G> {
     ghost use Rattle.std.specs.Prelude.{◌≡◌, ◌≤◌, length, IfSome, None, is_some};
     ghost use Rattle.shard_state.specs.{HasCoreShape, core_capacity};
-    ghost use Rattle.hhh_report.specs.{threshold_million};
+    ghost use Rattle.hhh_report.specs.{million};
     ghost use Rattle.hhh_output.specs.{IsWideShare};
-    ghost use Rattle.report_session.specs.Rounds.{EndRounds};
-    ghost use Rattle.report_session.specs.Saves.{CanMakeSaves, CanMakeSaves-later, SavesBreakOff, SavesInTurn};
+    ghost use Rattle.report_session.specs.LiveRounds.{EndRounds};
+    ghost use Rattle.report_session.specs.Saving.{CanMakeSaves, CanMakeSaves-later, SavesBreakOff, SavesInTurn};
 
     ghost ready = { λ rounds board view. HasCoreShape (length board.opening) (core_capacity board.opening) rounds.cut.now
-        × (1 ≤ rounds.phi) × (rounds.phi ≤ threshold_million) × IsWideShare rounds.phi (core_capacity board.opening)
+        × (1 ≤ rounds.phi) × (rounds.phi ≤ million) × IsWideShare rounds.phi (core_capacity board.opening)
         × (rounds.stop ≡ None)
         × IfSome rounds.saver.now (CanMakeSaves (D.reads rounds.disk.now) (D.image_now rounds.disk.now) board.opening view rounds.rounds) };
 
@@ -125,10 +125,10 @@ fn make_round<R: Wait, K: Sink, D: Disk, G: Gate>(
     phi: u32,
     gate: &G,
 ) -> Result<(), Status>
-    requires pass { IsPassOfBoard board.now pass.old }
+    requires pass { IsPassOf board.now pass.old }
     requires shape { HasCoreShape (length board.now.opening) (core_capacity board.now.opening) cut.old }
     requires some { 1 ≤ phi }
-    requires most { phi ≤ threshold_million }
+    requires most { phi ≤ million }
     requires wide { IsWideShare phi (core_capacity board.now.opening) }
     requires can_save { IfSome saver.old (CanMakeSaves (D.reads disk.old) (D.image_now disk.old) board.now.opening (view pass.old) 1) }
     ensures whole { OnOk result (WritesRounds board.now.opening phi (is_some saver.old) 1 (view pass.old) (view pass.new)
@@ -140,7 +140,7 @@ fn make_round<R: Wait, K: Sink, D: Disk, G: Gate>(
         (record { sink = K.faults sink.old; disk = D.faults disk.old }) (record { sink = K.faults sink.new; disk = D.faults disk.new })) }
     ensures unused { saver.old ≡ None → (saver.new ≡ None) × (disk.new ≡ disk.old) }
     ensures shape { HasCoreShape (length board.now.opening) (core_capacity board.now.opening) cut.new }
-    ensures pass { IsPassOfBoard board.now pass.new }
+    ensures pass { IsPassOf board.now pass.new }
 {
     let _shards = board.shards();
     let report = report_once(rt, alloc, board, pass, caller, round, phi, cut, gate)?;

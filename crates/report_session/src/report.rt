@@ -1,9 +1,9 @@
 //! The session over the dealt records of a capture.
 
 ghost use Rattle.std.specs.Prelude.{◌≡◌, ◌<◌, false, length};
-ghost use Rattle.command_words.specs.{AreLimitedSettings, AreWideSettings};
-ghost use Rattle.report_session.specs.DealtFeed.{DealtFeedEnds};
-ghost use Rattle.report_session.specs.Saves.{IsAsBeforeSaves, SavesAreKeptOnDisk};
+ghost use Rattle.command_words.specs.{AreLimited, AreWide};
+ghost use Rattle.report_session.specs.DealtFeed.{FeedEnds};
+ghost use Rattle.report_session.specs.Saving.{IsAsBefore, AreKeptOnDisk};
 
 use crate::base::open_base;
 use crate::session::{openings_stand, write_session};
@@ -39,11 +39,11 @@ pub fn report_dealt<R: Threads + Wait + Sync, K: Sink, D: Disk, G: Gate + Sync>(
     disk: &mut D,
     gate: &G,
 ) -> Status
-    requires limited { AreLimitedSettings settings.now }
-    requires wide { AreWideSettings settings.now }
+    requires limited { AreLimited settings.now }
+    requires wide { AreWide settings.now }
     requires shards { length fed.dealt ≡ settings.now.shards }
     requires tail { 0 < length fed.tail.items }
-    ensures ends { DealtFeedEnds K.Sink D.Disk settings.now fed.dealt fed.tail.items sink.old sink.new disk.old disk.new result }
+    ensures ends { FeedEnds K.Sink D.Disk settings.now fed.dealt fed.tail.items sink.old sink.new disk.old disk.new result }
     ensures unused { settings.now.store ≡ false → disk.new ≡ disk.old }
 {
     let DealtFeed { dealt, tail } = fed;

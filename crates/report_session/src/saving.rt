@@ -1,10 +1,10 @@
 //! Saving the cuts of the calling thread.
 
 ghost use Rattle.std.specs.Prelude.{◌≡◌, [], ◌∷◌, IfErr, IfOk, IfSome, None, OnErr, OnOk, is_some, true};
-ghost use Rattle.report_text.specs.{ReportTextShowsPositions};
-ghost use Rattle.report_session.specs.DealtFeed.{DealtFeedCanSaveCut, IsDealtFeedSaveFault};
-ghost use Rattle.report_session.specs.Saves.{SavesInPart, SavesInTurn};
-ghost use Rattle.report_session.specs.Session.{session_save_line};
+ghost use Rattle.report_text.specs.{ShowsPositions};
+ghost use Rattle.report_session.specs.DealtFeed.{CanSaveCut, IsSaveFault};
+ghost use Rattle.report_session.specs.Saving.{SavesInPart, SavesInTurn};
+ghost use Rattle.report_session.specs.Session.{save_line};
 ghost use Rattle.run_status.specs.declared.status.Status.TheVariants.{DiskFault, OutOfMemory};
 
 use checkpoint::{SaveFault, Saver, stores_open_to_one};
@@ -23,14 +23,14 @@ pub(crate) fn save_cut<D: Disk>(
     disk: &mut D,
     cut: &Cut,
 ) -> Result<(), Status>
-    requires { IfSome saver.old (DealtFeedCanSaveCut (D.reads disk.old) (D.image_now disk.old) cut.now) }
+    requires { IfSome saver.old (CanSaveCut (D.reads disk.old) (D.image_now disk.old) cut.now) }
     ensures saved { OnOk result (SavesInTurn D.Disk saver.old saver.new disk.old disk.new (cut.now ∷ [])) }
     ensures in_part { OnErr result (SavesInPart D.Disk saver.old disk.old disk.new [] (cut.now ∷ [])) }
     ensures ran_out { IfErr result (λ status. status ≡ OutOfMemory → disk.new ≡ disk.old) }
     ensures saver_stays { IfErr result (λ status. status ≡ OutOfMemory → saver.new ≡ saver.old) }
     ensures saver_goes { IfErr result (λ status. status ≡ DiskFault → saver.new ≡ None) }
     ensures used { OnErr result (is_some saver.old ≡ true) }
-    ensures fault { IfErr result (IsDealtFeedSaveFault (D.faults disk.old) (D.faults disk.new)) }
+    ensures fault { IfErr result (IsSaveFault (D.faults disk.old) (D.faults disk.new)) }
     ensures no_fault { OnOk result (D.faults disk.new ≡ D.faults disk.old) }
     ensures unused { saver.old ≡ None → (saver.new ≡ None) × (disk.new ≡ disk.old) }
 {
@@ -58,8 +58,8 @@ pub(crate) fn saved_line(
     store: bool,
     positions: &Positions,
 ) -> Result<Vec<u8>, AllocError>
-    requires { ReportTextShowsPositions positions.now }
-    ensures { IfOk result (λ line. line.items ≡ session_save_line store positions.now) }
+    requires { ShowsPositions positions.now }
+    ensures { IfOk result (λ line. line.items ≡ save_line store positions.now) }
 {
     let mut line = Vec::new(alloc);
     if store {

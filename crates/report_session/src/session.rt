@@ -4,24 +4,24 @@ ghost use Rattle.std.specs.Prelude.{◌≡◌, ◌≤◌, ◌<◌, ◌+◌, ◌�
 ghost use Rattle.std.specs.Prelude.{OnErr, OnOk, false, is_some};
 ghost use Rattle.std.specs.List.{AllZip};
 ghost use Rattle.std.specs.Io.KnownBytes.{Appends};
-ghost use Rattle.deal_rules.specs.{AreDealingLists};
-ghost use Rattle.space_saving.specs.{least_table_capacity, most_table_capacity};
+ghost use Rattle.deal_rules.specs.{AreDealings};
+ghost use Rattle.space_saving.specs.{least_capacity, most_capacity};
 ghost use Rattle.shard_state.specs.{AreCoreShards, HasCoreShape, core_capacity};
-ghost use Rattle.pass_tokens.specs.{IsPassOfBoard, first_view, view};
-ghost use Rattle.gate_workers.specs.{FeedHasSeenEnds};
-ghost use Rattle.checkpoint.specs.{DiskMatchesSaver};
-ghost use Rattle.recovery.specs.{OpeningContinuesList};
-ghost use Rattle.report_text.specs.{ReportTextShowsPositions, report_mark_text};
+ghost use Rattle.pass_tokens.specs.{IsPassOf, first_view, view};
+ghost use Rattle.gate_workers.specs.{HasSeenEnds};
+ghost use Rattle.checkpoint.specs.{DiskMatches};
+ghost use Rattle.recovery.specs.{ContinuesList};
+ghost use Rattle.report_text.specs.{ShowsPositions, mark_text};
 ghost use Rattle.report_text.specs.declared.mark.Mark.TheVariants.{Opened as OpenedMark};
-ghost use Rattle.command_words.specs.{AreLimitedSettings, AreWideSettings};
-ghost use Rattle.report_session.specs.Session.{WritesAnswer, AreReportsOfCaller, BeginsSession};
-ghost use Rattle.report_session.specs.Session.{SessionBreaksOffAround, SessionBaseRepresents, IsSessionOverShards};
-ghost use Rattle.report_session.specs.Session.{session_caller_parts, session_opening, session_parts};
-ghost use Rattle.report_session.specs.Session.{resumed_session_shards, new_session_shards, session_start};
-ghost use Rattle.report_session.specs.DealtFeed.{DealtFeedCanSaveCut, DealtFeedGoesOn, IsDealtFeedBase};
-ghost use Rattle.report_session.specs.DealtFeed.{IsDealtFeedFault, IsDealtFeedOpening, IsDealtFeedRest};
-ghost use Rattle.report_session.specs.DealtFeed.{FeedStartsBeforeEnds, dealt_feed_other_reports};
-ghost use Rattle.report_session.specs.Saves.{CanMakeSaves, Saves, SavesInPart, SavesInTurn};
+ghost use Rattle.command_words.specs.{AreLimited, AreWide};
+ghost use Rattle.report_session.specs.Session.{WritesAnswer, AreOfCaller, BeginsSession};
+ghost use Rattle.report_session.specs.Session.{BreaksOffAround, BaseRepresents, IsOverShards};
+ghost use Rattle.report_session.specs.Session.{caller_parts, session_opening, session_parts};
+ghost use Rattle.report_session.specs.Session.{resumed_shards, new_shards, session_start};
+ghost use Rattle.report_session.specs.DealtFeed.{CanSaveCut, FeedGoesOn, IsFeedBase};
+ghost use Rattle.report_session.specs.DealtFeed.{IsFeedFault, IsFeedOpening, IsFeedRest};
+ghost use Rattle.report_session.specs.DealtFeed.{StartsBefore, other_reports};
+ghost use Rattle.report_session.specs.Saving.{CanMakeSaves, Saves, SavesInPart, SavesInTurn};
 
 use crate::base::Base;
 use crate::feed::{Fed, feed};
@@ -78,19 +78,19 @@ pub(crate) fn write_session<R: Threads + Wait + Sync, K: Sink, D: Disk, G: Gate 
     disk: &mut D,
     gate: &G,
 ) -> Result<(), Status>
-    requires limited { AreLimitedSettings settings.now }
-    requires wide { AreWideSettings settings.now }
+    requires limited { AreLimited settings.now }
+    requires wide { AreWide settings.now }
     requires shards { length dealt ≡ settings.now.shards }
-    requires base { IsDealtFeedBase settings.now dealt (D.reads disk.old) base }
-    requires stands { IfSome base.saver (DiskMatchesSaver (D.reads disk.old) (D.image_now disk.old)) }
+    requires base { IsFeedBase settings.now dealt (D.reads disk.old) base }
+    requires stands { IfSome base.saver (DiskMatches (D.reads disk.old) (D.image_now disk.old)) }
     requires tail { 0 < length tail.now }
-    ensures whole { OnOk result (WritesAnswer (IsSessionOverShards (session_opening settings.now.capacity dealt base.cut) settings.now
+    ensures whole { OnOk result (WritesAnswer (IsOverShards (session_opening settings.now.capacity dealt base.cut) settings.now
         (λ cuts. Saves D.Disk base.saver cuts disk.old disk.new) tail.now) (K.taken sink.old) (K.taken sink.new)) }
     ensures faults { OnOk result ((K.faults sink.new ≡ K.faults sink.old) × (D.faults disk.new ≡ D.faults disk.old)) }
     ensures part { OnErr result (((sink.new ≡ sink.old) × (disk.new ≡ disk.old))
         ⊎ WritesAnswer (BeginsSession (session_opening settings.now.capacity dealt base.cut) settings.now
         (SavesInPart D.Disk base.saver disk.old disk.new) tail.now) (K.taken sink.old) (K.taken sink.new)) }
-    ensures fault { IfErr result (IsDealtFeedFault (record { sink = K.faults sink.old; disk = D.faults disk.old })
+    ensures fault { IfErr result (IsFeedFault (record { sink = K.faults sink.old; disk = D.faults disk.old })
         (record { sink = K.faults sink.new; disk = D.faults disk.new })) }
     ensures unused { base.saver ≡ None → disk.new ≡ disk.old }
 {
@@ -114,10 +114,10 @@ pub(crate) fn open(
     base: Option<Cut>,
     capacity: u32,
 ) -> Result<Opened, AllocError>
-    requires least { least_table_capacity ≤ capacity }
-    requires most { capacity ≤ most_table_capacity }
-    requires fits { IfSome base (DealtFeedGoesOn capacity dealt) }
-    ensures { IfOk result (IsDealtFeedOpening (session_opening capacity dealt base)) }
+    requires least { least_capacity ≤ capacity }
+    requires most { capacity ≤ most_capacity }
+    requires fits { IfSome base (FeedGoesOn capacity dealt) }
+    ensures { IfOk result (IsFeedOpening (session_opening capacity dealt base)) }
 {
     openings_stand(&dealt, &base, capacity);
     let shards = dealt.shards();
@@ -130,13 +130,13 @@ pub(crate) fn open(
 /// Shards of dealt lists have the capacity asked for, and start before the ends of their lists. The tables of their base
 /// represent the lists, if they were saved of them or are empty.
 pub(crate) fn openings_stand(dealt: &Dealt, base: &Option<Cut>, capacity: u32)
-    requires { IfSome base.now (DealtFeedGoesOn capacity dealt.now) }
+    requires { IfSome base.now (FeedGoesOn capacity dealt.now) }
     ensures shards { AreCoreShards (session_opening capacity dealt.now base.now) }
     ensures many { length (session_opening capacity dealt.now base.now) ≡ length dealt.now }
     ensures alike { core_capacity (session_opening capacity dealt.now base.now) ≡ capacity }
-    ensures starts { FeedStartsBeforeEnds (session_opening capacity dealt.now base.now) }
-    ensures positions { ReportTextShowsPositions (session_start (session_opening capacity dealt.now base.now)) }
-    ensures represents { SessionBaseRepresents dealt.now base.now (session_opening capacity dealt.now base.now) }
+    ensures starts { StartsBefore (session_opening capacity dealt.now base.now) }
+    ensures positions { ShowsPositions (session_start (session_opening capacity dealt.now base.now)) }
+    ensures represents { BaseRepresents dealt.now base.now (session_opening capacity dealt.now base.now) }
 {
     shards_stand();
     let _shards = dealt.shards();
@@ -155,9 +155,9 @@ fn states_of(
     base: Option<Cut>,
     capacity: u32,
 ) -> Result<Vec<ShardState>, AllocError>
-    requires least { least_table_capacity ≤ capacity }
-    requires most { capacity ≤ most_table_capacity }
-    requires fits { IfSome base (DealtFeedGoesOn capacity dealt) }
+    requires least { least_capacity ≤ capacity }
+    requires most { capacity ≤ most_capacity }
+    requires fits { IfSome base (FeedGoesOn capacity dealt) }
     ensures { IfOk result (λ states. states.items ≡ session_opening capacity dealt base) }
 {
     match base {
@@ -168,10 +168,10 @@ fn states_of(
 
 // The states of shards, none of their records counted.
 fn new_states(alloc: Global, dealt: Dealt, capacity: u32) -> Result<Vec<ShardState>, AllocError>
-    requires least { least_table_capacity ≤ capacity }
-    requires most { capacity ≤ most_table_capacity }
-    ensures states { IfOk result (λ states. states.items ≡ new_session_shards capacity dealt) }
-    ensures shards { AreDealingLists dealt }
+    requires least { least_capacity ≤ capacity }
+    requires most { capacity ≤ most_capacity }
+    ensures states { IfOk result (λ states. states.items ≡ new_shards capacity dealt) }
+    ensures shards { AreDealings dealt }
 {
     let mut states = Vec::new(alloc);
     for list in dealt.into_lists() {
@@ -182,8 +182,8 @@ fn new_states(alloc: Global, dealt: Dealt, capacity: u32) -> Result<Vec<ShardSta
 
 // The states of shards that go on from the snapshots of a cut.
 fn resumed_states(alloc: Global, dealt: Dealt, cut: Cut) -> Result<Vec<ShardState>, AllocError>
-    requires { AllZip OpeningContinuesList cut.shards dealt }
-    ensures { IfOk result (λ states. states.items ≡ resumed_session_shards dealt cut.shards) }
+    requires { AllZip ContinuesList cut.shards dealt }
+    ensures { IfOk result (λ states. states.items ≡ resumed_shards dealt cut.shards) }
 {
     let mut states = Vec::new(alloc);
     for (list, base) in dealt.into_lists().into_iter().zip(cut.into_shards()) {
@@ -194,8 +194,8 @@ fn resumed_states(alloc: Global, dealt: Dealt, cut: Cut) -> Result<Vec<ShardStat
 
 // The first line of a session.
 fn opened_line(alloc: Global, positions: &Positions) -> Result<Vec<u8>, AllocError>
-    requires { ReportTextShowsPositions positions.now }
-    ensures { IfOk result (λ line. line.items ≡ report_mark_text OpenedMark positions.now) }
+    requires { ShowsPositions positions.now }
+    ensures { IfOk result (λ line. line.items ≡ mark_text OpenedMark positions.now) }
 {
     let mut line = Vec::new(alloc);
     print_positions(Mark::Opened, positions, &mut line)?;
@@ -215,22 +215,22 @@ fn write_feed<R: Threads + Wait + Sync, K: Sink, D: Disk, G: Gate + Sync>(
     disk: &mut D,
     gate: &G,
 ) -> Result<(), Status>
-    requires limited { AreLimitedSettings settings.now }
-    requires wide { AreWideSettings settings.now }
-    requires opened { IsDealtFeedOpening opened.board.opening opened }
+    requires limited { AreLimited settings.now }
+    requires wide { AreWide settings.now }
+    requires opened { IsFeedOpening opened.board.opening opened }
     requires alike { core_capacity opened.board.opening ≡ settings.now.capacity }
-    requires starts { FeedStartsBeforeEnds opened.board.opening }
-    requires line { line.now ≡ report_mark_text OpenedMark (session_start opened.board.opening) }
+    requires starts { StartsBefore opened.board.opening }
+    requires line { line.now ≡ mark_text OpenedMark (session_start opened.board.opening) }
     requires tail { 0 < length tail.now }
     requires used { is_some saver ≡ settings.now.store }
     requires can_save { IfSome saver (CanMakeSaves (D.reads disk.old) (D.image_now disk.old) opened.board.opening
         (first_view opened.board.opening) (settings.now.rounds + 1)) }
-    ensures whole { OnOk result (WritesAnswer (IsSessionOverShards opened.board.opening settings.now
+    ensures whole { OnOk result (WritesAnswer (IsOverShards opened.board.opening settings.now
         (λ cuts. Saves D.Disk saver cuts disk.old disk.new) tail.now) (K.taken sink.old) (K.taken sink.new)) }
     ensures faults { OnOk result ((K.faults sink.new ≡ K.faults sink.old) × (D.faults disk.new ≡ D.faults disk.old)) }
     ensures part { OnErr result (WritesAnswer (BeginsSession opened.board.opening settings.now
         (SavesInPart D.Disk saver disk.old disk.new) tail.now) (K.taken sink.old) (K.taken sink.new)) }
-    ensures fault { IfErr result (IsDealtFeedFault (record { sink = K.faults sink.old; disk = D.faults disk.old })
+    ensures fault { IfErr result (IsFeedFault (record { sink = K.faults sink.old; disk = D.faults disk.old })
         (record { sink = K.faults sink.new; disk = D.faults disk.new })) }
     ensures unused { saver ≡ None → disk.new ≡ disk.old }
 {
@@ -261,13 +261,13 @@ fn write_rest<K: Sink, D: Disk>(
     sink: &mut K,
     disk: &mut D,
 ) -> Result<(), Status>
-    requires { IfSome saver.old (DealtFeedCanSaveCut (D.reads disk.old) (D.image_now disk.old) rest.now.cut) }
+    requires { IfSome saver.old (CanSaveCut (D.reads disk.old) (D.image_now disk.old) rest.now.cut) }
     ensures whole { OnOk result (Appends (K.taken sink.old) (K.taken sink.new) (rest.now.front.items ++ rest.now.back.items)) }
     ensures saved { OnOk result (SavesInTurn D.Disk saver.old saver.new disk.old disk.new (rest.now.cut ∷ [])) }
     ensures faults { OnOk result ((K.faults sink.new ≡ K.faults sink.old) × (D.faults disk.new ≡ D.faults disk.old)) }
-    ensures part { OnErr result (WritesAnswer (SessionBreaksOffAround rest.now.front.items rest.now.back.items (rest.now.cut ∷ [])
+    ensures part { OnErr result (WritesAnswer (BreaksOffAround rest.now.front.items rest.now.back.items (rest.now.cut ∷ [])
         (SavesInPart D.Disk saver.old disk.old disk.new)) (K.taken sink.old) (K.taken sink.new)) }
-    ensures fault { IfErr result (IsDealtFeedFault (record { sink = K.faults sink.old; disk = D.faults disk.old })
+    ensures fault { IfErr result (IsFeedFault (record { sink = K.faults sink.old; disk = D.faults disk.old })
         (record { sink = K.faults sink.new; disk = D.faults disk.new })) }
     ensures unused { saver.old ≡ None → disk.new ≡ disk.old }
 {
@@ -293,14 +293,14 @@ fn rest_of_session<R: Wait>(
     tail: &[u8],
     settings: &Settings,
 ) -> Result<Rest, AllocError>
-    requires limited { AreLimitedSettings settings.now }
-    requires wide { AreWideSettings settings.now }
-    requires pass { IsPassOfBoard board.now fed.gathered.pass }
-    requires ends { FeedHasSeenEnds board.now.opening (view fed.gathered.pass) }
+    requires limited { AreLimited settings.now }
+    requires wide { AreWide settings.now }
+    requires pass { IsPassOf board.now fed.gathered.pass }
+    requires ends { HasSeenEnds board.now.opening (view fed.gathered.pass) }
     requires shape { HasCoreShape (length board.now.opening) (core_capacity board.now.opening) fed.cut }
-    requires callers { All (AreReportsOfCaller board.now.opening settings.now settings.now.rounds) (dealt_feed_other_reports fed.gathered.called.items) }
+    requires callers { All (AreOfCaller board.now.opening settings.now settings.now.rounds) (other_reports fed.gathered.called.items) }
     requires alike { core_capacity board.now.opening ≡ settings.now.capacity }
-    ensures rest { IfOk result (IsDealtFeedRest board.now settings.now fed.gathered.called.items tail.now) }
+    ensures rest { IfOk result (IsFeedRest board.now settings.now fed.gathered.called.items tail.now) }
     ensures shape { IfOk result (λ rest. HasCoreShape (length board.now.opening) (core_capacity board.now.opening) rest.cut) }
 {
     let Fed { gathered, mut cut } = fed;
@@ -331,8 +331,8 @@ fn reports_text(
     settings: &Settings,
     called: &[Called],
 ) -> Result<Vec<u8>, AllocError>
-    requires { All (AreReportsOfCaller board.now.opening settings.now settings.now.rounds) (dealt_feed_other_reports called.now) }
-    ensures { IfOk result (λ text. text.items ≡ session_caller_parts (dealt_feed_other_reports called.now)) }
+    requires { All (AreOfCaller board.now.opening settings.now settings.now.rounds) (other_reports called.now) }
+    ensures { IfOk result (λ text. text.items ≡ caller_parts (other_reports called.now)) }
 {
     let _shards = board.shards();
     let mut text = Vec::new(alloc);
@@ -349,7 +349,7 @@ fn put_reports(
     reports: &Reports,
     text: &mut Vec<u8>,
 ) -> Result<(), AllocError>
-    requires { AreReportsOfCaller board.now.opening settings.now settings.now.rounds reports.now }
+    requires { AreOfCaller board.now.opening settings.now settings.now.rounds reports.now }
     ensures { OnOk result (text.new.items ≡ text.old.items ++ session_parts false reports.now) }
 {
     let _shards = board.shards();

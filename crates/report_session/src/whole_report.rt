@@ -2,11 +2,11 @@
 
 ghost use Rattle.std.specs.Prelude.{◌≡◌, length, None, IfOk};
 ghost use Rattle.shard_state.specs.{core_capacity};
-ghost use Rattle.pass_tokens.specs.{IsPassOfBoard, view};
-ghost use Rattle.gate_workers.specs.{FeedHasSeenEnds};
-ghost use Rattle.command_words.specs.{AreLimitedSettings, AreWideSettings};
+ghost use Rattle.pass_tokens.specs.{IsPassOf, view};
+ghost use Rattle.gate_workers.specs.{HasSeenEnds};
+ghost use Rattle.command_words.specs.{AreLimited, AreWide};
 ghost use Rattle.report_session.specs.Session.{IsWholeReport, IsShownInSession, session_ends};
-ghost use Rattle.report_session.specs.DealtFeed.{DealtFeedRunsPlan, IsDealtFeedOpening};
+ghost use Rattle.report_session.specs.DealtFeed.{RunsPlan, IsFeedOpening};
 
 use crate::feed::plan_of;
 use crate::session::{Opened, open, openings_stand};
@@ -28,8 +28,8 @@ pub fn report_all<R: Threads + Wait + Sync, G: Gate + Sync>(
     settings: &Settings,
     gate: &G,
 ) -> Result<Report, AllocError>
-    requires limited { AreLimitedSettings settings.now }
-    requires wide { AreWideSettings settings.now }
+    requires limited { AreLimited settings.now }
+    requires wide { AreWide settings.now }
     requires shards { length dealt ≡ settings.now.shards }
     ensures { IfOk result (IsWholeReport settings.now dealt) }
 {
@@ -47,9 +47,9 @@ fn report_opened<R: Threads + Wait + Sync, G: Gate + Sync>(
     settings: &Settings,
     gate: &G,
 ) -> Result<Report, AllocError>
-    requires limited { AreLimitedSettings settings.now }
-    requires wide { AreWideSettings settings.now }
-    requires opened { IsDealtFeedOpening opened.board.opening opened }
+    requires limited { AreLimited settings.now }
+    requires wide { AreWide settings.now }
+    requires opened { IsFeedOpening opened.board.opening opened }
     requires alike { core_capacity opened.board.opening ≡ settings.now.capacity }
     ensures shown { IfOk result (λ report. IsShownInSession opened.board.opening settings.now (record { report = report; saved = None })) }
     ensures at_ends { IfOk result (λ report. report.positions ≡ session_ends opened.board.opening) }
@@ -81,13 +81,13 @@ fn count_all<R: Threads + Wait + Sync, G: Gate + Sync>(
     settings: &Settings,
     gate: &G,
 ) -> Result<Gathered, AllocError>
-    requires limited { AreLimitedSettings settings.now }
-    requires wide { AreWideSettings settings.now }
-    requires pass { IsPassOfBoard board.now pass }
+    requires limited { AreLimited settings.now }
+    requires wide { AreWide settings.now }
+    requires pass { IsPassOf board.now pass }
     requires alike { core_capacity board.now.opening ≡ settings.now.capacity }
-    ensures ran { IfOk result (DealtFeedRunsPlan board.now settings.now (view pass)) }
-    ensures ends { IfOk result (λ gathered. FeedHasSeenEnds board.now.opening (view gathered.pass)) }
-    ensures pass { IfOk result (λ gathered. IsPassOfBoard board.now gathered.pass) }
+    ensures ran { IfOk result (RunsPlan board.now settings.now (view pass)) }
+    ensures ends { IfOk result (λ gathered. HasSeenEnds board.now.opening (view gathered.pass)) }
+    ensures pass { IfOk result (λ gathered. IsPassOf board.now gathered.pass) }
 {
     let mut rounds = NoRounds;
     let gathered = run_threads(

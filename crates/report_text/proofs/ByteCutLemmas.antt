@@ -9,7 +9,7 @@ use Rattle.std.proofs.lemmas.List.Sums.{fails_before_first}
 use Rattle.std.proofs.lemmas.List.Quantifiers.{position-Some}
 use Rattle.std.proofs.lemmas.List.Splits.{slice_split_at, slice_split_none}
 use Rattle.std.proofs.lemmas.List.Elements.{All-from_recursion}
-use Rattle.report_text.specs.Stages.{stage_words_in}
+use Rattle.report_text.specs.Stages.{words_in}
 
 -- no byte of the text is this one
 abbrev pub LacksCutByte : ℕ → List ℕ → Type 0
@@ -67,14 +67,14 @@ no_byte_cut byte text none =
 
 -- a text cut at its first space
 pub words_at_byte_cut : (at : ℕ) (text : List ℕ) → position (λ b. eqb b 32) text ≡ Some at
-    → stage_words_in text ≡ take at text ∷ stage_words_in (drop 1 (drop at text))
+    → words_in text ≡ take at text ∷ words_in (drop 1 (drop at text))
 words_at_byte_cut at text found =
     let cut = byte_cut_at_first 32 at text found in
-    ap stage_words_in cut.joined
+    ap words_in cut.joined
     ∙ slice_split_at (λ b. eqb b 32) (take at text) 32 (drop 1 (drop at text))
     (All-from_recursion (λ b. eqb b 32 ≡ false) (take at text) cut.lacks) refl
 
 -- a text without a space
-pub words_without_byte_cut : (text : List ℕ) → position (λ b. eqb b 32) text ≡ None → stage_words_in text ≡ text ∷ []
+pub words_without_byte_cut : (text : List ℕ) → position (λ b. eqb b 32) text ≡ None → words_in text ≡ text ∷ []
 words_without_byte_cut text none =
     slice_split_none (λ b. eqb b 32) text (All-from_recursion (λ b. eqb b 32 ≡ false) text (no_byte_cut 32 text none))

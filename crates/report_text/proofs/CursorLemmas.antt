@@ -3,96 +3,96 @@ use Rattle.std.proofs.Common.{◌≡◌, ℕ, ◌+◌, ◌<◌, List, [], ◌∷
 use Rattle.std.proofs.Common.{subst, arith, append_assoc, append-nil, take-append-drop, length-append}
 use Rattle.std.specs.List.{flat_map}
 use Rattle.std.proofs.Math.Seq.{length-take-le, take-add, take-append_seam}
-use Rattle.report_text.specs.SessionText.{IsSessionLine, IsTextSession, session_line_text, session_line_words}
-use Rattle.report_text.specs.SessionText.{session_lines, whole_lines_of_session}
-use Rattle.report_text.specs.SessionText.{HasSessionTextFault}
-use Rattle.report_text.specs.Stages.{Stage, IsStageBeforeEnd, FollowsStage, stage_words_in}
-use Rattle.report_text.specs.LineReading.{HasReadLines, HasReadLinesToStage, ReadsLine}
+use Rattle.report_text.specs.Session.{IsSessionLine, IsTextSession, words_text, line_words}
+use Rattle.report_text.specs.Session.{session_lines, whole_lines}
+use Rattle.report_text.specs.Session.{HasSessionFault}
+use Rattle.report_text.specs.Stages.{Stage, IsStageBeforeEnd, FollowsStage, words_in}
+use Rattle.report_text.specs.LineReading.{HasReadLines, HasReadToStage, ReadsLine}
 use Rattle.report_text.specs.declared.line_cursor.LineCursor.{LineCursor}
 use Rattle.report_text.specs.declared.session.Session.{Session}
 use Rattle.report_text.specs.declared.session_line.SessionLine.{SessionLine}
 use Rattle.report_text.specs.declared.session_fault.TextFault.TheVariants.{BadLine, MissingEnd}
 use Rattle.report_text.proofs.ByteCutLemmas.{LacksCutByte, IsByteCut}
 use Rattle.report_text.proofs.WordListLemmas.{word_list_in_line_text, word_list_tells_line_text}
-use Rattle.report_text.proofs.WholeLineLemmas.{whole_lines_of_session-line, whole_lines_of_session-rest}
-use Rattle.report_text.proofs.WholeLineLemmas.{whole_lines_of_session-lines}
+use Rattle.report_text.proofs.WholeLineLemmas.{whole_lines-line, whole_lines-rest}
+use Rattle.report_text.proofs.WholeLineLemmas.{whole_lines-lines}
 use Rattle.report_text.proofs.FirstLineLemmas.{FirstLineLaws, first_lines_with_one_text}
 use Rattle.report_text.proofs.SessionFaultLemmas.{session_fault_bad_line, session_fault_unfinished}
 use Rattle.report_text.proofs.SessionFaultLemmas.{session_fault_byte_follows}
 
 -- a text is the lines that were read and the rest
 cursor_text_and_rest : (cursor : LineCursor) (read : List SessionLine) → HasReadLines cursor read
-    → cursor.text.now ≡ flat_map session_line_text read ++ drop cursor.at cursor.text.now
+    → cursor.text.now ≡ flat_map words_text read ++ drop cursor.at cursor.text.now
 cursor_text_and_rest cursor read has =
     sym (take-append-drop cursor.at cursor.text.now) ∙ ap (λ l. l ++ drop cursor.at cursor.text.now) has.text
 
 -- the whole lines of a text are the lines that were read and those of the rest
 cursor_lines_and_rest : (cursor : LineCursor) (read : List SessionLine) → HasReadLines cursor read
-    → whole_lines_of_session cursor.text.now ≡ map session_line_text read ++ whole_lines_of_session (drop cursor.at cursor.text.now)
+    → whole_lines cursor.text.now ≡ map words_text read ++ whole_lines (drop cursor.at cursor.text.now)
 cursor_lines_and_rest cursor read has =
-    ap whole_lines_of_session (cursor_text_and_rest cursor read has)
-    ∙ whole_lines_of_session-lines read (drop cursor.at cursor.text.now) has.are_lines
+    ap whole_lines (cursor_text_and_rest cursor read has)
+    ∙ whole_lines-lines read (drop cursor.at cursor.text.now) has.are_lines
 
 -- a byte after the last line of a session
 pub cursor_finds_more_bytes : (cursor : LineCursor) (session : Session) → HasReadLines cursor (session_lines session) → IsTextSession session
-    → cursor.at < length cursor.text.now → HasSessionTextFault cursor.text.now (BadLine (cursor.lines + 1))
+    → cursor.at < length cursor.text.now → HasSessionFault cursor.text.now (BadLine (cursor.lines + 1))
 cursor_finds_more_bytes cursor session has is more =
     let text = cursor.text.now in
     let before : length (take cursor.at text) ≡ cursor.at = length-take-le cursor.at text cursor.within in
-    subst (λ n. HasSessionTextFault text (BadLine (n + 1))) (sym has.count)
+    subst (λ n. HasSessionFault text (BadLine (n + 1))) (sym has.count)
     (session_fault_byte_follows text session (drop cursor.at text) cursor.limit is (cursor_text_and_rest cursor (session_lines session) has)
     (omega (arith, before, ap length has.text)))
 
 -- no whole line remains
-pub cursor_finds_no_end : FirstLineLaws → (cursor : LineCursor) (stage : Stage) → IsStageBeforeEnd stage → HasReadLinesToStage cursor stage
-    → LacksCutByte 10 (drop cursor.at cursor.text.now) → HasSessionTextFault cursor.text.now (MissingEnd (cursor.lines + 1))
+pub cursor_finds_no_end : FirstLineLaws → (cursor : LineCursor) (stage : Stage) → IsStageBeforeEnd stage → HasReadToStage cursor stage
+    → LacksCutByte 10 (drop cursor.at cursor.text.now) → HasSessionFault cursor.text.now (MissingEnd (cursor.lines + 1))
 cursor_finds_no_end laws cursor stage is_open stands none =
     let text = cursor.text.now in
-    subst (λ n. HasSessionTextFault text (MissingEnd (n + 1))) (sym stands.has_read.count)
+    subst (λ n. HasSessionFault text (MissingEnd (n + 1))) (sym stands.has_read.count)
     (session_fault_unfinished laws text stands.read stage cursor.limit stands.has_read.are_lines
     (cursor_lines_and_rest cursor stands.read stands.has_read
-    ∙ ap (λ l. map session_line_text stands.read ++ l) (whole_lines_of_session-rest (drop cursor.at text) none)
-    ∙ append-nil (map session_line_text stands.read))
+    ∙ ap (λ l. map words_text stands.read ++ l) (whole_lines-rest (drop cursor.at text) none)
+    ∙ append-nil (map words_text stands.read))
     stands.leads is_open)
 
 -- the next line is not a line of a session
-pub cursor_finds_bad_line : FirstLineLaws → (cursor : LineCursor) (at : ℕ) (stage : Stage) → HasReadLinesToStage cursor stage
+pub cursor_finds_bad_line : FirstLineLaws → (cursor : LineCursor) (at : ℕ) (stage : Stage) → HasReadToStage cursor stage
     → IsByteCut 10 at (drop cursor.at cursor.text.now)
-    → ((line : SessionLine) → IsSessionLine line → stage_words_in (take at (drop cursor.at cursor.text.now)) ≡ session_line_words line → ⊥)
-    → HasSessionTextFault cursor.text.now (BadLine (cursor.lines + 1))
+    → ((line : SessionLine) → IsSessionLine line → words_in (take at (drop cursor.at cursor.text.now)) ≡ line_words line → ⊥)
+    → HasSessionFault cursor.text.now (BadLine (cursor.lines + 1))
 cursor_finds_bad_line laws cursor at stage stands cut refused =
     let text = cursor.text.now in
     let rest = drop cursor.at text in
     let line = take at rest in
-    subst (λ n. HasSessionTextFault text (BadLine (n + 1))) (sym stands.has_read.count)
-    (session_fault_bad_line laws text stands.read stage (line ++ 10 ∷ []) (whole_lines_of_session (drop 1 (drop at rest))) cursor.limit
+    subst (λ n. HasSessionFault text (BadLine (n + 1))) (sym stands.has_read.count)
+    (session_fault_bad_line laws text stands.read stage (line ++ 10 ∷ []) (whole_lines (drop 1 (drop at rest))) cursor.limit
     stands.has_read.are_lines
     (cursor_lines_and_rest cursor stands.read stands.has_read
-    ∙ ap (λ l. map session_line_text stands.read ++ l)
-    (ap whole_lines_of_session cut.joined ∙ whole_lines_of_session-line line (drop 1 (drop at rest)) cut.lacks))
+    ∙ ap (λ l. map words_text stands.read ++ l)
+    (ap whole_lines cut.joined ∙ whole_lines-line line (drop 1 (drop at rest)) cut.lacks))
     stands.leads
     (λ on. refused on.line on.is_line (word_list_in_line_text on.line line on.is_line on.text_is)))
 
 -- the line that was read last may not come next
-pub cursor_refuses_line : FirstLineLaws → (old new : LineCursor) (line : SessionLine) (stage : Stage) → HasReadLinesToStage old stage
+pub cursor_refuses_line : FirstLineLaws → (old new : LineCursor) (line : SessionLine) (stage : Stage) → HasReadToStage old stage
     → ReadsLine old new line → ((next : Stage) → FollowsStage stage line next → ⊥)
-    → HasSessionTextFault new.text.now (BadLine new.lines)
+    → HasSessionFault new.text.now (BadLine new.lines)
 cursor_refuses_line laws old new line stage stands reads none =
     let text = new.text.now in
     let rest = drop new.at text in
     let read = stands.read in
-    let spelled : text ≡ (flat_map session_line_text read ++ session_line_text line) ++ rest =
+    let spelled : text ≡ (flat_map words_text read ++ words_text line) ++ rest =
     sym (take-append-drop new.at text)
-    ∙ ap (λ l. l ++ rest) (reads.text ∙ ap (λ l. l ++ session_line_text line) stands.has_read.text) in
-    let lines : whole_lines_of_session text ≡ map session_line_text read ++ session_line_text line ∷ whole_lines_of_session rest =
-    ap whole_lines_of_session (spelled ∙ append_assoc (flat_map session_line_text read) (session_line_text line) rest)
-    ∙ whole_lines_of_session-lines read (session_line_text line ++ rest) stands.has_read.are_lines
-    ∙ ap (λ l. map session_line_text read ++ l)
-    (ap (λ l. whole_lines_of_session (l ++ rest)) (sym (append-nil (session_line_text line)))
-    ∙ whole_lines_of_session-lines (line ∷ []) rest (reads.is_line, tt)) in
+    ∙ ap (λ l. l ++ rest) (reads.text ∙ ap (λ l. l ++ words_text line) stands.has_read.text) in
+    let lines : whole_lines text ≡ map words_text read ++ words_text line ∷ whole_lines rest =
+    ap whole_lines (spelled ∙ append_assoc (flat_map words_text read) (words_text line) rest)
+    ∙ whole_lines-lines read (words_text line ++ rest) stands.has_read.are_lines
+    ∙ ap (λ l. map words_text read ++ l)
+    (ap (λ l. whole_lines (l ++ rest)) (sym (append-nil (words_text line)))
+    ∙ whole_lines-lines (line ∷ []) rest (reads.is_line, tt)) in
     let number : new.lines ≡ length read + 1 = omega (arith, reads.count, stands.has_read.count) in
-    subst (λ n. HasSessionTextFault text (BadLine n)) (sym number)
-    (session_fault_bad_line laws text read stage (session_line_text line) (whole_lines_of_session rest) new.limit stands.has_read.are_lines lines stands.leads
+    subst (λ n. HasSessionFault text (BadLine n)) (sym number)
+    (session_fault_bad_line laws text read stage (words_text line) (whole_lines rest) new.limit stands.has_read.are_lines lines stands.leads
     (λ on. none on.next
     (subst (λ k. FollowsStage stage k on.next) (first_lines_with_one_text laws on.line line on.is_line reads.is_line on.text_is)
     on.follows)))
@@ -115,7 +115,7 @@ cursor_takes_one_line text before at cut =
 -- the next line was read
 pub cursor_reads_next_line : (old new : LineCursor) (at : ℕ) (line : SessionLine) → new.text ≡ old.text
     → new.at ≡ old.at + (at + 1) → new.lines ≡ old.lines + 1 → IsByteCut 10 at (drop old.at old.text.now) → IsSessionLine line
-    → stage_words_in (take at (drop old.at old.text.now)) ≡ session_line_words line → ReadsLine old new line
+    → words_in (take at (drop old.at old.text.now)) ≡ line_words line → ReadsLine old new line
 cursor_reads_next_line old new at line same place count cut is words =
     let text = old.text.now in
     record {

@@ -10,12 +10,12 @@ use Rattle.frame_records.specs.declared.records.Records.{Records}
 use Rattle.hhh_report.specs.declared.line.Line.{Line}
 use Rattle.hhh_report.specs.declared.report.Report.{Report}
 use Rattle.report_text.specs.declared.mark.Mark.TheVariants.{Opened, Saved}
-use Rattle.report_text.specs.ReportText.{ReportTextShowsPositions, ReportTextShowsLine, ReportTextShows}
-use Rattle.report_text.specs.ReportText.{report_text_line, report_number_text}
-use Rattle.report_text.specs.ReportText.{report_positions_text}
-use Rattle.report_text.specs.ReportText.{report_mark_name_text, report_line_text, report_lines_text, report_mark_text}
-use Rattle.report_text.specs.ReportText.{report_text, report_tail_text}
-use Rattle.report_text.specs.ReportText.{longest_report_number_length, longest_report_line_length}
+use Rattle.report_text.specs.Printing.{ShowsPositions, ShowsLine, Shows}
+use Rattle.report_text.specs.Printing.{text_line, number_text}
+use Rattle.report_text.specs.Printing.{positions_text}
+use Rattle.report_text.specs.Printing.{mark_name_text, line_text, lines_text, mark_text}
+use Rattle.report_text.specs.Printing.{report_text, tail_text}
+use Rattle.report_text.specs.Printing.{number_length, line_length}
 use Rattle.report_text.proofs.ShortListLemmas.{short_list_of_one_line}
 
 -- 100 bytes from 10.1.2.3 to 20.1.2.3
@@ -26,44 +26,44 @@ line = record { prefix = record { source = 10 ∷ 1 ∷ 2 ∷ 3 ∷ []; dest = 2
 abbrev wide : Line
 wide = record { prefix = record { source = 10 ∷ []; dest = [] }; lo = 60; hi = 100 }
 
-pub text_of_a_line : report_line_text line ≡ codes "line 10.1.2.3/32 20.1.2.3/32 100 100\n"
+pub text_of_a_line : line_text line ≡ codes "line 10.1.2.3/32 20.1.2.3/32 100 100\n"
 unfolding digits
 text_of_a_line = refl
 
 -- the greatest number of 64 bits
-pub longest_number_of_64_bits : length (decimal (2 ^ 64 - 1)) ≡ longest_report_number_length
+pub longest_number_of_64_bits : length (decimal (2 ^ 64 - 1)) ≡ number_length
 unfolding digits
 longest_number_of_64_bits = refl
 
 -- the line of the widest prefix with the greatest numbers
 pub longest_line_of_a_report :
-    length (report_line_text (record {
+    length (line_text (record {
       prefix = record { source = 255 ∷ 255 ∷ 255 ∷ 255 ∷ []; dest = 255 ∷ 255 ∷ 255 ∷ 255 ∷ [] };
       lo = 2 ^ 64 - 1;
       hi = 2 ^ 64 - 1;
     }))
-    ≡ longest_report_line_length
+    ≡ line_length
 unfolding digits
 longest_line_of_a_report = refl
 
-pub text_of_zero : report_number_text (codes "total") 0 ≡ codes "total 0\n"
+pub text_of_zero : number_text (codes "total") 0 ≡ codes "total 0\n"
 unfolding digits
 text_of_zero = refl
 
-pub text_of_a_word : report_text_line (codes "done" ∷ []) ≡ codes "done\n"
+pub text_of_a_word : text_line (codes "done" ∷ []) ≡ codes "done\n"
 text_of_a_word = refl
 
-pub text_of_two_positions : report_positions_text (codes "at") (6 ∷ 5 ∷ []) ≡ codes "at 6 5\n"
+pub text_of_two_positions : positions_text (codes "at") (6 ∷ 5 ∷ []) ≡ codes "at 6 5\n"
 unfolding digits
 text_of_two_positions = refl
 
-pub word_of_opened_positions : report_mark_name_text Opened ≡ codes "opened"
+pub word_of_opened_positions : mark_name_text Opened ≡ codes "opened"
 word_of_opened_positions = refl
 
-pub word_of_saved_positions : report_mark_name_text Saved ≡ codes "saved"
+pub word_of_saved_positions : mark_name_text Saved ≡ codes "saved"
 word_of_saved_positions = refl
 
-pub positions_of_three_shards : ReportTextShowsPositions (0 ∷ 7 ∷ 16777216 ∷ [])
+pub positions_of_three_shards : ShowsPositions (0 ∷ 7 ∷ 16777216 ∷ [])
 positions_of_three_shards = record {
   some = omega arith;
   few = omega arith;
@@ -72,25 +72,25 @@ positions_of_three_shards = record {
       (omega arith, (omega arith, (omega arith, tt)));
 }
 
-pub no_position_is_past_the_frames_of_a_capture : ¬ ReportTextShowsPositions (16777217 ∷ [])
+pub no_position_is_past_the_frames_of_a_capture : ¬ ShowsPositions (16777217 ∷ [])
 no_position_is_past_the_frames_of_a_capture are =
     let most : 16777217 ≤ 16777216 = are.within 0 0 (omega arith) in omega (arith, most)
 
-pub no_shard_is_none : ¬ ReportTextShowsPositions []
+pub no_shard_is_none : ¬ ShowsPositions []
 no_shard_is_none are = omega (arith, are.some)
 
-pub seventeen_shards_are_too_many : ¬ ReportTextShowsPositions (replicate 17 0)
+pub seventeen_shards_are_too_many : ¬ ShowsPositions (replicate 17 0)
 seventeen_shards_are_too_many are = let most : 17 ≤ 16 = are.few in omega (arith, most)
 
-pub text_of_opened_shards : report_mark_text Opened (0 ∷ 7 ∷ 16777216 ∷ []) ≡ codes "opened 0 7 16777216\n"
+pub text_of_opened_shards : mark_text Opened (0 ∷ 7 ∷ 16777216 ∷ []) ≡ codes "opened 0 7 16777216\n"
 unfolding digits
 text_of_opened_shards = refl
 
-pub text_of_a_saved_shard : report_mark_text Saved (1 ∷ []) ≡ codes "saved 1\n"
+pub text_of_a_saved_shard : mark_text Saved (1 ∷ []) ≡ codes "saved 1\n"
 unfolding digits
 text_of_a_saved_shard = refl
 
-pub text_of_two_lines : report_lines_text (line ∷ wide ∷ [])
+pub text_of_two_lines : lines_text (line ∷ wide ∷ [])
     ≡ codes "line 10.1.2.3/32 20.1.2.3/32 100 100\nline 10.0.0.0/8 0.0.0.0/0 60 100\n"
 unfolding digits
 text_of_two_lines = refl
@@ -130,34 +130,34 @@ line_names_a_prefix = record {
     dest (suc (suc (suc zero))) = omega arith
     dest (suc (suc (suc (suc place)))) = omega arith
 
-pub line_of_a_prefix_and_two_numbers : ReportTextShowsLine line
+pub line_of_a_prefix_and_two_numbers : ShowsLine line
 line_of_a_prefix_and_two_numbers = record { is_prefix = line_names_a_prefix; low = omega arith; high = omega arith }
 
 -- an address of five bytes
-pub line_of_no_prefix : ¬ ReportTextShowsLine
+pub line_of_no_prefix : ¬ ShowsLine
     (record line { prefix = record { source = 10 ∷ 1 ∷ 2 ∷ 3 ∷ 4 ∷ []; dest = [] } })
 line_of_no_prefix told = let few : 5 ≤ 4 = told.is_prefix.source.few in omega (arith, few)
 
-pub line_of_a_number_that_is_too_great : ¬ ReportTextShowsLine (record line { hi = 2 ^ 64 })
+pub line_of_a_number_that_is_too_great : ¬ ShowsLine (record line { hi = 2 ^ 64 })
 line_of_a_number_that_is_too_great told = omega (arith, told.high)
 
-pub report_that_can_be_told : ReportTextShows report
+pub report_that_can_be_told : Shows report
 report_that_can_be_told = record {
   positions =
       All-cons (λ (position : ℕ). position < 2 ^ 64) 1 [] (omega arith)
       (All-nil (λ (position : ℕ). position < 2 ^ 64));
   total = omega arith;
   threshold = omega arith;
-  lines = All-cons ReportTextShowsLine line [] line_of_a_prefix_and_two_numbers (All-nil ReportTextShowsLine);
+  lines = All-cons ShowsLine line [] line_of_a_prefix_and_two_numbers (All-nil ShowsLine);
 }
 
-pub report_of_a_total_that_is_too_great : ¬ ReportTextShows (record report { total = 2 ^ 64 })
+pub report_of_a_total_that_is_too_great : ¬ Shows (record report { total = 2 ^ 64 })
 report_of_a_total_that_is_too_great tellable = omega (arith, tellable.total)
 
 -- seven frames, of which one was too short and two weren't IPv4
 abbrev records : Records
 records = record { list = []; frames = 7; not_ipv4 = 2; short = 1; bad_header = 0 }
 
-pub text_of_a_tail : report_tail_text records ≡ codes "frames 7\nskipped 2 1 0\nend\n"
+pub text_of_a_tail : tail_text records ≡ codes "frames 7\nskipped 2 1 0\nend\n"
 unfolding digits
 text_of_a_tail = refl

@@ -4,11 +4,11 @@ use Rattle.std.proofs.lemmas.List.Elements.{All-nil, All-cons, All-from_recursio
 use Rattle.std.specs.Fmt.{digits}
 use Rattle.hhh_report.specs.declared.line.Line.{Line as LineValue}
 use Rattle.hhh_report.specs.declared.report.Report.{Report as ReportValue}
-use Rattle.report_text.specs.ReportText.{ReportTextShowsPositions, ReportTextShowsLine}
-use Rattle.report_text.specs.SessionText.{IsSessionLine, AreSessionTextPositions, IsReportedInSessionText}
-use Rattle.report_text.specs.SessionText.{IsTextSession}
-use Rattle.report_text.specs.SessionText.{HasSessionTextFault, whole_lines_of_session}
-use Rattle.report_text.specs.SessionText.{session_text}
+use Rattle.report_text.specs.Printing.{ShowsPositions, ShowsLine}
+use Rattle.report_text.specs.Session.{IsSessionLine, ArePositions, IsReported}
+use Rattle.report_text.specs.Session.{IsTextSession}
+use Rattle.report_text.specs.Session.{HasSessionFault, whole_lines}
+use Rattle.report_text.specs.Session.{session_text}
 use Rattle.report_text.specs.declared.session.Session.{Session}
 use Rattle.report_text.specs.declared.session_fault.TextFault.TheVariants.{BadLine}
 use Rattle.report_text.specs.declared.session_line.SessionLine.TheVariants.{At, Total, Threshold, Line}
@@ -51,13 +51,13 @@ pub text_of_saved_positions : session_text saved_session
 unfolding digits
 text_of_saved_positions = refl
 
-pub whole_lines_of_a_text : whole_lines_of_session (codes "opened 0\nreport\nat") ≡ codes "opened 0\n" ∷ codes "report\n" ∷ []
+pub whole_lines_of_a_text : whole_lines (codes "opened 0\nreport\nat") ≡ codes "opened 0\n" ∷ codes "report\n" ∷ []
 whole_lines_of_a_text = refl
 
-pub whole_lines_of_a_line_feed : whole_lines_of_session (codes "\n") ≡ codes "\n" ∷ []
+pub whole_lines_of_a_line_feed : whole_lines (codes "\n") ≡ codes "\n" ∷ []
 whole_lines_of_a_line_feed = refl
 
-pub whole_lines_without_a_line_feed : whole_lines_of_session (codes "end") ≡ []
+pub whole_lines_without_a_line_feed : whole_lines (codes "end") ≡ []
 whole_lines_without_a_line_feed = refl
 
 pub no_threshold_is_zero : ¬ IsSessionLine (Threshold 0)
@@ -76,7 +76,7 @@ no_low_is_above_its_high line low high is = omega (arith, is.ordered, low, high)
 pub no_session_is_without_a_report : ¬ IsTextSession (record session { reports = [] })
 no_session_is_without_a_report is = omega (arith, is.some)
 
-pub no_positions_are_of_another_length : ¬ AreSessionTextPositions 2 (1 ∷ [])
+pub no_positions_are_of_another_length : ¬ ArePositions 2 (1 ∷ [])
 no_positions_are_of_another_length are = omega (arith, are.as_many)
 
 -- the session of no record
@@ -90,7 +90,7 @@ empty_session = record {
   bad_header = 0;
 }
 
-first_position : ReportTextShowsPositions (0 ∷ [])
+first_position : ShowsPositions (0 ∷ [])
 first_position = record {
   some = omega arith;
   few = omega arith;
@@ -102,23 +102,23 @@ session_of_no_record = record {
   opened = first_position;
   some = omega arith;
   reports =
-      All-cons (IsReportedInSessionText 1) (record { report = empty; saved = None }) []
+      All-cons (IsReported 1) (record { report = empty; saved = None }) []
       (record {
         positions = record { are_positions = first_position; as_many = refl };
         total = omega arith;
         some = omega arith;
         threshold = omega arith;
-        lines = All-nil ReportTextShowsLine;
+        lines = All-nil ShowsLine;
         saved = tt;
       })
-      (All-nil (IsReportedInSessionText 1));
+      (All-nil (IsReported 1));
   frames = omega arith;
   not_ipv4 = omega arith;
   short = omega arith;
   bad_header = omega arith;
 }
 
-pub byte_after_a_session : HasSessionTextFault
+pub byte_after_a_session : HasSessionFault
     (codes "opened 0\nreport\nat 0\ntotal 0\nthreshold 1\ndone\nframes 0\nskipped 0 0 0\nend\nx") (BadLine 10)
 unfolding digits
 byte_after_a_session = (

@@ -4,8 +4,8 @@ use Rattle.std.proofs.Common.{refl, sym, ap, ◌∙◌, subst, append_assoc}
 use Rattle.std.specs.List.{join_with_byte, AllByRecursion}
 use Rattle.std.specs.Cmp.{IsTotalOrder}
 use Rattle.prefix_lattice.specs.{report_order}
-use Rattle.report_text.specs.SessionText.{IsSessionLine, IsTextSession, AreFirstSessionLines, session_line_words}
-use Rattle.report_text.specs.SessionText.{session_line_text, session_lines}
+use Rattle.report_text.specs.Session.{IsSessionLine, IsTextSession, AreFirstLines, line_words}
+use Rattle.report_text.specs.Session.{words_text, session_lines}
 use Rattle.report_text.specs.Stages.{Stage, nothing, ended, FollowsStage, LeadsFromStage}
 use Rattle.report_text.specs.declared.session.Session.{Session}
 use Rattle.report_text.specs.declared.session_line.SessionLine.{SessionLine}
@@ -23,21 +23,21 @@ pub record FirstLineLaws : Type 0 where
 
 -- lines with the same text are the same
 pub first_lines_with_one_text : FirstLineLaws → (line other : SessionLine) → IsSessionLine line → IsSessionLine other
-    → session_line_text line ≡ session_line_text other → line ≡ other
+    → words_text line ≡ words_text other → line ≡ other
 first_lines_with_one_text laws line other is other_is same =
     word_list_tells_line laws.texts line other is other_is
-    (sym (word_list_in_line_text line (join_with_byte 32 (session_line_words other)) is same)
-    ∙ word_list_in_line_text other (join_with_byte 32 (session_line_words other)) other_is refl)
+    (sym (word_list_in_line_text line (join_with_byte 32 (line_words other)) is same)
+    ∙ word_list_in_line_text other (join_with_byte 32 (line_words other)) other_is refl)
 
 -- lists of lines with the same texts are the same
 pub first_lines_told_by_texts : FirstLineLaws → (lines others : List SessionLine) → AllByRecursion IsSessionLine lines
-    → AllByRecursion IsSessionLine others → map session_line_text lines ≡ map session_line_text others → lines ≡ others
+    → AllByRecursion IsSessionLine others → map words_text lines ≡ map words_text others → lines ≡ others
 first_lines_told_by_texts laws [] [] all others_all same = refl
 first_lines_told_by_texts laws [] (other ∷ others) all others_all same = cc
 first_lines_told_by_texts laws (line ∷ lines) [] all others_all same = cc
 first_lines_told_by_texts laws (line ∷ lines) (other ∷ others) all others_all same =
-    let head : session_line_text line ≡ session_line_text other = ap (first_of (session_line_text line)) same in
-    let rest : map session_line_text lines ≡ map session_line_text others = ap (drop 1) same in
+    let head : words_text line ≡ words_text other = ap (first_of (words_text line)) same in
+    let rest : map words_text lines ≡ map words_text others = ap (drop 1) same in
     ap (λ l. l ∷ lines) (first_lines_with_one_text laws line other all.0 others_all.0 head)
     ∙ ap (λ l. other ∷ l) (first_lines_told_by_texts laws lines others all.1 others_all.1 rest)
   where
@@ -50,22 +50,22 @@ pub record FirstLinesParted (lines : List SessionLine) (front behind : List (Lis
   pub first : List SessionLine
   pub second : List SessionLine
   pub joined : lines ≡ first ++ second
-  pub front_is : map session_line_text first ≡ front
-  pub behind_is : map session_line_text second ≡ behind
+  pub front_is : map words_text first ≡ front
+  pub behind_is : map words_text second ≡ behind
 
-pub first_lines_are_parted : (lines : List SessionLine) (front behind : List (List ℕ)) → map session_line_text lines ≡ front ++ behind
+pub first_lines_are_parted : (lines : List SessionLine) (front behind : List (List ℕ)) → map words_text lines ≡ front ++ behind
     → FirstLinesParted lines front behind
 first_lines_are_parted lines [] behind same = record { first = []; second = lines; joined = refl; front_is = refl; behind_is = same }
 first_lines_are_parted [] (text ∷ front) behind same = cc
 first_lines_are_parted (line ∷ lines) (text ∷ front) behind same =
-    let head : session_line_text line ≡ text = ap (first_of text) same in
-    let rest : map session_line_text lines ≡ front ++ behind = ap (drop 1) same in
+    let head : words_text line ≡ text = ap (first_of text) same in
+    let rest : map words_text lines ≡ front ++ behind = ap (drop 1) same in
     let parted = first_lines_are_parted lines front behind rest in
     record {
       first = line ∷ parted.first;
       second = parted.second;
       joined = ap (λ l. line ∷ l) parted.joined;
-      front_is = ap (λ t. t ∷ map session_line_text parted.first) head ∙ ap (λ l. text ∷ l) parted.front_is;
+      front_is = ap (λ t. t ∷ map words_text parted.first) head ∙ ap (λ l. text ∷ l) parted.front_is;
       behind_is = parted.behind_is;
     }
   where
@@ -86,14 +86,14 @@ first_lines_appended : (lines others : List SessionLine) → AllByRecursion IsSe
 first_lines_appended [] others all others_all = others_all
 first_lines_appended (line ∷ lines) others all others_all = (all.0, first_lines_appended lines others all.1 others_all)
 
-first_line_texts_append : (lines others : List SessionLine) → map session_line_text (lines ++ others) ≡ map session_line_text lines ++ map session_line_text
+first_line_texts_append : (lines others : List SessionLine) → map words_text (lines ++ others) ≡ map words_text lines ++ map words_text
     others
 first_line_texts_append [] others = refl
-first_line_texts_append (line ∷ lines) others = ap (λ l. session_line_text line ∷ l) (first_line_texts_append lines others)
+first_line_texts_append (line ∷ lines) others = ap (λ l. words_text line ∷ l) (first_line_texts_append lines others)
 
 -- lines that lead on from the start begin a session
 pub first_lines_begin_session : FirstLineLaws → (read : List SessionLine) (stage : Stage) → AllByRecursion IsSessionLine read
-    → LeadsFromStage nothing read stage → AreFirstSessionLines (map session_line_text read)
+    → LeadsFromStage nothing read stage → AreFirstLines (map words_text read)
 first_lines_begin_session laws read stage all leads =
     let fit = last_stage_is_fit nothing read stage leads all tt in
     let whole = session_parts_make_session laws.order (read ++ end_of_stage stage)
@@ -102,8 +102,8 @@ first_lines_begin_session laws read stage all leads =
     record {
       session = whole.session;
       is_session = whole.is_session;
-      others = map session_line_text (end_of_stage stage);
-      begun = ap (map session_line_text) (sym whole.spelled) ∙ first_line_texts_append read (end_of_stage stage);
+      others = map words_text (end_of_stage stage);
+      begun = ap (map words_text) (sym whole.spelled) ∙ first_line_texts_append read (end_of_stage stage);
     }
 
 -- the first lines of a session lead on from the start
@@ -112,14 +112,14 @@ pub record FirstLinesLeadOn (read : List SessionLine) (behind : List (List ℕ))
   pub leads : LeadsFromStage nothing read stage
   pub others : List SessionLine
   pub all : AllByRecursion IsSessionLine others
-  pub others_are : map session_line_text others ≡ behind
+  pub others_are : map words_text others ≡ behind
   pub on : LeadsFromStage stage others ended
 
 pub session_first_lines_lead_on : FirstLineLaws → (session : Session) (read : List SessionLine) (behind : List (List ℕ))
     → IsTextSession session → AllByRecursion IsSessionLine read
-    → map session_line_text (session_lines session) ≡ map session_line_text read ++ behind → FirstLinesLeadOn read behind
+    → map words_text (session_lines session) ≡ map words_text read ++ behind → FirstLinesLeadOn read behind
 session_first_lines_lead_on laws session read behind is all same =
-    let parted = first_lines_are_parted (session_lines session) (map session_line_text read) behind same in
+    let parted = first_lines_are_parted (session_lines session) (map words_text read) behind same in
     let lines = subst (AllByRecursion IsSessionLine) parted.joined (whole_session_lines session is) in
     let first = first_lines_told_by_texts laws parted.first read (first_lines_stay_lines parted.first parted.second lines) all parted.front_is in
     let leads = subst (λ l. LeadsFromStage nothing l ended) parted.joined (whole_session_leads_to_end session is) in
@@ -137,7 +137,7 @@ session_first_lines_lead_on laws session read behind is all same =
 pub record FirstLinesGoOnWith (stage : Stage) (text : List ℕ) : Type 0 where
   pub line : SessionLine
   pub is_line : IsSessionLine line
-  pub text_is : session_line_text line ≡ text
+  pub text_is : words_text line ≡ text
   pub next : Stage
   pub follows : FollowsStage stage line next
 
@@ -147,7 +147,7 @@ first_lines_lead_to_next laws read stage text behind leads on =
     of_others on.others on.all on.others_are
     (subst (λ s. LeadsFromStage s on.others ended) (lines_lead_to_one_stage nothing read on.stage stage on.leads leads) on.on)
   where
-    of_others : (others : List SessionLine) → AllByRecursion IsSessionLine others → map session_line_text others ≡ text ∷ behind
+    of_others : (others : List SessionLine) → AllByRecursion IsSessionLine others → map words_text others ≡ text ∷ behind
         → LeadsFromStage stage others ended → FirstLinesGoOnWith stage text
     of_others [] all same leads = cc
     of_others (line ∷ others) all same leads = record {
@@ -164,14 +164,14 @@ first_lines_lead_to_next laws read stage text behind leads on =
 
 -- where lines that were read and one more begin a session, this one follows
 pub next_line_after_first_lines : FirstLineLaws → (read : List SessionLine) (stage : Stage) (text : List ℕ) → AllByRecursion IsSessionLine read
-    → LeadsFromStage nothing read stage → AreFirstSessionLines (map session_line_text read ++ text ∷ []) → FirstLinesGoOnWith stage text
+    → LeadsFromStage nothing read stage → AreFirstLines (map words_text read ++ text ∷ []) → FirstLinesGoOnWith stage text
 next_line_after_first_lines laws read stage text all leads first =
     first_lines_lead_to_next laws read stage text first.others leads
     (session_first_lines_lead_on laws first.session read (text ∷ first.others) first.is_session all
-    (first.begun ∙ append_assoc (map session_line_text read) (text ∷ []) first.others))
+    (first.begun ∙ append_assoc (map words_text read) (text ∷ []) first.others))
 
 -- fewer lines begin a session too
-pub fewer_first_lines : (lines others : List (List ℕ)) → AreFirstSessionLines (lines ++ others) → AreFirstSessionLines lines
+pub fewer_first_lines : (lines others : List (List ℕ)) → AreFirstLines (lines ++ others) → AreFirstLines lines
 fewer_first_lines lines others first = record {
   session = first.session;
   is_session = first.is_session;

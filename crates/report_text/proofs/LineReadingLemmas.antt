@@ -3,9 +3,9 @@ use Rattle.std.proofs.Common.{◌≡◌, List, [], ◌∷◌, ◌++◌, take, re
 use Rattle.std.proofs.Common.{append_assoc, append-nil, length-append}
 use Rattle.std.specs.List.{flat_map, AllByRecursion}
 use Rattle.std.proofs.lemmas.List.Concat.{flat_map-append}
-use Rattle.report_text.specs.SessionText.{IsSessionLine, session_line_text, HasSessionTextReadFault}
+use Rattle.report_text.specs.Session.{IsSessionLine, words_text, HasReadFault}
 use Rattle.report_text.specs.Stages.{Stage, nothing, IsStageBeforeEnd, FollowsStage}
-use Rattle.report_text.specs.LineReading.{HasReadLinesToStage, ReadsLine, ReadsLines}
+use Rattle.report_text.specs.LineReading.{HasReadToStage, ReadsLine, ReadsLines}
 use Rattle.report_text.specs.declared.line_cursor.LineCursor.{LineCursor}
 use Rattle.report_text.specs.declared.session_line.SessionLine.{SessionLine}
 use Rattle.report_text.specs.declared.session_fault.SessionFault.{SessionFault}
@@ -32,7 +32,7 @@ pub line_reading_of_one_line : (old new : LineCursor) (line : SessionLine) (stag
 line_reading_of_one_line old new line stage next reads follows = record {
   same = reads.same;
   are_lines = (reads.is_line, tt);
-  text = reads.text ∙ ap (λ l. take old.at old.text.now ++ l) (sym (append-nil (session_line_text line)));
+  text = reads.text ∙ ap (λ l. take old.at old.text.now ++ l) (sym (append-nil (words_text line)));
   count = omega (arith, reads.count);
   leads = (next, follows, refl);
 }
@@ -45,9 +45,9 @@ line_reading_goes_on first second third lines others stage next last one two = r
   same = two.same ∙ one.same;
   are_lines = line_reading_lines_appended lines others one.are_lines two.are_lines;
   text =
-      two.text ∙ ap (λ l. l ++ flat_map session_line_text others) one.text
-      ∙ append_assoc (take first.at first.text.now) (flat_map session_line_text lines) (flat_map session_line_text others)
-      ∙ ap (λ l. take first.at first.text.now ++ l) (sym (flat_map-append session_line_text lines others));
+      two.text ∙ ap (λ l. l ++ flat_map words_text others) one.text
+      ∙ append_assoc (take first.at first.text.now) (flat_map words_text lines) (flat_map words_text others)
+      ∙ ap (λ l. take first.at first.text.now ++ l) (sym (flat_map-append words_text lines others));
   count = omega (arith, one.count, two.count, length-append lines others);
   leads = stage_after_appended_lines stage lines others next last one.leads two.leads;
 }
@@ -61,15 +61,15 @@ line_reading_one_more first second third lines line stage next last one reads fo
     (line_reading_of_one_line second third line next last reads follows)
 
 -- a cursor that goes on has read more
-pub line_reading_reads_more : (old new : LineCursor) (lines : List SessionLine) (stage last : Stage) → HasReadLinesToStage old stage
-    → ReadsLines old new lines stage last → HasReadLinesToStage new last
+pub line_reading_reads_more : (old new : LineCursor) (lines : List SessionLine) (stage last : Stage) → HasReadToStage old stage
+    → ReadsLines old new lines stage last → HasReadToStage new last
 line_reading_reads_more old new lines stage last stands reads = record {
   read = stands.read ++ lines;
   has_read = record {
     are_lines = line_reading_lines_appended stands.read lines stands.has_read.are_lines reads.are_lines;
     text =
-        reads.text ∙ ap (λ l. l ++ flat_map session_line_text lines) stands.has_read.text
-        ∙ sym (flat_map-append session_line_text stands.read lines);
+        reads.text ∙ ap (λ l. l ++ flat_map words_text lines) stands.has_read.text
+        ∙ sym (flat_map-append words_text stands.read lines);
     count = omega (arith, reads.count, stands.has_read.count, length-append stands.read lines);
   };
   leads = stage_after_appended_lines nothing stands.read lines stage last stands.leads reads.leads;
@@ -77,28 +77,28 @@ line_reading_reads_more old new lines stage last stands reads = record {
 
 -- a fault that is found further on
 pub line_reading_later_fault : (old new : LineCursor) (lines : List SessionLine) (stage last : Stage) (fault : SessionFault)
-    → HasReadLinesToStage old stage → ReadsLines old new lines stage last
-    → (HasReadLinesToStage new last → HasSessionTextReadFault new.text.now fault) → HasSessionTextReadFault old.text.now fault
+    → HasReadToStage old stage → ReadsLines old new lines stage last
+    → (HasReadToStage new last → HasReadFault new.text.now fault) → HasReadFault old.text.now fault
 line_reading_later_fault old new lines stage last fault stands reads has =
-    subst (λ t. HasSessionTextReadFault t.now fault) reads.same (has (line_reading_reads_more old new lines stage last stands reads))
+    subst (λ t. HasReadFault t.now fault) reads.same (has (line_reading_reads_more old new lines stage last stands reads))
 
 -- what is found of the next line
 pub line_reading_next_fault : (old new : LineCursor) (lines : List SessionLine) (stage last : Stage) (fault : SessionFault)
-    → HasReadLinesToStage old stage → ReadsLines old new lines stage last → IsStageBeforeEnd last
-    → ((s : Stage) → IsStageBeforeEnd s → HasReadLinesToStage new s → HasSessionTextReadFault new.text.now fault) → HasSessionTextReadFault old.text.now fault
+    → HasReadToStage old stage → ReadsLines old new lines stage last → IsStageBeforeEnd last
+    → ((s : Stage) → IsStageBeforeEnd s → HasReadToStage new s → HasReadFault new.text.now fault) → HasReadFault old.text.now fault
 line_reading_next_fault old new lines stage last fault stands reads is_open has =
     line_reading_later_fault old new lines stage last fault stands reads (has last is_open)
 
 -- the next line may not come
 pub line_reading_refused : (old new after : LineCursor) (lines : List SessionLine) (line : SessionLine) (stage last : Stage)
-    (fault : SessionFault) → HasReadLinesToStage old stage → ReadsLines old new lines stage last → ReadsLine new after line
+    (fault : SessionFault) → HasReadToStage old stage → ReadsLines old new lines stage last → ReadsLine new after line
     → ((next : Stage) → FollowsStage last line next → ⊥)
-    → ((c : LineCursor) (k : SessionLine) (s : Stage) → HasReadLinesToStage c s → ReadsLine c after k
-    → ((next : Stage) → FollowsStage s k next → ⊥) → HasSessionTextReadFault after.text.now fault)
-    → HasSessionTextReadFault old.text.now fault
+    → ((c : LineCursor) (k : SessionLine) (s : Stage) → HasReadToStage c s → ReadsLine c after k
+    → ((next : Stage) → FollowsStage s k next → ⊥) → HasReadFault after.text.now fault)
+    → HasReadFault old.text.now fault
 line_reading_refused old new after lines line stage last fault stands reads reads_line none has =
     line_reading_later_fault old new lines stage last fault stands reads
-    (λ on. subst (λ t. HasSessionTextReadFault t.now fault) reads_line.same (has new line last on reads_line none))
+    (λ on. subst (λ t. HasReadFault t.now fault) reads_line.same (has new line last on reads_line none))
 
 -- a cursor goes on over one line that is known
 pub line_reading_known_line : (first second third : LineCursor) (lines : List SessionLine) (line known : SessionLine)

@@ -12,8 +12,8 @@ use Rattle.std.proofs.lemmas.List.Quantifiers.{all_pairs_push}
 use Rattle.prefix_lattice.specs.{PrefixValue, report_order, side_text, address_of}
 use Rattle.hhh_report.specs.{AreReportLines, line_limit}
 use Rattle.hhh_report.specs.declared.line.Line.{Line as LineValue}
-use Rattle.report_text.specs.SessionText.{session_line_text, session_line_words}
-use Rattle.report_text.specs.Stages.{listing, done, ComesAfterLastOfStage}
+use Rattle.report_text.specs.Session.{words_text, line_words}
+use Rattle.report_text.specs.Stages.{listing, done, ComesAfterLast}
 use Rattle.report_text.specs.LineReading.{ReadsLine, ReadsLines}
 use Rattle.report_text.specs.declared.line_cursor.LineCursor.{LineCursor}
 use Rattle.report_text.specs.declared.session_line.SessionLine.{SessionLine}
@@ -23,13 +23,13 @@ use Rattle.report_text.proofs.LineReadingLemmas.{line_reading_one_more}
 
 -- reading a line moves a cursor by its bytes
 pub listed_line_takes_bytes : (old new : LineCursor) (line : SessionLine) → ReadsLine old new line
-    → new.at ≡ old.at + length (session_line_text line)
+    → new.at ≡ old.at + length (words_text line)
 listed_line_takes_bytes old new line reads =
-    let text : length (take new.at new.text.now) ≡ length (take old.at old.text.now ++ session_line_text line) = ap length reads.text in
+    let text : length (take new.at new.text.now) ≡ length (take old.at old.text.now ++ words_text line) = ap length reads.text in
     omega (
       arith,
       text,
-      length-append (take old.at old.text.now) (session_line_text line),
+      length-append (take old.at old.text.now) (words_text line),
       length-take-le new.at new.text.now new.within,
       length-take-le old.at old.text.now old.within,
     )
@@ -37,7 +37,7 @@ listed_line_takes_bytes old new line reads =
 -- by at least one
 pub listed_line_moves_on : (old new : LineCursor) (line : SessionLine) → ReadsLine old new line → old.at < new.at
 listed_line_moves_on old new line reads =
-    omega (arith, listed_line_takes_bytes old new line reads, length-append (join_with_byte 32 (session_line_words line)) (10 ∷ []))
+    omega (arith, listed_line_takes_bytes old new line reads, length-append (join_with_byte 32 (line_words line)) (10 ∷ []))
 
 -- so fewer bytes remain
 pub listed_line_leaves_fewer : (old new : LineCursor) (line : SessionLine) → ReadsLine old new line
@@ -77,7 +77,7 @@ listed_line_seventeen_bytes source dest lo hi source_long dest_long =
     )
 
 -- so the line of a report has at least 17
-listed_line_is_long : (line : LineValue) → 17 ≤ length (session_line_text (Line line))
+listed_line_is_long : (line : LineValue) → 17 ≤ length (words_text (Line line))
 listed_line_is_long line =
     listed_line_seventeen_bytes (side_text line.prefix.source) (side_text line.prefix.dest) (decimal line.lo) (decimal line.hi)
     (listed_line_side_is_long line.prefix.source) (listed_line_side_is_long line.prefix.dest)
@@ -93,13 +93,13 @@ pub record AreListedLines (start cursor : LineCursor) (listed : List LineValue) 
   pub room : 17 * length listed ≤ cursor.at
   pub ordered : All IsOrderedSessionPart listed
   pub rising : AllPairs PrecedesInSessionPart listed
-  pub after : (prefix : PrefixValue) → ComesAfterLastOfStage last prefix
+  pub after : (prefix : PrefixValue) → ComesAfterLast last prefix
       → All (λ line. report_order line.prefix prefix ≡ Less) listed
 
 -- one more line
 pub listed_lines_one_more : IsTotalOrder report_order → (start cursor next : LineCursor) (listed : List LineValue)
     (last : Option PrefixValue) (line : LineValue) → AreListedLines start cursor listed last
-    → ReadsLine cursor next (Line line) → ComesAfterLastOfStage last line.prefix
+    → ReadsLine cursor next (Line line) → ComesAfterLast last line.prefix
     → AreListedLines start next (listed ++ line ∷ []) (Some line.prefix)
 listed_lines_one_more order start cursor next listed last line are reads comes =
     let longer = listed_line_takes_bytes cursor next (Line line) reads in

@@ -8,9 +8,9 @@ use Rattle.std.proofs.lemmas.Bool.Decides.{Decides-eqb}
 use Rattle.std.proofs.lemmas.Slice.Eq.{slice_eq-Decides}
 use Rattle.std.proofs.lemmas.List.Splits.{length-slice_split}
 use Rattle.std.proofs.lemmas.List.Elements.{recursion_from_All}
-use Rattle.report_text.specs.ReportText.{ReportTextShowsPositions}
-use Rattle.report_text.specs.SessionText.{session_line_words}
-use Rattle.report_text.specs.Stages.{stage_words_in}
+use Rattle.report_text.specs.Printing.{ShowsPositions}
+use Rattle.report_text.specs.Session.{line_words}
+use Rattle.report_text.specs.Stages.{words_in}
 use Rattle.report_text.specs.declared.session_line.SessionLine.{SessionLine}
 use Rattle.report_text.specs.declared.session_line.SessionLine.TheVariants.{Opened, Report, At, Total, Threshold, Line}
 use Rattle.report_text.specs.declared.session_line.SessionLine.TheVariants.{Done, Saved, Frames, Skipped, End}
@@ -21,7 +21,7 @@ named_line_texts_unlike text other b tested is_false same =
     both_ways b is_false ((slice_eq-Decides Decides-eqb text other b tested).1 same)
 
 -- a text has a word
-pub named_line_has_words : (text : List ℕ) → 1 ≤ length (stage_words_in text)
+pub named_line_has_words : (text : List ℕ) → 1 ≤ length (words_in text)
 named_line_has_words text = omega (arith, length-slice_split (λ b. eqb b 32) text)
 
 -- the first element of a list of texts
@@ -41,7 +41,7 @@ pub record IsNoNamedLine (name : List ℕ) : Type 0 where
   pub skipped : name ≢ codes "skipped"
 
 pub no_named_line_with_words : (name : List ℕ) (words : List (List ℕ)) → IsNoNamedLine name → 1 ≤ length words → (line : SessionLine)
-    → name ∷ words ≡ session_line_words line → ⊥
+    → name ∷ words ≡ line_words line → ⊥
 no_named_line_with_words name words none some (Opened positions) same = none.opened (ap name_of_named_line same)
 no_named_line_with_words name words none some Report same = absurd (omega (arith, ap length same))
 no_named_line_with_words name words none some (At positions) same = none.at (ap name_of_named_line same)
@@ -71,5 +71,5 @@ named_line_next_position (number ∷ before) word words (position ∷ positions)
     named_line_next_position before word words positions all.1 (ap (drop 1) same)
 
 -- the positions that words spell
-pub named_line_positions_within : (positions : List ℕ) → ReportTextShowsPositions positions → AllByRecursion (λ p. p ≤ 16777216) positions
+pub named_line_positions_within : (positions : List ℕ) → ShowsPositions positions → AllByRecursion (λ p. p ≤ 16777216) positions
 named_line_positions_within positions are = recursion_from_All (λ (p : ℕ). p ≤ 16777216) positions are.within

@@ -7,27 +7,27 @@ use Rattle.prefix_lattice.specs.{side_text}
 use Rattle.hhh_report.specs.declared.line.Line.{Line as LineValue}
 use Rattle.hhh_report.specs.declared.report.Report.{Report as ReportValue}
 use Rattle.hhh_report.specs.declared.reports.Reported.{Reported}
-use Rattle.report_text.specs.ReportText.{report_line_text, report_lines_text, report_text}
-use Rattle.report_text.specs.SessionText.{session_line_text, session_report_lines, session_saved_lines}
-use Rattle.report_text.specs.SessionText.{session_saved_text, session_reported_lines, session_reported_text}
-use Rattle.report_text.specs.SessionText.{session_lines, session_text, printed_session_text, whole_lines_of_session}
-use Rattle.report_text.specs.SessionText.{IsTextSession, IsSessionText}
-use Rattle.report_text.specs.SessionText.{AreSameTextSessions}
+use Rattle.report_text.specs.Printing.{line_text, lines_text, report_text}
+use Rattle.report_text.specs.Session.{words_text, report_lines, saved_lines}
+use Rattle.report_text.specs.Session.{saved_text, reported_lines, reported_text}
+use Rattle.report_text.specs.Session.{session_lines, session_text, printed_text, whole_lines}
+use Rattle.report_text.specs.Session.{IsTextSession, IsSessionText}
+use Rattle.report_text.specs.Session.{AreSameSessions}
 use Rattle.report_text.specs.declared.session.Session.{Session}
 use Rattle.report_text.specs.declared.session_line.SessionLine.TheVariants.{Opened, Report, At, Total, Threshold, Line}
 use Rattle.report_text.specs.declared.session_line.SessionLine.TheVariants.{Done, Saved, Frames, Skipped, End}
-use Rattle.report_text.proofs.WholeLineLemmas.{whole_lines_of_session-lines}
+use Rattle.report_text.proofs.WholeLineLemmas.{whole_lines-lines}
 use Rattle.report_text.proofs.WholeSessionLemmas.{whole_session_lines, whole_sessions_apart, whole_session_skips}
 use Rattle.report_text.proofs.FirstLineLemmas.{FirstLineLaws, first_lines_told_by_texts}
 
 -- the text of a line of a report
-printed_session_line : (line : LineValue) → session_line_text (Line line) ≡ report_line_text line
+printed_session_line : (line : LineValue) → words_text (Line line) ≡ line_text line
 printed_session_line line =
     ap (λ l. (codes "line" ++ 32 ∷ l) ++ codes "\n")
     (sym (append_assoc (side_text line.prefix.source) (32 ∷ side_text line.prefix.dest)
     (32 ∷ (decimal line.lo ++ 32 ∷ decimal line.hi))))
 
-printed_session_lines : (lines : List LineValue) → flat_map session_line_text (map Line lines) ≡ report_lines_text lines
+printed_session_lines : (lines : List LineValue) → flat_map words_text (map Line lines) ≡ lines_text lines
 printed_session_lines [] = refl
 printed_session_lines (line ∷ lines) = ap₂ (λ front behind. front ++ behind) (printed_session_line line) (printed_session_lines lines)
 
@@ -36,61 +36,61 @@ printed_session_report_groups : (a b c d lines done : List ℕ)
 printed_session_report_groups a b c d lines done = simp (append_assoc, append-nil)
 
 -- the text of a report is that of its lines
-pub printed_session_report : (report : ReportValue) → flat_map session_line_text (session_report_lines report) ≡ report_text report
+pub printed_session_report : (report : ReportValue) → flat_map words_text (report_lines report) ≡ report_text report
 printed_session_report report =
     ap
-    (λ l. session_line_text Report ++ (session_line_text (At report.positions) ++ (session_line_text (Total report.total)
-    ++ (session_line_text (Threshold report.threshold) ++ l))))
-    (flat_map-append session_line_text (map Line report.lines) (Done ∷ [])
-    ∙ ap (λ l. l ++ (session_line_text Done ++ [])) (printed_session_lines report.lines))
-    ∙ printed_session_report_groups (session_line_text Report) (session_line_text (At report.positions)) (session_line_text (Total report.total))
-    (session_line_text (Threshold report.threshold)) (report_lines_text report.lines) (session_line_text Done)
+    (λ l. words_text Report ++ (words_text (At report.positions) ++ (words_text (Total report.total)
+    ++ (words_text (Threshold report.threshold) ++ l))))
+    (flat_map-append words_text (map Line report.lines) (Done ∷ [])
+    ∙ ap (λ l. l ++ (words_text Done ++ [])) (printed_session_lines report.lines))
+    ∙ printed_session_report_groups (words_text Report) (words_text (At report.positions)) (words_text (Total report.total))
+    (words_text (Threshold report.threshold)) (lines_text report.lines) (words_text Done)
 
-printed_session_saved_line : (positions : Option (List ℕ)) → flat_map session_line_text (session_saved_lines positions) ≡ session_saved_text positions
+printed_session_saved_line : (positions : Option (List ℕ)) → flat_map words_text (saved_lines positions) ≡ saved_text positions
 printed_session_saved_line None = refl
-printed_session_saved_line (Some positions) = append-nil (session_line_text (Saved positions))
+printed_session_saved_line (Some positions) = append-nil (words_text (Saved positions))
 
-printed_session_whole_report : (reported : Reported) → flat_map session_line_text (session_reported_lines reported) ≡ session_reported_text reported
+printed_session_whole_report : (reported : Reported) → flat_map words_text (reported_lines reported) ≡ reported_text reported
 printed_session_whole_report reported =
-    flat_map-append session_line_text (session_report_lines reported.report) (session_saved_lines reported.saved)
+    flat_map-append words_text (report_lines reported.report) (saved_lines reported.saved)
     ∙ ap₂ (λ front behind. front ++ behind) (printed_session_report reported.report) (printed_session_saved_line reported.saved)
 
 printed_session_reports : (reports : List Reported)
-    → flat_map session_line_text (flat_map session_reported_lines reports) ≡ flat_map session_reported_text reports
+    → flat_map words_text (flat_map reported_lines reports) ≡ flat_map reported_text reports
 printed_session_reports [] = refl
 printed_session_reports (reported ∷ reports) =
-    flat_map-append session_line_text (session_reported_lines reported) (flat_map session_reported_lines reports)
+    flat_map-append words_text (reported_lines reported) (flat_map reported_lines reports)
     ∙ ap₂ (λ front behind. front ++ behind) (printed_session_whole_report reported) (printed_session_reports reports)
 
 printed_session_counts : (a b c : List ℕ) → a ++ (b ++ (c ++ [])) ≡ (a ++ b) ++ c
 printed_session_counts a b c = simp (append_assoc, append-nil)
 
 -- a session is printed as its text
-pub session-printed : (session : Session) → printed_session_text session ≡ session_text session
+pub session-printed : (session : Session) → printed_text session ≡ session_text session
 session-printed session =
-    let frames = session_line_text (Frames session.frames) in
-    let skipped_text = session_line_text (Skipped (whole_session_skips session)) in
+    let frames = words_text (Frames session.frames) in
+    let skipped_text = words_text (Skipped (whole_session_skips session)) in
     sym
-    (ap (λ l. session_line_text (Opened session.opened) ++ l)
-    (flat_map-append session_line_text (flat_map session_reported_lines session.reports)
+    (ap (λ l. words_text (Opened session.opened) ++ l)
+    (flat_map-append words_text (flat_map reported_lines session.reports)
     (Frames session.frames ∷ Skipped (whole_session_skips session) ∷ End ∷ [])
     ∙ ap₂ (λ front behind. front ++ behind) (printed_session_reports session.reports)
-    (printed_session_counts frames skipped_text (session_line_text End))))
+    (printed_session_counts frames skipped_text (words_text End))))
 
 -- the whole lines of the text of a session are its lines
 pub printed_session_has_its_lines : (session : Session) → IsTextSession session
-    → whole_lines_of_session (session_text session) ≡ map session_line_text (session_lines session)
+    → whole_lines (session_text session) ≡ map words_text (session_lines session)
 printed_session_has_its_lines session is =
-    ap whole_lines_of_session (sym (append-nil (session_text session)))
-    ∙ whole_lines_of_session-lines (session_lines session) [] (whole_session_lines session is)
-    ∙ append-nil (map session_line_text (session_lines session))
+    ap whole_lines (sym (append-nil (session_text session)))
+    ∙ whole_lines-lines (session_lines session) [] (whole_session_lines session is)
+    ∙ append-nil (map words_text (session_lines session))
 
 -- sessions with one text say the same
 pub printed_sessions_told_apart : FirstLineLaws → (text : List ℕ) (session other : Session) → IsSessionText text session
-    → IsSessionText text other → AreSameTextSessions session other
+    → IsSessionText text other → AreSameSessions session other
 printed_sessions_told_apart laws text session other is other_is =
     whole_sessions_apart session other
     (first_lines_told_by_texts laws (session_lines session) (session_lines other) (whole_session_lines session is.is_session)
     (whole_session_lines other other_is.is_session)
-    (sym (printed_session_has_its_lines session is.is_session) ∙ ap whole_lines_of_session (sym is.spelled ∙ other_is.spelled)
+    (sym (printed_session_has_its_lines session is.is_session) ∙ ap whole_lines (sym is.spelled ∙ other_is.spelled)
     ∙ printed_session_has_its_lines other other_is.is_session))

@@ -4,7 +4,7 @@ use Rattle.std.proofs.Common.{take_all}
 use Rattle.std.specs.List.{flat_map}
 use Rattle.std.specs.Cmp.{IsTotalOrder}
 use Rattle.prefix_lattice.specs.{report_order}
-use Rattle.report_text.specs.SessionText.{IsTextSession, IsSessionText, session_line_text, session_lines}
+use Rattle.report_text.specs.Session.{IsTextSession, IsSessionText, words_text, session_lines}
 use Rattle.report_text.specs.Stages.{Stage, nothing, ended}
 use Rattle.report_text.specs.LineReading.{HasReadLines, ReadsLines}
 use Rattle.report_text.specs.declared.line_cursor.LineCursor.{LineCursor}
@@ -18,7 +18,7 @@ pub read_session_from_start : (old new : LineCursor) (lines : List SessionLine) 
     → ReadsLines old new lines stage last → HasReadLines new lines
 read_session_from_start old new lines stage last start reads = record {
   are_lines = reads.are_lines;
-  text = reads.text ∙ ap (λ l. l ++ flat_map session_line_text lines) start.text;
+  text = reads.text ∙ ap (λ l. l ++ flat_map words_text lines) start.text;
   count = omega (arith, reads.count, start.count);
 }
 

@@ -2,7 +2,7 @@
 use Rattle.std.proofs.Common.{◌≢◌, ℕ, List, Option, Some, None, refl}
 use Rattle.hhh_report.specs.declared.line.Line.{Line as LineValue}
 use Rattle.report_text.specs.Stages.{Stage, nothing, opened, begun, placed, weighed, listing, done, saved, counted}
-use Rattle.report_text.specs.Stages.{skipped, FollowsStage, stage_line_after_report}
+use Rattle.report_text.specs.Stages.{skipped, FollowsStage, line_after_report}
 use Rattle.report_text.specs.declared.session_line.Skips.{Skips}
 use Rattle.report_text.specs.declared.session_line.SessionLine.{SessionLine}
 use Rattle.report_text.specs.declared.session_line.SessionLine.TheVariants.{Opened, Report, At, Total, Threshold, Line}
@@ -46,14 +46,14 @@ line_refused_in_listing n count last _ none not_done next follows = follows
 
 -- what follows it
 pub line_refused_after_done : (n : ℕ) (line : SessionLine) → ((positions : List ℕ) → line ≢ Saved positions)
-    → ((frames : Option ℕ) → line ≢ stage_line_after_report frames) → (next : Stage) → FollowsStage (done n) line next → ⊥
+    → ((frames : Option ℕ) → line ≢ line_after_report frames) → (next : Stage) → FollowsStage (done n) line next → ⊥
 line_refused_after_done n Report none others next follows = others None refl
 line_refused_after_done n (Saved positions) none others next follows = none positions refl
 line_refused_after_done n (Frames frames) none others next follows = others (Some frames) refl
 line_refused_after_done n _ none others next follows = follows
 
 -- what follows saved positions
-pub line_refused_after_saved : (n : ℕ) (line : SessionLine) → ((frames : Option ℕ) → line ≢ stage_line_after_report frames) → (next : Stage)
+pub line_refused_after_saved : (n : ℕ) (line : SessionLine) → ((frames : Option ℕ) → line ≢ line_after_report frames) → (next : Stage)
     → FollowsStage (saved n) line next → ⊥
 line_refused_after_saved n Report others next follows = others None refl
 line_refused_after_saved n (Frames frames) others next follows = others (Some frames) refl

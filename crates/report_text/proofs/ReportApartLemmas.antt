@@ -7,8 +7,8 @@ use Rattle.prefix_lattice.specs.{PrefixValue, IsPrefix, side_text, prefix_text}
 use Rattle.hhh_report.specs.declared.line.Line.{Line}
 use Rattle.hhh_report.specs.declared.report.Report.{Report}
 use Rattle.hhh_report.specs.{IsSameReport}
-use Rattle.report_text.specs.ReportText.{report_line_text, report_lines_text, report_text, ReportTextShowsLine}
-use Rattle.report_text.specs.ReportText.{ReportTextShows}
+use Rattle.report_text.specs.Printing.{line_text, lines_text, report_text, ShowsLine}
+use Rattle.report_text.specs.Printing.{Shows}
 use Rattle.report_text.proofs.TextPartLemmas.{spaced_text_part, spaced_text_parts_join}
 use Rattle.report_text.proofs.TextWordLemmas.{text_words_begin_unlike, text_words_told_apart, text_word_numbers_apart}
 use Rattle.report_text.proofs.TextWordLemmas.{side_is_text_word, text_word_positions_apart}
@@ -36,15 +36,15 @@ report_apart_line_tail line rest =
     side_text line.prefix.source ++ 32
     ∷ (side_text line.prefix.dest ++ 32 ∷ (decimal line.lo ++ 32 ∷ (decimal line.hi ++ 10 ∷ rest)))
 
-report_apart_line_opens : (line : Line) (rest : List ℕ) → report_line_text line ++ rest ≡ codes "line " ++ report_apart_line_tail line rest
+report_apart_line_opens : (line : Line) (rest : List ℕ) → line_text line ++ rest ≡ codes "line " ++ report_apart_line_tail line rest
 report_apart_line_opens line rest =
     report_apart_line_groups (codes "line ") (side_text line.prefix.source) (codes " ") (side_text line.prefix.dest)
     (decimal line.lo) (decimal line.hi) (codes "\n") rest
 
 -- a line, and what follows it, are determined
-report_line_apart : ReportPrefixesAreApart → (line another : Line) (rest other : List ℕ) → ReportTextShowsLine line
-    → ReportTextShowsLine another
-    → report_line_text line ++ rest ≡ report_line_text another ++ other → (line ≡ another) × (rest ≡ other)
+report_line_apart : ReportPrefixesAreApart → (line another : Line) (rest other : List ℕ) → ShowsLine line
+    → ShowsLine another
+    → line_text line ++ rest ≡ line_text another ++ other → (line ≡ another) × (rest ≡ other)
 report_line_apart law line another rest other is another_is same =
     let behind : report_apart_line_tail line rest ≡ report_apart_line_tail another other =
     ap (drop 5) (sym (report_apart_line_opens line rest) ∙ same ∙ report_apart_line_opens another other) in
@@ -70,23 +70,23 @@ report_line_apart law line another rest other is another_is same =
     (lines, ap (drop 1) high.1)
 
 -- lines before `done` are determined
-report_lines_apart : ReportPrefixesAreApart → (lines others : List Line) → AllByRecursion ReportTextShowsLine lines
-    → AllByRecursion ReportTextShowsLine others
-    → report_lines_text lines ++ codes "done\n" ≡ report_lines_text others ++ codes "done\n" → lines ≡ others
+report_lines_apart : ReportPrefixesAreApart → (lines others : List Line) → AllByRecursion ShowsLine lines
+    → AllByRecursion ShowsLine others
+    → lines_text lines ++ codes "done\n" ≡ lines_text others ++ codes "done\n" → lines ≡ others
 report_lines_apart law [] [] all others_all same = refl
 report_lines_apart law [] (another ∷ others) all others_all same =
     absurd (text_words_begin_unlike 100 108 _ _ (omega arith)
-    (same ∙ append_assoc (report_line_text another) (report_lines_text others) (codes "done\n")
-    ∙ report_apart_line_opens another (report_lines_text others ++ codes "done\n")))
+    (same ∙ append_assoc (line_text another) (lines_text others) (codes "done\n")
+    ∙ report_apart_line_opens another (lines_text others ++ codes "done\n")))
 report_lines_apart law (line ∷ lines) [] all others_all same =
     absurd (text_words_begin_unlike 100 108 _ _ (omega arith)
-    (sym same ∙ append_assoc (report_line_text line) (report_lines_text lines) (codes "done\n")
-    ∙ report_apart_line_opens line (report_lines_text lines ++ codes "done\n")))
+    (sym same ∙ append_assoc (line_text line) (lines_text lines) (codes "done\n")
+    ∙ report_apart_line_opens line (lines_text lines ++ codes "done\n")))
 report_lines_apart law (line ∷ lines) (another ∷ others) all others_all same =
-    let first = report_line_apart law line another (report_lines_text lines ++ codes "done\n")
-    (report_lines_text others ++ codes "done\n") all.0 others_all.0
-    (sym (append_assoc (report_line_text line) (report_lines_text lines) (codes "done\n")) ∙ same
-    ∙ append_assoc (report_line_text another) (report_lines_text others) (codes "done\n")) in
+    let first = report_line_apart law line another (lines_text lines ++ codes "done\n")
+    (lines_text others ++ codes "done\n") all.0 others_all.0
+    (sym (append_assoc (line_text line) (lines_text lines) (codes "done\n")) ∙ same
+    ∙ append_assoc (line_text another) (lines_text others) (codes "done\n")) in
     let rest = report_lines_apart law lines others all.1 others_all.1 first.1 in
     ap (λ l. l ∷ lines) first.0 ∙ ap (λ l. another ∷ l) rest
 
@@ -104,19 +104,19 @@ report_apart_opens : (report : Report) → report_text report
     ∷ (codes "total "
     ++ (decimal report.total ++ 10
     ∷ (codes "threshold "
-    ++ (decimal report.threshold ++ 10 ∷ (report_lines_text report.lines ++ codes "done\n"))))))
+    ++ (decimal report.threshold ++ 10 ∷ (lines_text report.lines ++ codes "done\n"))))))
 report_apart_opens report =
     ap (λ l.
     ((((codes "report\n" ++ (l ++ 10 ∷ [])) ++ ((codes "total " ++ decimal report.total) ++ 10 ∷ []))
-    ++ ((codes "threshold " ++ decimal report.threshold) ++ 10 ∷ [])) ++ report_lines_text report.lines)
+    ++ ((codes "threshold " ++ decimal report.threshold) ++ 10 ∷ [])) ++ lines_text report.lines)
     ++ codes "done\n")
     (sym (spaced_text_parts_join (codes "at") report.positions))
     ∙ report_apart_groups (codes "report\n") (codes "at") (flat_map spaced_text_part report.positions) (codes "\n") (codes "total ")
-    (decimal report.total) (codes "threshold ") (decimal report.threshold) (report_lines_text report.lines)
+    (decimal report.total) (codes "threshold ") (decimal report.threshold) (lines_text report.lines)
     (codes "done\n")
 
 -- reports that have the same text say the same
-pub report-apart : ReportPrefixesAreApart → (report other : Report) → ReportTextShows report → ReportTextShows other
+pub report-apart : ReportPrefixesAreApart → (report other : Report) → Shows report → Shows other
     → report_text report ≡ report_text other → IsSameReport report other
 report-apart law report other is other_is same =
     let positions = text_word_positions_apart report.positions other.positions _ _

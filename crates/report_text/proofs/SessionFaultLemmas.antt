@@ -6,17 +6,17 @@ use Rattle.std.specs.List.{flat_map, AllByRecursion}
 use Rattle.std.proofs.Math.Seq.{take-append_seam}
 use Rattle.std.proofs.lemmas.Bool.{cases_lt}
 use Rattle.std.proofs.lemmas.List.{length-map, take-take}
-use Rattle.report_text.specs.SessionText.{IsSessionLine, IsTextSession, IsSessionText, AreFirstSessionLines}
-use Rattle.report_text.specs.SessionText.{session_line_text, session_lines}
-use Rattle.report_text.specs.SessionText.{session_text, whole_lines_of_session, SessionTextIsWrongAfter}
-use Rattle.report_text.specs.SessionText.{SessionTextGoesOnAfter, IsBadSessionLine, HasSessionTextFault}
-use Rattle.report_text.specs.SessionText.{longest_session_text_length}
+use Rattle.report_text.specs.Session.{IsSessionLine, IsTextSession, IsSessionText, AreFirstLines}
+use Rattle.report_text.specs.Session.{words_text, session_lines}
+use Rattle.report_text.specs.Session.{session_text, whole_lines, IsWrongAfter}
+use Rattle.report_text.specs.Session.{GoesOnAfter, IsBadLine, HasSessionFault}
+use Rattle.report_text.specs.Session.{longest_session}
 use Rattle.report_text.specs.Stages.{Stage, nothing, ended, IsStageBeforeEnd, LeadsFromStage}
 use Rattle.report_text.specs.declared.session.Session.{Session}
 use Rattle.report_text.specs.declared.session_line.SessionLine.{SessionLine}
 use Rattle.report_text.specs.declared.session_fault.TextFault.{TextFault}
 use Rattle.report_text.specs.declared.session_fault.TextFault.TheVariants.{BadLine, MissingEnd, TooLong}
-use Rattle.report_text.proofs.WholeLineLemmas.{whole_lines_of_session-lines}
+use Rattle.report_text.proofs.WholeLineLemmas.{whole_lines-lines}
 use Rattle.report_text.proofs.StageLemmas.{lines_lead_to_one_stage, stage_between_lines, ended_stage_is_last}
 use Rattle.report_text.proofs.WholeSessionLemmas.{whole_session_leads_to_end, whole_session_lines}
 use Rattle.report_text.proofs.FirstLineLemmas.{FirstLineLaws, first_lines_told_by_texts, first_lines_are_parted}
@@ -37,29 +37,29 @@ session_fault_takes_one_more front text behind n same =
     ∙ session_fault_takes_front (front ++ text ∷ []) behind (n + 1) (omega (arith, length-append front (text ∷ []), same))
 
 -- as many texts as lines
-session_fault_text_count : (lines : List SessionLine) → length (map session_line_text lines) ≡ length lines
-session_fault_text_count lines = length-map lines session_line_text
+session_fault_text_count : (lines : List SessionLine) → length (map words_text lines) ≡ length lines
+session_fault_text_count lines = length-map lines words_text
 
 -- a line that goes on with no beginning of a session
 pub session_fault_bad_line : FirstLineLaws → (text : List ℕ) (read : List SessionLine) (stage : Stage) (line : List ℕ)
-    (behind : List (List ℕ)) → length text ≤ longest_session_text_length → AllByRecursion IsSessionLine read
-    → whole_lines_of_session text ≡ map session_line_text read ++ line ∷ behind → LeadsFromStage nothing read stage → (FirstLinesGoOnWith stage line → ⊥)
-    → HasSessionTextFault text (BadLine (length read + 1))
+    (behind : List (List ℕ)) → length text ≤ longest_session → AllByRecursion IsSessionLine read
+    → whole_lines text ≡ map words_text read ++ line ∷ behind → LeadsFromStage nothing read stage → (FirstLinesGoOnWith stage line → ⊥)
+    → HasSessionFault text (BadLine (length read + 1))
 session_fault_bad_line laws text read stage line behind limit all lines leads none =
     let as_many = session_fault_text_count read in
-    let before : take (length read) (whole_lines_of_session text) ≡ map session_line_text read =
-    ap (take (length read)) lines ∙ session_fault_takes_front (map session_line_text read) (line ∷ behind) (length read) (sym as_many) in
-    let more : take (length read + 1) (whole_lines_of_session text) ≡ map session_line_text read ++ line ∷ [] =
+    let before : take (length read) (whole_lines text) ≡ map words_text read =
+    ap (take (length read)) lines ∙ session_fault_takes_front (map words_text read) (line ∷ behind) (length read) (sym as_many) in
+    let more : take (length read + 1) (whole_lines text) ≡ map words_text read ++ line ∷ [] =
     ap (take (length read + 1)) lines
-    ∙ session_fault_takes_one_more (map session_line_text read) line behind (length read) (sym as_many) in (
+    ∙ session_fault_takes_one_more (map words_text read) line behind (length read) (sym as_many) in (
       limit,
       (
         length read,
         refl,
         inl (record {
-          whole = omega (arith, ap length lines, length-append (map session_line_text read) (line ∷ behind), as_many);
-          begun = subst AreFirstSessionLines (sym before) (first_lines_begin_session laws read stage all leads);
-          wrong = λ first. none (next_line_after_first_lines laws read stage line all leads (subst AreFirstSessionLines more first));
+          whole = omega (arith, ap length lines, length-append (map words_text read) (line ∷ behind), as_many);
+          begun = subst AreFirstLines (sym before) (first_lines_begin_session laws read stage all leads);
+          wrong = λ first. none (next_line_after_first_lines laws read stage line all leads (subst AreFirstLines more first));
         }),
       ),
     )
@@ -67,9 +67,9 @@ session_fault_bad_line laws text read stage line behind limit all lines leads no
 -- lines that were read and don't end a session aren't those of a session and others
 session_fault_open_lines : FirstLineLaws → (read : List SessionLine) (stage : Stage) (session : Session) (behind : List (List ℕ))
     → AllByRecursion IsSessionLine read → LeadsFromStage nothing read stage → IsStageBeforeEnd stage → IsTextSession session
-    → map session_line_text read ≡ map session_line_text (session_lines session) ++ behind → ⊥
+    → map words_text read ≡ map words_text (session_lines session) ++ behind → ⊥
 session_fault_open_lines laws read stage session behind all leads is_open is same =
-    let parted = first_lines_are_parted read (map session_line_text (session_lines session)) behind same in
+    let parted = first_lines_are_parted read (map words_text (session_lines session)) behind same in
     let lines = subst (AllByRecursion IsSessionLine) parted.joined all in
     let first = first_lines_told_by_texts laws parted.first (session_lines session) (first_lines_stay_lines parted.first parted.second lines)
     (whole_session_lines session is) parted.front_is in
@@ -86,34 +86,34 @@ session_fault_open_lines laws read stage session behind all leads is_open is sam
 
 -- all lines of a text that was read begin a session, so none is wrong
 pub session_fault_unfinished : FirstLineLaws → (text : List ℕ) (read : List SessionLine) (stage : Stage)
-    → length text ≤ longest_session_text_length → AllByRecursion IsSessionLine read → whole_lines_of_session text ≡ map session_line_text read
-    → LeadsFromStage nothing read stage → IsStageBeforeEnd stage → HasSessionTextFault text (MissingEnd (length read + 1))
+    → length text ≤ longest_session → AllByRecursion IsSessionLine read → whole_lines text ≡ map words_text read
+    → LeadsFromStage nothing read stage → IsStageBeforeEnd stage → HasSessionFault text (MissingEnd (length read + 1))
 session_fault_unfinished laws text read stage limit all lines leads is_open =
     (limit, omega (arith, ap length lines, session_fault_text_count read), none_bad, no_session)
   where
-    none_bad : (line : ℕ) → IsBadSessionLine text line → ⊥
+    none_bad : (line : ℕ) → IsBadLine text line → ⊥
     none_bad line (before, number, inl wrong) =
-        wrong.wrong (fewer_first_lines (take (before + 1) (whole_lines_of_session text)) (drop (before + 1) (whole_lines_of_session text))
-        (subst AreFirstSessionLines (sym lines ∙ sym (take-append-drop (before + 1) (whole_lines_of_session text)))
+        wrong.wrong (fewer_first_lines (take (before + 1) (whole_lines text)) (drop (before + 1) (whole_lines text))
+        (subst AreFirstLines (sym lines ∙ sym (take-append-drop (before + 1) (whole_lines text)))
         (first_lines_begin_session laws read stage all leads)))
     none_bad line (before, number, inr follows) =
         session_fault_open_lines laws read stage follows.session
-        (whole_lines_of_session (follows.byte ∷ follows.others)) all leads is_open
+        (whole_lines (follows.byte ∷ follows.others)) all leads is_open
         follows.is_session
-        (sym lines ∙ ap whole_lines_of_session follows.spelled
-        ∙ whole_lines_of_session-lines (session_lines follows.session) (follows.byte ∷ follows.others)
+        (sym lines ∙ ap whole_lines follows.spelled
+        ∙ whole_lines-lines (session_lines follows.session) (follows.byte ∷ follows.others)
         (whole_session_lines follows.session follows.is_session))
 
     no_session : (session : Session) → IsSessionText text session → ⊥
     no_session session is =
         session_fault_open_lines laws read stage session [] all leads is_open is.is_session
-        (sym lines ∙ ap whole_lines_of_session (is.spelled ∙ sym (append-nil (session_text session)))
-        ∙ whole_lines_of_session-lines (session_lines session) [] (whole_session_lines session is.is_session))
+        (sym lines ∙ ap whole_lines (is.spelled ∙ sym (append-nil (session_text session)))
+        ∙ whole_lines-lines (session_lines session) [] (whole_session_lines session is.is_session))
 
 -- a session and a byte after it
-pub session_fault_byte_follows : (text : List ℕ) (session : Session) (rest : List ℕ) → length text ≤ longest_session_text_length → IsTextSession session
+pub session_fault_byte_follows : (text : List ℕ) (session : Session) (rest : List ℕ) → length text ≤ longest_session → IsTextSession session
     → text ≡ session_text session ++ rest → length (session_text session) < length text
-    → HasSessionTextFault text (BadLine (length (session_lines session) + 1))
+    → HasSessionFault text (BadLine (length (session_lines session) + 1))
 session_fault_byte_follows text session [] limit is spelled more =
     absurd (omega (arith, ap length spelled, ap length (append-nil (session_text session))))
 session_fault_byte_follows text session (byte ∷ rest) limit is spelled more = (
@@ -134,77 +134,77 @@ session_fault_byte_follows text session (byte ∷ rest) limit is spelled more = 
 
 -- no line follows those of a session
 session_fault_no_line_follows : FirstLineLaws → (session : Session) (text : List ℕ) (behind : List (List ℕ)) → IsTextSession session
-    → AreFirstSessionLines (map session_line_text (session_lines session) ++ text ∷ behind) → ⊥
+    → AreFirstLines (map words_text (session_lines session) ++ text ∷ behind) → ⊥
 session_fault_no_line_follows laws session text behind is first =
     let on = session_first_lines_lead_on laws first.session (session_lines session) (text ∷ (behind ++ first.others)) first.is_session
     (whole_session_lines session is)
-    (first.begun ∙ append_assoc (map session_line_text (session_lines session)) (text ∷ behind) first.others) in
+    (first.begun ∙ append_assoc (map words_text (session_lines session)) (text ∷ behind) first.others) in
     let end = lines_lead_to_one_stage nothing (session_lines session) on.stage ended on.leads (whole_session_leads_to_end session is) in
     none_after on.others on.others_are (subst (λ s. LeadsFromStage s on.others ended) end on.on)
   where
-    none_after : {more : List (List ℕ)} → (lines : List SessionLine) → map session_line_text lines ≡ text ∷ more
+    none_after : {more : List (List ℕ)} → (lines : List SessionLine) → map words_text lines ≡ text ∷ more
         → LeadsFromStage ended lines ended → ⊥
     none_after [] same leads = cc
     none_after (line ∷ lines) same leads = ended_stage_is_last line lines ended leads
 
 -- what is wrong after some lines
 abbrev IsSessionFaultAfter : List ℕ → ℕ → Type 0
-IsSessionFaultAfter text before = SessionTextIsWrongAfter text before ⊎ SessionTextGoesOnAfter text before
+IsSessionFaultAfter text before = IsWrongAfter text before ⊎ GoesOnAfter text before
 
 -- the whole lines of a session and what follows
 session_fault_all_lines : (session : Session) (text rest : List ℕ) → IsTextSession session → text ≡ session_text session ++ rest
-    → whole_lines_of_session text ≡ map session_line_text (session_lines session) ++ whole_lines_of_session rest
+    → whole_lines text ≡ map words_text (session_lines session) ++ whole_lines rest
 session_fault_all_lines session text rest is spelled =
-    ap whole_lines_of_session spelled ∙ whole_lines_of_session-lines (session_lines session) rest (whole_session_lines session is)
+    ap whole_lines spelled ∙ whole_lines-lines (session_lines session) rest (whole_session_lines session is)
 
 -- where a line is wrong, no session begins with it and those before
-session_fault_line_is_wrong : FirstLineLaws → (text : List ℕ) (before : ℕ) → IsSessionFaultAfter text before → before < length (whole_lines_of_session text)
-    → AreFirstSessionLines (take (before + 1) (whole_lines_of_session text)) → ⊥
+session_fault_line_is_wrong : FirstLineLaws → (text : List ℕ) (before : ℕ) → IsSessionFaultAfter text before → before < length (whole_lines text)
+    → AreFirstLines (take (before + 1) (whole_lines text)) → ⊥
 session_fault_line_is_wrong laws text before (inl wrong) within first = wrong.wrong first
 session_fault_line_is_wrong laws text before (inr follows) within first =
     let session = follows.session in
     let lines = session_fault_all_lines session text (follows.byte ∷ follows.others)
     follows.is_session follows.spelled in
-    one_more session (whole_lines_of_session (follows.byte ∷ follows.others)) follows.is_session lines
+    one_more session (whole_lines (follows.byte ∷ follows.others)) follows.is_session lines
     follows.ends
   where
     one_more : (session : Session) (behind : List (List ℕ)) → IsTextSession session
-        → whole_lines_of_session text ≡ map session_line_text (session_lines session) ++ behind → length (session_lines session) ≡ before → ⊥
+        → whole_lines text ≡ map words_text (session_lines session) ++ behind → length (session_lines session) ≡ before → ⊥
     one_more session [] is lines ends =
         absurd (omega (
           arith,
           ap length lines,
-          length-append (map session_line_text (session_lines session)) [],
+          length-append (map words_text (session_lines session)) [],
           session_fault_text_count (session_lines session),
           ends,
           within,
         ))
     one_more session (line ∷ behind) is lines ends =
         session_fault_no_line_follows laws session line [] is
-        (subst AreFirstSessionLines
+        (subst AreFirstLines
         (ap (take (before + 1)) lines
-        ∙ session_fault_takes_one_more (map session_line_text (session_lines session)) line behind before
+        ∙ session_fault_takes_one_more (map words_text (session_lines session)) line behind before
         (sym ends ∙ sym (session_fault_text_count (session_lines session)))) first)
 
 -- the lines before a wrong one begin a session
 session_fault_lines_begun : (text : List ℕ) (before : ℕ) → IsSessionFaultAfter text before
-    → AreFirstSessionLines (take before (whole_lines_of_session text)) × (before ≤ length (whole_lines_of_session text))
+    → AreFirstLines (take before (whole_lines text)) × (before ≤ length (whole_lines text))
 session_fault_lines_begun text before (inl wrong) = (wrong.begun, let within = wrong.whole in omega arith)
 session_fault_lines_begun text before (inr session_fault_byte_follows) =
     let session = session_fault_byte_follows.session in
-    let behind = whole_lines_of_session (session_fault_byte_follows.byte ∷ session_fault_byte_follows.others) in
+    let behind = whole_lines (session_fault_byte_follows.byte ∷ session_fault_byte_follows.others) in
     let lines = session_fault_all_lines session text (session_fault_byte_follows.byte ∷ session_fault_byte_follows.others)
     session_fault_byte_follows.is_session session_fault_byte_follows.spelled in
     let as_many = sym session_fault_byte_follows.ends ∙ sym (session_fault_text_count (session_lines session)) in
-    let same : take before (whole_lines_of_session text) ≡ map session_line_text (session_lines session) =
-    ap (take before) lines ∙ session_fault_takes_front (map session_line_text (session_lines session)) behind before as_many in (
+    let same : take before (whole_lines text) ≡ map words_text (session_lines session) =
+    ap (take before) lines ∙ session_fault_takes_front (map words_text (session_lines session)) behind before as_many in (
       record {
         session = session;
         is_session = session_fault_byte_follows.is_session;
         others = [];
-        begun = sym (append-nil (map session_line_text (session_lines session))) ∙ ap (λ l. l ++ []) (sym same);
+        begun = sym (append-nil (map words_text (session_lines session))) ∙ ap (λ l. l ++ []) (sym same);
       },
-      omega (arith, ap length lines, length-append (map session_line_text (session_lines session)) behind, as_many),
+      omega (arith, ap length lines, length-append (map words_text (session_lines session)) behind, as_many),
     )
 
 -- no wrong line comes before another
@@ -212,16 +212,16 @@ session_fault_not_before : FirstLineLaws → (text : List ℕ) (before later : �
     → before < later → ⊥
 session_fault_not_before laws text before later bad other less =
     let begun = session_fault_lines_begun text later other in
-    let front = take later (whole_lines_of_session text) in
-    let fewer : take (before + 1) front ≡ take (before + 1) (whole_lines_of_session text) =
-    take-take (before + 1) later (whole_lines_of_session text) (omega arith) in
-    let within : later ≤ length (whole_lines_of_session text) = begun.1 in
+    let front = take later (whole_lines text) in
+    let fewer : take (before + 1) front ≡ take (before + 1) (whole_lines text) =
+    take-take (before + 1) later (whole_lines text) (omega arith) in
+    let within : later ≤ length (whole_lines text) = begun.1 in
     session_fault_line_is_wrong laws text before bad (omega arith)
-    (subst AreFirstSessionLines fewer (fewer_first_lines (take (before + 1) front) (drop (before + 1) front)
-    (subst AreFirstSessionLines (sym (take-append-drop (before + 1) front)) begun.0)))
+    (subst AreFirstLines fewer (fewer_first_lines (take (before + 1) front) (drop (before + 1) front)
+    (subst AreFirstLines (sym (take-append-drop (before + 1) front)) begun.0)))
 
 -- a text has one wrong line
-session_fault_one_bad_line : FirstLineLaws → (text : List ℕ) (line other : ℕ) → IsBadSessionLine text line → IsBadSessionLine text other → line ≡ other
+session_fault_one_bad_line : FirstLineLaws → (text : List ℕ) (line other : ℕ) → IsBadLine text line → IsBadLine text other → line ≡ other
 session_fault_one_bad_line laws text line other (before, number, bad) (later, other_number, other_bad) =
     elim (cases_lt before later) [
       | inl less ↦ absurd (session_fault_not_before laws text before later bad other_bad less)
@@ -233,55 +233,55 @@ session_fault_one_bad_line laws text line other (before, number, bad) (later, ot
 
 -- a text of a session has no wrong line
 no_line_fault_in_session : FirstLineLaws → (text : List ℕ) (session : Session) (line : ℕ) → IsSessionText text session
-    → IsBadSessionLine text line → ⊥
+    → IsBadLine text line → ⊥
 no_line_fault_in_session laws text session line is (before, number, bad) =
     of_bad bad
   where
-    lines : whole_lines_of_session text ≡ map session_line_text (session_lines session)
+    lines : whole_lines text ≡ map words_text (session_lines session)
     lines = session_fault_all_lines session text [] is.is_session (is.spelled ∙ sym (append-nil (session_text session)))
-        ∙ append-nil (map session_line_text (session_lines session))
+        ∙ append-nil (map words_text (session_lines session))
 
-    all_first : AreFirstSessionLines (whole_lines_of_session text)
+    all_first : AreFirstLines (whole_lines text)
     all_first = record {
       session = session;
       is_session = is.is_session;
       others = [];
-      begun = sym lines ∙ sym (append-nil (whole_lines_of_session text));
+      begun = sym lines ∙ sym (append-nil (whole_lines text));
     }
 
     no_more : (other : Session) (behind : List (List ℕ)) (rest : List ℕ) → IsTextSession other
-        → whole_lines_of_session text ≡ map session_line_text (session_lines other) ++ behind
+        → whole_lines text ≡ map words_text (session_lines other) ++ behind
         → text ≡ session_text other ++ rest → 1 ≤ length rest → ⊥
     no_more other [] rest other_is same spelled some =
-        let texts : map session_line_text (session_lines session) ≡ map session_line_text (session_lines other) =
-        sym lines ∙ same ∙ append-nil (map session_line_text (session_lines other)) in
+        let texts : map words_text (session_lines session) ≡ map words_text (session_lines other) =
+        sym lines ∙ same ∙ append-nil (map words_text (session_lines other)) in
         let one = first_lines_told_by_texts laws (session_lines session) (session_lines other)
         (whole_session_lines session is.is_session) (whole_session_lines other other_is) texts in
-        let again : session_text session ≡ session_text other = ap (flat_map session_line_text) one in
+        let again : session_text session ≡ session_text other = ap (flat_map words_text) one in
         absurd (omega (arith, ap length spelled, ap length (is.spelled ∙ again), length-append (session_text other) rest))
     no_more other (next ∷ behind) rest other_is same spelled some =
-        session_fault_no_line_follows laws other next behind other_is (subst AreFirstSessionLines same all_first)
+        session_fault_no_line_follows laws other next behind other_is (subst AreFirstLines same all_first)
 
     of_bad : IsSessionFaultAfter text before → ⊥
     of_bad (inl wrong) =
-        wrong.wrong (fewer_first_lines (take (before + 1) (whole_lines_of_session text)) (drop (before + 1) (whole_lines_of_session text))
-        (subst AreFirstSessionLines (sym (take-append-drop (before + 1) (whole_lines_of_session text))) all_first))
+        wrong.wrong (fewer_first_lines (take (before + 1) (whole_lines text)) (drop (before + 1) (whole_lines text))
+        (subst AreFirstLines (sym (take-append-drop (before + 1) (whole_lines text))) all_first))
     of_bad (inr session_fault_byte_follows) =
         let rest = session_fault_byte_follows.byte ∷ session_fault_byte_follows.others in
-        no_more session_fault_byte_follows.session (whole_lines_of_session rest) rest session_fault_byte_follows.is_session
+        no_more session_fault_byte_follows.session (whole_lines rest) rest session_fault_byte_follows.is_session
         (session_fault_all_lines session_fault_byte_follows.session text rest session_fault_byte_follows.is_session session_fault_byte_follows.spelled)
         session_fault_byte_follows.spelled (omega arith)
 
 -- the text of a session has no fault
 pub session-no-fault : FirstLineLaws → (text : List ℕ) (session : Session) (fault : TextFault) → IsSessionText text session
-    → length text ≤ longest_session_text_length → HasSessionTextFault text fault → ⊥
+    → length text ≤ longest_session → HasSessionFault text fault → ⊥
 session-no-fault laws text session (BadLine line) is limit has = no_line_fault_in_session laws text session line is has.1
 session-no-fault laws text session (MissingEnd line) is limit has = has.3 session is
 session-no-fault laws text session TooLong is limit has = absurd (omega arith)
 
 -- a text has one fault
-pub session_fault_is_unique : FirstLineLaws → (text : List ℕ) (fault other : TextFault) → HasSessionTextFault text fault
-    → HasSessionTextFault text other → fault ≡ other
+pub session_fault_is_unique : FirstLineLaws → (text : List ℕ) (fault other : TextFault) → HasSessionFault text fault
+    → HasSessionFault text other → fault ≡ other
 session_fault_is_unique laws text (BadLine line) (BadLine other) has other_has =
     ap BadLine (session_fault_one_bad_line laws text line other has.1 other_has.1)
 session_fault_is_unique laws text (BadLine line) (MissingEnd other) has other_has = absurd (other_has.2 line has.1)

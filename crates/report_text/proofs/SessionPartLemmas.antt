@@ -12,13 +12,13 @@ use Rattle.hhh_report.specs.{AreReportLines, line_limit}
 use Rattle.hhh_report.specs.declared.line.Line.{Line as LineValue}
 use Rattle.hhh_report.specs.declared.report.Report.{Report as ReportValue}
 use Rattle.hhh_report.specs.declared.reports.Reported.{Reported}
-use Rattle.report_text.specs.ReportText.{ReportTextShowsPositions, ReportTextShowsLine}
-use Rattle.report_text.specs.SessionText.{IsSessionLine, IsSessionReportLine, AreSessionTextSkips}
-use Rattle.report_text.specs.SessionText.{AreSessionTextPositions, IsReportedInSessionText, IsTextSession}
-use Rattle.report_text.specs.SessionText.{session_reported_lines, session_saved_lines, session_lines}
+use Rattle.report_text.specs.Printing.{ShowsPositions, ShowsLine}
+use Rattle.report_text.specs.Session.{IsSessionLine, IsReportLine, AreSkips}
+use Rattle.report_text.specs.Session.{ArePositions, IsReported, IsTextSession}
+use Rattle.report_text.specs.Session.{reported_lines, saved_lines, session_lines}
 use Rattle.report_text.specs.Stages.{Stage, nothing, opened, begun, placed, weighed, listing, done, saved, counted}
-use Rattle.report_text.specs.Stages.{skipped, ended, FollowsStage, LeadsFromStage, ComesAfterLastOfStage}
-use Rattle.report_text.specs.Stages.{stage_body_lines}
+use Rattle.report_text.specs.Stages.{skipped, ended, FollowsStage, LeadsFromStage, ComesAfterLast}
+use Rattle.report_text.specs.Stages.{body_lines}
 use Rattle.report_text.specs.declared.session.Session.{Session}
 use Rattle.report_text.specs.declared.session_line.Skips.{Skips}
 use Rattle.report_text.specs.declared.session_line.SessionLine.{SessionLine}
@@ -28,7 +28,7 @@ use Rattle.report_text.specs.declared.session_line.SessionLine.TheVariants.{Done
 -- lines of a report that rise from the last one on
 abbrev pub SessionPartRises : Option PrefixValue → List LineValue → Type 0
 SessionPartRises last [] = Unit {0}
-SessionPartRises last (line ∷ lines) = ComesAfterLastOfStage last line.prefix × SessionPartRises (Some line.prefix) lines
+SessionPartRises last (line ∷ lines) = ComesAfterLast last line.prefix × SessionPartRises (Some line.prefix) lines
 
 -- a line comes before another in a report
 abbrev pub PrecedesInSessionPart : LineValue → LineValue → Type 0
@@ -67,7 +67,7 @@ SessionPartRises-pairs order last (line ∷ lines) rises =
 
 -- and conversely
 pub session_part_pairs_rise : (last : Option PrefixValue) (lines : List LineValue)
-    → ((line : LineValue) (others : List LineValue) → lines ≡ line ∷ others → ComesAfterLastOfStage last line.prefix)
+    → ((line : LineValue) (others : List LineValue) → lines ≡ line ∷ others → ComesAfterLast last line.prefix)
     → AllPairs PrecedesInSessionPart lines → SessionPartRises last lines
 session_part_pairs_rise last [] first pairs = tt
 session_part_pairs_rise last (line ∷ []) first pairs = (first line [] refl, tt)
@@ -83,26 +83,26 @@ session_part_pairs_rise last (line ∷ second ∷ lines) first pairs = (
 -- the counts and the end of a session over n shards, after some reports
 pub record SessionTailPart (n : ℕ) (lines : List SessionLine) : Type 0 where
   reports : List Reported
-  are : AllByRecursion (IsReportedInSessionText n) reports
+  are : AllByRecursion (IsReported n) reports
   frames : ℕ
   small : frames < 2 ^ 64
   skips : Skips
-  are_skips : AreSessionTextSkips skips
-  spelled : lines ≡ flat_map session_reported_lines reports ++ Frames frames ∷ Skipped skips ∷ End ∷ []
+  are_skips : AreSkips skips
+  spelled : lines ≡ flat_map reported_lines reports ++ Frames frames ∷ Skipped skips ∷ End ∷ []
 
 -- what may follow a report
 pub record SessionPartAfterDone (n : ℕ) (lines : List SessionLine) : Type 0 where
   saved : Option (List ℕ)
-  are_saved : IfSome saved (AreSessionTextPositions n)
+  are_saved : IfSome saved (ArePositions n)
   rest : List SessionLine
   tail : SessionTailPart n rest
-  spelled : lines ≡ session_saved_lines saved ++ rest
+  spelled : lines ≡ saved_lines saved ++ rest
 
 -- the remaining lines of a report, after this many
 pub record ListedSessionPart (n count : ℕ) (last : Option PrefixValue) (lines : List SessionLine) : Type 0 where
   listed : List LineValue
   few : count < line_limit → count + length listed < line_limit
-  are : AllByRecursion IsSessionReportLine listed
+  are : AllByRecursion IsReportLine listed
   rising : SessionPartRises last listed
   rest : List SessionLine
   after : SessionPartAfterDone n rest
@@ -127,11 +127,11 @@ pub record PlacedSessionPart (n : ℕ) (lines : List SessionLine) : Type 0 where
 
 -- what a report of a session holds
 pub record IsSessionPartReport (n : ℕ) (report : ReportValue) : Type 0 where
-  positions : AreSessionTextPositions n report.positions
+  positions : ArePositions n report.positions
   total : report.total < 2 ^ 64
   some : 1 ≤ report.threshold
   threshold : report.threshold < 2 ^ 64
-  lines : AllByRecursion ReportTextShowsLine report.lines
+  lines : AllByRecursion ShowsLine report.lines
 
 -- what follows the first line of a report
 pub record BegunSessionPart (n : ℕ) (lines : List SessionLine) : Type 0 where
@@ -139,7 +139,7 @@ pub record BegunSessionPart (n : ℕ) (lines : List SessionLine) : Type 0 where
   is_report : IsSessionPartReport n report
   rest : List SessionLine
   after : SessionPartAfterDone n rest
-  spelled : lines ≡ stage_body_lines report ++ rest
+  spelled : lines ≡ body_lines report ++ rest
 
 -- the first line of a report, and what follows it
 pub record StartedSessionPart (n : ℕ) (lines : List SessionLine) : Type 0 where
@@ -163,15 +163,15 @@ SessionPartRest (weighed n) lines = WeighedSessionPart n lines
 SessionPartRest (listing n count last) lines = ListedSessionPart n count last lines
 SessionPartRest (done n) lines = SessionPartAfterDone n lines
 SessionPartRest (saved n) lines = SessionTailPart n lines
-SessionPartRest counted lines = (skips : Skips) × AreSessionTextSkips skips × (lines ≡ Skipped skips ∷ End ∷ [])
+SessionPartRest counted lines = (skips : Skips) × AreSkips skips × (lines ≡ Skipped skips ∷ End ∷ [])
 SessionPartRest skipped lines = lines ≡ End ∷ []
 SessionPartRest ended lines = lines ≡ []
 
-session_part_is_showable : (lines : List LineValue) → AllByRecursion IsSessionReportLine lines → AllByRecursion ReportTextShowsLine lines
+session_part_is_showable : (lines : List LineValue) → AllByRecursion IsReportLine lines → AllByRecursion ShowsLine lines
 session_part_is_showable [] all = tt
 session_part_is_showable (line ∷ lines) all = (all.0.showable, session_part_is_showable lines all.1)
 
-session_part_is_ordered : (lines : List LineValue) → AllByRecursion IsSessionReportLine lines → AllByRecursion IsOrderedSessionPart lines
+session_part_is_ordered : (lines : List LineValue) → AllByRecursion IsReportLine lines → AllByRecursion IsOrderedSessionPart lines
 session_part_is_ordered [] all = tt
 session_part_is_ordered (line ∷ lines) all = (all.0.ordered, session_part_is_ordered lines all.1)
 
@@ -185,7 +185,7 @@ session_part_lines_in_order order n lines l = record {
 
 -- what follows the first line of a report, from its positions on
 begun_session_part : IsTotalOrder report_order → (n : ℕ) (positions : List ℕ) (lines : List SessionLine)
-    → AreSessionTextPositions n positions → PlacedSessionPart n lines → BegunSessionPart n (At positions ∷ lines)
+    → ArePositions n positions → PlacedSessionPart n lines → BegunSessionPart n (At positions ∷ lines)
 begun_session_part order n positions lines are placed_lines =
     let weighed_lines = placed_lines.weighed in
     let listed_lines = weighed_lines.listed in
@@ -234,7 +234,7 @@ session_part_report_tail n lines begun_lines =
           total = is.total;
           some = is.some;
           threshold = is.threshold;
-          lines = All-from_recursion ReportTextShowsLine report.lines is.lines;
+          lines = All-from_recursion ShowsLine report.lines is.lines;
           saved = after.are_saved;
         },
         tail.are,
@@ -246,14 +246,14 @@ session_part_report_tail n lines begun_lines =
       spelled =
           ap (λ l. Report ∷ l)
           (begun_lines.spelled
-          ∙ ap (λ l. stage_body_lines report ++ l)
-          (after.spelled ∙ ap (λ l. session_saved_lines after.saved ++ l) tail.spelled)
-          ∙ session_part_report_groups (stage_body_lines report) (session_saved_lines after.saved) (flat_map session_reported_lines tail.reports)
+          ∙ ap (λ l. body_lines report ++ l)
+          (after.spelled ∙ ap (λ l. saved_lines after.saved ++ l) tail.spelled)
+          ∙ session_part_report_groups (body_lines report) (saved_lines after.saved) (flat_map reported_lines tail.reports)
           (Frames tail.frames ∷ Skipped tail.skips ∷ End ∷ []));
     }
 
 -- the counts right after a report
-session_part_counts_tail : (n frames : ℕ) (skips : Skips) (lines : List SessionLine) → frames < 2 ^ 64 → AreSessionTextSkips skips
+session_part_counts_tail : (n frames : ℕ) (skips : Skips) (lines : List SessionLine) → frames < 2 ^ 64 → AreSkips skips
     → lines ≡ Skipped skips ∷ End ∷ [] → SessionTailPart n (Frames frames ∷ lines)
 session_part_counts_tail n frames skips lines small are spelled = record {
   reports = [];
@@ -270,7 +270,7 @@ unsaved_session_part : (n : ℕ) (lines : List SessionLine) → SessionTailPart 
 unsaved_session_part n lines tail = record { saved = None; are_saved = tt; rest = lines; tail = tail; spelled = refl }
 
 -- all lines of a session, from the positions at its start and what follows
-session_of_opened_parts : (positions : List ℕ) (lines : List SessionLine) → ReportTextShowsPositions positions
+session_of_opened_parts : (positions : List ℕ) (lines : List SessionLine) → ShowsPositions positions
     → StartedSessionPart (length positions) lines → SessionFromParts (Opened positions ∷ lines)
 session_of_opened_parts positions lines are started =
     let tail = session_part_report_tail (length positions) started.rest started.begun in
@@ -286,7 +286,7 @@ session_of_opened_parts positions lines are started =
       is_session = record {
         opened = are;
         some = omega arith;
-        reports = All-from_recursion (IsReportedInSessionText (length positions)) tail.reports tail.are;
+        reports = All-from_recursion (IsReported (length positions)) tail.reports tail.are;
         frames = tail.small;
         not_ipv4 = tail.are_skips.not_ipv4;
         short = tail.are_skips.short;

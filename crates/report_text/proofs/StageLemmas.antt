@@ -4,8 +4,8 @@ use Rattle.std.proofs.Common.{refl, sym, ◌∙◌, subst, arith}
 use Rattle.std.specs.List.{AllByRecursion}
 use Rattle.std.proofs.Math.ListN.{replicate, length-replicate}
 use Rattle.std.proofs.lemmas.List.Elements.{All-replicate}
-use Rattle.report_text.specs.ReportText.{ReportTextShowsPositions}
-use Rattle.report_text.specs.SessionText.{IsSessionLine}
+use Rattle.report_text.specs.Printing.{ShowsPositions}
+use Rattle.report_text.specs.Session.{IsSessionLine}
 use Rattle.report_text.specs.Stages.{Stage, nothing, opened, begun, placed, weighed, listing, done, saved, counted}
 use Rattle.report_text.specs.Stages.{skipped, ended, FollowsStage, LeadsFromStage}
 use Rattle.report_text.specs.declared.session_line.SessionLine.{SessionLine}
@@ -165,7 +165,7 @@ end_of_stage-leads counted = counts_stage_ends
 end_of_stage-leads skipped = (ended, refl, refl)
 end_of_stage-leads ended = refl
 
-zeros_are_stage_positions : (n : ℕ) → AreStageShards n → ReportTextShowsPositions (replicate n 0)
+zeros_are_stage_positions : (n : ℕ) → AreStageShards n → ShowsPositions (replicate n 0)
 zeros_are_stage_positions n are = record {
   some = omega (arith, length-replicate {A = ℕ} n 0, are.some);
   few = omega (arith, length-replicate {A = ℕ} n 0, are.few);

@@ -1,7 +1,7 @@
 -- Texts that are put together part by part.
 use Rattle.std.proofs.Common.{◌≡◌, ℕ, List, [], ◌∷◌, ◌++◌, map, codes, decimal, ap, ◌∙◌, append_assoc, append-nil}
 use Rattle.std.specs.List.{join_with_byte, flat_map}
-use Rattle.report_text.specs.ReportText.{report_text_line}
+use Rattle.report_text.specs.Printing.{text_line}
 
 -- a number and the space before it
 abbrev pub spaced_text_part : ℕ → List ℕ
@@ -16,7 +16,7 @@ spaced_text_parts_join name (number ∷ numbers) = ap (λ l. name ++ 32 ∷ l) (
 -- a line of positions
 pub text_parts_of_positions : (old a b new name numbers : List ℕ) → a ≡ old ++ name → b ≡ a ++ flat_map spaced_text_part numbers
     → new ≡ b ++ codes "\n"
-    → new ≡ old ++ report_text_line (name ∷ map decimal numbers)
+    → new ≡ old ++ text_line (name ∷ map decimal numbers)
 text_parts_of_positions old a b new name numbers is_a is_b is_new =
     let regroup : ((old ++ name) ++ flat_map spaced_text_part numbers) ++ codes "\n"
     ≡ old ++ ((name ++ flat_map spaced_text_part numbers) ++ codes "\n") =
@@ -34,7 +34,7 @@ text_part_line_groups old name prefix space lo hi end = simp append_assoc
 pub text_parts_of_line : (old a b c d new prefix lo hi : List ℕ)
     → a ≡ old ++ codes "line " → b ≡ a ++ prefix → c ≡ b ++ codes " " ++ lo → d ≡ c ++ codes " " ++ hi
     → new ≡ d ++ codes "\n"
-    → new ≡ old ++ report_text_line (codes "line" ∷ prefix ∷ lo ∷ hi ∷ [])
+    → new ≡ old ++ text_line (codes "line" ∷ prefix ∷ lo ∷ hi ∷ [])
 text_parts_of_line old a b c d new prefix lo hi is_a is_b is_c is_d is_new =
     is_new
     ∙ ap (λ l. l ++ codes "\n")
@@ -57,8 +57,8 @@ pub text_parts_of_tail : (old a b c d new frames not_ipv4 short bad_header : Lis
     → d ≡ c ++ codes " " ++ bad_header → new ≡ d ++ codes "\nend\n"
     → new
     ≡ old
-    ++ (report_text_line (codes "frames" ∷ frames ∷ [])
-    ++ report_text_line (codes "skipped" ∷ not_ipv4 ∷ short ∷ bad_header ∷ []) ++ report_text_line (codes "end" ∷ []))
+    ++ (text_line (codes "frames" ∷ frames ∷ [])
+    ++ text_line (codes "skipped" ∷ not_ipv4 ∷ short ∷ bad_header ∷ []) ++ text_line (codes "end" ∷ []))
 text_parts_of_tail old a b c d new frames not_ipv4 short bad_header is_a is_b is_c is_d is_new =
     is_new
     ∙ ap (λ l. l ++ codes "\nend\n")
@@ -81,8 +81,8 @@ pub text_parts_of_report : (old a b c d e f new positions total threshold lines 
     → new ≡ f ++ codes "done\n"
     → new
     ≡ old
-    ++ (report_text_line (codes "report" ∷ []) ++ positions ++ report_text_line (codes "total" ∷ total ∷ [])
-    ++ report_text_line (codes "threshold" ∷ threshold ∷ []) ++ lines ++ report_text_line (codes "done" ∷ []))
+    ++ (text_line (codes "report" ∷ []) ++ positions ++ text_line (codes "total" ∷ total ∷ [])
+    ++ text_line (codes "threshold" ∷ threshold ∷ []) ++ lines ++ text_line (codes "done" ∷ []))
 text_parts_of_report old a b c d e f new positions total threshold lines is_a is_b is_c is_d is_e is_f is_new =
     is_new ∙ ap (λ l. l ++ codes "done\n")
     (is_f ∙ ap (λ l. l ++ lines)

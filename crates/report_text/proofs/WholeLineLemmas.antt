@@ -3,8 +3,8 @@ use Rattle.std.proofs.Common.{◌≡◌, ℕ, ◌≤◌, eqb, false, cond, List,
 use Rattle.std.proofs.Common.{refl, ap, ◌∙◌, arith, append_assoc}
 use Rattle.std.specs.List.{flat_map, join_with_byte, AllByRecursion}
 use Rattle.std.proofs.lemmas.Bool.{ne_eqb}
-use Rattle.report_text.specs.SessionText.{IsSessionLine, session_line_words, session_line_text, whole_lines_of_session}
-use Rattle.report_text.specs.SessionText.{before_session_line}
+use Rattle.report_text.specs.Session.{IsSessionLine, line_words, words_text, whole_lines}
+use Rattle.report_text.specs.Session.{before_line}
 use Rattle.report_text.specs.declared.session_line.SessionLine.{SessionLine}
 use Rattle.report_text.proofs.TextWordLemmas.{IsTextWord}
 use Rattle.report_text.proofs.WordListLemmas.{word_list_of_line}
@@ -14,20 +14,20 @@ abbrev pub HasNoWholeLine : List ℕ → Type 0
 HasNoWholeLine text = AllByRecursion (λ byte. eqb byte 10 ≡ false) text
 
 -- a line and its line feed are the first whole line
-pub whole_lines_of_session-line : (line rest : List ℕ) → HasNoWholeLine line
-    → whole_lines_of_session (line ++ 10 ∷ rest) ≡ (line ++ 10 ∷ []) ∷ whole_lines_of_session rest
-whole_lines_of_session-line [] rest none = refl
-whole_lines_of_session-line (byte ∷ line) rest none =
-    ap (λ b. cond b ((byte ∷ []) ∷ whole_lines_of_session (line ++ 10 ∷ rest)) (before_session_line byte (whole_lines_of_session (line ++ 10 ∷ rest))))
+pub whole_lines-line : (line rest : List ℕ) → HasNoWholeLine line
+    → whole_lines (line ++ 10 ∷ rest) ≡ (line ++ 10 ∷ []) ∷ whole_lines rest
+whole_lines-line [] rest none = refl
+whole_lines-line (byte ∷ line) rest none =
+    ap (λ b. cond b ((byte ∷ []) ∷ whole_lines (line ++ 10 ∷ rest)) (before_line byte (whole_lines (line ++ 10 ∷ rest))))
     none.0
-    ∙ ap (before_session_line byte) (whole_lines_of_session-line line rest none.1)
+    ∙ ap (before_line byte) (whole_lines-line line rest none.1)
 
 -- what has no line feed has no whole line
-pub whole_lines_of_session-rest : (text : List ℕ) → HasNoWholeLine text → whole_lines_of_session text ≡ []
-whole_lines_of_session-rest [] none = refl
-whole_lines_of_session-rest (byte ∷ text) none =
-    ap (λ b. cond b ((byte ∷ []) ∷ whole_lines_of_session text) (before_session_line byte (whole_lines_of_session text))) none.0
-    ∙ ap (before_session_line byte) (whole_lines_of_session-rest text none.1)
+pub whole_lines-rest : (text : List ℕ) → HasNoWholeLine text → whole_lines text ≡ []
+whole_lines-rest [] none = refl
+whole_lines-rest (byte ∷ text) none =
+    ap (λ b. cond b ((byte ∷ []) ∷ whole_lines text) (before_line byte (whole_lines text))) none.0
+    ∙ ap (before_line byte) (whole_lines-rest text none.1)
 
 HasNoWholeLine-append : (text other : List ℕ) → HasNoWholeLine text → HasNoWholeLine other → HasNoWholeLine (text ++ other)
 HasNoWholeLine-append [] other none other_none = other_none
@@ -45,17 +45,17 @@ HasNoWholeLine-join (word ∷ second ∷ words) all =
     (refl, HasNoWholeLine-join (second ∷ words) all.1)
 
 -- a line of a session has one line feed, at its end
-pub HasNoWholeLine-words : (line : SessionLine) → IsSessionLine line → HasNoWholeLine (join_with_byte 32 (session_line_words line))
-HasNoWholeLine-words line is = HasNoWholeLine-join (session_line_words line) (word_list_of_line line is)
+pub HasNoWholeLine-words : (line : SessionLine) → IsSessionLine line → HasNoWholeLine (join_with_byte 32 (line_words line))
+HasNoWholeLine-words line is = HasNoWholeLine-join (line_words line) (word_list_of_line line is)
 
 whole_line_groups : (line end rest behind : List ℕ) → ((line ++ end) ++ rest) ++ behind ≡ line ++ (end ++ (rest ++ behind))
 whole_line_groups line end rest behind = simp append_assoc
 
 -- lines of a session are the first whole lines
-pub whole_lines_of_session-lines : (lines : List SessionLine) (rest : List ℕ) → AllByRecursion IsSessionLine lines
-    → whole_lines_of_session (flat_map session_line_text lines ++ rest) ≡ map session_line_text lines ++ whole_lines_of_session rest
-whole_lines_of_session-lines [] rest all = refl
-whole_lines_of_session-lines (line ∷ lines) rest all =
-    ap whole_lines_of_session (whole_line_groups (join_with_byte 32 (session_line_words line)) (10 ∷ []) (flat_map session_line_text lines) rest)
-    ∙ whole_lines_of_session-line (join_with_byte 32 (session_line_words line)) (flat_map session_line_text lines ++ rest) (HasNoWholeLine-words line all.0)
-    ∙ ap (λ l. session_line_text line ∷ l) (whole_lines_of_session-lines lines rest all.1)
+pub whole_lines-lines : (lines : List SessionLine) (rest : List ℕ) → AllByRecursion IsSessionLine lines
+    → whole_lines (flat_map words_text lines ++ rest) ≡ map words_text lines ++ whole_lines rest
+whole_lines-lines [] rest all = refl
+whole_lines-lines (line ∷ lines) rest all =
+    ap whole_lines (whole_line_groups (join_with_byte 32 (line_words line)) (10 ∷ []) (flat_map words_text lines) rest)
+    ∙ whole_lines-line (join_with_byte 32 (line_words line)) (flat_map words_text lines ++ rest) (HasNoWholeLine-words line all.0)
+    ∙ ap (λ l. words_text line ∷ l) (whole_lines-lines lines rest all.1)

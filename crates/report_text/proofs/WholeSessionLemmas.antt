@@ -6,13 +6,13 @@ use Rattle.std.proofs.lemmas.List.Elements.{All-from_recursion, recursion_from_A
 use Rattle.hhh_report.specs.{AreReportLines, IsSameReport, line_limit}
 use Rattle.hhh_report.specs.declared.line.Line.{Line as LineValue}
 use Rattle.hhh_report.specs.declared.reports.Reported.{Reported}
-use Rattle.report_text.specs.ReportText.{ReportTextShowsPositions, ReportTextShowsLine}
-use Rattle.report_text.specs.SessionText.{IsSessionLine, AreSessionTextPositions, IsReportedInSessionText}
-use Rattle.report_text.specs.SessionText.{IsTextSession}
-use Rattle.report_text.specs.SessionText.{AreSameTextSessions, session_report_lines, session_reported_lines}
-use Rattle.report_text.specs.SessionText.{session_saved_lines, session_lines}
+use Rattle.report_text.specs.Printing.{ShowsPositions, ShowsLine}
+use Rattle.report_text.specs.Session.{IsSessionLine, ArePositions, IsReported}
+use Rattle.report_text.specs.Session.{IsTextSession}
+use Rattle.report_text.specs.Session.{AreSameSessions, report_lines, reported_lines}
+use Rattle.report_text.specs.Session.{saved_lines, session_lines}
 use Rattle.report_text.specs.Stages.{Stage, nothing, opened, begun, placed, weighed, listing, done, saved, counted}
-use Rattle.report_text.specs.Stages.{skipped, ended, LeadsFromStage, stage_body_lines}
+use Rattle.report_text.specs.Stages.{skipped, ended, LeadsFromStage, body_lines}
 use Rattle.report_text.specs.declared.session.Session.{Session}
 use Rattle.report_text.specs.declared.session_line.Skips.{Skips}
 use Rattle.report_text.specs.declared.session_line.SessionLine.{SessionLine}
@@ -41,22 +41,22 @@ pub record WholeSessionGoesOn (n : ℕ) (rest : List SessionLine) : Type 0 where
   after_done : LeadsFromStage (done n) rest ended
   after_saved : LeadsFromStage (saved n) rest ended
 
-whole_session_saved_leads : (n : ℕ) (positions : Option (List ℕ)) (rest : List SessionLine) → IfSome positions (AreSessionTextPositions n)
-    → WholeSessionGoesOn n rest → LeadsFromStage (done n) (session_saved_lines positions ++ rest) ended
+whole_session_saved_leads : (n : ℕ) (positions : Option (List ℕ)) (rest : List SessionLine) → IfSome positions (ArePositions n)
+    → WholeSessionGoesOn n rest → LeadsFromStage (done n) (saved_lines positions ++ rest) ended
 whole_session_saved_leads n None rest are on = on.after_done
 whole_session_saved_leads n (Some positions) rest are on = (saved n, (are.as_many, refl), on.after_saved)
 
 -- a report leads on
-whole_session_report_leads : (n : ℕ) (reported : Reported) (rest : List SessionLine) → IsReportedInSessionText n reported → WholeSessionGoesOn n rest
-    → LeadsFromStage (begun n) (stage_body_lines reported.report ++ (session_saved_lines reported.saved ++ rest)) ended
+whole_session_report_leads : (n : ℕ) (reported : Reported) (rest : List SessionLine) → IsReported n reported → WholeSessionGoesOn n rest
+    → LeadsFromStage (begun n) (body_lines reported.report ++ (saved_lines reported.saved ++ rest)) ended
 whole_session_report_leads n reported rest is on =
     let report = reported.report in
     let lines = report.are_lines in
     let end = whole_session_saved_leads n reported.saved rest is.saved on in
     let few : 0 + length report.lines < line_limit = let some : length report.lines < line_limit = lines.few in omega arith in
-    let listed = whole_session_lines_lead n 0 None report.lines (Done ∷ (session_saved_lines reported.saved ++ rest)) ended
+    let listed = whole_session_lines_lead n 0 None report.lines (Done ∷ (saved_lines reported.saved ++ rest)) ended
     (whole_session_lines_rise report.lines lines) few (λ others prefix. (done n, refl, end)) in
-    let grouped = sym (append_assoc (map Line report.lines) (Done ∷ []) (session_saved_lines reported.saved ++ rest)) in (
+    let grouped = sym (append_assoc (map Line report.lines) (Done ∷ []) (saved_lines reported.saved ++ rest)) in (
       placed n,
       (is.positions.as_many, refl),
       (
@@ -83,19 +83,19 @@ whole_session_counts-lead skips = (skipped, refl, (ended, refl, refl))
 
 -- the first of some reports, after its first line
 whole_session_first_report : (n : ℕ) (reported : Reported) (reports : List Reported) (frames : ℕ) (skips : Skips)
-    → IsReportedInSessionText n reported → WholeSessionGoesOn n (flat_map session_reported_lines reports ++ whole_session_counts frames skips)
+    → IsReported n reported → WholeSessionGoesOn n (flat_map reported_lines reports ++ whole_session_counts frames skips)
     → LeadsFromStage (begun n)
-    (((stage_body_lines reported.report ++ session_saved_lines reported.saved) ++ flat_map session_reported_lines reports) ++ whole_session_counts frames skips)
+    (((body_lines reported.report ++ saved_lines reported.saved) ++ flat_map reported_lines reports) ++ whole_session_counts frames skips)
     ended
 whole_session_first_report n reported reports frames skips is on =
     subst (λ l. LeadsFromStage (begun n) l ended)
-    (whole_session_groups (stage_body_lines reported.report) (session_saved_lines reported.saved) (flat_map session_reported_lines reports)
+    (whole_session_groups (body_lines reported.report) (saved_lines reported.saved) (flat_map reported_lines reports)
     (whole_session_counts frames skips))
-    (whole_session_report_leads n reported (flat_map session_reported_lines reports ++ whole_session_counts frames skips) is on)
+    (whole_session_report_leads n reported (flat_map reported_lines reports ++ whole_session_counts frames skips) is on)
 
 -- reports lead to the end
-whole_session_reports_lead : (n : ℕ) (reports : List Reported) (frames : ℕ) (skips : Skips) → AllByRecursion (IsReportedInSessionText n) reports
-    → WholeSessionGoesOn n (flat_map session_reported_lines reports ++ whole_session_counts frames skips)
+whole_session_reports_lead : (n : ℕ) (reports : List Reported) (frames : ℕ) (skips : Skips) → AllByRecursion (IsReported n) reports
+    → WholeSessionGoesOn n (flat_map reported_lines reports ++ whole_session_counts frames skips)
 whole_session_reports_lead n [] frames skips all = record {
   after_done = (counted, refl, whole_session_counts-lead skips);
   after_saved = (counted, refl, whole_session_counts-lead skips);
@@ -106,8 +106,8 @@ whole_session_reports_lead n (reported ∷ reports) frames skips all =
 
 -- one report or more
 whole_session_some_reports : (n : ℕ) (reports : List Reported) (frames : ℕ) (skips : Skips) → 1 ≤ length reports
-    → AllByRecursion (IsReportedInSessionText n) reports
-    → LeadsFromStage (opened n) (flat_map session_reported_lines reports ++ whole_session_counts frames skips) ended
+    → AllByRecursion (IsReported n) reports
+    → LeadsFromStage (opened n) (flat_map reported_lines reports ++ whole_session_counts frames skips) ended
 whole_session_some_reports n [] frames skips some all = absurd (omega arith)
 whole_session_some_reports n (reported ∷ reports) frames skips some all =
     (begun n, refl, whole_session_first_report n reported reports frames skips all.0 (whole_session_reports_lead n reports frames skips all.1))
@@ -122,7 +122,7 @@ whole_session_leads_to_end session is = (
   opened (length session.opened),
   refl,
   whole_session_some_reports (length session.opened) session.reports session.frames (whole_session_skips session) is.some
-      (recursion_from_All (IsReportedInSessionText (length session.opened)) session.reports is.reports),
+      (recursion_from_All (IsReported (length session.opened)) session.reports is.reports),
 )
 
 whole_session_append : (lines others : List SessionLine) → AllByRecursion IsSessionLine lines → AllByRecursion IsSessionLine others
@@ -130,22 +130,22 @@ whole_session_append : (lines others : List SessionLine) → AllByRecursion IsSe
 whole_session_append [] others all others_all = others_all
 whole_session_append (line ∷ lines) others all others_all = (all.0, whole_session_append lines others all.1 others_all)
 
-whole_session_listed_lines : (lines : List LineValue) → AllByRecursion ReportTextShowsLine lines → AllByRecursion IsOrderedSessionPart lines
+whole_session_listed_lines : (lines : List LineValue) → AllByRecursion ShowsLine lines → AllByRecursion IsOrderedSessionPart lines
     → AllByRecursion IsSessionLine (map Line lines)
 whole_session_listed_lines [] all ordered = tt
 whole_session_listed_lines (line ∷ lines) all ordered =
     (record { showable = all.0; ordered = ordered.0 }, whole_session_listed_lines lines all.1 ordered.1)
 
-whole_session_saved_lines : (n : ℕ) (positions : Option (List ℕ)) → IfSome positions (AreSessionTextPositions n)
-    → AllByRecursion IsSessionLine (session_saved_lines positions)
+whole_session_saved_lines : (n : ℕ) (positions : Option (List ℕ)) → IfSome positions (ArePositions n)
+    → AllByRecursion IsSessionLine (saved_lines positions)
 whole_session_saved_lines n None are = tt
 whole_session_saved_lines n (Some positions) are = (are.are_positions, tt)
 
-whole_session_reported_lines : (n : ℕ) (reported : Reported) → IsReportedInSessionText n reported
-    → AllByRecursion IsSessionLine (session_reported_lines reported)
+whole_session_reported_lines : (n : ℕ) (reported : Reported) → IsReported n reported
+    → AllByRecursion IsSessionLine (reported_lines reported)
 whole_session_reported_lines n reported is =
     let report = reported.report in
-    whole_session_append (session_report_lines report) (session_saved_lines reported.saved) (
+    whole_session_append (report_lines report) (saved_lines reported.saved) (
       tt,
       (
         is.positions.are_positions,
@@ -154,7 +154,7 @@ whole_session_reported_lines n reported is =
           (
             (is.some, is.threshold),
             whole_session_append (map Line report.lines) (Done ∷ [])
-                (whole_session_listed_lines report.lines (recursion_from_All ReportTextShowsLine report.lines is.lines)
+                (whole_session_listed_lines report.lines (recursion_from_All ShowsLine report.lines is.lines)
                 (recursion_from_All IsOrderedSessionPart report.lines report.are_lines.ordered))
                 (tt, tt),
           ),
@@ -163,20 +163,20 @@ whole_session_reported_lines n reported is =
     )
     (whole_session_saved_lines n reported.saved is.saved)
 
-whole_session_lines_of_reports : (n : ℕ) (reports : List Reported) → AllByRecursion (IsReportedInSessionText n) reports
-    → AllByRecursion IsSessionLine (flat_map session_reported_lines reports)
+whole_session_lines_of_reports : (n : ℕ) (reports : List Reported) → AllByRecursion (IsReported n) reports
+    → AllByRecursion IsSessionLine (flat_map reported_lines reports)
 whole_session_lines_of_reports n [] all = tt
 whole_session_lines_of_reports n (reported ∷ reports) all =
-    whole_session_append (session_reported_lines reported) (flat_map session_reported_lines reports) (whole_session_reported_lines n reported all.0)
+    whole_session_append (reported_lines reported) (flat_map reported_lines reports) (whole_session_reported_lines n reported all.0)
     (whole_session_lines_of_reports n reports all.1)
 
 -- the lines of a session hold what lines may hold
 pub whole_session_lines : (session : Session) → IsTextSession session → AllByRecursion IsSessionLine (session_lines session)
 whole_session_lines session is = (
   is.opened,
-  whole_session_append (flat_map session_reported_lines session.reports) (whole_session_counts session.frames (whole_session_skips session))
+  whole_session_append (flat_map reported_lines session.reports) (whole_session_counts session.frames (whole_session_skips session))
       (whole_session_lines_of_reports (length session.opened) session.reports
-      (recursion_from_All (IsReportedInSessionText (length session.opened)) session.reports is.reports))
+      (recursion_from_All (IsReported (length session.opened)) session.reports is.reports))
       (is.frames, (record { not_ipv4 = is.not_ipv4; short = is.short; bad_header = is.bad_header }, (tt, tt))),
 )
 
@@ -195,18 +195,18 @@ whole_session_lines_apart (line ∷ lines) (another ∷ others) rest other same 
 
 -- what follows a report doesn't begin with saved positions
 whole_session_not_saved : (reports : List Reported) (frames : ℕ) (tail : List SessionLine) (positions : List ℕ) (lines : List SessionLine)
-    → flat_map session_reported_lines reports ++ Frames frames ∷ tail ≡ Saved positions ∷ lines → ⊥
+    → flat_map reported_lines reports ++ Frames frames ∷ tail ≡ Saved positions ∷ lines → ⊥
 whole_session_not_saved [] frames tail positions lines same = cc
 whole_session_not_saved (reported ∷ reports) frames tail positions lines same = cc
 
 -- saved positions and what follows are told apart
 whole_session_saved_apart : (positions others : Option (List ℕ)) (reports other_reports : List Reported) (frames other_frames : ℕ)
     (tail other : List SessionLine)
-    → session_saved_lines positions ++ (flat_map session_reported_lines reports ++ Frames frames ∷ tail)
-    ≡ session_saved_lines others ++ (flat_map session_reported_lines other_reports ++ Frames other_frames ∷ other)
+    → saved_lines positions ++ (flat_map reported_lines reports ++ Frames frames ∷ tail)
+    ≡ saved_lines others ++ (flat_map reported_lines other_reports ++ Frames other_frames ∷ other)
     → (positions ≡ others)
-    × (flat_map session_reported_lines reports ++ Frames frames ∷ tail
-    ≡ flat_map session_reported_lines other_reports ++ Frames other_frames ∷ other)
+    × (flat_map reported_lines reports ++ Frames frames ∷ tail
+    ≡ flat_map reported_lines other_reports ++ Frames other_frames ∷ other)
 whole_session_saved_apart None None reports other_reports frames other_frames tail other same = (refl, same)
 whole_session_saved_apart None (Some others) reports other_reports frames other_frames tail other same =
     absurd (whole_session_not_saved reports frames tail others _ same)
@@ -224,18 +224,18 @@ whole_session_report_groups : (positions total threshold : SessionLine) (lines m
 whole_session_report_groups positions total threshold lines mark reports tail = simp append_assoc
 
 whole_session_spread : (reported : Reported) (reports : List Reported) (tail : List SessionLine)
-    → flat_map session_reported_lines (reported ∷ reports) ++ tail
+    → flat_map reported_lines (reported ∷ reports) ++ tail
     ≡ Report ∷ At reported.report.positions ∷ Total reported.report.total ∷ Threshold reported.report.threshold
     ∷ (map Line reported.report.lines ++ Done
-    ∷ (session_saved_lines reported.saved ++ (flat_map session_reported_lines reports ++ tail)))
+    ∷ (saved_lines reported.saved ++ (flat_map reported_lines reports ++ tail)))
 whole_session_spread reported reports tail =
     whole_session_report_groups (At reported.report.positions) (Total reported.report.total) (Threshold reported.report.threshold)
-    (map Line reported.report.lines) (session_saved_lines reported.saved) (flat_map session_reported_lines reports) tail
+    (map Line reported.report.lines) (saved_lines reported.saved) (flat_map reported_lines reports) tail
 
 -- reports before the counts are told apart
 whole_session_reports_apart : (reports others : List Reported) (frames other_frames : ℕ) (tail other : List SessionLine)
-    → flat_map session_reported_lines reports ++ Frames frames ∷ tail
-    ≡ flat_map session_reported_lines others ++ Frames other_frames ∷ other
+    → flat_map reported_lines reports ++ Frames frames ∷ tail
+    ≡ flat_map reported_lines others ++ Frames other_frames ∷ other
     → AllZip IsSameInWholeSession reports others × (Frames frames ∷ tail ≡ Frames other_frames ∷ other)
 whole_session_reports_apart [] [] frames other_frames tail other same = (tt, same)
 whole_session_reports_apart [] (another ∷ others) frames other_frames tail other same = cc
@@ -247,9 +247,9 @@ whole_session_reports_apart (reported ∷ reports) (another ∷ others) frames o
     let total : reported.report.total ≡ another.report.total = cc in
     let threshold : reported.report.threshold ≡ another.report.threshold = cc in
     let behind : map Line reported.report.lines ++ Done
-    ∷ (session_saved_lines reported.saved ++ (flat_map session_reported_lines reports ++ Frames frames ∷ tail))
+    ∷ (saved_lines reported.saved ++ (flat_map reported_lines reports ++ Frames frames ∷ tail))
     ≡ map Line another.report.lines ++ Done
-    ∷ (session_saved_lines another.saved ++ (flat_map session_reported_lines others ++ Frames other_frames ∷ other)) = cc in
+    ∷ (saved_lines another.saved ++ (flat_map reported_lines others ++ Frames other_frames ∷ other)) = cc in
     let listed = whole_session_lines_apart reported.report.lines another.report.lines _ _ behind in
     let marks = whole_session_saved_apart reported.saved another.saved reports others frames other_frames tail other listed.1 in
     let rest = whole_session_reports_apart reports others frames other_frames tail other marks.1 in
@@ -257,11 +257,11 @@ whole_session_reports_apart (reported ∷ reports) (another ∷ others) frames o
 
 -- sessions with the same lines say the same
 pub whole_sessions_apart : (session other : Session) → session_lines session ≡ session_lines other
-    → AreSameTextSessions session other
+    → AreSameSessions session other
 whole_sessions_apart session other same =
     let opened_same : session.opened ≡ other.opened = cc in
-    let behind : flat_map session_reported_lines session.reports ++ whole_session_counts session.frames (whole_session_skips session)
-    ≡ flat_map session_reported_lines other.reports ++ whole_session_counts other.frames (whole_session_skips other) = cc in
+    let behind : flat_map reported_lines session.reports ++ whole_session_counts session.frames (whole_session_skips session)
+    ≡ flat_map reported_lines other.reports ++ whole_session_counts other.frames (whole_session_skips other) = cc in
     let both = whole_session_reports_apart session.reports other.reports session.frames other.frames
     (Skipped (whole_session_skips session) ∷ End ∷ []) (Skipped (whole_session_skips other) ∷ End ∷ []) behind in
     let last = both.1 in
@@ -276,19 +276,19 @@ whole_sessions_apart session other same =
       bad_header = ap (λ (s : Skips). s.bad_header) skips_same;
     }
 
-whole_session_same_report : (n : ℕ) (reported another : Reported) → IsReportedInSessionText n reported → IsSameInWholeSession reported another
-    → IsReportedInSessionText n another
+whole_session_same_report : (n : ℕ) (reported another : Reported) → IsReported n reported → IsSameInWholeSession reported another
+    → IsReported n another
 whole_session_same_report n reported another is same = record {
-  positions = subst (AreSessionTextPositions n) same.0.positions is.positions;
+  positions = subst (ArePositions n) same.0.positions is.positions;
   total = omega (arith, same.0.total, is.total);
   some = omega (arith, same.0.threshold, is.some);
   threshold = omega (arith, same.0.threshold, is.threshold);
-  lines = subst (λ l. All ReportTextShowsLine l) same.0.lines is.lines;
-  saved = subst (λ s. IfSome s (AreSessionTextPositions n)) same.1 is.saved;
+  lines = subst (λ l. All ShowsLine l) same.0.lines is.lines;
+  saved = subst (λ s. IfSome s (ArePositions n)) same.1 is.saved;
 }
 
-whole_session_same_reports : (n : ℕ) (reports others : List Reported) → AllByRecursion (IsReportedInSessionText n) reports
-    → AllZip IsSameInWholeSession reports others → AllByRecursion (IsReportedInSessionText n) others
+whole_session_same_reports : (n : ℕ) (reports others : List Reported) → AllByRecursion (IsReported n) reports
+    → AllZip IsSameInWholeSession reports others → AllByRecursion (IsReported n) others
 whole_session_same_reports n [] [] all same = tt
 whole_session_same_reports n [] (another ∷ others) all same = absurd same
 whole_session_same_reports n (reported ∷ reports) [] all same = absurd same
@@ -302,16 +302,16 @@ whole_session_same_length (reported ∷ reports) [] same = absurd same
 whole_session_same_length (reported ∷ reports) (another ∷ others) same = ap (λ n. suc n) (whole_session_same_length reports others same.1)
 
 -- what says the same as a session is one
-pub whole_session_same : (session other : Session) → IsTextSession session → AreSameTextSessions session other → IsTextSession other
+pub whole_session_same : (session other : Session) → IsTextSession session → AreSameSessions session other → IsTextSession other
 whole_session_same session other is same =
     let reports = whole_session_same_reports (length session.opened) session.reports other.reports
-    (recursion_from_All (IsReportedInSessionText (length session.opened)) session.reports is.reports) same.reports in
+    (recursion_from_All (IsReported (length session.opened)) session.reports is.reports) same.reports in
     let as_many = whole_session_same_length session.reports other.reports same.reports in
     record {
-      opened = subst ReportTextShowsPositions same.opened is.opened;
+      opened = subst ShowsPositions same.opened is.opened;
       some = omega (arith, as_many, is.some);
-      reports = All-from_recursion (IsReportedInSessionText (length other.opened)) other.reports
-          (subst (λ l. AllByRecursion (IsReportedInSessionText (length l)) other.reports) same.opened reports);
+      reports = All-from_recursion (IsReported (length other.opened)) other.reports
+          (subst (λ l. AllByRecursion (IsReported (length l)) other.reports) same.opened reports);
       frames = omega (arith, same.frames, is.frames);
       not_ipv4 = omega (arith, same.not_ipv4, is.not_ipv4);
       short = omega (arith, same.short, is.short);

@@ -9,9 +9,9 @@ use Rattle.std.proofs.lemmas.List.Elements.{All-from_recursion, recursion_from_A
 use Rattle.std.proofs.lemmas.List.Splits.{slice_split_at, slice_split_none, join_with_byte-slice_split}
 use Rattle.std.proofs.lemmas.Fmt.{decimal_injective}
 use Rattle.hhh_report.specs.declared.line.Line.{Line as LineValue}
-use Rattle.report_text.specs.ReportText.{ReportTextShowsPositions}
-use Rattle.report_text.specs.SessionText.{IsSessionLine, session_line_words, session_line_text}
-use Rattle.report_text.specs.Stages.{stage_words_in}
+use Rattle.report_text.specs.Printing.{ShowsPositions}
+use Rattle.report_text.specs.Session.{IsSessionLine, line_words, words_text}
+use Rattle.report_text.specs.Stages.{words_in}
 use Rattle.report_text.specs.declared.session_line.Skips.{Skips}
 use Rattle.report_text.specs.declared.session_line.SessionLine.{SessionLine}
 use Rattle.report_text.specs.declared.session_line.SessionLine.TheVariants.{Opened, Report, At, Total, Threshold, Line}
@@ -29,19 +29,19 @@ word_list_without_space : (word : List ℕ) → IsTextWord word → All (λ byte
 word_list_without_space word is = All-from_recursion (λ byte. eqb byte 32 ≡ false) word (no_space_in_word_list word is)
 
 -- a word is the only word in it
-pub word_list_of_word : (word : List ℕ) → IsTextWord word → stage_words_in word ≡ word ∷ []
+pub word_list_of_word : (word : List ℕ) → IsTextWord word → words_in word ≡ word ∷ []
 word_list_of_word word is = slice_split_none (λ byte. eqb byte 32) word (word_list_without_space word is)
 
 -- words that are joined by spaces are the words in the text
 pub word_list_of_joined_words : (first : List ℕ) (others : List (List ℕ)) → IsTextWord first → AllByRecursion IsTextWord others
-    → stage_words_in (join_with_byte 32 (first ∷ others)) ≡ first ∷ others
+    → words_in (join_with_byte 32 (first ∷ others)) ≡ first ∷ others
 word_list_of_joined_words first [] is all = word_list_of_word first is
 word_list_of_joined_words first (second ∷ others) is all =
     slice_split_at (λ byte. eqb byte 32) first 32 (join_with_byte 32 (second ∷ others)) (word_list_without_space first is) refl
     ∙ ap (λ l. first ∷ l) (word_list_of_joined_words second others all.0 all.1)
 
 -- the words in a text, joined by spaces, are the text
-pub word_list_joins_to_text : (text : List ℕ) → join_with_byte 32 (stage_words_in text) ≡ text
+pub word_list_joins_to_text : (text : List ℕ) → join_with_byte 32 (words_in text) ≡ text
 word_list_joins_to_text text = join_with_byte-slice_split 32 text
 
 -- numbers are words
@@ -54,15 +54,15 @@ word_list_small_numbers : (positions : List ℕ) → AllByRecursion (λ n. n ≤
 word_list_small_numbers [] all = tt
 word_list_small_numbers (position ∷ positions) all = (let few : position ≤ 16777216 = all.0 in omega arith, word_list_small_numbers positions all.1)
 
-pub word_list_small_positions : (positions : List ℕ) → ReportTextShowsPositions positions → AllByRecursion (λ n. n < 2 ^ 64) positions
+pub word_list_small_positions : (positions : List ℕ) → ShowsPositions positions → AllByRecursion (λ n. n < 2 ^ 64) positions
 word_list_small_positions positions are =
     word_list_small_numbers positions (recursion_from_All (λ (n : ℕ). n ≤ 16777216) positions are.within)
 
-pub word_list_of_positions : (positions : List ℕ) → ReportTextShowsPositions positions → AllByRecursion IsTextWord (map decimal positions)
+pub word_list_of_positions : (positions : List ℕ) → ShowsPositions positions → AllByRecursion IsTextWord (map decimal positions)
 word_list_of_positions positions are = word_list_of_numbers positions (word_list_small_positions positions are)
 
 -- the words of a line
-pub word_list_of_line : (line : SessionLine) → IsSessionLine line → AllByRecursion IsTextWord (session_line_words line)
+pub word_list_of_line : (line : SessionLine) → IsSessionLine line → AllByRecursion IsTextWord (line_words line)
 word_list_of_line (Opened positions) is = (search rules, word_list_of_positions positions is)
 word_list_of_line Report is = (search rules, tt)
 word_list_of_line (At positions) is = (search rules, word_list_of_positions positions is)
@@ -95,27 +95,27 @@ word_list_of_line End is = (search rules, tt)
 
 -- the words in joined words, if there is at least one
 word_list_of_some_words : (words : List (List ℕ)) → 1 ≤ length words → AllByRecursion IsTextWord words
-    → stage_words_in (join_with_byte 32 words) ≡ words
+    → words_in (join_with_byte 32 words) ≡ words
 word_list_of_some_words [] some all = absurd (omega arith)
 word_list_of_some_words (word ∷ words) some all = word_list_of_joined_words word words all.0 all.1
 
 -- a line has at least one word
-word_list_is_not_empty : (line : SessionLine) → 1 ≤ length (session_line_words line)
+word_list_is_not_empty : (line : SessionLine) → 1 ≤ length (line_words line)
 word_list_is_not_empty (Opened positions) = omega arith
 word_list_is_not_empty (At positions) = omega arith
 word_list_is_not_empty (Saved positions) = omega arith
 word_list_is_not_empty _ = omega arith
 
 -- the words in the text of a line are its words
-pub word_list_in_line_text : (line : SessionLine) (text : List ℕ) → IsSessionLine line → session_line_text line ≡ text ++ 10 ∷ []
-    → stage_words_in text ≡ session_line_words line
+pub word_list_in_line_text : (line : SessionLine) (text : List ℕ) → IsSessionLine line → words_text line ≡ text ++ 10 ∷ []
+    → words_in text ≡ line_words line
 word_list_in_line_text line text is same =
-    ap stage_words_in (sym (append_cancel_right (join_with_byte 32 (session_line_words line)) text (10 ∷ []) same))
-    ∙ word_list_of_some_words (session_line_words line) (word_list_is_not_empty line) (word_list_of_line line is)
+    ap words_in (sym (append_cancel_right (join_with_byte 32 (line_words line)) text (10 ∷ []) same))
+    ∙ word_list_of_some_words (line_words line) (word_list_is_not_empty line) (word_list_of_line line is)
 
 -- a text that has the words of a line is its text, but for the line feed
-pub word_list_tells_line_text : (line : SessionLine) (text : List ℕ) → stage_words_in text ≡ session_line_words line
-    → session_line_text line ≡ text ++ 10 ∷ []
+pub word_list_tells_line_text : (line : SessionLine) (text : List ℕ) → words_in text ≡ line_words line
+    → words_text line ≡ text ++ 10 ∷ []
 word_list_tells_line_text line text same =
     ap (λ words. join_with_byte 32 words ++ 10 ∷ []) (sym same) ∙ ap (λ l. l ++ 10 ∷ []) (word_list_joins_to_text text)
 
@@ -153,7 +153,7 @@ word_list_same_skips skips other one two three =
 
 -- lines with the same words are the same
 pub word_list_tells_line : ReportPrefixesAreApart → (line other : SessionLine) → IsSessionLine line → IsSessionLine other
-    → session_line_words line ≡ session_line_words other
+    → line_words line ≡ line_words other
     → line ≡ other
 word_list_tells_line law (Opened positions) (Opened others) is other_is same =
     let rest : map decimal positions ≡ map decimal others = cc in
@@ -194,5 +194,5 @@ word_list_tells_line law (Skipped skips) (Skipped other) is other_is same =
     ap Skipped (word_list_same_skips skips other one two three)
 word_list_tells_line law End End is other_is same = refl
 word_list_tells_line law line other is other_is same =
-    let kinds : word_list_initials (session_line_words line) ≡ word_list_initials (session_line_words other) = ap word_list_initials same in absurd
+    let kinds : word_list_initials (line_words line) ≡ word_list_initials (line_words other) = ap word_list_initials same in absurd
     (omega arith)

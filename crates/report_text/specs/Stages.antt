@@ -2,7 +2,7 @@
 use Rattle.std.specs.Prelude.{⊤, ℕ, ◌≡◌, ◌+◌, ◌<◌, ◌==◌, List, [], ◌∷◌, ◌++◌, length, map, Option, Some, None}
 use Rattle.std.specs.List.{slice_split}
 use Rattle.std.specs.declared.cmp.Ordering.TheVariants.{Less}
-use Rattle.prefix_lattice.specs.{PrefixValue, report_order, prefix_text_space}
+use Rattle.prefix_lattice.specs.{PrefixValue, report_order, text_space}
 use Rattle.hhh_report.specs.{line_limit}
 use Rattle.hhh_report.specs.declared.report.Report.{Report as ReportValue}
 use Rattle.report_text.specs.declared.session_line.SessionLine.{SessionLine}
@@ -10,8 +10,8 @@ use Rattle.report_text.specs.declared.session_line.SessionLine.TheVariants.{Open
 use Rattle.report_text.specs.declared.session_line.SessionLine.TheVariants.{Done, Saved, Frames, Skipped, End}
 
 -- the words of a text that are separated by spaces
-abbrev pub stage_words_in : List ℕ → List (List ℕ)
-stage_words_in text = slice_split (λ byte. byte == prefix_text_space) text
+abbrev pub words_in : List ℕ → List (List ℕ)
+words_in text = slice_split (λ byte. byte == text_space) text
 
 -- the last line that was read: none yet; one of a session over this many shards before its last three lines, and among
 -- the lines of a report how many were read and the prefix of the last one; or one of the last three lines
@@ -29,9 +29,9 @@ pub data Stage : Type 0 where
   ended : Stage
 
 -- the prefix comes after the last one in the order of a report
-abbrev pub ComesAfterLastOfStage : Option PrefixValue → PrefixValue → Type 0
-ComesAfterLastOfStage None prefix = ⊤
-ComesAfterLastOfStage (Some last) prefix = report_order last prefix ≡ Less
+abbrev pub ComesAfterLast : Option PrefixValue → PrefixValue → Type 0
+ComesAfterLast None prefix = ⊤
+ComesAfterLast (Some last) prefix = report_order last prefix ≡ Less
 
 -- the line may come at this stage, and leads to the other
 abbrev pub FollowsStage : Stage → SessionLine → Stage → Type 0
@@ -41,7 +41,7 @@ FollowsStage (begun shards) (At positions) next = (length positions ≡ shards) 
 FollowsStage (placed shards) (Total total) next = next ≡ weighed shards
 FollowsStage (weighed shards) (Threshold threshold) next = next ≡ listing shards 0 None
 FollowsStage (listing shards count last) (Line line) next =
-    ComesAfterLastOfStage last line.prefix × (count + 1 < line_limit) × (next ≡ listing shards (count + 1) (Some line.prefix))
+    ComesAfterLast last line.prefix × (count + 1 < line_limit) × (next ≡ listing shards (count + 1) (Some line.prefix))
 FollowsStage (listing shards count last) Done next = next ≡ done shards
 FollowsStage (done shards) Report next = next ≡ begun shards
 FollowsStage (done shards) (Saved positions) next = (length positions ≡ shards) × (next ≡ saved shards)
@@ -63,16 +63,16 @@ IsStageBeforeEnd ended = ⊥
 IsStageBeforeEnd _ = ⊤
 
 -- the lines of a report after its first
-abbrev pub stage_body_lines : ReportValue → List SessionLine
-stage_body_lines report =
+abbrev pub body_lines : ReportValue → List SessionLine
+body_lines report =
     At report.positions ∷ Total report.total ∷ Threshold report.threshold ∷ (map Line report.lines ++ Done ∷ [])
 
 -- what follows a report and its saved cut: another report, or the number of frames
-abbrev pub stage_line_after_report : Option ℕ → SessionLine
-stage_line_after_report None = Report
-stage_line_after_report (Some frames) = Frames frames
+abbrev pub line_after_report : Option ℕ → SessionLine
+line_after_report None = Report
+line_after_report (Some frames) = Frames frames
 
 -- the stage that this line leads to
-abbrev pub stage_after_report : ℕ → Option ℕ → Stage
-stage_after_report shards None = begun shards
-stage_after_report shards (Some frames) = counted
+abbrev pub after_report : ℕ → Option ℕ → Stage
+after_report shards None = begun shards
+after_report shards (Some frames) = counted

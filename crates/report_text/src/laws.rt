@@ -4,11 +4,11 @@ ghost use Rattle.std.specs.Prelude.{◌≡◌, ◌≤◌, List, ℕ, length, map
 ghost use Rattle.std.specs.List.{flat_map};
 ghost use Rattle.hhh_report.specs.{IsSameReport};
 ghost use Rattle.hhh_report.specs.declared.report.Report.{Report};
-ghost use Rattle.report_text.specs.ReportText.{report_text, ReportTextShows};
-ghost use Rattle.report_text.specs.SessionText.{AreSameTextSessions, HasSessionTextFault, IsTextSession, IsSessionText};
-ghost use Rattle.report_text.specs.SessionText.{longest_session_text_length};
-ghost use Rattle.report_text.specs.SessionText.{printed_session_text, session_report_lines, session_lines};
-ghost use Rattle.report_text.specs.SessionText.{session_text, session_line_text, whole_lines_of_session};
+ghost use Rattle.report_text.specs.Printing.{report_text, Shows};
+ghost use Rattle.report_text.specs.Session.{AreSameSessions, HasSessionFault, IsTextSession, IsSessionText};
+ghost use Rattle.report_text.specs.Session.{longest_session};
+ghost use Rattle.report_text.specs.Session.{printed_text, report_lines, session_lines};
+ghost use Rattle.report_text.specs.Session.{session_text, words_text, whole_lines};
 ghost use Rattle.report_text.specs.declared.session.Session.{Session};
 ghost use Rattle.report_text.specs.declared.session_fault.TextFault.{TextFault};
 
@@ -16,7 +16,7 @@ use prefix_lattice::{prefix_texts_read_back, report_order_is_total};
 
 /// A law of reports: reports with the same text show the same.
 pub fn report_texts_are_apart()
-    ensures { (report other : Report) → ReportTextShows report → ReportTextShows other → report_text report ≡ report_text other → IsSameReport report other }
+    ensures { (report other : Report) → Shows report → Shows other → report_text report ≡ report_text other → IsSameReport report other }
 {
     prefix_texts_read_back();
 }
@@ -29,11 +29,11 @@ pub fn same_reports_have_one_text()
 /// A law of sessions: what is printed of a session, part by part, is its text, and is read back as that session. The text
 /// of a report is that of its lines, and the whole lines of the text of a session are its lines.
 pub fn printed_sessions_read_back()
-    ensures report { (report : Report) → flat_map session_line_text (session_report_lines report) ≡ report_text report }
-    ensures printed { (session : Session) → printed_session_text session ≡ session_text session }
+    ensures report { (report : Report) → flat_map words_text (report_lines report) ≡ report_text report }
+    ensures printed { (session : Session) → printed_text session ≡ session_text session }
     ensures lines { (session : Session) → IsTextSession session
-        → whole_lines_of_session (session_text session) ≡ map session_line_text (session_lines session) }
-    ensures read { (session other : Session) → IsTextSession session → IsSessionText (printed_session_text session) other → AreSameTextSessions session other }
+        → whole_lines (session_text session) ≡ map words_text (session_lines session) }
+    ensures read { (session other : Session) → IsTextSession session → IsSessionText (printed_text session) other → AreSameSessions session other }
 {
     prefix_texts_read_back();
     report_order_is_total();
@@ -42,10 +42,10 @@ pub fn printed_sessions_read_back()
 /// A law of sessions: a text has one fault at most, and is that of one session at most. A text of at most 268,435,456 bytes
 /// isn't both.
 pub fn session_texts_have_one_reading()
-    ensures apart { (text : List ℕ) (session other : Session) → IsSessionText text session → IsSessionText text other → AreSameTextSessions session other }
-    ensures one_fault { (text : List ℕ) (fault other : TextFault) → HasSessionTextFault text fault → HasSessionTextFault text other → fault ≡ other }
+    ensures apart { (text : List ℕ) (session other : Session) → IsSessionText text session → IsSessionText text other → AreSameSessions session other }
+    ensures one_fault { (text : List ℕ) (fault other : TextFault) → HasSessionFault text fault → HasSessionFault text other → fault ≡ other }
     ensures no_fault { (text : List ℕ) (session : Session) (fault : TextFault) → IsSessionText text session
-        → length text ≤ longest_session_text_length → ¬ HasSessionTextFault text fault }
+        → length text ≤ longest_session → ¬ HasSessionFault text fault }
 {
     prefix_texts_read_back();
     report_order_is_total();

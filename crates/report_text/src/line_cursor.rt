@@ -1,7 +1,7 @@
 //! An offset in a text, between lines.
 
 ghost use Rattle.std.specs.Prelude.{◌≤◌, length};
-ghost use Rattle.report_text.specs.SessionText.{longest_session_text_length};
+ghost use Rattle.report_text.specs.Session.{longest_session};
 
 mod steps;
 
@@ -12,7 +12,7 @@ pub(crate) struct LineCursor<'a> {
     at: usize,
     // How many lines are before it.
     lines: u64,
-    ghost limit: { length text.now ≤ longest_session_text_length },
+    ghost limit: { length text.now ≤ longest_session },
     ghost within: { at ≤ length text.now },
     ghost counted: { lines ≤ at },
 }

@@ -3,10 +3,10 @@
 ghost use Rattle.std.specs.Prelude.{◌≡◌, ◌≢◌, ◌≤◌, ◌<◌, ◌^◌, ℕ, List, [], ◌∷◌, map, codes, decimal, IfOk, IfSome};
 ghost use Rattle.std.specs.Prelude.{IfNone};
 ghost use Rattle.hhh_report.specs.declared.line.Line.{Line as LineValue};
-ghost use Rattle.report_text.specs.ReportText.{ReportTextShowsPositions};
-ghost use Rattle.report_text.specs.SessionText.{AreSessionTextSkips, IsSessionLine, IsSessionReportLine};
-ghost use Rattle.report_text.specs.SessionText.{session_report_words, session_skipped_words, session_line_words};
-ghost use Rattle.report_text.specs.Stages.{stage_words_in};
+ghost use Rattle.report_text.specs.Printing.{ShowsPositions};
+ghost use Rattle.report_text.specs.Session.{AreSkips, IsSessionLine, IsReportLine};
+ghost use Rattle.report_text.specs.Session.{report_words, skipped_words, line_words};
+ghost use Rattle.report_text.specs.Stages.{words_in};
 ghost use Rattle.report_text.specs.declared.session_line.SessionLine.{SessionLine};
 ghost use Rattle.report_text.specs.declared.session_line.Skips.{Skips};
 
@@ -24,8 +24,8 @@ const GREATEST_POSITION: u64 = 16_777_216;
 
 /// Reads a line without its line feed. `None` exactly if no line of a session has this text.
 pub(crate) fn read_line(alloc: Global, text: &[u8]) -> Result<Option<SessionLine>, AllocError>
-    ensures read { IfOk result (λ read. IfSome read (λ line. IsSessionLine line × (stage_words_in text.now ≡ session_line_words line))) }
-    ensures refused { IfOk result (λ read. IfNone read ((line : SessionLine) → IsSessionLine line → stage_words_in text.now ≢ session_line_words line)) }
+    ensures read { IfOk result (λ read. IfSome read (λ line. IsSessionLine line × (words_in text.now ≡ line_words line))) }
+    ensures refused { IfOk result (λ read. IfNone read ((line : SessionLine) → IsSessionLine line → words_in text.now ≢ line_words line)) }
 {
     match cut_word(text) {
         Some(cut) => read_words(alloc, cut.word, cut.rest),
@@ -35,8 +35,8 @@ pub(crate) fn read_line(alloc: Global, text: &[u8]) -> Result<Option<SessionLine
 
 // Reads a line of one word.
 fn read_word(word: &[u8]) -> Option<SessionLine>
-    ensures read { IfSome result (λ line. IsSessionLine line × (word.now ∷ [] ≡ session_line_words line)) }
-    ensures refused { IfNone result ((line : SessionLine) → IsSessionLine line → word.now ∷ [] ≢ session_line_words line) }
+    ensures read { IfSome result (λ line. IsSessionLine line × (word.now ∷ [] ≡ line_words line)) }
+    ensures refused { IfNone result ((line : SessionLine) → IsSessionLine line → word.now ∷ [] ≢ line_words line) }
 {
     if word == b"report".as_slice() {
         return Some(SessionLine::Report);
@@ -52,9 +52,9 @@ fn read_word(word: &[u8]) -> Option<SessionLine>
 
 // Reads a line with this first word and this text after it.
 fn read_words(alloc: Global, name: &[u8], rest: &[u8]) -> Result<Option<SessionLine>, AllocError>
-    ensures read { IfOk result (λ read. IfSome read (λ line. IsSessionLine line × (name.now ∷ stage_words_in rest.now ≡ session_line_words line))) }
+    ensures read { IfOk result (λ read. IfSome read (λ line. IsSessionLine line × (name.now ∷ words_in rest.now ≡ line_words line))) }
     ensures refused { IfOk result (λ read. IfNone read
-        ((line : SessionLine) → IsSessionLine line → name.now ∷ stage_words_in rest.now ≢ session_line_words line)) }
+        ((line : SessionLine) → IsSessionLine line → name.now ∷ words_in rest.now ≢ line_words line)) }
 {
     if name == b"line".as_slice() {
         return Ok(report_line_of(rest).map(SessionLine::Line));
@@ -77,8 +77,8 @@ fn read_numbers(name: &[u8], rest: &[u8]) -> Option<SessionLine>
     requires at { name.now ≢ codes "at" }
     requires opened { name.now ≢ codes "opened" }
     requires saved { name.now ≢ codes "saved" }
-    ensures read { IfSome result (λ line. IsSessionLine line × (name.now ∷ stage_words_in rest.now ≡ session_line_words line)) }
-    ensures refused { IfNone result ((line : SessionLine) → IsSessionLine line → name.now ∷ stage_words_in rest.now ≢ session_line_words line) }
+    ensures read { IfSome result (λ line. IsSessionLine line × (name.now ∷ words_in rest.now ≡ line_words line)) }
+    ensures refused { IfNone result ((line : SessionLine) → IsSessionLine line → name.now ∷ words_in rest.now ≢ line_words line) }
 {
     if name == b"total".as_slice() {
         return last_number(rest).map(SessionLine::Total);
@@ -97,8 +97,8 @@ fn read_numbers(name: &[u8], rest: &[u8]) -> Option<SessionLine>
 
 // The number that is the only word of a text.
 fn last_number(text: &[u8]) -> Option<u64>
-    ensures read { IfSome result (λ number. stage_words_in text.now ≡ decimal number ∷ []) }
-    ensures refused { IfNone result ((number : ℕ) → number < 2 ^ 64 → stage_words_in text.now ≢ decimal number ∷ []) }
+    ensures read { IfSome result (λ number. words_in text.now ≡ decimal number ∷ []) }
+    ensures refused { IfNone result ((number : ℕ) → number < 2 ^ 64 → words_in text.now ≢ decimal number ∷ []) }
 {
     let Some(number) = number_of(text) else {
         return None;
@@ -107,8 +107,8 @@ fn last_number(text: &[u8]) -> Option<u64>
 }
 
 fn threshold_of(text: &[u8]) -> Option<u64>
-    ensures read { IfSome result (λ threshold. (1 ≤ threshold) × (stage_words_in text.now ≡ decimal threshold ∷ [])) }
-    ensures refused { IfNone result ((threshold : ℕ) → 1 ≤ threshold → threshold < 2 ^ 64 → stage_words_in text.now ≢ decimal threshold ∷ []) }
+    ensures read { IfSome result (λ threshold. (1 ≤ threshold) × (words_in text.now ≡ decimal threshold ∷ [])) }
+    ensures refused { IfNone result ((threshold : ℕ) → 1 ≤ threshold → threshold < 2 ^ 64 → words_in text.now ≢ decimal threshold ∷ []) }
 {
     let Some(threshold) = last_number(text) else {
         return None;
@@ -120,8 +120,8 @@ fn threshold_of(text: &[u8]) -> Option<u64>
 }
 
 fn skips_of(text: &[u8]) -> Option<Skips>
-    ensures read { IfSome result (λ skips. stage_words_in text.now ≡ session_skipped_words skips) }
-    ensures refused { IfNone result ((skips : Skips) → AreSessionTextSkips skips → stage_words_in text.now ≢ session_skipped_words skips) }
+    ensures read { IfSome result (λ skips. words_in text.now ≡ skipped_words skips) }
+    ensures refused { IfNone result ((skips : Skips) → AreSkips skips → words_in text.now ≢ skipped_words skips) }
 {
     let Some(first) = cut_word(text) else {
         return None;
@@ -146,8 +146,8 @@ fn skips_of(text: &[u8]) -> Option<Skips>
 }
 
 fn report_line_of(text: &[u8]) -> Option<Line>
-    ensures read { IfSome result (λ line. IsSessionReportLine line × (stage_words_in text.now ≡ session_report_words line)) }
-    ensures refused { IfNone result ((line : LineValue) → IsSessionReportLine line → stage_words_in text.now ≢ session_report_words line) }
+    ensures read { IfSome result (λ line. IsReportLine line × (words_in text.now ≡ report_words line)) }
+    ensures refused { IfNone result ((line : LineValue) → IsReportLine line → words_in text.now ≢ report_words line) }
 {
     let Some(source) = cut_word(text) else {
         return None;
@@ -175,9 +175,9 @@ fn report_line_of(text: &[u8]) -> Option<Line>
 
 // Reads 1 to 16 positions.
 fn positions_of(alloc: Global, text: &[u8]) -> Result<Option<Positions>, AllocError>
-    ensures read { IfOk result (λ read. IfSome read (λ positions. ReportTextShowsPositions positions × (stage_words_in text.now ≡ map decimal positions))) }
+    ensures read { IfOk result (λ read. IfSome read (λ positions. ShowsPositions positions × (words_in text.now ≡ map decimal positions))) }
     ensures refused { IfOk result (λ read. IfNone read
-        ((positions : List ℕ) → ReportTextShowsPositions positions → stage_words_in text.now ≢ map decimal positions)) }
+        ((positions : List ℕ) → ShowsPositions positions → words_in text.now ≢ map decimal positions)) }
 {
     let mut positions = Positions::new(alloc);
     let mut rest = text;

@@ -1,8 +1,8 @@
 //! The text of reports and of the lines around them.
 
 ghost use Rattle.std.specs.Prelude.{◌≡◌, ◌≤◌, ◌++◌, OnOk, OnErr};
-ghost use Rattle.report_text.specs.ReportText.{ReportTextShowsPositions, report_text, report_mark_text};
-ghost use Rattle.report_text.specs.ReportText.{report_tail_text};
+ghost use Rattle.report_text.specs.Printing.{ShowsPositions, report_text, mark_text};
+ghost use Rattle.report_text.specs.Printing.{tail_text};
 
 use crate::Mark;
 use crate::putting::{put, put_lines, put_number, put_positions};
@@ -27,7 +27,7 @@ const TAIL_ROOM: usize = 103;
 /// Each line ends with a line feed. A position is at most 16,777,216, and the threshold at least 1. Memory is
 /// reserved first, so after an `Err`, which means that memory ran out, the bytes are as before.
 pub fn print(report: &Report, into: &mut Vec<u8>) -> Result<(), AllocError>
-    requires positions { ReportTextShowsPositions report.now.positions }
+    requires positions { ShowsPositions report.now.positions }
     requires threshold { 1 ≤ report.now.threshold }
     ensures ok { OnOk result (into.new.items ≡ into.old.items ++ report_text report.now) }
     ensures err { OnErr result (into.new.items ≡ into.old.items) }
@@ -51,8 +51,8 @@ pub fn print_positions(
     positions: &Positions,
     into: &mut Vec<u8>,
 ) -> Result<(), AllocError>
-    requires { ReportTextShowsPositions positions.now }
-    ensures ok { OnOk result (into.new.items ≡ into.old.items ++ report_mark_text mark positions.now) }
+    requires { ShowsPositions positions.now }
+    ensures ok { OnOk result (into.new.items ≡ into.old.items ++ mark_text mark positions.now) }
     ensures err { OnErr result (into.new.items ≡ into.old.items) }
 {
     let name: &[u8] = match mark {
@@ -68,7 +68,7 @@ pub fn print_positions(
 /// numbers of frames skipped as not IPv4, as short and for a bad header, and `end`. Memory is reserved first, so
 /// after an `Err`, which means that memory ran out, the bytes are as before.
 pub fn print_tail(records: &Records, into: &mut Vec<u8>) -> Result<(), AllocError>
-    ensures ok { OnOk result (into.new.items ≡ into.old.items ++ report_tail_text records.now) }
+    ensures ok { OnOk result (into.new.items ≡ into.old.items ++ tail_text records.now) }
     ensures err { OnErr result (into.new.items ≡ into.old.items) }
 {
     into.reserve(TAIL_ROOM)?;

@@ -1,9 +1,9 @@
 //! Appending parts of a text within room that is already reserved.
 
 ghost use Rattle.std.specs.Prelude.{◌≡◌, ◌+◌, ◌*◌, ◌≤◌, ◌∷◌, ◌++◌, length, decimal, vec_len, vec_capacity};
-ghost use Rattle.prefix_lattice.specs.{prefix_text, longest_prefix_text_length};
-ghost use Rattle.report_text.specs.ReportText.{report_line_text, report_lines_text, report_positions_text};
-ghost use Rattle.report_text.specs.ReportText.{longest_report_number_length, longest_report_line_length};
+ghost use Rattle.prefix_lattice.specs.{prefix_text, longest_prefix_text};
+ghost use Rattle.report_text.specs.Printing.{line_text, lines_text, positions_text};
+ghost use Rattle.report_text.specs.Printing.{number_length, line_length};
 
 use hhh_report::Line;
 use itoa::Buffer;
@@ -21,9 +21,9 @@ pub(crate) fn put(text: &mut Vec<u8>, bytes: &[u8])
 
 /// Appends bytes and a number in decimal to a text. A number needs at most 20 bytes.
 pub(crate) fn put_number(text: &mut Vec<u8>, before: &[u8], number: u64)
-    requires { vec_len text.old + length before.now + longest_report_number_length ≤ vec_capacity text.old }
+    requires { vec_len text.old + length before.now + number_length ≤ vec_capacity text.old }
     ensures text { text.new.items ≡ text.old.items ++ before.now ++ decimal number }
-    ensures length { vec_len text.new ≤ vec_len text.old + length before.now + longest_report_number_length }
+    ensures length { vec_len text.new ≤ vec_len text.old + length before.now + number_length }
     ensures room { vec_capacity text.old ≤ vec_capacity text.new }
 {
     let mut buffer = Buffer::new();
@@ -33,9 +33,9 @@ pub(crate) fn put_number(text: &mut Vec<u8>, before: &[u8], number: u64)
 
 /// Appends a line of positions to a text. A position needs at most 21 bytes, including the space before it.
 pub(crate) fn put_positions(text: &mut Vec<u8>, name: &[u8], positions: &[u64])
-    requires { vec_len text.old + length name.now + (1 + longest_report_number_length) * length positions.now + 1 ≤ vec_capacity text.old }
-    ensures text { text.new.items ≡ text.old.items ++ report_positions_text name.now positions.now }
-    ensures length { vec_len text.new ≤ vec_len text.old + length name.now + (1 + longest_report_number_length) * length positions.now + 1 }
+    requires { vec_len text.old + length name.now + (1 + number_length) * length positions.now + 1 ≤ vec_capacity text.old }
+    ensures text { text.new.items ≡ text.old.items ++ positions_text name.now positions.now }
+    ensures length { vec_len text.new ≤ vec_len text.old + length name.now + (1 + number_length) * length positions.now + 1 }
     ensures room { vec_capacity text.old ≤ vec_capacity text.new }
 {
     put(text, name);
@@ -47,9 +47,9 @@ pub(crate) fn put_positions(text: &mut Vec<u8>, name: &[u8], positions: &[u64])
 
 /// Appends the lines of a report to a text. A line needs at most 85 bytes.
 pub(crate) fn put_lines(text: &mut Vec<u8>, lines: &[Line])
-    requires { vec_len text.old + longest_report_line_length * length lines.now ≤ vec_capacity text.old }
-    ensures text { text.new.items ≡ text.old.items ++ report_lines_text lines.now }
-    ensures length { vec_len text.new ≤ vec_len text.old + longest_report_line_length * length lines.now }
+    requires { vec_len text.old + line_length * length lines.now ≤ vec_capacity text.old }
+    ensures text { text.new.items ≡ text.old.items ++ lines_text lines.now }
+    ensures length { vec_len text.new ≤ vec_len text.old + line_length * length lines.now }
     ensures room { vec_capacity text.old ≤ vec_capacity text.new }
 {
     for line in lines {
@@ -58,9 +58,9 @@ pub(crate) fn put_lines(text: &mut Vec<u8>, lines: &[Line])
 }
 
 fn put_line(text: &mut Vec<u8>, line: &Line)
-    requires { vec_len text.old + longest_report_line_length ≤ vec_capacity text.old }
-    ensures text { text.new.items ≡ text.old.items ++ report_line_text line.now }
-    ensures length { vec_len text.new ≤ vec_len text.old + longest_report_line_length }
+    requires { vec_len text.old + line_length ≤ vec_capacity text.old }
+    ensures text { text.new.items ≡ text.old.items ++ line_text line.now }
+    ensures length { vec_len text.new ≤ vec_len text.old + line_length }
     ensures room { vec_capacity text.old ≤ vec_capacity text.new }
 {
     put(text, b"line ");
@@ -71,9 +71,9 @@ fn put_line(text: &mut Vec<u8>, line: &Line)
 }
 
 fn put_prefix(text: &mut Vec<u8>, prefix: &Prefix)
-    requires { vec_len text.old + longest_prefix_text_length ≤ vec_capacity text.old }
+    requires { vec_len text.old + longest_prefix_text ≤ vec_capacity text.old }
     ensures text { text.new.items ≡ text.old.items ++ prefix_text prefix.now }
-    ensures length { vec_len text.new ≤ vec_len text.old + longest_prefix_text_length }
+    ensures length { vec_len text.new ≤ vec_len text.old + longest_prefix_text }
     ensures room { vec_capacity text.old ≤ vec_capacity text.new }
 {
     let mut written = [0; 37];

@@ -4,11 +4,11 @@ ghost use Rattle.std.specs.Prelude.{◌≡◌, ◌≢◌, ◌≤◌, ◌<◌, �
 ghost use Rattle.std.specs.Prelude.{IfSome, IfNone, IsTrue};
 ghost use Rattle.std.specs.List.{flat_map};
 ghost use Rattle.hhh_report.specs.{AreReportLines};
-ghost use Rattle.report_text.specs.SessionText.{HasSessionTextReadFault, IsSessionText, longest_session_text_length};
-ghost use Rattle.report_text.specs.SessionText.{session_reported_lines, session_saved_lines, session_lines};
-ghost use Rattle.report_text.specs.Stages.{ComesAfterLastOfStage, stage_line_after_report, stage_after_report};
-ghost use Rattle.report_text.specs.Stages.{stage_body_lines};
-ghost use Rattle.report_text.specs.LineReading.{ReadsLines, HasReadLinesToStage};
+ghost use Rattle.report_text.specs.Session.{HasReadFault, IsSessionText, longest_session};
+ghost use Rattle.report_text.specs.Session.{reported_lines, saved_lines, session_lines};
+ghost use Rattle.report_text.specs.Stages.{ComesAfterLast, line_after_report, after_report};
+ghost use Rattle.report_text.specs.Stages.{body_lines};
+ghost use Rattle.report_text.specs.LineReading.{ReadsLines, HasReadToStage};
 ghost use Rattle.report_text.specs.Stages.{nothing, opened, begun, listing, done, counted, ended};
 
 use crate::line_cursor::LineCursor;
@@ -30,9 +30,9 @@ const LONGEST_TEXT: usize = 268_435_456;
 /// what is printed of a session is read back. `OutOfMemory` means that memory ran out.
 pub fn read_session(alloc: Global, bytes: &[u8]) -> Result<Session, SessionFault>
     ensures read { IfOk result (IsSessionText bytes.now) }
-    ensures limit { IfOk result (λ _. length bytes.now ≤ longest_session_text_length) }
-    ensures fault { IfErr result (HasSessionTextReadFault bytes.now) }
-    ensures too_long { longest_session_text_length < length bytes.now → result ≡ Err (SessionFault.Text TextFault.TooLong) }
+    ensures limit { IfOk result (λ _. length bytes.now ≤ longest_session) }
+    ensures fault { IfErr result (HasReadFault bytes.now) }
+    ensures too_long { longest_session < length bytes.now → result ≡ Err (SessionFault.Text TextFault.TooLong) }
 {
     if bytes.len() > LONGEST_TEXT {
         return Err(SessionFault::Text(TextFault::TooLong));
@@ -46,9 +46,9 @@ pub fn read_session(alloc: Global, bytes: &[u8]) -> Result<Session, SessionFault
 
 // Reads all lines of a session.
 fn read_all(alloc: Global, lines: &mut LineCursor<'_>) -> Result<Session, SessionFault>
-    requires { HasReadLinesToStage lines.old nothing }
+    requires { HasReadToStage lines.old nothing }
     ensures read { IfOk result (λ session. ReadsLines lines.old lines.new (session_lines session) nothing ended) }
-    ensures fault { IfErr result (HasSessionTextReadFault lines.old.text.now) }
+    ensures fault { IfErr result (HasReadFault lines.old.text.now) }
 {
     let SessionLine::Opened(opened) = lines.next(alloc)? else {
         return Err(lines.refuse());
@@ -83,10 +83,10 @@ fn read_reports(
     lines: &mut LineCursor<'_>,
     shards: usize,
 ) -> Result<Listed, SessionFault>
-    requires { HasReadLinesToStage lines.old (opened shards) }
+    requires { HasReadToStage lines.old (opened shards) }
     ensures read { IfOk result (λ listed. ReadsLines lines.old lines.new
-        (flat_map session_reported_lines listed.reports ++ SessionLine.Frames listed.frames ∷ []) (opened shards) counted) }
-    ensures fault { IfErr result (HasSessionTextReadFault lines.old.text.now) }
+        (flat_map reported_lines listed.reports ++ SessionLine.Frames listed.frames ∷ []) (opened shards) counted) }
+    ensures fault { IfErr result (HasReadFault lines.old.text.now) }
 {
     let SessionLine::Report = lines.next(alloc)? else {
         return Err(lines.refuse());
@@ -111,9 +111,9 @@ fn read_report(
     lines: &mut LineCursor<'_>,
     shards: usize,
 ) -> Result<Report, SessionFault>
-    requires { HasReadLinesToStage lines.old (begun shards) }
-    ensures read { IfOk result (λ report. ReadsLines lines.old lines.new (stage_body_lines report) (begun shards) (done shards)) }
-    ensures fault { IfErr result (HasSessionTextReadFault lines.old.text.now) }
+    requires { HasReadToStage lines.old (begun shards) }
+    ensures read { IfOk result (λ report. ReadsLines lines.old lines.new (body_lines report) (begun shards) (done shards)) }
+    ensures fault { IfErr result (HasReadFault lines.old.text.now) }
 {
     let SessionLine::At(positions) = lines.next(alloc)? else {
         return Err(lines.refuse());
@@ -141,8 +141,8 @@ fn read_lines(alloc: Global, lines: &mut LineCursor<'_>) -> Result<Lines, Sessio
     ensures read { IfOk result (λ listed. (shards : ℕ) → ReadsLines lines.old lines.new
         (map SessionLine.Line listed ++ SessionLine.Done ∷ []) (listing shards 0 None) (done shards)) }
     ensures lines { IfOk result AreReportLines }
-    ensures fault { IfErr result (λ fault. (shards : ℕ) → HasReadLinesToStage lines.old (listing shards 0 None)
-        → HasSessionTextReadFault lines.old.text.now fault) }
+    ensures fault { IfErr result (λ fault. (shards : ℕ) → HasReadToStage lines.old (listing shards 0 None)
+        → HasReadFault lines.old.text.now fault) }
 {
     report_order_is_total();
     let mut listed = Lines::new(alloc);
@@ -165,7 +165,7 @@ fn read_lines(alloc: Global, lines: &mut LineCursor<'_>) -> Result<Lines, Sessio
 
 // Whether a prefix comes after the last one in the order of a report.
 fn comes_after(last: &Option<Prefix>, prefix: &Prefix) -> bool
-    ensures { IsTrue result ↔ ComesAfterLastOfStage last.now prefix.now }
+    ensures { IsTrue result ↔ ComesAfterLast last.now prefix.now }
 {
     match last {
         None => true,
@@ -186,10 +186,10 @@ fn read_after_report(
     lines: &mut LineCursor<'_>,
     shards: usize,
 ) -> Result<AfterReport, SessionFault>
-    requires { HasReadLinesToStage lines.old (done shards) }
+    requires { HasReadToStage lines.old (done shards) }
     ensures read { IfOk result (λ after. ReadsLines lines.old lines.new
-        (session_saved_lines after.saved ++ stage_line_after_report after.frames ∷ []) (done shards) (stage_after_report shards after.frames)) }
-    ensures fault { IfErr result (HasSessionTextReadFault lines.old.text.now) }
+        (saved_lines after.saved ++ line_after_report after.frames ∷ []) (done shards) (after_report shards after.frames)) }
+    ensures fault { IfErr result (HasReadFault lines.old.text.now) }
 {
     let line = lines.next(alloc)?;
     let SessionLine::Saved(saved) = line else {
@@ -215,8 +215,8 @@ fn read_after_report(
 
 // What may follow a report and its saved positions: another report, or the number of frames.
 fn after_saved(line: SessionLine) -> Option<Option<u64>>
-    ensures some { IfSome result (λ frames. line ≡ stage_line_after_report frames) }
-    ensures none { IfNone result ((frames : Option ℕ) → line ≢ stage_line_after_report frames) }
+    ensures some { IfSome result (λ frames. line ≡ line_after_report frames) }
+    ensures none { IfNone result ((frames : Option ℕ) → line ≢ line_after_report frames) }
 {
     match line {
         SessionLine::Report => Some(None),

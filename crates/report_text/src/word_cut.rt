@@ -1,7 +1,7 @@
 //! Cutting texts at a byte.
 
 ghost use Rattle.std.specs.Prelude.{◌≡◌, ◌==◌, ◌<◌, ◌∷◌, [], length, position, IfSome, IfNone};
-ghost use Rattle.report_text.specs.Stages.{stage_words_in};
+ghost use Rattle.report_text.specs.Stages.{words_in};
 
 /// The first word of a text, and the text after the space that ends it.
 #[derive(Clone, Copy)]
@@ -12,9 +12,9 @@ pub(crate) struct WordCut<'a> {
 
 /// Cuts a text at its first space, if it has one.
 pub(crate) fn cut_word(text: &[u8]) -> Option<WordCut<'_>>
-    ensures cut { IfSome result (λ cut. stage_words_in text.now ≡ cut.word.now ∷ stage_words_in cut.rest.now) }
+    ensures cut { IfSome result (λ cut. words_in text.now ≡ cut.word.now ∷ words_in cut.rest.now) }
     ensures shorter { IfSome result (λ cut. length cut.rest.now < length text.now) }
-    ensures last { IfNone result (stage_words_in text.now ≡ text.now ∷ []) }
+    ensures last { IfNone result (words_in text.now ≡ text.now ∷ []) }
 {
     let Some(at) = place_of(text, b' ') else {
         return None;

@@ -7,9 +7,9 @@ use Rattle.pcap_frames.specs.declared.fault.ReadRefusal.TheVariants as refusals
 use Rattle.command_words.specs.declared.opt.Opt.TheVariants.{Shards}
 use Rattle.command_words.specs.declared.words_kind.WordsKind.TheVariants.{Refused, OutOfLimits, Bound}
 use Rattle.command_words.specs.declared.words_kind.WordsRefusal.TheVariants as words
-use Rattle.run_status.specs.Status.{fault_status_text, status_line, status_number, status_of, status_of_opening}
-use Rattle.run_status.specs.Status.{status_of_words, session_status_text, status_of_session, status_text}
-use Rattle.run_status.specs.Status.{words_status_text}
+use Rattle.run_status.specs.Status.{fault_text, status_line, status_number, status_of, status_of_opening}
+use Rattle.run_status.specs.Status.{status_of_words, session_text, status_of_session, status_text}
+use Rattle.run_status.specs.Status.{words_text}
 use Rattle.run_status.specs.declared.status.Status.TheVariants.{Done, BadWords, BadCapture, WriteFault, DiskFault}
 use Rattle.run_status.specs.declared.status.Status.TheVariants.{NotFormatted, Damaged, OtherSettings, OtherCapture}
 use Rattle.run_status.specs.declared.status.Status.TheVariants.{AuditNo, BadReport}
@@ -33,11 +33,11 @@ pub line_of_a_cut_frame : status_line (BadCapture cut_frame) ≡ codes "hhh: bad
 unfolding digits
 line_of_a_cut_frame = refl
 
-pub text_of_too_many_frames : fault_status_text TooManyFrames ≡ codes "too many frames"
+pub text_of_too_many_frames : fault_text TooManyFrames ≡ codes "too many frames"
 text_of_too_many_frames = refl
 
 -- the line doesn't say which option is bad
-pub text_of_a_number_outside_its_limits : words_status_text (OutOfLimits Shards) ≡ codes "limits"
+pub text_of_a_number_outside_its_limits : words_text (OutOfLimits Shards) ≡ codes "limits"
 text_of_a_number_outside_its_limits = refl
 
 pub status_of_refused_words : status_of_words (words.Bad Refused) ≡ BadWords Refused
@@ -125,7 +125,7 @@ pub line_of_a_missing_end : status_line (BadReport (MissingEnd 7)) ≡ codes "hh
 unfolding digits
 line_of_a_missing_end = refl
 
-pub text_of_a_long_text : session_status_text TooLong ≡ codes "too long"
+pub text_of_a_long_text : session_text TooLong ≡ codes "too long"
 text_of_a_long_text = refl
 
 pub status_of_a_bad_line : status_of_session (session.Text (BadLine 4)) ≡ BadReport (BadLine 4)

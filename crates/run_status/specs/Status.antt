@@ -64,37 +64,37 @@ status_of_session (session.Text fault) = BadReport fault
 status_of_session session.OutOfMemory = OutOfMemory
 
 -- what is wrong with the arguments, in a word or two
-abbrev pub words_status_text : WordsKind → List ℕ
-words_status_text NoCommand = codes "no command"
-words_status_text UnknownCommand = codes "unknown command"
-words_status_text Refused = codes "refused"
-words_status_text (BadPrefix fault) = codes "prefix"
-words_status_text (BadNumber option) = codes "number"
-words_status_text (OutOfLimits option) = codes "limits"
-words_status_text (BadChoice option) = codes "choice"
-words_status_text Bound = codes "bound"
+abbrev pub words_text : WordsKind → List ℕ
+words_text NoCommand = codes "no command"
+words_text UnknownCommand = codes "unknown command"
+words_text Refused = codes "refused"
+words_text (BadPrefix fault) = codes "prefix"
+words_text (BadNumber option) = codes "number"
+words_text (OutOfLimits option) = codes "limits"
+words_text (BadChoice option) = codes "choice"
+words_text Bound = codes "bound"
 
 -- what is wrong with a capture, in a few words
-abbrev pub fault_status_text : FaultKind → List ℕ
-fault_status_text ShortHeader = codes "short header"
-fault_status_text NotCapture = codes "not a capture"
-fault_status_text Version = codes "version"
-fault_status_text Link = codes "link"
-fault_status_text LongFrame = codes "long frame"
-fault_status_text CutFrame = codes "cut frame"
-fault_status_text TooManyFrames = codes "too many frames"
+abbrev pub fault_text : FaultKind → List ℕ
+fault_text ShortHeader = codes "short header"
+fault_text NotCapture = codes "not a capture"
+fault_text Version = codes "version"
+fault_text Link = codes "link"
+fault_text LongFrame = codes "long frame"
+fault_text CutFrame = codes "cut frame"
+fault_text TooManyFrames = codes "too many frames"
 
 -- what is wrong with the text of a session, in a few words
-abbrev pub session_status_text : TextFault → List ℕ
-session_status_text (BadLine line) = codes "line " ++ decimal line
-session_status_text (MissingEnd line) = codes "no end at line " ++ decimal line
-session_status_text TooLong = codes "too long"
+abbrev pub session_text : TextFault → List ℕ
+session_text (BadLine line) = codes "line " ++ decimal line
+session_text (MissingEnd line) = codes "no end at line " ++ decimal line
+session_text TooLong = codes "too long"
 
 -- how a command ended, as text
 abbrev pub status_text : Status → List ℕ
 status_text Done = codes "done"
-status_text (BadWords kind) = codes "bad words: " ++ words_status_text kind
-status_text (BadCapture fault) = codes "bad capture: " ++ fault_status_text fault.kind ++ codes " at " ++ decimal fault.place
+status_text (BadWords kind) = codes "bad words: " ++ words_text kind
+status_text (BadCapture fault) = codes "bad capture: " ++ fault_text fault.kind ++ codes " at " ++ decimal fault.place
 status_text ReadFault = codes "read fault"
 status_text WriteFault = codes "write fault"
 status_text DiskFault = codes "disk fault"
@@ -103,7 +103,7 @@ status_text (Damaged slot) = codes "store damaged: slot " ++ decimal slot
 status_text (OtherSettings stored asked) = codes "store has other settings"
 status_text (OtherCapture stored asked) = codes "store is of another capture"
 status_text (AuditNo report verdict) = codes "audit: no"
-status_text (BadReport fault) = codes "bad report: " ++ session_status_text fault
+status_text (BadReport fault) = codes "bad report: " ++ session_text fault
 status_text OutOfMemory = codes "out of memory"
 
 -- the line that reports on standard error how a command ended

@@ -12,7 +12,7 @@ use Rattle.exact_audit.specs.{IsVerdict}
 use Rattle.exact_audit.specs.declared.verdict.Verdict.{Verdict}
 use Rattle.exact_audit.specs.declared.verdict.Verdict.TheVariants.{Good}
 use Rattle.command_words.specs.declared.settings.Settings.{Settings}
-use Rattle.session_audit.specs.Audit.{IsAuditedAsFirstUnsound, IsAuditedAsSound}
+use Rattle.session_audit.specs.Audit.{IsFirstUnsound, IsAuditedSound}
 
 -- a report has one verdict
 abbrev pub FirstUnsoundHasOneVerdict : Type 0
@@ -37,18 +37,18 @@ first_unsound_holds_before P xs before place x early is all =
 -- one more report is sound
 pub first_unsound_next_is_sound : (settings : Settings) (lists : List (List RecordValue)) (reports : List Reported) (place : ℕ)
     (reported : Reported) → place < length reports → reported ≡ get_or reports place reported
-    → IsAuditedAsSound settings lists reported → All (IsAuditedAsSound settings lists) (take place reports)
-    → All (IsAuditedAsSound settings lists) (take (place + 1) reports)
+    → IsAuditedSound settings lists reported → All (IsAuditedSound settings lists) (take place reports)
+    → All (IsAuditedSound settings lists) (take (place + 1) reports)
 first_unsound_next_is_sound settings lists reports place reported within at sound all =
-    All-more (IsAuditedAsSound settings lists) reports place reported within all
-    (subst (IsAuditedAsSound settings lists) at sound)
+    All-more (IsAuditedSound settings lists) reports place reported within all
+    (subst (IsAuditedSound settings lists) at sound)
 
 -- the next report is the first that is not sound
 pub first_unsound_next_is_unsound : (settings : Settings) (lists : List (List RecordValue)) (reports : List Reported) (place : ℕ)
     (reported : Reported) (verdict : Verdict) → place < length reports → reported ≡ get_or reports place reported
     → IsVerdict lists settings.capacity settings.phi reported.report verdict → verdict ≢ Good
-    → All (IsAuditedAsSound settings lists) (take place reports)
-    → IsAuditedAsFirstUnsound settings lists reports (place + 1) verdict
+    → All (IsAuditedSound settings lists) (take place reports)
+    → IsFirstUnsound settings lists reports (place + 1) verdict
 first_unsound_next_is_unsound settings lists reports place reported verdict within at found not_good sound = record {
   before = place;
   counted = refl;
@@ -61,24 +61,24 @@ first_unsound_next_is_unsound settings lists reports place reported verdict with
 
 -- a report with another verdict than good is not sound
 pub first_unsound_is_not_sound : FirstUnsoundHasOneVerdict → (settings : Settings) (lists : List (List RecordValue)) (reports : List Reported)
-    (number : ℕ) (verdict : Verdict) (first : IsAuditedAsFirstUnsound settings lists reports number verdict)
-    → IsAuditedAsSound settings lists first.reported → ⊥
+    (number : ℕ) (verdict : Verdict) (first : IsFirstUnsound settings lists reports number verdict)
+    → IsAuditedSound settings lists first.reported → ⊥
 first_unsound_is_not_sound one settings lists reports number verdict first sound =
     first.not_good
     (one lists settings.capacity settings.phi first.reported.report verdict Good first.found sound)
 
 -- of two reports that are the first that is not sound, neither comes before the other
 first_unsound_is_not_earlier : FirstUnsoundHasOneVerdict → (settings : Settings) (lists : List (List RecordValue)) (reports : List Reported)
-    (number later : ℕ) (verdict other : Verdict) (first : IsAuditedAsFirstUnsound settings lists reports number verdict)
-    (second : IsAuditedAsFirstUnsound settings lists reports later other) → first.before < second.before → ⊥
+    (number later : ℕ) (verdict other : Verdict) (first : IsFirstUnsound settings lists reports number verdict)
+    (second : IsFirstUnsound settings lists reports later other) → first.before < second.before → ⊥
 first_unsound_is_not_earlier one settings lists reports number later verdict other first second early =
     first_unsound_is_not_sound one settings lists reports number verdict first
-    (first_unsound_holds_before (IsAuditedAsSound settings lists) reports second.before first.before first.reported early first.is second.sound)
+    (first_unsound_holds_before (IsAuditedSound settings lists) reports second.before first.before first.reported early first.is second.sound)
 
 -- two at the same index have the same number and the same verdict
 first_unsound_at_one_place : FirstUnsoundHasOneVerdict → (settings : Settings) (lists : List (List RecordValue)) (reports : List Reported)
-    (number other_number : ℕ) (verdict other : Verdict) (first : IsAuditedAsFirstUnsound settings lists reports number verdict)
-    (second : IsAuditedAsFirstUnsound settings lists reports other_number other) → first.before ≡ second.before
+    (number other_number : ℕ) (verdict other : Verdict) (first : IsFirstUnsound settings lists reports number verdict)
+    (second : IsFirstUnsound settings lists reports other_number other) → first.before ≡ second.before
     → (other_number ≡ number) × (other ≡ verdict)
 first_unsound_at_one_place one settings lists reports number other_number verdict other first second place =
     let is = subst (λ p. slice_get reports p ≡ Some first.reported) place first.is in
@@ -90,8 +90,8 @@ first_unsound_at_one_place one settings lists reports number other_number verdic
 
 -- so they are the same report
 pub first_unsound_reports_agree : FirstUnsoundHasOneVerdict → (settings : Settings) (lists : List (List RecordValue)) (reports : List Reported)
-    (number other_number : ℕ) (verdict other : Verdict) → IsAuditedAsFirstUnsound settings lists reports number verdict
-    → IsAuditedAsFirstUnsound settings lists reports other_number other
+    (number other_number : ℕ) (verdict other : Verdict) → IsFirstUnsound settings lists reports number verdict
+    → IsFirstUnsound settings lists reports other_number other
     → (other_number ≡ number) × (other ≡ verdict)
 first_unsound_reports_agree one settings lists reports number other_number verdict other first second =
     let no_less = first_unsound_is_not_earlier one settings lists reports number other_number verdict other first second in

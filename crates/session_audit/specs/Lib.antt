@@ -1,7 +1,7 @@
 pub mod Audit
-pub mod Auditing
+pub mod Answer
 -- the face: what contracts of other crates cite
-pub use Rattle.session_audit.specs.Audit.{AreAudited, AuditReadOnFault, AuditReadPastLimit, IsAuditText}
-pub use Rattle.session_audit.specs.Audit.{IsAuditedAsFirstUnsound, IsAuditedAsSound, IsSoundAudit, IsUnsoundAudit}
-pub use Rattle.session_audit.specs.Audit.{audit_verdict_text, sound_audit_text, unsound_audit_text}
-pub use Rattle.session_audit.specs.Auditing.{AuditingHasNoBytes, AuditingSays, IsAuditingAnswer}
+pub use Rattle.session_audit.specs.Audit.{AreAudited, ReadOnFault, ReadPastLimit, IsAuditText}
+pub use Rattle.session_audit.specs.Audit.{IsFirstUnsound, IsAuditedSound, IsSoundAudit, IsUnsoundAudit}
+pub use Rattle.session_audit.specs.Audit.{verdict_text, sound_audit, unsound_audit}
+pub use Rattle.session_audit.specs.Answer.{HasNoBytes, Says, IsAuditingAnswer}

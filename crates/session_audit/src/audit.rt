@@ -2,11 +2,11 @@
 
 ghost use Rattle.std.specs.Prelude.{◌≡◌, ◌++◌, All, Option, IfOk, IfSome, IfNone, OnOk};
 ghost use Rattle.prefix_lattice.specs.{prefix_text};
-ghost use Rattle.command_words.specs.{AreLimitedSettings};
-ghost use Rattle.session_audit.specs.Audit.{IsAuditedAsFirstUnsound, IsAuditedAsSound};
-ghost use Rattle.session_audit.specs.Audit.{sound_audit_text as text_of_sound, unsound_audit_text as text_of_unsound};
-ghost use Rattle.session_audit.specs.Audit.{audit_verdict_text};
-ghost use Rattle.session_audit.specs.Auditing.{IsAuditingAnswer};
+ghost use Rattle.command_words.specs.{AreLimited};
+ghost use Rattle.session_audit.specs.Audit.{IsFirstUnsound, IsAuditedSound};
+ghost use Rattle.session_audit.specs.Audit.{sound_audit as text_of_sound, unsound_audit as text_of_unsound};
+ghost use Rattle.session_audit.specs.Audit.{verdict_text};
+ghost use Rattle.session_audit.specs.Answer.{IsAuditingAnswer};
 
 use command_words::Settings;
 use deal_rules::Dealt;
@@ -50,7 +50,7 @@ pub fn audit_session(
     settings: &Settings,
     audited: &Audited,
 ) -> Result<Answer, AllocError>
-    requires { AreLimitedSettings settings.now }
+    requires { AreLimited settings.now }
     ensures { IfOk result (IsAuditingAnswer settings.now audited.now.dealt audited.now.session.reports) }
 {
     match first_unsound(alloc, settings, audited)? {
@@ -74,9 +74,9 @@ fn first_unsound(
     settings: &Settings,
     audited: &Audited,
 ) -> Result<Option<Unsound>, AllocError>
-    requires { AreLimitedSettings settings.now }
-    ensures none { IfOk result (λ found. IfNone found (All (IsAuditedAsSound settings.now audited.now.dealt) audited.now.session.reports)) }
-    ensures some { IfOk result (λ found. IfSome found (λ unsound. IsAuditedAsFirstUnsound settings.now audited.now.dealt audited.now.session.reports
+    requires { AreLimited settings.now }
+    ensures none { IfOk result (λ found. IfNone found (All (IsAuditedSound settings.now audited.now.dealt) audited.now.session.reports)) }
+    ensures some { IfOk result (λ found. IfSome found (λ unsound. IsFirstUnsound settings.now audited.now.dealt audited.now.session.reports
         unsound.report unsound.verdict)) }
 {
     let reports = audited.session.reports.as_slice();
@@ -122,7 +122,7 @@ fn unsound_text(alloc: Global, unsound: &Unsound) -> Result<Vec<u8>, AllocError>
 }
 
 fn push_verdict(text: &mut Vec<u8>, verdict: &Verdict) -> Result<(), AllocError>
-    ensures { OnOk result (text.new.items ≡ text.old.items ++ audit_verdict_text verdict.now) }
+    ensures { OnOk result (text.new.items ≡ text.old.items ++ verdict_text verdict.now) }
 {
     match verdict {
         Verdict::Good => text.extend_from_slice(b"good"),

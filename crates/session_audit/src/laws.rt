@@ -4,12 +4,12 @@ ghost use Rattle.std.specs.Prelude.{◌≡◌, ℕ, List, length, All};
 ghost use Rattle.prefix_lattice.specs.{RecordValue};
 ghost use Rattle.deal_rules.specs.declared.deal_kind.DealKind.{DealKind};
 ghost use Rattle.hhh_report.specs.declared.reports.Reported.{Reported};
-ghost use Rattle.session_audit.specs.Audit.{AreAudited, IsAuditedAsFirstUnsound, IsAuditedAsSound, IsSoundAudit};
-ghost use Rattle.session_audit.specs.Audit.{IsUnsoundAudit, sound_audit_text};
+ghost use Rattle.session_audit.specs.Audit.{AreAudited, IsFirstUnsound, IsAuditedSound, IsSoundAudit};
+ghost use Rattle.session_audit.specs.Audit.{IsUnsoundAudit, sound_audit};
 ghost use Rattle.exact_audit.specs.declared.verdict.Verdict.{Verdict};
 ghost use Rattle.command_words.specs.declared.settings.Settings.{Settings};
 ghost use Rattle.report_text.specs.declared.session.Session.{Session};
-ghost use Rattle.dealt_capture.specs.{rules_by_formula};
+ghost use Rattle.dealt_capture.specs.{rules_by};
 
 use dealt_capture::captures_are_dealt_in_one_way;
 use exact_audit::a_report_has_one_verdict;
@@ -19,10 +19,10 @@ use report_text::session_texts_have_one_reading;
 /// is one, not all are sound.
 pub fn audits_find_one_report()
     ensures one_first { (settings : Settings) (lists : List (List RecordValue)) (reports : List Reported) (report number : ℕ) (verdict other : Verdict)
-        → IsAuditedAsFirstUnsound settings lists reports report verdict
-        → IsAuditedAsFirstUnsound settings lists reports number other → (number ≡ report) × (other ≡ verdict) }
+        → IsFirstUnsound settings lists reports report verdict
+        → IsFirstUnsound settings lists reports number other → (number ≡ report) × (other ≡ verdict) }
     ensures never_both { (settings : Settings) (lists : List (List RecordValue)) (reports : List Reported) (report : ℕ) (verdict : Verdict)
-        → IsAuditedAsFirstUnsound settings lists reports report verdict → All (IsAuditedAsSound settings lists) reports → ⊥ }
+        → IsFirstUnsound settings lists reports report verdict → All (IsAuditedSound settings lists) reports → ⊥ }
 {
     a_report_has_one_verdict();
 }
@@ -32,19 +32,19 @@ pub fn audits_find_one_report()
 pub fn audits_have_one_answer()
     ensures sound { (formula : DealKind → ℕ → RecordValue → ℕ → ℕ) (settings : Settings) (file text answer : List ℕ)
         (lists : List (List RecordValue)) (session : Session)
-        → IsSoundAudit settings (rules_by_formula formula) file text answer
-        → AreAudited settings (rules_by_formula formula) file text lists session
-        → All (IsAuditedAsSound settings lists) session.reports × (answer ≡ sound_audit_text (length session.reports)) }
+        → IsSoundAudit settings (rules_by formula) file text answer
+        → AreAudited settings (rules_by formula) file text lists session
+        → All (IsAuditedSound settings lists) session.reports × (answer ≡ sound_audit (length session.reports)) }
     ensures unsound { (formula : DealKind → ℕ → RecordValue → ℕ → ℕ) (settings : Settings) (file text : List ℕ) (report : ℕ) (verdict : Verdict)
-        (lists : List (List RecordValue)) (session : Session) → IsUnsoundAudit settings (rules_by_formula formula) file text report verdict
-        → AreAudited settings (rules_by_formula formula) file text lists session
-        → IsAuditedAsFirstUnsound settings lists session.reports report verdict }
+        (lists : List (List RecordValue)) (session : Session) → IsUnsoundAudit settings (rules_by formula) file text report verdict
+        → AreAudited settings (rules_by formula) file text lists session
+        → IsFirstUnsound settings lists session.reports report verdict }
     ensures never_both { (formula : DealKind → ℕ → RecordValue → ℕ → ℕ) (settings : Settings) (file text answer : List ℕ) (report : ℕ) (verdict : Verdict)
-        → IsSoundAudit settings (rules_by_formula formula) file text answer
-        → IsUnsoundAudit settings (rules_by_formula formula) file text report verdict → ⊥ }
+        → IsSoundAudit settings (rules_by formula) file text answer
+        → IsUnsoundAudit settings (rules_by formula) file text report verdict → ⊥ }
     ensures one_first { (formula : DealKind → ℕ → RecordValue → ℕ → ℕ) (settings : Settings) (file text : List ℕ) (report number : ℕ) (verdict other : Verdict)
-        → IsUnsoundAudit settings (rules_by_formula formula) file text report verdict
-        → IsUnsoundAudit settings (rules_by_formula formula) file text number other
+        → IsUnsoundAudit settings (rules_by formula) file text report verdict
+        → IsUnsoundAudit settings (rules_by formula) file text number other
         → (number ≡ report) × (other ≡ verdict) }
 {
     captures_are_dealt_in_one_way();

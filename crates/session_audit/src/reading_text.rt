@@ -2,8 +2,8 @@
 
 ghost use Rattle.std.specs.Prelude.{◌≡◌, ◌≤◌, ◌<◌, ◌+◌, ◌++◌, ℕ, List, length, vec_len, IfOk, IfErr, IsErrOf};
 ghost use Rattle.std.specs.Io.KnownBytes.{Consumes, IsAtEnd};
-ghost use Rattle.report_text.specs.{longest_session_text_length};
-ghost use Rattle.session_audit.specs.Auditing.{AuditingHasNoBytes};
+ghost use Rattle.report_text.specs.{longest_session};
+ghost use Rattle.session_audit.specs.Answer.{HasNoBytes};
 
 use outside_io::Source;
 use run_status::Status;
@@ -15,9 +15,9 @@ const MOST_BYTES: usize = 268_435_457;
 /// Reads a text to its end, or one byte past the longest text of a session.
 pub fn read_text<T: Source>(alloc: Global, source: &mut T) -> Result<Vec<u8>, Status>
     ensures consumed { IfOk result (λ text. Consumes (T.left source.old) (T.left source.new) text.items) }
-    ensures limit { IfOk result (λ text. length text.items ≤ longest_session_text_length + 1) }
-    ensures at_end { IfOk result (λ text. length text.items ≤ longest_session_text_length → IsAtEnd (T.left source.new)) }
-    ensures refused { IfErr result (AuditingHasNoBytes (T.faults source.old) (T.faults source.new)) }
+    ensures limit { IfOk result (λ text. length text.items ≤ longest_session + 1) }
+    ensures at_end { IfOk result (λ text. length text.items ≤ longest_session → IsAtEnd (T.left source.new)) }
+    ensures refused { IfErr result (HasNoBytes (T.faults source.old) (T.faults source.new)) }
     ensures told { (IsErrOf result Status.ReadFault → ⊥) → T.faults source.new ≡ T.faults source.old }
 {
     let mut buffer = read_buffer(alloc)?;
@@ -43,7 +43,7 @@ fn append_piece<T: Source>(
         × Consumes (T.left source.old) (T.left source.new) piece) }
     ensures fits { IfOk result (λ count. count ≤ length buffer.old) }
     ensures at_end { IfOk result (λ count. count ≡ 0 → 0 < length buffer.old → IsAtEnd (T.left source.new)) }
-    ensures refused { IfErr result (AuditingHasNoBytes (T.faults source.old) (T.faults source.new)) }
+    ensures refused { IfErr result (HasNoBytes (T.faults source.old) (T.faults source.new)) }
     ensures told { (IsErrOf result Status.ReadFault → ⊥) → T.faults source.new ≡ T.faults source.old }
 {
     let Ok(count) = source.read(buffer) else {

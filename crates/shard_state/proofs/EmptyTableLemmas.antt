@@ -4,9 +4,9 @@ use Rattle.std.proofs.Common.{arith, subst, lit<}
 use Rattle.std.proofs.lemmas.List.Elements.{All-nil, All-replicate}
 use Rattle.prefix_lattice.specs.{NodeValue, node_index, IsPrefixKey}
 use Rattle.space_saving.specs.declared.entry.Entry.{Entry}
-use Rattle.space_saving.specs.{TableValue, table_total, AreTableEntries, HasSmallTableError}
-use Rattle.shard_state.specs.Snapshot.{IsSnapshotTableAt, SnapshotValue, IsSnapshot, no_snapshot_entries}
-use Rattle.shard_state.specs.Snapshot.{empty_snapshot, snapshot_entries_at}
+use Rattle.space_saving.specs.{TableValue, table_total, AreTableEntries, HasSmallError}
+use Rattle.shard_state.specs.Snapshot.{IsTableAt, SnapshotValue, IsSnapshot, no_entries}
+use Rattle.shard_state.specs.Snapshot.{empty_snapshot, entries_at}
 use Rattle.shard_state.specs.Cut.{IsCut, empty_cut}
 use Rattle.std.proofs.lemmas.List.{length-replicate}
 
@@ -15,8 +15,8 @@ abbrev pub empty_table : ℕ → TableValue
 empty_table capacity = record { capacity = capacity; entries = [] }
 
 -- the entries of empty tables
-pub row_of_empty_tables : (capacity : ℕ) → map (λ (t : TableValue). t.entries) (replicate 25 (empty_table capacity)) ≡ no_snapshot_entries
-unfolding no_snapshot_entries
+pub row_of_empty_tables : (capacity : ℕ) → map (λ (t : TableValue). t.entries) (replicate 25 (empty_table capacity)) ≡ no_entries
+unfolding no_entries
 row_of_empty_tables capacity = refl
 
 empty_table_in_row : (n k : ℕ) → get_or (replicate n (let none : List Entry = [] in none)) k [] ≡ []
@@ -25,23 +25,23 @@ empty_table_in_row (suc n) zero = refl
 empty_table_in_row (suc n) (suc k) = empty_table_in_row n k
 
 -- each of the empty tables has no entry
-pub empty_table_at_place : (k : ℕ) → get_or no_snapshot_entries k [] ≡ []
-unfolding no_snapshot_entries
+pub empty_table_at_place : (k : ℕ) → get_or no_entries k [] ≡ []
+unfolding no_entries
 empty_table_at_place k = empty_table_in_row 25 k
 
-pub number_of_empty_tables : length no_snapshot_entries ≡ 25
-unfolding no_snapshot_entries
+pub number_of_empty_tables : length no_entries ≡ 25
+unfolding no_entries
 number_of_empty_tables = refl
 
 -- an empty list has the entries of a table
 empty_table_is_valid : (capacity : ℕ) → AreTableEntries capacity []
 empty_table_is_valid capacity = record {
-  is_table = record { fits = omega arith; ascending = tt; distinct = tt; small_errors = All-nil (HasSmallTableError capacity 0) };
+  is_table = record { fits = omega arith; ascending = tt; distinct = tt; small_errors = All-nil (HasSmallError capacity 0) };
   bounded = lit< tt;
 }
 
-pub IsSnapshotTableAt-empty_table : (capacity : ℕ) (node : NodeValue) → IsSnapshotTableAt capacity 0 node []
-IsSnapshotTableAt-empty_table capacity node = record {
+pub IsTableAt-empty_table : (capacity : ℕ) (node : NodeValue) → IsTableAt capacity 0 node []
+IsTableAt-empty_table capacity node = record {
   are_entries = empty_table_is_valid capacity;
   counted = refl;
   keyed = All-nil
@@ -56,21 +56,21 @@ IsSnapshot-empty_tables capacity least most = record {
   placed = omega arith;
   shape = number_of_empty_tables;
   tables = λ node valid.
-      let no_total : 0 ≡ table_total (get_or no_snapshot_entries 0 []) = sym (ap table_total (empty_table_at_place 0)) in
-      subst (λ total. IsSnapshotTableAt capacity total node (snapshot_entries_at node (empty_snapshot capacity))) no_total
-      (subst (IsSnapshotTableAt capacity 0 node) (sym (empty_table_at_place (node_index node))) (IsSnapshotTableAt-empty_table capacity node));
+      let no_total : 0 ≡ table_total (get_or no_entries 0 []) = sym (ap table_total (empty_table_at_place 0)) in
+      subst (λ total. IsTableAt capacity total node (entries_at node (empty_snapshot capacity))) no_total
+      (subst (IsTableAt capacity 0 node) (sym (empty_table_at_place (node_index node))) (IsTableAt-empty_table capacity node));
 }
 
 -- what is made of empty tables
 pub record EmptyTables (capacity : ℕ) (tables : List TableValue) : Type 0 where
   pub alike : All (λ (t : TableValue). t.capacity ≡ capacity) tables
-  pub entries : map (λ (t : TableValue). t.entries) tables ≡ no_snapshot_entries
+  pub entries : map (λ (t : TableValue). t.entries) tables ≡ no_entries
   pub is_snapshot : IsSnapshot (record { capacity = capacity; position = 0; tables = map (λ (t : TableValue). t.entries) tables })
 
 pub empty_tables_are_made : (capacity : ℕ) (tables : List TableValue) → tables ≡ replicate 25 (empty_table capacity)
     → 2 ≤ capacity → capacity ≤ 4096 → EmptyTables capacity tables
 empty_tables_are_made capacity tables are least most =
-    let entries : map (λ (t : TableValue). t.entries) tables ≡ no_snapshot_entries = ap (map (λ (t : TableValue). t.entries)) are
+    let entries : map (λ (t : TableValue). t.entries) tables ≡ no_entries = ap (map (λ (t : TableValue). t.entries)) are
     ∙ row_of_empty_tables capacity in
     record {
       alike =

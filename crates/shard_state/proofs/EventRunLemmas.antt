@@ -9,12 +9,12 @@ use Rattle.std.proofs.lemmas.Option.{get_or_from_slice_get}
 use Rattle.prefix_lattice.specs.{RecordValue}
 use Rattle.shard_state.specs.Snapshot.{SnapshotValue, SnapshotRepresents}
 use Rattle.shard_state.specs.Cut.{CutValue, cut_positions, CutRepresents}
-use Rattle.shard_state.specs.ShardState.{ShardValue, IsShard, snapshot_of_shard}
-use Rattle.shard_state.specs.ShardCore.{CoreValue, CoreShardMovedOn, core_after, core_after_run, core_capacity}
-use Rattle.shard_state.specs.ShardCore.{HasCoreShape, IsCore, position_met_in_core, position_in_core}
-use Rattle.shard_state.specs.ShardCore.{core_reads_of, last_core_read, CorePositionsNeverFall, latest_core_snapshot}
-use Rattle.shard_state.specs.ShardCore.{shard_in_core_cut, snapshot_in_core, core_lists}
-use Rattle.shard_state.specs.ShardCore.{CoreBasesRepresent, ReadsEachCoreShard}
+use Rattle.shard_state.specs.ShardState.{ShardValue, IsShard, snapshot_of}
+use Rattle.shard_state.specs.ShardCore.{CoreValue, ShardMovedOn, core_after, core_after_run, core_capacity}
+use Rattle.shard_state.specs.ShardCore.{HasCoreShape, IsCore, position_met, position_in_core}
+use Rattle.shard_state.specs.ShardCore.{reads_of, last_core_read, NeverFall, latest_snapshot}
+use Rattle.shard_state.specs.ShardCore.{shard_in_cut, snapshot_in, core_lists}
+use Rattle.shard_state.specs.ShardCore.{BasesRepresent, ReadsEachShard}
 use Rattle.shard_state.specs.declared.event.Event.{Event}
 use Rattle.shard_state.specs.declared.event.Event.TheVariants.{Fold, Read}
 use Rattle.shard_state.proofs.RepresentationLemmas.{representation_of_shard}
@@ -22,42 +22,42 @@ use Rattle.shard_state.proofs.EventLemmas.{event_moves_shard_on, shard_snapshot_
 use Rattle.shard_state.proofs.EventLemmas.{shards_as_many_after_event, callers_after_event, capacity_after_event}
 
 -- reads may come in parts
-latest_core_snapshot-parts_of_event_run : (state : ShardValue) (before : SnapshotValue) (earlier later : List ℕ)
-    → latest_core_snapshot state before (earlier ++ later) ≡ latest_core_snapshot state (latest_core_snapshot state before earlier) later
-latest_core_snapshot-parts_of_event_run state before [] later = refl
-latest_core_snapshot-parts_of_event_run state before (position ∷ earlier) later = latest_core_snapshot-parts_of_event_run state
-    (snapshot_of_shard (record state { position = position }))
+latest_snapshot-parts_of_event_run : (state : ShardValue) (before : SnapshotValue) (earlier later : List ℕ)
+    → latest_snapshot state before (earlier ++ later) ≡ latest_snapshot state (latest_snapshot state before earlier) later
+latest_snapshot-parts_of_event_run state before [] later = refl
+latest_snapshot-parts_of_event_run state before (position ∷ earlier) later = latest_snapshot-parts_of_event_run state
+    (snapshot_of (record state { position = position }))
     earlier later
 
 -- the position of the shard doesn't matter
-latest_core_snapshot-moved_in_event_run : (state : ShardValue) (position : ℕ) (before : SnapshotValue) (reads : List ℕ)
-    → latest_core_snapshot (record state { position = position }) before reads ≡ latest_core_snapshot state before reads
-latest_core_snapshot-moved_in_event_run state position before [] = refl
-latest_core_snapshot-moved_in_event_run state position before (met ∷ later) = latest_core_snapshot-moved_in_event_run state position
-    (snapshot_of_shard (record state { position = met })) later
+latest_snapshot-moved_in_event_run : (state : ShardValue) (position : ℕ) (before : SnapshotValue) (reads : List ℕ)
+    → latest_snapshot (record state { position = position }) before reads ≡ latest_snapshot state before reads
+latest_snapshot-moved_in_event_run state position before [] = refl
+latest_snapshot-moved_in_event_run state position before (met ∷ later) = latest_snapshot-moved_in_event_run state position
+    (snapshot_of (record state { position = met })) later
 
 -- a run leaves in each cut what its reads met last
-pub latest_core_snapshot-after_event_run : (events : List Event) (core : CoreValue) (caller shard : ℕ) (state : ShardValue)
+pub latest_snapshot-after_event_run : (events : List Event) (core : CoreValue) (caller shard : ℕ) (state : ShardValue)
     (before : SnapshotValue) → slice_get core.shards shard ≡ Some state
-    → state.position ≤ length state.list → snapshot_in_core caller shard core.cuts ≡ Some before
-    → snapshot_in_core caller shard (core_after_run core events).cuts ≡ Some (latest_core_snapshot state before (core_reads_of caller shard core events))
-latest_core_snapshot-after_event_run [] core caller shard state before is within holds = holds
-latest_core_snapshot-after_event_run (event ∷ rest) core caller shard state before is within holds =
-    let moved : CoreShardMovedOn (core_after core event).shards shard state = event_moves_shard_on core event shard state is within in
-    let read = position_met_in_core caller shard core.shards event in
-    let later = core_reads_of caller shard (core_after core event) rest in
-    latest_core_snapshot-after_event_run rest (core_after core event) caller shard (record state { position = moved.position })
-    (latest_core_snapshot state before read)
+    → state.position ≤ length state.list → snapshot_in caller shard core.cuts ≡ Some before
+    → snapshot_in caller shard (core_after_run core events).cuts ≡ Some (latest_snapshot state before (reads_of caller shard core events))
+latest_snapshot-after_event_run [] core caller shard state before is within holds = holds
+latest_snapshot-after_event_run (event ∷ rest) core caller shard state before is within holds =
+    let moved : ShardMovedOn (core_after core event).shards shard state = event_moves_shard_on core event shard state is within in
+    let read = position_met caller shard core.shards event in
+    let later = reads_of caller shard (core_after core event) rest in
+    latest_snapshot-after_event_run rest (core_after core event) caller shard (record state { position = moved.position })
+    (latest_snapshot state before read)
     moved.is
     moved.within
     (shard_snapshot_after_event core event caller shard state before is holds)
-    ∙ ap Some (latest_core_snapshot-moved_in_event_run state moved.position (latest_core_snapshot state before read) later
-    ∙ sym (latest_core_snapshot-parts_of_event_run state before read later))
+    ∙ ap Some (latest_snapshot-moved_in_event_run state moved.position (latest_snapshot state before read) later
+    ∙ sym (latest_snapshot-parts_of_event_run state before read later))
 
 -- an event meets nothing or the position of the shard
 event_in_run_meets_shard : (P : List ℕ → Type 0) (caller shard : ℕ) (shards : List ShardValue) (event : Event) (state : ShardValue)
     → slice_get shards shard ≡ Some state
-    → P [] → P (state.position ∷ []) → P (position_met_in_core caller shard shards event)
+    → P [] → P (state.position ∷ []) → P (position_met caller shard shards event)
 event_in_run_meets_shard P caller shard shards (Fold at block) state is none one = none
 event_in_run_meets_shard P caller shard shards (Read by at) state is none one =
     elim (eqb by caller && eqb at shard) as (λ b. P (cond b (position_in_core (slice_get shards shard)) [])) [
@@ -65,31 +65,31 @@ event_in_run_meets_shard P caller shard shards (Read by at) state is none one =
       | false ↦ none
     ]
 
-event_run_may_begin_lower : (least position : ℕ) (positions : List ℕ) → least ≤ position → CorePositionsNeverFall position positions
-    → CorePositionsNeverFall least positions
+event_run_may_begin_lower : (least position : ℕ) (positions : List ℕ) → least ≤ position → NeverFall position positions
+    → NeverFall least positions
 event_run_may_begin_lower least position [] below rise = rise
 event_run_may_begin_lower least position (next ∷ later) below rise = (omega (arith, rise.0), rise.1)
 
 -- the positions that reads of a shard meet never fall
 pub event_run_reads_never_fall : (events : List Event) (core : CoreValue) (caller shard : ℕ) (state : ShardValue) → slice_get core.shards shard ≡ Some state
-    → state.position ≤ length state.list → CorePositionsNeverFall state.position (core_reads_of caller shard core events)
+    → state.position ≤ length state.list → NeverFall state.position (reads_of caller shard core events)
 event_run_reads_never_fall [] core caller shard state is within = tt
 event_run_reads_never_fall (event ∷ rest) core caller shard state is within =
-    let moved : CoreShardMovedOn (core_after core event).shards shard state = event_moves_shard_on core event shard state is within in
-    let later = core_reads_of caller shard (core_after core event) rest in
-    let rise : CorePositionsNeverFall state.position later =
+    let moved : ShardMovedOn (core_after core event).shards shard state = event_moves_shard_on core event shard state is within in
+    let later = reads_of caller shard (core_after core event) rest in
+    let rise : NeverFall state.position later =
     event_run_may_begin_lower state.position moved.position later moved.later
     (event_run_reads_never_fall rest (core_after core event) caller shard (record state { position = moved.position }) moved.is
     moved.within) in
-    event_in_run_meets_shard (λ ps. CorePositionsNeverFall state.position (ps ++ later)) caller shard core.shards event state is rise (omega arith, rise)
+    event_in_run_meets_shard (λ ps. NeverFall state.position (ps ++ later)) caller shard core.shards event state is rise (omega arith, rise)
 
 -- and are within its list
 pub event_run_reads_within : (events : List Event) (core : CoreValue) (caller shard : ℕ) (state : ShardValue) → slice_get core.shards shard ≡ Some state
-    → state.position ≤ length state.list → All (λ p. p ≤ length state.list) (core_reads_of caller shard core events)
+    → state.position ≤ length state.list → All (λ p. p ≤ length state.list) (reads_of caller shard core events)
 event_run_reads_within [] core caller shard state is within = All-nil (λ p. p ≤ length state.list)
 event_run_reads_within (event ∷ rest) core caller shard state is within =
-    let moved : CoreShardMovedOn (core_after core event).shards shard state = event_moves_shard_on core event shard state is within in
-    let later = core_reads_of caller shard (core_after core event) rest in
+    let moved : ShardMovedOn (core_after core event).shards shard state = event_moves_shard_on core event shard state is within in
+    let later = reads_of caller shard (core_after core event) rest in
     let all : All (λ p. p ≤ length state.list) later =
     event_run_reads_within rest (core_after core event) caller shard (record state { position = moved.position }) moved.is
     moved.within in
@@ -97,50 +97,50 @@ event_run_reads_within (event ∷ rest) core caller shard state is within =
     (All-cons (λ p. p ≤ length state.list) state.position later within all)
 
 -- the snapshot of the last read
-pub latest_core_snapshot-last_of_event_run : (state : ShardValue) (before : SnapshotValue) (reads : List ℕ) (position : ℕ)
+pub latest_snapshot-last_of_event_run : (state : ShardValue) (before : SnapshotValue) (reads : List ℕ) (position : ℕ)
     → last_core_read reads ≡ Some position
-    → latest_core_snapshot state before reads ≡ snapshot_of_shard (record state { position = position })
-latest_core_snapshot-last_of_event_run state before [] position last = cc last
-latest_core_snapshot-last_of_event_run state before (only ∷ []) position last = let same : only ≡ position = cc last in ap
-    (λ p. snapshot_of_shard (record state { position = p })) same
-latest_core_snapshot-last_of_event_run state before (first ∷ next ∷ later) position last =
-    latest_core_snapshot-last_of_event_run state (snapshot_of_shard (record state { position = first })) (next ∷ later) position last
+    → latest_snapshot state before reads ≡ snapshot_of (record state { position = position })
+latest_snapshot-last_of_event_run state before [] position last = cc last
+latest_snapshot-last_of_event_run state before (only ∷ []) position last = let same : only ≡ position = cc last in ap
+    (λ p. snapshot_of (record state { position = p })) same
+latest_snapshot-last_of_event_run state before (first ∷ next ∷ later) position last =
+    latest_snapshot-last_of_event_run state (snapshot_of (record state { position = first })) (next ∷ later) position last
 
 -- a snapshot that was read represents the shard's list
-latest_core_snapshot-stands_in_event_run : (state : ShardValue) (before : SnapshotValue) (reads : List ℕ) (least : ℕ)
-    → SnapshotRepresents state.base state.list → state.base.position ≤ least → CorePositionsNeverFall least reads
-    → All (λ p. p ≤ length state.list) reads → SnapshotRepresents before state.list → SnapshotRepresents (latest_core_snapshot state before reads) state.list
-latest_core_snapshot-stands_in_event_run state before [] least base begun rise within stands = stands
-latest_core_snapshot-stands_in_event_run state before (position ∷ later) least base begun rise within stands =
+latest_snapshot-stands_in_event_run : (state : ShardValue) (before : SnapshotValue) (reads : List ℕ) (least : ℕ)
+    → SnapshotRepresents state.base state.list → state.base.position ≤ least → NeverFall least reads
+    → All (λ p. p ≤ length state.list) reads → SnapshotRepresents before state.list → SnapshotRepresents (latest_snapshot state before reads) state.list
+latest_snapshot-stands_in_event_run state before [] least base begun rise within stands = stands
+latest_snapshot-stands_in_event_run state before (position ∷ later) least base begun rise within stands =
     let here : position ≤ length state.list = All-head (λ p. p ≤ length state.list) position later within in
     let from : state.base.position ≤ position = omega (arith, rise.0) in
-    latest_core_snapshot-stands_in_event_run state (snapshot_of_shard (record state { position = position })) later position base from rise.1
+    latest_snapshot-stands_in_event_run state (snapshot_of (record state { position = position })) later position base from rise.1
     (All-tail (λ p. p ≤ length state.list) position later within) (representation_of_shard (record state { position = position }) base from here)
 
 pub event_run_read_stands : (state : ShardValue) (before : SnapshotValue) (reads : List ℕ) (least : ℕ)
-    → SnapshotRepresents state.base state.list → state.base.position ≤ least → CorePositionsNeverFall least reads
-    → All (λ p. p ≤ length state.list) reads → 1 ≤ length reads → SnapshotRepresents (latest_core_snapshot state before reads) state.list
+    → SnapshotRepresents state.base state.list → state.base.position ≤ least → NeverFall least reads
+    → All (λ p. p ≤ length state.list) reads → 1 ≤ length reads → SnapshotRepresents (latest_snapshot state before reads) state.list
 event_run_read_stands state before [] least base begun rise within some = absurd (omega arith)
 event_run_read_stands state before (position ∷ later) least base begun rise within some =
     let here : position ≤ length state.list = All-head (λ p. p ≤ length state.list) position later within in
     let from : state.base.position ≤ position = omega (arith, rise.0) in
-    latest_core_snapshot-stands_in_event_run state (snapshot_of_shard (record state { position = position })) later position base from rise.1
+    latest_snapshot-stands_in_event_run state (snapshot_of (record state { position = position })) later position base from rise.1
     (All-tail (λ p. p ≤ length state.list) position later within) (representation_of_shard (record state { position = position }) base from here)
 
 -- after a read a cut has tables of the shard's capacity
-latest_core_snapshot-alike_in_event_run : (state : ShardValue) (before : SnapshotValue) (reads : List ℕ)
-    → before.capacity ≡ state.base.capacity → (latest_core_snapshot state before reads).capacity ≡ state.base.capacity
-latest_core_snapshot-alike_in_event_run state before [] alike = alike
-latest_core_snapshot-alike_in_event_run state before (position ∷ later) alike = latest_core_snapshot-alike_in_event_run state
-    (snapshot_of_shard (record state { position = position }))
+latest_snapshot-alike_in_event_run : (state : ShardValue) (before : SnapshotValue) (reads : List ℕ)
+    → before.capacity ≡ state.base.capacity → (latest_snapshot state before reads).capacity ≡ state.base.capacity
+latest_snapshot-alike_in_event_run state before [] alike = alike
+latest_snapshot-alike_in_event_run state before (position ∷ later) alike = latest_snapshot-alike_in_event_run state
+    (snapshot_of (record state { position = position }))
     later
     refl
 
 event_run_read_is_alike : (state : ShardValue) (before : SnapshotValue) (reads : List ℕ) → 1 ≤ length reads
-    → (latest_core_snapshot state before reads).capacity ≡ state.base.capacity
+    → (latest_snapshot state before reads).capacity ≡ state.base.capacity
 event_run_read_is_alike state before [] some = absurd (omega arith)
-event_run_read_is_alike state before (position ∷ later) some = latest_core_snapshot-alike_in_event_run state
-    (snapshot_of_shard (record state { position = position }))
+event_run_read_is_alike state before (position ∷ later) some = latest_snapshot-alike_in_event_run state
+    (snapshot_of (record state { position = position }))
     later refl
 
 -- what a run keeps of shapes
@@ -177,7 +177,7 @@ event_run_agrees_by_place R (x ∷ xs) (y ∷ ys) many each = (
 -- what a cut has of a shard
 record HeldBeforeEventRun (caller shard : ℕ) (cuts : List CutValue) : Type 0 where
   pub before : SnapshotValue
-  pub holds : snapshot_in_core caller shard cuts ≡ Some before
+  pub holds : snapshot_in caller shard cuts ≡ Some before
 
 no_snapshot_in_event_run : SnapshotValue
 no_snapshot_in_event_run = record { capacity = 0; position = 0; tables = [] }
@@ -196,7 +196,7 @@ held_before_event_run caller shard shards capacity cuts shapes in_cuts in_shards
     let in_cut : shard < length cut.shards = omega (arith, shape.as_many) in
     record {
       before = get_or cut.shards shard no_snapshot_in_event_run;
-      holds = ap (shard_in_core_cut shard) (slice_get-get_or cuts caller no_cut_in_event_run in_cuts)
+      holds = ap (shard_in_cut shard) (slice_get-get_or cuts caller no_cut_in_event_run in_cuts)
           ∙ slice_get-get_or cut.shards shard no_snapshot_in_event_run in_cut;
     }
 
@@ -206,7 +206,7 @@ pub record LeftByEventRun (events : List Event) (core : CoreValue) (caller shard
   pub before : SnapshotValue
   pub is : slice_get core.shards shard ≡ Some state
   pub is_shard : IsShard state
-  pub holds : slice_get cut.shards shard ≡ Some (latest_core_snapshot state before (core_reads_of caller shard core events))
+  pub holds : slice_get cut.shards shard ≡ Some (latest_snapshot state before (reads_of caller shard core events))
 
 pub left_by_event_run : (events : List Event) (core : CoreValue) (caller shard : ℕ) (cut : CutValue) → All IsShard core.shards
     → All (HasCoreShape (length core.shards) (core_capacity core.shards)) core.cuts → slice_get (core_after_run core events).cuts caller ≡ Some cut
@@ -225,15 +225,15 @@ left_by_event_run events core caller shard cut kept shapes is_cut in_shards =
       before = had.before;
       is = is;
       is_shard = is_shard;
-      holds = sym (ap (shard_in_core_cut shard) is_cut) ∙ latest_core_snapshot-after_event_run events core caller shard state had.before is is_shard.within
+      holds = sym (ap (shard_in_cut shard) is_cut) ∙ latest_snapshot-after_event_run events core caller shard state had.before is is_shard.within
           had.holds;
     }
 
 -- a cut in which each shard was read represents the shards' lists, if their bases do
 pub event_run_cut_stands : (events : List Event) (core : CoreValue) (caller : ℕ) (cut : CutValue) → IsCore core.shards
-    → All (HasCoreShape (length core.shards) (core_capacity core.shards)) core.cuts → CoreBasesRepresent core.shards
+    → All (HasCoreShape (length core.shards) (core_capacity core.shards)) core.cuts → BasesRepresent core.shards
     → slice_get (core_after_run core events).cuts caller ≡ Some cut
-    → ReadsEachCoreShard caller core events → CutRepresents cut (core_lists core.shards)
+    → ReadsEachShard caller core events → CutRepresents cut (core_lists core.shards)
 event_run_cut_stands events core caller cut is_core shapes bases is_cut reads =
     let kept : All IsShard core.shards = is_core.kept in
     let in_run : caller < length (core_after_run core events).cuts = slice_get_within (core_after_run core events).cuts caller cut is_cut in
@@ -249,12 +249,12 @@ event_run_cut_stands events core caller cut is_core shapes bases is_cut reads =
       alike = λ k default in_cut.
           let in_shards : k < length core.shards = omega (arith, many, in_cut) in
           let here : LeftByEventRun events core caller k cut = left_by_event_run events core caller k cut kept shapes is_cut in_shards in
-          let met_here = core_reads_of caller k core events in
+          let met_here = reads_of caller k core events in
           let of_core : here.state.base.capacity ≡ core_capacity core.shards =
           subst (λ (s : ShardValue). s.base.capacity ≡ core_capacity core.shards) (get_or_from_slice_get core.shards k here.state no_shard_in_event_run here.is)
           (All-get_or (λ (s : ShardValue). s.base.capacity ≡ core_capacity core.shards) core.shards k no_shard_in_event_run in_shards
           is_core.are_shards.alike) in
-          ap (λ (s : SnapshotValue). s.capacity) (get_or_from_slice_get cut.shards k (latest_core_snapshot here.state here.before met_here) default here.holds)
+          ap (λ (s : SnapshotValue). s.capacity) (get_or_from_slice_get cut.shards k (latest_snapshot here.state here.before met_here) default here.holds)
           ∙ event_run_read_is_alike here.state here.before met_here (reads k in_shards)
           ∙ of_core
           ∙ sym same_capacity;
@@ -264,33 +264,33 @@ event_run_cut_stands events core caller cut is_core shapes bases is_cut reads =
           let in_shards : k < length core.shards = omega arith in
           let here : LeftByEventRun events core caller k cut = left_by_event_run events core caller k cut kept shapes is_cut in_shards in
           let state = here.state in
-          let met_here = core_reads_of caller k core events in
+          let met_here = reads_of caller k core events in
           let base : SnapshotRepresents state.base state.list =
           subst (λ (s : ShardValue). SnapshotRepresents s.base s.list) (get_or_from_slice_get core.shards k state no_shard_in_event_run here.is)
           (All-get_or (λ (s : ShardValue). SnapshotRepresents s.base s.list) core.shards k no_shard_in_event_run in_shards bases) in
-          let stands : SnapshotRepresents (latest_core_snapshot state here.before met_here) state.list =
+          let stands : SnapshotRepresents (latest_snapshot state here.before met_here) state.list =
           event_run_read_stands state here.before met_here state.position base here.is_shard.begun (event_run_reads_never_fall events core caller k state
           here.is here.is_shard.within)
           (event_run_reads_within events core caller k state here.is here.is_shard.within) (reads k in_shards) in
-          let same_snapshot : latest_core_snapshot state here.before met_here ≡ snapshot =
-          same_Some (latest_core_snapshot state here.before met_here) snapshot (sym here.holds ∙ is_snapshot) in
+          let same_snapshot : latest_snapshot state here.before met_here ≡ snapshot =
+          same_Some (latest_snapshot state here.before met_here) snapshot (sym here.holds ∙ is_snapshot) in
           let same_list : state.list ≡ list =
           same_Some state.list list
           (sym (slice_get-map list_of core.shards k ∙ ap (option_map list_of) here.is) ∙ is_list) in
-          subst (λ s. SnapshotRepresents s list) same_snapshot (subst (SnapshotRepresents (latest_core_snapshot state here.before met_here)) same_list stands));
+          subst (λ s. SnapshotRepresents s list) same_snapshot (subst (SnapshotRepresents (latest_snapshot state here.before met_here)) same_list stands));
     }
 
 -- the position of a shard in the cut is that of the last read
 pub event_run_tells_last_read : (events : List Event) (core : CoreValue) (caller shard position : ℕ) (cut : CutValue) → All IsShard core.shards
     → All (HasCoreShape (length core.shards) (core_capacity core.shards)) core.cuts → shard < length core.shards
     → slice_get (core_after_run core events).cuts caller ≡ Some cut
-    → last_core_read (core_reads_of caller shard core events) ≡ Some position → slice_get (cut_positions cut) shard ≡ Some position
+    → last_core_read (reads_of caller shard core events) ≡ Some position → slice_get (cut_positions cut) shard ≡ Some position
 event_run_tells_last_read events core caller shard position cut kept shapes in_shards is_cut last =
     let here : LeftByEventRun events core caller shard cut = left_by_event_run events core caller shard cut kept shapes is_cut in_shards in
     let place : SnapshotValue → ℕ = λ s. s.position in
     slice_get-map place cut.shards shard
     ∙ ap (option_map place) here.holds
-    ∙ ap (λ s. Some (place s)) (latest_core_snapshot-last_of_event_run here.state here.before (core_reads_of caller shard core events) position last)
+    ∙ ap (λ s. Some (place s)) (latest_snapshot-last_of_event_run here.state here.before (reads_of caller shard core events) position last)
 
 -- the position of a shard of a core is within its list
 pub event_run_shard_within : (core : CoreValue) (shard : ℕ) (state : ShardValue) → All IsShard core.shards

@@ -3,14 +3,14 @@ use Rattle.std.proofs.Common.{◌≡◌, ◌≤◌, ◌<◌, ◌^◌, ℕ, List,
 use Rattle.std.proofs.lemmas.List.Elements.{All-from_recursion, All-head}
 use Rattle.prefix_lattice.specs.{RecordValue, node_at, IsPrefixKey, PrefixValue}
 use Rattle.space_saving.specs.declared.entry.Entry.{Entry}
-use Rattle.space_saving.specs.{TableValue, HasSmallTableError}
-use Rattle.shard_state.specs.Snapshot.{snapshot_adds, snapshot_records_table, fold_snapshot_at, fold_snapshot_from}
-use Rattle.shard_state.specs.Snapshot.{HasSnapshotKeys, IsSnapshotTableAt, snapshot_table_after}
-use Rattle.shard_state.specs.Snapshot.{snapshot_tables_after, no_snapshot_entries, empty_snapshot, snapshot_entries_at}
+use Rattle.space_saving.specs.{TableValue, HasSmallError}
+use Rattle.shard_state.specs.Snapshot.{adds_of, records_table, fold_at, fold_from}
+use Rattle.shard_state.specs.Snapshot.{HasKeys, IsTableAt, table_after}
+use Rattle.shard_state.specs.Snapshot.{tables_after, no_entries, empty_snapshot, entries_at}
 use Rattle.shard_state.specs.Snapshot.{snapshot_total}
-use Rattle.shard_state.specs.ShardState.{ShardValue, IsShard, folded_shard, snapshot_of_shard}
-use Rattle.shard_state.specs.WeightIntervals.{NarrowIntervalHoldsWeight, NarrowIntervalHoldsWeightOver}
-use Rattle.shard_state.specs.WeightIntervals.{weight_interval_over, weight_interval_of}
+use Rattle.shard_state.specs.ShardState.{ShardValue, IsShard, folded_shard, snapshot_of}
+use Rattle.shard_state.specs.WeightIntervals.{HoldsNarrowly, HoldsNarrowlyOver}
+use Rattle.shard_state.specs.WeightIntervals.{interval_over, interval_of}
 use Rattle.shard_state.proofs.EmptyTableLemmas.{IsSnapshot-empty_tables}
 use Rattle.shard_state.proofs.ShardStateLemmas.{shard_state_is_begun}
 
@@ -27,54 +27,54 @@ first = x ∷ x ∷ x ∷ x ∷ x ∷ u ∷ []
 abbrev pub entry : ℕ → ℕ → ℕ → Entry
 entry key count error = record { key = key; count = count; error = error }
 
-pub adds_of_whole_addresses : snapshot_adds (node_at 24) (x ∷ u ∷ [])
+pub adds_of_whole_addresses : adds_of (node_at 24) (x ∷ u ∷ [])
     ≡ record { key = 0x0100000165000001; weight = 1 } ∷ record { key = 0x0200000166000001; weight = 1 } ∷ []
 adds_of_whole_addresses = refl
 
 -- the table of whole addresses: U is at the head, since its count is the least
-pub table_of_the_first : snapshot_records_table 4 (node_at 24) first ≡ entry 0x0200000166000001 1 0 ∷ entry 0x0100000165000001 5 0 ∷ []
+pub table_of_the_first : records_table 4 (node_at 24) first ≡ entry 0x0200000166000001 1 0 ∷ entry 0x0100000165000001 5 0 ∷ []
 table_of_the_first = refl
 
 -- in the table of the root all packets have the same key
-pub table_at_the_root : snapshot_records_table 4 (node_at 0) first ≡ entry 0 6 0 ∷ []
+pub table_at_the_root : records_table 4 (node_at 0) first ≡ entry 0 6 0 ∷ []
 table_at_the_root = refl
 
 -- a table continues from the entries that it has
-pub goes_on : fold_snapshot_at 4 (node_at 0) (entry 0 4 0 ∷ []) (x ∷ u ∷ []) ≡ entry 0 6 0 ∷ []
+pub goes_on : fold_at 4 (node_at 0) (entry 0 4 0 ∷ []) (x ∷ u ∷ []) ≡ entry 0 6 0 ∷ []
 goes_on = refl
 
 -- the last two tables: of node 23, which keeps three bytes of the destination, and of node 24
-pub last_two_tables_go_on : fold_snapshot_from 23 4 ([] ∷ [] ∷ []) (x ∷ []) ≡ (entry 0x0100000165000000 1 0 ∷ []) ∷ (entry 0x0100000165000001 1 0 ∷ []) ∷ []
+pub last_two_tables_go_on : fold_from 23 4 ([] ∷ [] ∷ []) (x ∷ []) ≡ (entry 0x0100000165000000 1 0 ∷ []) ∷ (entry 0x0100000165000001 1 0 ∷ []) ∷ []
 last_two_tables_go_on = refl
 
 abbrev root_table : TableValue
 root_table = record { capacity = 4; entries = entry 0 4 0 ∷ [] }
 
-pub root_table_goes_on : snapshot_table_after (node_at 0) (x ∷ u ∷ []) root_table ≡ record { capacity = 4; entries = entry 0 6 0 ∷ [] }
+pub root_table_goes_on : table_after (node_at 0) (x ∷ u ∷ []) root_table ≡ record { capacity = 4; entries = entry 0 6 0 ∷ [] }
 root_table_goes_on = refl
 
-pub row_of_one_table : snapshot_tables_after 0 (root_table ∷ []) (x ∷ u ∷ []) ≡ snapshot_table_after (node_at 0) (x ∷ u ∷ []) root_table ∷ []
+pub row_of_one_table : tables_after 0 (root_table ∷ []) (x ∷ u ∷ []) ≡ table_after (node_at 0) (x ∷ u ∷ []) root_table ∷ []
 row_of_one_table = refl
 
-pub key_of_three_bytes : HasSnapshotKeys (node_at 23) (entry 0x0100000165000000 1 0 ∷ [])
+pub key_of_three_bytes : HasKeys (node_at 23) (entry 0x0100000165000000 1 0 ∷ [])
 key_of_three_bytes =
     All-from_recursion (λ (e : Entry). IsPrefixKey (node_at 23) e.key) (entry 0x0100000165000000 1 0 ∷ [])
     (record { source = refl; dest = refl }, tt)
 
 -- the last byte of the destination isn't kept
-pub key_with_a_loose_bit : HasSnapshotKeys (node_at 23) (entry 0x0100000165000001 1 0 ∷ []) → ⊥
+pub key_with_a_loose_bit : HasKeys (node_at 23) (entry 0x0100000165000001 1 0 ∷ []) → ⊥
 key_with_a_loose_bit has =
     let dest : 1 ≡ 0 = (All-head (λ (e : Entry). IsPrefixKey (node_at 23) e.key) (entry 0x0100000165000001 1 0) [] has).dest in
     omega (arith, dest)
 
-pub table_of_the_root : IsSnapshotTableAt 4 6 (node_at 0) (entry 0 6 0 ∷ [])
+pub table_of_the_root : IsTableAt 4 6 (node_at 0) (entry 0 6 0 ∷ [])
 table_of_the_root = record {
   are_entries = record {
     is_table = record {
       fits = omega arith;
       ascending = (omega arith, tt);
       distinct = (refl, tt);
-      small_errors = All-from_recursion (HasSmallTableError 4 6) (entry 0 6 0 ∷ []) ((omega arith, omega arith), tt);
+      small_errors = All-from_recursion (HasSmallError 4 6) (entry 0 6 0 ∷ []) ((omega arith, omega arith), tt);
     };
     bounded = lit< tt;
   };
@@ -82,7 +82,7 @@ table_of_the_root = record {
   keyed = All-from_recursion (λ (e : Entry). IsPrefixKey (node_at 0) e.key) (entry 0 6 0 ∷ []) (record { source = refl; dest = refl }, tt);
 }
 
-pub table_of_another_total : IsSnapshotTableAt 4 5 (node_at 0) (entry 0 6 0 ∷ []) → ⊥
+pub table_of_another_total : IsTableAt 4 5 (node_at 0) (entry 0 6 0 ∷ []) → ⊥
 table_of_another_total table = omega (arith, table.counted)
 
 -- a shard of the six packets that counted none
@@ -95,17 +95,17 @@ folds_by_four = refl
 pub folds_to_the_end : (folded_shard 4 (folded_shard 4 shard)).position ≡ 6
 folds_to_the_end = refl
 
-pub snapshot_at_the_end : snapshot_entries_at (node_at 24) (snapshot_of_shard (folded_shard 9 shard)) ≡ snapshot_records_table 4 (node_at 24) first
-unfolding no_snapshot_entries
+pub snapshot_at_the_end : entries_at (node_at 24) (snapshot_of (folded_shard 9 shard)) ≡ records_table 4 (node_at 24) first
+unfolding no_entries
 snapshot_at_the_end = refl
 
-pub total_at_the_end : snapshot_total (snapshot_of_shard (folded_shard 9 shard)) ≡ 6
-unfolding no_snapshot_entries
+pub total_at_the_end : snapshot_total (snapshot_of (folded_shard 9 shard)) ≡ 6
+unfolding no_entries
 total_at_the_end = refl
 
 -- no record is counted, and no table has an entry
 pub begun_shard : IsShard shard
-unfolding no_snapshot_entries
+unfolding no_entries
 begun_shard =
     let weighed =
     All-from_recursion (λ (r : RecordValue). 1 ≤ r.weight) first
@@ -124,19 +124,19 @@ shard_past_its_end kept = omega (arith, kept.within)
 abbrev from_one : PrefixValue
 from_one = record { source = 1 ∷ []; dest = [] }
 
-pub interval_of_five : weight_interval_over 4 from_one first ≡ record { low = 5; high = 5 }
+pub interval_of_five : interval_over 4 from_one first ≡ record { low = 5; high = 5 }
 interval_of_five = refl
 
-pub interval_in_a_snapshot : weight_interval_of from_one (snapshot_of_shard (folded_shard 9 shard)) ≡ record { low = 5; high = 5 }
-unfolding no_snapshot_entries
+pub interval_in_a_snapshot : interval_of from_one (snapshot_of (folded_shard 9 shard)) ≡ record { low = 5; high = 5 }
+unfolding no_entries
 interval_in_a_snapshot = refl
 
-pub five_are_held : NarrowIntervalHoldsWeightOver 4 from_one first
+pub five_are_held : HoldsNarrowlyOver 4 from_one first
 five_are_held = record { holds = record { low = omega arith; high = omega arith }; narrow = omega arith }
 
 -- 2 times 4 is more than 6
-pub interval_that_is_too_wide : NarrowIntervalHoldsWeight (record { low = 4; high = 6 }) 4 5 6 → ⊥
+pub interval_that_is_too_wide : HoldsNarrowly (record { low = 4; high = 6 }) 4 5 6 → ⊥
 interval_that_is_too_wide holds = omega (arith, holds.narrow)
 
-pub interval_beside_the_weight : NarrowIntervalHoldsWeight (record { low = 4; high = 5 }) 4 6 6 → ⊥
+pub interval_beside_the_weight : HoldsNarrowly (record { low = 4; high = 5 }) 4 6 6 → ⊥
 interval_beside_the_weight holds = omega (arith, holds.holds.high)

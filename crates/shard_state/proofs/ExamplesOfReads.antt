@@ -2,38 +2,38 @@
 use Rattle.std.proofs.Common.{◌≡◌, zero, suc, ◌+◌, List, [], ◌∷◌, None, Some, refl, arith, ◌*◌}
 use Rattle.std.proofs.lemmas.List.Elements.{All-from_recursion}
 use Rattle.shard_state.specs.Snapshot.{empty_snapshot, SnapshotRepresents}
-use Rattle.shard_state.specs.Cut.{empty_cut, most_cut_snapshots}
-use Rattle.shard_state.specs.ShardState.{ShardValue, IsShard, folded_shard, snapshot_of_shard}
-use Rattle.shard_state.specs.ShardCore.{CoreValue, changed_in_core, core_cut_with_shard, core_after, core_after_run}
+use Rattle.shard_state.specs.Cut.{empty_cut, most_snapshots}
+use Rattle.shard_state.specs.ShardState.{ShardValue, IsShard, folded_shard, snapshot_of}
+use Rattle.shard_state.specs.ShardCore.{CoreValue, changed_in, with_shard, core_after, core_after_run}
 use Rattle.shard_state.specs.ShardCore.{core_capacity, AreCoreShards, IsCore}
-use Rattle.shard_state.specs.ShardCore.{HasCoreShape, IsCoreEvent, position_in_core, position_met_in_core}
-use Rattle.shard_state.specs.ShardCore.{core_reads_of, last_core_read, CorePositionsNeverFall}
-use Rattle.shard_state.specs.ShardCore.{latest_core_snapshot, shard_in_core_cut, snapshot_in_core, core_lists}
-use Rattle.shard_state.specs.ShardCore.{CoreBasesRepresent, ReadsEachCoreShard}
+use Rattle.shard_state.specs.ShardCore.{HasCoreShape, IsCoreEvent, position_in_core, position_met}
+use Rattle.shard_state.specs.ShardCore.{reads_of, last_core_read, NeverFall}
+use Rattle.shard_state.specs.ShardCore.{latest_snapshot, shard_in_cut, snapshot_in, core_lists}
+use Rattle.shard_state.specs.ShardCore.{BasesRepresent, ReadsEachShard}
 use Rattle.shard_state.specs.declared.event.Event.{Event}
 use Rattle.shard_state.specs.declared.event.Event.TheVariants.{Fold, Read}
 use Rattle.shard_state.proofs.RepresentationLemmas.{representation_when_empty}
 use Rattle.shard_state.proofs.Examples.{first, shard, begun_shard}
 use Rattle.prefix_lattice.specs.{shard_limit}
 
-pub second_changed : changed_in_core (λ n. n + 10) 1 (1 ∷ 2 ∷ 3 ∷ []) ≡ 1 ∷ 12 ∷ 3 ∷ []
+pub second_changed : changed_in (λ n. n + 10) 1 (1 ∷ 2 ∷ 3 ∷ []) ≡ 1 ∷ 12 ∷ 3 ∷ []
 second_changed = refl
 
-pub nothing_changed_past_the_end : changed_in_core (λ n. n + 10) 3 (1 ∷ 2 ∷ 3 ∷ []) ≡ 1 ∷ 2 ∷ 3 ∷ []
+pub nothing_changed_past_the_end : changed_in (λ n. n + 10) 3 (1 ∷ 2 ∷ 3 ∷ []) ≡ 1 ∷ 2 ∷ 3 ∷ []
 nothing_changed_past_the_end = refl
 
 -- one shard of six packets, and the cuts of two callers
 abbrev core : CoreValue
 core = record { shards = shard ∷ []; cuts = empty_cut 1 4 ∷ empty_cut 1 4 ∷ [] }
 
-pub read_puts_its_snapshot : core_cut_with_shard 0 (Some (folded_shard 4 shard)) (empty_cut 1 4) ≡ record {
+pub read_puts_its_snapshot : with_shard 0 (Some (folded_shard 4 shard)) (empty_cut 1 4) ≡ record {
   capacity = 4;
-  shards = snapshot_of_shard (folded_shard 4 shard)
+  shards = snapshot_of (folded_shard 4 shard)
       ∷ [];
 }
 read_puts_its_snapshot = refl
 
-pub read_of_no_shard : core_cut_with_shard 1 None (empty_cut 1 4) ≡ empty_cut 1 4
+pub read_of_no_shard : with_shard 1 None (empty_cut 1 4) ≡ empty_cut 1 4
 read_of_no_shard = refl
 
 -- a fold moves its shard, and changes no cut
@@ -42,7 +42,7 @@ fold_moves = refl
 
 -- a read changes only its caller's cut
 pub read_leaves : core_after (record core { shards = folded_shard 4 shard ∷ [] }) (Read 1 0)
-    ≡ record { shards = folded_shard 4 shard ∷ []; cuts = empty_cut 1 4 ∷ record { capacity = 4; shards = snapshot_of_shard (folded_shard 4 shard) ∷ [] } ∷ [] }
+    ≡ record { shards = folded_shard 4 shard ∷ []; cuts = empty_cut 1 4 ∷ record { capacity = 4; shards = snapshot_of (folded_shard 4 shard) ∷ [] } ∷ [] }
 read_leaves = refl
 
 -- the first caller reads between two folds and after them, the other only after them
@@ -51,9 +51,9 @@ events = Fold 0 4 ∷ Read 0 0 ∷ Fold 0 4 ∷ Read 1 0 ∷ Read 0 0 ∷ []
 
 pub run_leaves : core_after_run core events ≡ record {
   shards = folded_shard 4 (folded_shard 4 shard) ∷ [];
-  cuts = record { capacity = 4; shards = snapshot_of_shard (folded_shard 9 shard) ∷ [] } ∷ record {
+  cuts = record { capacity = 4; shards = snapshot_of (folded_shard 9 shard) ∷ [] } ∷ record {
     capacity = 4;
-    shards = snapshot_of_shard (folded_shard 9 shard) ∷
+    shards = snapshot_of (folded_shard 9 shard) ∷
         [];
   } ∷ [];
 }
@@ -97,65 +97,65 @@ position_of_a_shard = refl
 pub position_of_no_shard : position_in_core None ≡ []
 position_of_no_shard = refl
 
-pub read_meets_its_shard : position_met_in_core 0 0 core.shards (Read 0 0) ≡ 0 ∷ []
+pub read_meets_its_shard : position_met 0 0 core.shards (Read 0 0) ≡ 0 ∷ []
 read_meets_its_shard = refl
 
-pub read_by_another_meets_nothing : position_met_in_core 0 0 core.shards (Read 1 0) ≡ []
+pub read_by_another_meets_nothing : position_met 0 0 core.shards (Read 1 0) ≡ []
 read_by_another_meets_nothing = refl
 
-pub fold_meets_nothing : position_met_in_core 0 0 core.shards (Fold 0 4) ≡ []
+pub fold_meets_nothing : position_met 0 0 core.shards (Fold 0 4) ≡ []
 fold_meets_nothing = refl
 
-pub reads_meet : core_reads_of 0 0 core events ≡ 4 ∷ 6 ∷ []
+pub reads_meet : reads_of 0 0 core events ≡ 4 ∷ 6 ∷ []
 reads_meet = refl
 
-pub another_caller_reads : core_reads_of 1 0 core events ≡ 6 ∷ []
+pub another_caller_reads : reads_of 1 0 core events ≡ 6 ∷ []
 another_caller_reads = refl
 
-pub last_of_two_reads : last_core_read (core_reads_of 0 0 core events) ≡ Some 6
+pub last_of_two_reads : last_core_read (reads_of 0 0 core events) ≡ Some 6
 last_of_two_reads = refl
 
 pub last_of_no_read : last_core_read [] ≡ None
 last_of_no_read = refl
 
-pub reads_never_fall : CorePositionsNeverFall 0 (core_reads_of 0 0 core events)
+pub reads_never_fall : NeverFall 0 (reads_of 0 0 core events)
 reads_never_fall = (omega arith, (omega arith, tt))
 
-pub reads_that_fall : CorePositionsNeverFall 0 (6 ∷ 4 ∷ []) → ⊥
+pub reads_that_fall : NeverFall 0 (6 ∷ 4 ∷ []) → ⊥
 reads_that_fall never = omega (arith, never.1.0)
 
 -- the snapshot at the last read, or the earlier one
-pub latest_of_two_reads : latest_core_snapshot shard (empty_snapshot 4) (4 ∷ 6 ∷ []) ≡ snapshot_of_shard (folded_shard 9 shard)
+pub latest_of_two_reads : latest_snapshot shard (empty_snapshot 4) (4 ∷ 6 ∷ []) ≡ snapshot_of (folded_shard 9 shard)
 latest_of_two_reads = refl
 
-pub latest_of_no_read : latest_core_snapshot shard (empty_snapshot 4) [] ≡ empty_snapshot 4
+pub latest_of_no_read : latest_snapshot shard (empty_snapshot 4) [] ≡ empty_snapshot 4
 latest_of_no_read = refl
 
-pub snapshot_of_a_shard : shard_in_core_cut 0 (Some (empty_cut 1 4)) ≡ Some (empty_snapshot 4)
+pub snapshot_of_a_shard : shard_in_cut 0 (Some (empty_cut 1 4)) ≡ Some (empty_snapshot 4)
 snapshot_of_a_shard = refl
 
-pub snapshot_in_no_cut : shard_in_core_cut 0 None ≡ None
+pub snapshot_in_no_cut : shard_in_cut 0 None ≡ None
 snapshot_in_no_cut = refl
 
-pub snapshot_of_the_other_caller : snapshot_in_core 1 0 (core_after_run core events).cuts ≡ Some (snapshot_of_shard (folded_shard 9 shard))
+pub snapshot_of_the_other_caller : snapshot_in 1 0 (core_after_run core events).cuts ≡ Some (snapshot_of (folded_shard 9 shard))
 snapshot_of_the_other_caller = refl
 
-pub snapshot_of_a_third_caller : snapshot_in_core 2 0 core.cuts ≡ None
+pub snapshot_of_a_third_caller : snapshot_in 2 0 core.cuts ≡ None
 snapshot_of_a_third_caller = refl
 
 pub one_list : core_lists core.shards ≡ first ∷ []
 one_list = refl
 
 -- no record is counted at the start
-pub base_stands : CoreBasesRepresent core.shards
+pub base_stands : BasesRepresent core.shards
 base_stands = All-from_recursion (λ (s : ShardValue). SnapshotRepresents s.base s.list) core.shards (representation_when_empty 4 first, tt)
 
-pub both_callers_read_each : ReadsEachCoreShard 1 core events
+pub both_callers_read_each : ReadsEachShard 1 core events
 both_callers_read_each zero below = omega arith
 both_callers_read_each (suc place) below = absurd (omega (arith, below))
 
-pub third_caller_reads_none : ReadsEachCoreShard 2 core events → ⊥
+pub third_caller_reads_none : ReadsEachShard 2 core events → ⊥
 third_caller_reads_none each = let one = each 0 (omega arith) in omega (arith, one)
 
-pub snapshots_of_eight_times_the_shards : most_cut_snapshots ≡ 8 * shard_limit
+pub snapshots_of_eight_times_the_shards : most_snapshots ≡ 8 * shard_limit
 snapshots_of_eight_times_the_shards = refl

@@ -4,43 +4,43 @@ use Rattle.std.proofs.lemmas.List.Elements.{All-nil, All-cons, All-head}
 use Rattle.prefix_lattice.specs.{node_at, IsPrefixKey}
 use Rattle.space_saving.specs.declared.entry.Entry.{Entry}
 use Rattle.space_saving.specs.{TableValue}
-use Rattle.hhh_report.specs.{records_before_cut}
-use Rattle.shard_state.specs.Snapshot.{SnapshotValue, IsSnapshot, no_snapshot_entries, empty_snapshot}
-use Rattle.shard_state.specs.Snapshot.{snapshot_entries_at, snapshot_table_at}
-use Rattle.shard_state.specs.Snapshot.{tables_of_snapshot, snapshot_total, IsLikeSnapshotTable, AreTablesOfSnapshot}
-use Rattle.shard_state.specs.Snapshot.{AreSnapshotParts, snapshot_copied_from}
+use Rattle.hhh_report.specs.{records_before}
+use Rattle.shard_state.specs.Snapshot.{SnapshotValue, IsSnapshot, no_entries, empty_snapshot}
+use Rattle.shard_state.specs.Snapshot.{entries_at, table_at}
+use Rattle.shard_state.specs.Snapshot.{tables_of, snapshot_total, IsLikeTable, AreTablesOf}
+use Rattle.shard_state.specs.Snapshot.{AreParts, copied_from}
 use Rattle.shard_state.specs.Snapshot.{SnapshotRepresents}
 use Rattle.shard_state.specs.Cut.{CutValue, IsCut, empty_cut, cut_positions, total_of_cut}
 use Rattle.shard_state.specs.Cut.{CutRepresents}
-use Rattle.shard_state.specs.ShardState.{folded_shard, snapshot_of_shard}
+use Rattle.shard_state.specs.ShardState.{folded_shard, snapshot_of}
 use Rattle.shard_state.proofs.EmptyTableLemmas.{empty_table, IsSnapshot-empty_tables, empty_tables_make_shard_cut}
 use Rattle.shard_state.proofs.RepresentationLemmas.{representation_when_empty, representation_of_shard}
 use Rattle.shard_state.proofs.Examples.{x, u, first, entry, shard}
 
 -- the six packets are counted
 abbrev at_the_end : SnapshotValue
-at_the_end = snapshot_of_shard (folded_shard 9 shard)
+at_the_end = snapshot_of (folded_shard 9 shard)
 
 pub counts_six_records : at_the_end.position ≡ 6
 counts_six_records = refl
 
-pub entries_at_the_root : snapshot_entries_at (node_at 0) at_the_end ≡ entry 0 6 0 ∷ []
-unfolding no_snapshot_entries
+pub entries_at_the_root : entries_at (node_at 0) at_the_end ≡ entry 0 6 0 ∷ []
+unfolding no_entries
 entries_at_the_root = refl
 
-pub table_at_the_root : snapshot_table_at (node_at 0) at_the_end ≡ record { capacity = 4; entries = entry 0 6 0 ∷ [] }
-unfolding no_snapshot_entries
+pub table_at_the_root : table_at (node_at 0) at_the_end ≡ record { capacity = 4; entries = entry 0 6 0 ∷ [] }
+unfolding no_entries
 table_at_the_root = refl
 
-pub tables_at_the_end : length (tables_of_snapshot at_the_end) ≡ 25
-unfolding no_snapshot_entries
+pub tables_at_the_end : length (tables_of at_the_end) ≡ 25
+unfolding no_entries
 tables_at_the_end = refl
 
 pub snapshot_of_no_record : IsSnapshot (empty_snapshot 4)
 snapshot_of_no_record = IsSnapshot-empty_tables 4 (omega arith) (omega arith)
 
 pub total_of_no_record : snapshot_total (empty_snapshot 4) ≡ 0
-unfolding no_snapshot_entries
+unfolding no_entries
 total_of_no_record = refl
 
 pub snapshot_of_capacity_1 : IsSnapshot (empty_snapshot 1) → ⊥
@@ -53,14 +53,14 @@ snapshot_without_a_table kept = omega (arith, kept.shape)
 abbrev root_table : TableValue
 root_table = record { capacity = 4; entries = entry 0 1 0 ∷ [] }
 
-pub position_and_tables_copied : snapshot_copied_from 4 1 (root_table ∷ []) ≡ record { capacity = 4; position = 1; tables = (entry 0 1 0 ∷ []) ∷ [] }
+pub position_and_tables_copied : copied_from 4 1 (root_table ∷ []) ≡ record { capacity = 4; position = 1; tables = (entry 0 1 0 ∷ []) ∷ [] }
 position_and_tables_copied = refl
 
-pub empty_table_is_like : IsLikeSnapshotTable 4 0 (node_at 7) (empty_table 4)
+pub empty_table_is_like : IsLikeTable 4 0 (node_at 7) (empty_table 4)
 empty_table_is_like = record { same_capacity = refl; same_total = refl; keyed = All-nil (λ (e : Entry). IsPrefixKey (node_at 7) e.key) }
 
 -- the table counted one packet, so its total is not 0
-pub table_of_another_total : IsLikeSnapshotTable 4 0 (node_at 0) root_table → ⊥
+pub table_of_another_total : IsLikeTable 4 0 (node_at 0) root_table → ⊥
 table_of_another_total like = omega (arith, like.same_total)
 
 all_the_same : (n place : ℕ) (table here : TableValue) → slice_get (replicate n table) place ≡ Some here → here ≡ table
@@ -68,23 +68,23 @@ all_the_same zero place table here read = cc
 all_the_same (suc n) zero table here read = cc
 all_the_same (suc n) (suc place) table here read = all_the_same n place table here read
 
-pub empty_tables : AreTablesOfSnapshot (replicate 25 (empty_table 4))
+pub empty_tables : AreTablesOf (replicate 25 (empty_table 4))
 empty_tables = record {
   capacity = 4;
   total = 0;
   shape = refl;
   alike = λ place table read.
-      subst (IsLikeSnapshotTable 4 0 (node_at place)) (sym (all_the_same 25 place (empty_table 4) table read))
+      subst (IsLikeTable 4 0 (node_at place)) (sym (all_the_same 25 place (empty_table 4) table read))
       (record { same_capacity = refl; same_total = refl; keyed = All-nil (λ (e : Entry). IsPrefixKey (node_at place) e.key) });
 }
 
-pub parts_at_the_limit : AreSnapshotParts 16777216 (replicate 25 (empty_table 4))
+pub parts_at_the_limit : AreParts 16777216 (replicate 25 (empty_table 4))
 parts_at_the_limit = record { placed = omega arith; are_tables = empty_tables }
 
-pub position_past_the_limit : AreSnapshotParts 16777217 (replicate 25 (empty_table 4)) → ⊥
+pub position_past_the_limit : AreParts 16777217 (replicate 25 (empty_table 4)) → ⊥
 position_past_the_limit parts = omega (arith, parts.placed)
 
-pub one_table_too_few : AreTablesOfSnapshot (replicate 24 (empty_table 4)) → ⊥
+pub one_table_too_few : AreTablesOf (replicate 24 (empty_table 4)) → ⊥
 one_table_too_few are = omega (arith, are.shape)
 
 -- two shards, one of which counted the six packets
@@ -95,7 +95,7 @@ pub positions_of_two_shards : cut_positions cut ≡ 6 ∷ 0 ∷ []
 positions_of_two_shards = refl
 
 pub total_of_two_shards : total_of_cut cut ≡ 6
-unfolding no_snapshot_entries
+unfolding no_entries
 total_of_two_shards = refl
 
 pub cut_of_no_record : IsCut (empty_cut 2 4)
@@ -132,5 +132,5 @@ stands_for_no_other_capacity stands = let same : 4 ≡ 8 = All-head (λ (s : Sna
 pub stands_for_no_single_list : CutRepresents cut (first ∷ []) → ⊥
 stands_for_no_single_list stands = stands.shards.1
 
-pub before_the_cut : records_before_cut (first ∷ (u ∷ u ∷ []) ∷ []) (cut_positions cut) ≡ first
+pub before_the_cut : records_before (first ∷ (u ∷ u ∷ []) ∷ []) (cut_positions cut) ≡ first
 before_the_cut = refl

@@ -3,8 +3,8 @@ use Rattle.std.proofs.Common.{ℕ, ◌+◌, eqb, Bool, true, false, cond, nat_le
 use Rattle.std.proofs.Common.{Some, IfSome, All}
 use Rattle.std.proofs.lemmas.List.Elements.{All-cons, All-head, All-tail}
 use Rattle.space_saving.specs.declared.entry.Entry.{Entry}
-use Rattle.space_saving.specs.{TableAdd, put_in_table, table_entry, table_without, replace_table_head, enter_in_table}
-use Rattle.space_saving.specs.{table_after_step_from, table_after_step}
+use Rattle.space_saving.specs.{TableAdd, put_into, table_entry, table_without, replace_head, enter_table}
+use Rattle.space_saving.specs.{after_step_from, after_step}
 
 -- each key has this property
 abbrev pub KeysHaveProperty : (ℕ → Type 0) → List Entry → Type 0
@@ -21,12 +21,12 @@ KeysHaveProperty-tail : (Q : ℕ → Type 0) (entry : Entry) (entries : List Ent
 KeysHaveProperty-tail Q entry entries have = All-tail (λ (e : Entry). Q e.key) entry entries have
 
 KeysHaveProperty-put : (Q : ℕ → Type 0) (entry : Entry) (entries : List Entry) → Q entry.key → KeysHaveProperty Q entries
-    → KeysHaveProperty Q (put_in_table entry entries)
+    → KeysHaveProperty Q (put_into entry entries)
 KeysHaveProperty-put Q entry [] here have = KeysHaveProperty-cons Q entry [] here have
 KeysHaveProperty-put Q entry (first ∷ rest) here have =
     let again = KeysHaveProperty-put Q entry rest here (KeysHaveProperty-tail Q first rest have) in
-    elim (nat_le first.count entry.count) as (λ later. KeysHaveProperty Q (cond later (first ∷ put_in_table entry rest) (entry ∷ first ∷ rest))) [
-      | true ↦ KeysHaveProperty-cons Q first (put_in_table entry rest) (KeysHaveProperty-head Q first rest have) again
+    elim (nat_le first.count entry.count) as (λ later. KeysHaveProperty Q (cond later (first ∷ put_into entry rest) (entry ∷ first ∷ rest))) [
+      | true ↦ KeysHaveProperty-cons Q first (put_into entry rest) (KeysHaveProperty-head Q first rest have) again
       | false ↦ KeysHaveProperty-cons Q entry (first ∷ rest) here have
     ]
 
@@ -50,23 +50,23 @@ KeysHaveProperty-found Q key (first ∷ rest) have =
     ]
 
 KeysHaveProperty-replaced : (Q : ℕ → Type 0) (entries : List Entry) (add : TableAdd) → Q add.key → KeysHaveProperty Q entries
-    → KeysHaveProperty Q (replace_table_head entries add)
+    → KeysHaveProperty Q (replace_head entries add)
 KeysHaveProperty-replaced Q [] add here have = have
 KeysHaveProperty-replaced Q (head ∷ rest) add here have =
     KeysHaveProperty-put Q (record { key = add.key; count = head.count + add.weight; error = head.count }) rest here (KeysHaveProperty-tail Q head rest have)
 
 KeysHaveProperty-entered : (Q : ℕ → Type 0) (capacity : ℕ) (entries : List Entry) (add : TableAdd) → Q add.key → KeysHaveProperty Q entries
-    → KeysHaveProperty Q (enter_in_table capacity entries add)
+    → KeysHaveProperty Q (enter_table capacity entries add)
 KeysHaveProperty-entered Q capacity entries add here have = by_test (nat_lt (length entries) capacity)
   where
     by_test : (room : Bool)
-        → KeysHaveProperty Q (cond room (put_in_table (record { key = add.key; count = add.weight; error = 0 }) entries) (replace_table_head entries add))
+        → KeysHaveProperty Q (cond room (put_into (record { key = add.key; count = add.weight; error = 0 }) entries) (replace_head entries add))
     by_test true = KeysHaveProperty-put Q (record { key = add.key; count = add.weight; error = 0 }) entries here have
     by_test false = KeysHaveProperty-replaced Q entries add here have
 
 KeysHaveProperty-step_from : (Q : ℕ → Type 0) (found : Option Entry) (capacity : ℕ) (entries : List Entry) (add : TableAdd)
     → IfSome found (λ (e : Entry). Q e.key)
-    → Q add.key → KeysHaveProperty Q entries → KeysHaveProperty Q (table_after_step_from found capacity entries add)
+    → Q add.key → KeysHaveProperty Q entries → KeysHaveProperty Q (after_step_from found capacity entries add)
 KeysHaveProperty-step_from Q None capacity entries add found here have = KeysHaveProperty-entered Q capacity entries add here have
 KeysHaveProperty-step_from Q (Some entry) capacity entries add found here have =
     KeysHaveProperty-put Q (record entry { count = entry.count + add.weight }) (table_without add.key entries) found
@@ -74,6 +74,6 @@ KeysHaveProperty-step_from Q (Some entry) capacity entries add found here have =
 
 -- a step for a key that has it leaves keys that have it
 pub KeysHaveProperty-step : (Q : ℕ → Type 0) (capacity : ℕ) (entries : List Entry) (add : TableAdd) → Q add.key → KeysHaveProperty Q entries
-    → KeysHaveProperty Q (table_after_step capacity entries add)
+    → KeysHaveProperty Q (after_step capacity entries add)
 KeysHaveProperty-step Q capacity entries add here have = KeysHaveProperty-step_from Q (table_entry add.key entries) capacity entries add
     (KeysHaveProperty-found Q add.key entries have) here have

@@ -4,11 +4,11 @@ use Rattle.std.proofs.Common.{sum_by, All, refl, sym, ap, ◌∙◌, arith, subs
 use Rattle.std.proofs.lemmas.List.Sums.{sum_by-cons}
 use Rattle.std.proofs.lemmas.List.Elements.{All-map}
 use Rattle.prefix_lattice.specs.{RecordValue, PrefixValue, covers, node_of_prefix, prefix_at, prefix_key, prefix_weight}
-use Rattle.prefix_lattice.specs.{total_weight, NodeValue, IntervalHoldsWeight}
-use Rattle.space_saving.specs.{TableAdd, table_interval_after, table_weight_of_key, total_added_to_table}
-use Rattle.space_saving.specs.{AreWeighedForTable}
-use Rattle.shard_state.specs.Snapshot.{snapshot_adds}
-use Rattle.shard_state.specs.WeightIntervals.{NarrowIntervalHoldsWeightOver}
+use Rattle.prefix_lattice.specs.{total_weight, NodeValue, HoldsWeight}
+use Rattle.space_saving.specs.{TableAdd, interval_after, weight_of_key, total_added}
+use Rattle.space_saving.specs.{AreWeighed}
+use Rattle.shard_state.specs.Snapshot.{adds_of}
+use Rattle.shard_state.specs.WeightIntervals.{HoldsNarrowlyOver}
 use Rattle.shard_state.proofs.TableFoldLemmas.{table_fold_add}
 
 -- the sum over the elements that pass, by whether the first passes
@@ -26,17 +26,17 @@ pub record PrefixWeightIsTold (prefix : PrefixValue) : Type 0 where
 
 -- the weight that records add for the key of a prefix is its weight over them
 prefix_weight_is_added : (prefix : PrefixValue) (records : List RecordValue) → PrefixWeightIsTold prefix
-    → table_weight_of_key (prefix_key prefix) (snapshot_adds (node_of_prefix prefix) records) ≡ prefix_weight prefix records
+    → weight_of_key (prefix_key prefix) (adds_of (node_of_prefix prefix) records) ≡ prefix_weight prefix records
 prefix_weight_is_added prefix [] keys = refl
 prefix_weight_is_added prefix (rec ∷ records) keys =
     let add : RecordValue → TableAdd = table_fold_add (node_of_prefix prefix) in
     prefix_weight_filtered_sum (λ (a : TableAdd). a.weight) (λ a. eqb a.key (prefix_key prefix)) (add rec) (map add records)
-    ∙ ap (λ b. cond b rec.weight 0 + table_weight_of_key (prefix_key prefix) (map add records)) (sym (keys.tell rec))
+    ∙ ap (λ b. cond b rec.weight 0 + weight_of_key (prefix_key prefix) (map add records)) (sym (keys.tell rec))
     ∙ ap (λ n. cond (covers prefix rec) rec.weight 0 + n) (prefix_weight_is_added prefix records keys)
     ∙ sym (prefix_weight_filtered_sum (λ (r : RecordValue). r.weight) (covers prefix) rec records)
 
 -- the weight that records add together is their total weight
-pub prefix_weight_totals_agree : (node : NodeValue) (records : List RecordValue) → total_added_to_table (snapshot_adds node records) ≡ total_weight records
+pub prefix_weight_totals_agree : (node : NodeValue) (records : List RecordValue) → total_added (adds_of node records) ≡ total_weight records
 prefix_weight_totals_agree node [] = refl
 prefix_weight_totals_agree node (rec ∷ records) =
     sum_by-cons (λ (a : TableAdd). a.weight) (table_fold_add node rec) (map (table_fold_add node) records)
@@ -45,24 +45,24 @@ prefix_weight_totals_agree node (rec ∷ records) =
 
 -- the laws of a table's intervals
 pub record IntervalsHoldPrefixWeight : Type 0 where
-  pub low : (capacity : ℕ) (adds : List TableAdd) (key : ℕ) → 1 ≤ capacity → AreWeighedForTable adds
-      → (table_interval_after capacity adds key).low ≤ table_weight_of_key key adds
-  pub high : (capacity : ℕ) (adds : List TableAdd) (key : ℕ) → 1 ≤ capacity → AreWeighedForTable adds
-      → table_weight_of_key key adds ≤ (table_interval_after capacity adds key).high
-  pub width : (capacity : ℕ) (adds : List TableAdd) (key : ℕ) → 1 ≤ capacity → AreWeighedForTable adds
-      → ((table_interval_after capacity adds key).high - (table_interval_after capacity adds key).low) * capacity ≤ total_added_to_table adds
+  pub low : (capacity : ℕ) (adds : List TableAdd) (key : ℕ) → 1 ≤ capacity → AreWeighed adds
+      → (interval_after capacity adds key).low ≤ weight_of_key key adds
+  pub high : (capacity : ℕ) (adds : List TableAdd) (key : ℕ) → 1 ≤ capacity → AreWeighed adds
+      → weight_of_key key adds ≤ (interval_after capacity adds key).high
+  pub width : (capacity : ℕ) (adds : List TableAdd) (key : ℕ) → 1 ≤ capacity → AreWeighed adds
+      → ((interval_after capacity adds key).high - (interval_after capacity adds key).low) * capacity ≤ total_added adds
 
 -- the interval of a prefix holds its weight
 pub prefix_weight_is_held : (capacity : ℕ) (prefix : PrefixValue) (records : List RecordValue) → PrefixWeightIsTold prefix → IntervalsHoldPrefixWeight
     → 1 ≤ capacity
-    → All (λ (r : RecordValue). 1 ≤ r.weight) records → NarrowIntervalHoldsWeightOver capacity prefix records
+    → All (λ (r : RecordValue). 1 ≤ r.weight) records → HoldsNarrowlyOver capacity prefix records
 prefix_weight_is_held capacity prefix records keys laws some weighed =
-    let adds = snapshot_adds (node_of_prefix prefix) records in
-    let interval = table_interval_after capacity adds (prefix_key prefix) in
-    let are_weighed : AreWeighedForTable adds = All-map (λ (a : TableAdd). 1 ≤ a.weight) (table_fold_add (node_of_prefix prefix)) records weighed in
+    let adds = adds_of (node_of_prefix prefix) records in
+    let interval = interval_after capacity adds (prefix_key prefix) in
+    let are_weighed : AreWeighed adds = All-map (λ (a : TableAdd). 1 ≤ a.weight) (table_fold_add (node_of_prefix prefix)) records weighed in
     record {
       holds =
-          subst (IntervalHoldsWeight interval.low interval.high) (prefix_weight_is_added prefix records keys) (record {
+          subst (HoldsWeight interval.low interval.high) (prefix_weight_is_added prefix records keys) (record {
             low = laws.low capacity adds (prefix_key prefix) some are_weighed;
             high = laws.high capacity adds (prefix_key prefix) some are_weighed;
           });

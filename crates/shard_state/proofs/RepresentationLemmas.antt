@@ -8,18 +8,18 @@ use Rattle.std.proofs.lemmas.List.Elements.{All-head, All-tail, All-take}
 use Rattle.prefix_lattice.specs.{RecordValue, NodeValue, IsNode, node_index, node_at, PrefixValue, IsPrefix}
 use Rattle.prefix_lattice.specs.{node_of_prefix, prefix_key, prefix_weight, total_weight}
 use Rattle.space_saving.specs.declared.entry.Entry.{Entry}
-use Rattle.space_saving.specs.{TableInterval, interval_in_table, table_total}
-use Rattle.hhh_report.specs.{records_before_cut}
-use Rattle.shard_state.specs.Snapshot.{snapshot_records_table, fold_snapshot_at, SnapshotValue, IsSnapshot}
-use Rattle.shard_state.specs.Snapshot.{empty_snapshot, snapshot_entries_at, snapshot_total, SnapshotRepresents}
+use Rattle.space_saving.specs.{TableInterval, interval_in, table_total}
+use Rattle.hhh_report.specs.{records_before}
+use Rattle.shard_state.specs.Snapshot.{records_table, fold_at, SnapshotValue, IsSnapshot}
+use Rattle.shard_state.specs.Snapshot.{empty_snapshot, entries_at, snapshot_total, SnapshotRepresents}
 use Rattle.shard_state.specs.Cut.{CutValue, IsCut, cut_positions, total_of_cut, CutRepresents}
-use Rattle.shard_state.specs.ShardState.{ShardValue, snapshot_of_shard}
-use Rattle.shard_state.specs.WeightIntervals.{NarrowIntervalHoldsWeight, NarrowIntervalHoldsWeightOver}
-use Rattle.shard_state.specs.WeightIntervals.{weight_interval_of}
+use Rattle.shard_state.specs.ShardState.{ShardValue, snapshot_of}
+use Rattle.shard_state.specs.WeightIntervals.{HoldsNarrowly, HoldsNarrowlyOver}
+use Rattle.shard_state.specs.WeightIntervals.{interval_of}
 use Rattle.prefix_lattice.proofs.NodePlaceLemmas.{IsNode-node_at_place, node_index-node_at_place}
 use Rattle.shard_state.proofs.EmptyTableLemmas.{empty_table_at_place, number_of_empty_tables}
-use Rattle.shard_state.proofs.TableFoldLemmas.{fold_snapshot_at-append_in_table, table_fold_at_shard_node}
-use Rattle.shard_state.proofs.TableFoldLemmas.{fold_snapshot_from-as_many_tables}
+use Rattle.shard_state.proofs.TableFoldLemmas.{fold_at-append_in_table, table_fold_at_shard_node}
+use Rattle.shard_state.proofs.TableFoldLemmas.{fold_from-as_many_tables}
 use Rattle.shard_state.proofs.ShardStateLemmas.{shard_state_take_further}
 
 -- empty tables represent every list
@@ -34,26 +34,26 @@ representation_when_empty capacity list = record {
 -- a shard whose base represents its list represents it at each position
 pub representation_of_shard : (shard : ShardValue) → SnapshotRepresents shard.base shard.list → shard.base.position ≤ shard.position
     → shard.position ≤ length shard.list
-    → SnapshotRepresents (snapshot_of_shard shard) shard.list
+    → SnapshotRepresents (snapshot_of shard) shard.list
 representation_of_shard shard stands begun within =
     let records = slice_range shard.list shard.base.position shard.position in
     let capacity = shard.base.capacity in
     record {
       within = within;
-      shape = fold_snapshot_from-as_many_tables 0 capacity shard.base.tables records ∙ stands.shape;
+      shape = fold_from-as_many_tables 0 capacity shard.base.tables records ∙ stands.shape;
       tables = λ node is_node.
           table_fold_at_shard_node shard.base shard.position records node stands.shape is_node
-          ∙ ap (λ entries. fold_snapshot_at capacity node entries records) (stands.tables node is_node)
-          ∙ sym (fold_snapshot_at-append_in_table capacity node [] (take shard.base.position shard.list) records)
-          ∙ ap (snapshot_records_table capacity node) (sym (shard_state_take_further shard.list shard.base.position shard.position begun));
+          ∙ ap (λ entries. fold_at capacity node entries records) (stands.tables node is_node)
+          ∙ sym (fold_at-append_in_table capacity node [] (take shard.base.position shard.list) records)
+          ∙ ap (records_table capacity node) (sym (shard_state_take_further shard.list shard.base.position shard.position begun));
     }
 
 -- what tables of records hold
 pub record RepresentationLaws : Type 0 where
   pub weight : (capacity : ℕ) (prefix : PrefixValue) (records : List RecordValue) → 1 ≤ capacity → IsPrefix prefix
-      → All (λ (r : RecordValue). 1 ≤ r.weight) records → NarrowIntervalHoldsWeightOver capacity prefix records
+      → All (λ (r : RecordValue). 1 ≤ r.weight) records → HoldsNarrowlyOver capacity prefix records
   pub total : (capacity : ℕ) (node : NodeValue) (records : List RecordValue) → 1 ≤ capacity
-      → table_total (snapshot_records_table capacity node records) ≡ total_weight records
+      → table_total (records_table capacity node records) ≡ total_weight records
 
 pub representation_keeps_total : (snapshot : SnapshotValue) (list : List RecordValue) → RepresentationLaws → SnapshotRepresents snapshot list
     → 1 ≤ snapshot.capacity
@@ -65,30 +65,30 @@ representation_keeps_total snapshot list hold stands some =
 pub representation_keeps_weight : (snapshot : SnapshotValue) (list : List RecordValue) (prefix : PrefixValue) → RepresentationLaws
     → SnapshotRepresents snapshot list → 1 ≤ snapshot.capacity
     → IsPrefix prefix → All (λ (r : RecordValue). 1 ≤ r.weight) list
-    → NarrowIntervalHoldsWeight (weight_interval_of prefix snapshot) snapshot.capacity
+    → HoldsNarrowly (interval_of prefix snapshot) snapshot.capacity
     (prefix_weight prefix (take snapshot.position list)) (snapshot_total snapshot)
 representation_keeps_weight snapshot list prefix hold stands some valid weighed =
     let records = take snapshot.position list in
     let capacity = snapshot.capacity in
     let is_node : IsNode (node_of_prefix prefix) = record { source = valid.source.few; dest = valid.dest.few } in
     let over = hold.weight capacity prefix records some valid (All-take (λ (r : RecordValue). 1 ≤ r.weight) snapshot.position list weighed) in
-    let interval : List Entry → TableInterval = λ entries. interval_in_table (record { capacity = capacity; entries = entries }) (prefix_key prefix) in
-    subst (λ entries. NarrowIntervalHoldsWeight (interval entries) capacity (prefix_weight prefix records) (snapshot_total snapshot))
+    let interval : List Entry → TableInterval = λ entries. interval_in (record { capacity = capacity; entries = entries }) (prefix_key prefix) in
+    subst (λ entries. HoldsNarrowly (interval entries) capacity (prefix_weight prefix records) (snapshot_total snapshot))
     (sym (stands.tables (node_of_prefix prefix) is_node))
-    (subst (NarrowIntervalHoldsWeight (interval (snapshot_records_table capacity (node_of_prefix prefix) records)) capacity (prefix_weight prefix records))
+    (subst (HoldsNarrowly (interval (records_table capacity (node_of_prefix prefix) records)) capacity (prefix_weight prefix records))
     (sym (representation_keeps_total snapshot list hold stands some)) over)
 
 -- the totals of snapshots that represent lists
 representation_sums_totals : (snapshots : List SnapshotValue) (lists : List (List RecordValue)) → RepresentationLaws
     → AllZip SnapshotRepresents snapshots lists → All IsSnapshot snapshots
-    → sum_by snapshot_total snapshots ≡ total_weight (records_before_cut lists (map (λ (s : SnapshotValue). s.position) snapshots))
+    → sum_by snapshot_total snapshots ≡ total_weight (records_before lists (map (λ (s : SnapshotValue). s.position) snapshots))
 representation_sums_totals [] [] hold stand kept = refl
 representation_sums_totals [] (list ∷ lists) hold stand kept = absurd stand
 representation_sums_totals (snapshot ∷ snapshots) [] hold stand kept = absurd stand
 representation_sums_totals (snapshot ∷ snapshots) (list ∷ lists) hold stand kept =
     let is : IsSnapshot snapshot = All-head IsSnapshot snapshot snapshots kept in
     let some : 1 ≤ snapshot.capacity = omega (arith, is.least) in
-    let later = records_before_cut lists (map (λ (s : SnapshotValue). s.position) snapshots) in
+    let later = records_before lists (map (λ (s : SnapshotValue). s.position) snapshots) in
     sum_by-cons snapshot_total snapshot snapshots
     ∙ ap (λ n. n + sum_by snapshot_total snapshots) (representation_keeps_total snapshot list hold stand.0 some)
     ∙ ap (λ n. total_weight (take snapshot.position list) + n) (representation_sums_totals snapshots lists hold stand.1
@@ -96,7 +96,7 @@ representation_sums_totals (snapshot ∷ snapshots) (list ∷ lists) hold stand 
     ∙ sym (sum_by-append (λ (r : RecordValue). r.weight) (take snapshot.position list) later)
 
 pub representation_of_cut_total : (cut : CutValue) (lists : List (List RecordValue)) → RepresentationLaws → IsCut cut → CutRepresents cut lists
-    → total_of_cut cut ≡ total_weight (records_before_cut lists (cut_positions cut))
+    → total_of_cut cut ≡ total_weight (records_before lists (cut_positions cut))
 representation_of_cut_total cut lists hold is stands = representation_sums_totals cut.shards lists hold stands.shards is.kept
 
 -- snapshots of the same capacity at the same position that represent the same list are equal
@@ -106,11 +106,11 @@ shard_representation_is_one : (snapshot other : SnapshotValue) (list : List Reco
 shard_representation_is_one snapshot other list capacity position stands other_stands =
     let table : (place : ℕ) → place < length snapshot.tables → get_or snapshot.tables place [] ≡ get_or other.tables place [] = λ place within.
     let is_node : IsNode (node_at place) = IsNode-node_at_place place (omega (arith, within, stands.shape)) in
-    let at_place : (of : SnapshotValue) → snapshot_entries_at (node_at place) of ≡ get_or of.tables place [] =
+    let at_place : (of : SnapshotValue) → entries_at (node_at place) of ≡ get_or of.tables place [] =
     λ of. ap (λ p. get_or of.tables p []) (node_index-node_at_place place) in
     sym (at_place snapshot)
     ∙ stands.tables (node_at place) is_node
-    ∙ (λ i. snapshot_records_table (capacity i) (node_at place) (take (position i) list))
+    ∙ (λ i. records_table (capacity i) (node_at place) (take (position i) list))
     ∙ sym (other_stands.tables (node_at place) is_node)
     ∙ at_place other in
     let tables : snapshot.tables ≡ other.tables = ext_get_or [] snapshot.tables other.tables (stands.shape ∙ sym other_stands.shape) table in

@@ -9,14 +9,14 @@ use Rattle.std.proofs.lemmas.List.Elements.{All-take, All-drop, All-weaker, All-
 use Rattle.prefix_lattice.specs.{RecordValue, node_index, node_at, total_weight}
 use Rattle.space_saving.specs.declared.entry.Entry.{Entry}
 use Rattle.space_saving.specs.{TableValue, table_total}
-use Rattle.shard_state.specs.Snapshot.{fold_snapshot_from, SnapshotValue, IsSnapshot, snapshot_total}
-use Rattle.shard_state.specs.Snapshot.{tables_of_snapshot, snapshot_copied_from, snapshot_tables_after}
-use Rattle.shard_state.specs.ShardState.{ShardValue, IsShard, snapshot_of_shard}
+use Rattle.shard_state.specs.Snapshot.{fold_from, SnapshotValue, IsSnapshot, snapshot_total}
+use Rattle.shard_state.specs.Snapshot.{tables_of, copied_from, tables_after}
+use Rattle.shard_state.specs.ShardState.{ShardValue, IsShard, snapshot_of}
 use Rattle.prefix_lattice.proofs.NodePlaceLemmas.{IsNode-node_at_place, node_index-node_at_place}
 use Rattle.shard_state.proofs.SnapshotPartLemmas.{snapshot_part_with_entries, snapshot_part_entries}
 use Rattle.shard_state.proofs.TableFoldLemmas.{TableFoldKeeps, TableFoldAdvances, table_fold_advances}
-use Rattle.shard_state.proofs.TableFoldLemmas.{fold_snapshot_from-append_in_tables, fold_snapshot_from-none_in_tables}
-use Rattle.shard_state.proofs.TableFoldLemmas.{snapshot_tables_after-entries}
+use Rattle.shard_state.proofs.TableFoldLemmas.{fold_from-append_in_tables, fold_from-none_in_tables}
+use Rattle.shard_state.proofs.TableFoldLemmas.{tables_after-entries}
 
 -- two lists with the same rest from an index on have the same element there
 pub shard_state_place_in_rest : {X : Type 0} → (xs ys : List X) (n : ℕ) (d : X) → drop n xs ≡ drop n ys → get_or xs n d ≡ get_or ys n d
@@ -53,20 +53,20 @@ shard_state_is_light list to few within bounded =
 -- a shard at a later position
 pub record ShardStateFoldedOn (shard : ShardValue) (to : ℕ) : Type 0 where
   pub is_shard : IsShard (record shard { position = to })
-  pub tables : fold_snapshot_from 0 shard.base.capacity shard.base.tables (slice_range shard.list shard.base.position to)
-      ≡ fold_snapshot_from 0 shard.base.capacity (snapshot_of_shard shard).tables (slice_range shard.list shard.position to)
+  pub tables : fold_from 0 shard.base.capacity shard.base.tables (slice_range shard.list shard.base.position to)
+      ≡ fold_from 0 shard.base.capacity (snapshot_of shard).tables (slice_range shard.list shard.position to)
 
 shard_state_tables_further : (shard : ShardValue) (to : ℕ) → IsShard shard → shard.position ≤ to
-    → fold_snapshot_from 0 shard.base.capacity shard.base.tables (slice_range shard.list shard.base.position to)
-    ≡ fold_snapshot_from 0 shard.base.capacity (snapshot_of_shard shard).tables (slice_range shard.list shard.position to)
+    → fold_from 0 shard.base.capacity shard.base.tables (slice_range shard.list shard.base.position to)
+    ≡ fold_from 0 shard.base.capacity (snapshot_of shard).tables (slice_range shard.list shard.position to)
 shard_state_tables_further shard to is later =
-    ap (fold_snapshot_from 0 shard.base.capacity shard.base.tables) (shard_state_range_further shard.list shard.base.position shard.position to is.begun later)
-    ∙ fold_snapshot_from-append_in_tables 0 shard.base.capacity shard.base.tables
+    ap (fold_from 0 shard.base.capacity shard.base.tables) (shard_state_range_further shard.list shard.base.position shard.position to is.begun later)
+    ∙ fold_from-append_in_tables 0 shard.base.capacity shard.base.tables
     (slice_range shard.list shard.base.position shard.position) (slice_range shard.list shard.position to)
 
 -- the weight up to a later position
 shard_state_weight_further : (shard : ShardValue) (to : ℕ) → IsShard shard → shard.position ≤ to
-    → snapshot_total (snapshot_of_shard shard) + total_weight (slice_range shard.list shard.position to) ≡ total_weight (take to shard.list)
+    → snapshot_total (snapshot_of shard) + total_weight (slice_range shard.list shard.position to) ≡ total_weight (take to shard.list)
 shard_state_weight_further shard to is later =
     ap (λ n. n + total_weight (slice_range shard.list shard.position to)) is.counted
     ∙ sym (sum_by-append (λ (r : RecordValue). r.weight) (take shard.position shard.list) (slice_range shard.list shard.position to))
@@ -79,11 +79,11 @@ shard_state_folds_on shard to keep is later within =
     let weighed : All (λ (r : RecordValue). 1 ≤ r.weight) records =
     All-take (λ (r : RecordValue). 1 ≤ r.weight) (to - shard.position) (drop shard.position shard.list)
     (All-drop (λ (r : RecordValue). 1 ≤ r.weight) shard.position shard.list is.weighed) in
-    let weight : snapshot_total (snapshot_of_shard shard) + total_weight records ≡ total_weight (take to shard.list) = shard_state_weight_further shard to
+    let weight : snapshot_total (snapshot_of shard) + total_weight records ≡ total_weight (take to shard.list) = shard_state_weight_further shard to
     is later in
     let small : total_weight (take to shard.list) < 2 ^ 56 = shard_state_is_light shard.list to is.few within is.bounded in
     let placed : to ≤ 2 ^ 24 = omega (arith, is.few) in
-    let more : TableFoldAdvances (snapshot_of_shard shard) to records = table_fold_advances (snapshot_of_shard shard) to records keep is.tables placed weighed
+    let more : TableFoldAdvances (snapshot_of shard) to records = table_fold_advances (snapshot_of shard) to records keep is.tables placed weighed
     (omega arith) in
     let same = shard_state_tables_further shard to is later in
     let with_tables : List (List Entry) → SnapshotValue = λ ts. record { capacity = shard.base.capacity; position = to; tables = ts } in
@@ -103,35 +103,35 @@ shard_state_folds_on shard to keep is later within =
 -- each table of a shard has room for the records up to a later position
 pub shard_state_has_room : (shard : ShardValue) (to : ℕ) → IsShard shard → shard.position ≤ to → to ≤ length shard.list
     → All (λ (t : TableValue). table_total t.entries + total_weight (slice_range shard.list shard.position to) < 2 ^ 56)
-    (tables_of_snapshot (snapshot_of_shard shard))
+    (tables_of (snapshot_of shard))
 shard_state_has_room shard to is later within =
     let records = slice_range shard.list shard.position to in
-    let tables = (snapshot_of_shard shard).tables in
-    let weight : snapshot_total (snapshot_of_shard shard) + total_weight records ≡ total_weight (take to shard.list) = shard_state_weight_further shard to
+    let tables = (snapshot_of shard).tables in
+    let weight : snapshot_total (snapshot_of shard) + total_weight records ≡ total_weight (take to shard.list) = shard_state_weight_further shard to
     is later in
     let small : total_weight (take to shard.list) < 2 ^ 56 = shard_state_is_light shard.list to is.few within is.bounded in
     All-map (λ (t : TableValue). table_total t.entries + total_weight records < 2 ^ 56) (snapshot_part_with_entries shard.base.capacity) tables
     (All-from_get_or (λ (es : List Entry). table_total es + total_weight records < 2 ^ 56) tables []
     (λ k in_tables.
     let place : k < 25 = omega (arith, is.tables.shape) in
-    let at : table_total (get_or tables (node_index (node_at k)) []) ≡ snapshot_total (snapshot_of_shard shard) =
+    let at : table_total (get_or tables (node_index (node_at k)) []) ≡ snapshot_total (snapshot_of shard) =
     (is.tables.tables (node_at k) (IsNode-node_at_place k place)).counted in
-    let here : table_total (get_or tables k []) ≡ snapshot_total (snapshot_of_shard shard) =
-    subst (λ n. table_total (get_or tables n []) ≡ snapshot_total (snapshot_of_shard shard)) (node_index-node_at_place k) at in
+    let here : table_total (get_or tables k []) ≡ snapshot_total (snapshot_of shard) =
+    subst (λ n. table_total (get_or tables n []) ≡ snapshot_total (snapshot_of shard)) (node_index-node_at_place k) at in
     omega arith))
 
 -- the tables of a shard at a later position
 pub shard_state_folded_tables : (shard : ShardValue) (to : ℕ) (tables : List TableValue) → ShardStateFoldedOn shard to
-    → tables ≡ tables_of_snapshot (snapshot_of_shard shard)
-    → snapshot_tables_after 0 tables (slice_range shard.list shard.position to) ≡ tables_of_snapshot (snapshot_of_shard (record shard { position = to }))
+    → tables ≡ tables_of (snapshot_of shard)
+    → tables_after 0 tables (slice_range shard.list shard.position to) ≡ tables_of (snapshot_of (record shard { position = to }))
 shard_state_folded_tables shard to tables on are =
-    ap (λ ts. snapshot_tables_after 0 ts (slice_range shard.list shard.position to)) are
-    ∙ snapshot_tables_after-entries 0 shard.base.capacity (snapshot_of_shard shard).tables (slice_range shard.list shard.position to)
+    ap (λ ts. tables_after 0 ts (slice_range shard.list shard.position to)) are
+    ∙ tables_after-entries 0 shard.base.capacity (snapshot_of shard).tables (slice_range shard.list shard.position to)
     ∙ ap (map (snapshot_part_with_entries shard.base.capacity)) (sym on.tables)
 
 -- a shard that goes on from a snapshot
 pub record BegunShardState (list : List RecordValue) (base : SnapshotValue) (position : ℕ) : Type 0 where
-  pub snapshot : snapshot_of_shard (record { list = list; base = base; position = position }) ≡ base
+  pub snapshot : snapshot_of (record { list = list; base = base; position = position }) ≡ base
   pub is_shard : IsShard (record { list = list; base = base; position = position })
 
 pub shard_state_is_begun : (list : List RecordValue) (base : SnapshotValue) (position : ℕ) → position ≡ base.position
@@ -144,11 +144,11 @@ shard_state_is_begun list base position at_base is few within weighed bounded co
     let none : slice_range list base.position position ≡ [] =
     let nothing : position - base.position ≡ 0 = omega arith in
     ap (λ n. take n (drop base.position list)) nothing in
-    let tables : (snapshot_of_shard shard).tables ≡ base.tables = ap (fold_snapshot_from 0 base.capacity base.tables) none
-    ∙ fold_snapshot_from-none_in_tables 0 base.capacity base.tables in
+    let tables : (snapshot_of shard).tables ≡ base.tables = ap (fold_from 0 base.capacity base.tables) none
+    ∙ fold_from-none_in_tables 0 base.capacity base.tables in
     let with_tables : List (List Entry) → SnapshotValue = λ ts. record { capacity = base.capacity; position = position; tables = ts } in
     let with_position : ℕ → SnapshotValue = λ p. record { capacity = base.capacity; position = p; tables = base.tables } in
-    let same : snapshot_of_shard shard ≡ base = ap with_tables tables ∙ ap with_position at_base in
+    let same : snapshot_of shard ≡ base = ap with_tables tables ∙ ap with_position at_base in
     record {
       snapshot = same;
       is_shard = record {
@@ -164,8 +164,8 @@ shard_state_is_begun list base position at_base is few within weighed bounded co
 
 -- a copy of the tables of a snapshot is that snapshot
 pub shard_state_copy_is_same : (snapshot : SnapshotValue) (capacity position : ℕ) (tables : List TableValue)
-    → tables ≡ tables_of_snapshot snapshot → capacity ≡ snapshot.capacity → position ≡ snapshot.position
-    → snapshot_copied_from capacity position tables ≡ snapshot
+    → tables ≡ tables_of snapshot → capacity ≡ snapshot.capacity → position ≡ snapshot.position
+    → copied_from capacity position tables ≡ snapshot
 shard_state_copy_is_same snapshot capacity position tables are same_capacity same_position =
     let made : ℕ → ℕ → List (List Entry) → SnapshotValue = λ c p ts. record { capacity = c; position = p; tables = ts } in
     ap (λ c. made c position (map snapshot_part_entries tables)) same_capacity

@@ -8,8 +8,8 @@ use borrow.Author.Count.{below_more}
 use Rattle.prefix_lattice.specs.{node_index, node_at}
 use Rattle.space_saving.specs.declared.entry.Entry.{Entry}
 use Rattle.space_saving.specs.{TableValue, table_total, AreTableEntries}
-use Rattle.shard_state.specs.Snapshot.{IsSnapshotTableAt, HasSnapshotKeys, IsSnapshot, IsLikeSnapshotTable}
-use Rattle.shard_state.specs.Snapshot.{AreTablesOfSnapshot}
+use Rattle.shard_state.specs.Snapshot.{IsTableAt, HasKeys, IsSnapshot, IsLikeTable}
+use Rattle.shard_state.specs.Snapshot.{AreTablesOf}
 use Rattle.prefix_lattice.proofs.NodePlaceLemmas.{node_place_is_small, node_at_own_place}
 
 -- a table of this capacity with these entries
@@ -42,14 +42,14 @@ abbrev pub AreKeptSnapshotParts : List TableValue → Type 0
 AreKeptSnapshotParts tables = (place : ℕ) (table : TableValue) → slice_get tables place ≡ Some table → AreTableEntries table.capacity table.entries
 
 -- tables that are alike have the capacity of the first
-pub snapshot_parts_share_capacity : (tables : List TableValue) (are : AreTablesOfSnapshot tables) (first : TableValue) → slice_get tables 0 ≡ Some first
+pub snapshot_parts_share_capacity : (tables : List TableValue) (are : AreTablesOf tables) (first : TableValue) → slice_get tables 0 ≡ Some first
     → All (λ (t : TableValue). t.capacity ≡ first.capacity) tables
 snapshot_parts_share_capacity tables are first is_first =
     All-from_get_or (λ (t : TableValue). t.capacity ≡ first.capacity) tables first
     (λ k within. (are.alike k (get_or tables k first) (slice_get-get_or tables k first within)).same_capacity ∙ sym (are.alike 0 first is_first).same_capacity)
 
 -- such tables make a snapshot
-pub IsSnapshot-parts : (position : ℕ) (tables : List TableValue) (first : TableValue) → position ≤ 2 ^ 24 → AreTablesOfSnapshot tables
+pub IsSnapshot-parts : (position : ℕ) (tables : List TableValue) (first : TableValue) → position ≤ 2 ^ 24 → AreTablesOf tables
     → AreKeptSnapshotParts tables
     → slice_get tables 0 ≡ Some first → 2 ≤ first.capacity → first.capacity ≤ 4096
     → IsSnapshot (record { capacity = first.capacity; position = position; tables = map snapshot_part_entries tables })
@@ -64,20 +64,20 @@ IsSnapshot-parts position tables first placed are kept is_first least most = rec
       let some : 0 < length tables = omega (arith, are.shape) in
       let here = get_or tables (node_index node) first in
       let is_here : slice_get tables (node_index node) ≡ Some here = slice_get-get_or tables (node_index node) first within in
-      let like : IsLikeSnapshotTable are.capacity are.total (node_at (node_index node)) here = are.alike (node_index node) here is_here in
-      let like_first : IsLikeSnapshotTable are.capacity are.total (node_at 0) first = are.alike 0 first is_first in
+      let like : IsLikeTable are.capacity are.total (node_at (node_index node)) here = are.alike (node_index node) here is_here in
+      let like_first : IsLikeTable are.capacity are.total (node_at 0) first = are.alike 0 first is_first in
       let same : get_or (map snapshot_part_entries tables) (node_index node) [] ≡ here.entries = get_or-map snapshot_part_entries tables (node_index node) first
       [] within in
       let at_first : get_or (map snapshot_part_entries tables) 0 [] ≡ first.entries = first_entries tables first is_first in
       let capacities : here.capacity ≡ first.capacity = like.same_capacity ∙ sym like_first.same_capacity in
       let totals : table_total here.entries ≡ table_total (get_or (map snapshot_part_entries tables) 0 []) =
       like.same_total ∙ sym like_first.same_total ∙ sym (ap table_total at_first) in
-      let at_here : IsSnapshotTableAt first.capacity (table_total (get_or (map snapshot_part_entries tables) 0 [])) node here.entries = record {
+      let at_here : IsTableAt first.capacity (table_total (get_or (map snapshot_part_entries tables) 0 [])) node here.entries = record {
         are_entries = subst (λ c. AreTableEntries c here.entries) capacities (kept (node_index node) here is_here);
         counted = totals;
-        keyed = subst (λ n. HasSnapshotKeys n here.entries) (node_at_own_place node valid) like.keyed;
+        keyed = subst (λ n. HasKeys n here.entries) (node_at_own_place node valid) like.keyed;
       } in
-      subst (IsSnapshotTableAt first.capacity (table_total (get_or (map snapshot_part_entries tables) 0 [])) node) (sym same) at_here;
+      subst (IsTableAt first.capacity (table_total (get_or (map snapshot_part_entries tables) 0 [])) node) (sym same) at_here;
 }
   where
     first_entries : (tables : List TableValue) (first : TableValue) → slice_get tables 0 ≡ Some first
@@ -90,7 +90,7 @@ pub record MadeOfSnapshotParts (capacity position : ℕ) (tables : List TableVal
   pub alike : All (λ (t : TableValue). t.capacity ≡ capacity) tables
   pub is_snapshot : IsSnapshot (record { capacity = capacity; position = position; tables = map snapshot_part_entries tables })
 
-pub made_of_snapshot_parts : (position : ℕ) (tables : List TableValue) (capacity : ℕ) (first : TableValue) → position ≤ 2 ^ 24 → AreTablesOfSnapshot tables
+pub made_of_snapshot_parts : (position : ℕ) (tables : List TableValue) (capacity : ℕ) (first : TableValue) → position ≤ 2 ^ 24 → AreTablesOf tables
     → AreKeptSnapshotParts tables
     → first ≡ get_or tables 0 first → capacity ≡ first.capacity → 2 ≤ capacity → capacity ≤ 4096 → MadeOfSnapshotParts capacity position tables
 made_of_snapshot_parts position tables capacity first placed are kept read same least most =

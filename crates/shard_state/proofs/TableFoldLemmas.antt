@@ -7,10 +7,10 @@ use Rattle.std.proofs.lemmas.List.Elements.{All-head, All-tail}
 use Rattle.prefix_lattice.specs.{RecordValue, NodeValue, IsNode, node_index, node_at, prefix_at, prefix_key}
 use Rattle.prefix_lattice.specs.{total_weight, IsPrefixKey}
 use Rattle.space_saving.specs.declared.entry.Entry.{Entry}
-use Rattle.space_saving.specs.{TableAdd, table_after_step, table_total, IsTable}
-use Rattle.shard_state.specs.Snapshot.{snapshot_adds, fold_snapshot_at, fold_snapshot_from, IsSnapshotTableAt}
-use Rattle.shard_state.specs.Snapshot.{SnapshotValue, IsSnapshot, snapshot_total, snapshot_entries_at}
-use Rattle.shard_state.specs.Snapshot.{snapshot_tables_after}
+use Rattle.space_saving.specs.{TableAdd, after_step, table_total, IsTable}
+use Rattle.shard_state.specs.Snapshot.{adds_of, fold_at, fold_from, IsTableAt}
+use Rattle.shard_state.specs.Snapshot.{SnapshotValue, IsSnapshot, snapshot_total, entries_at}
+use Rattle.shard_state.specs.Snapshot.{tables_after}
 use Rattle.prefix_lattice.proofs.NodePlaceLemmas.{node_place_is_small, node_at_own_place, IsNode-node_at_place}
 use Rattle.shard_state.proofs.KeyPropertyLemmas.{KeysHaveProperty-step}
 use Rattle.shard_state.proofs.SnapshotPartLemmas.{snapshot_part_with_entries}
@@ -20,72 +20,72 @@ abbrev pub table_fold_add : NodeValue → RecordValue → TableAdd
 table_fold_add node rec = record { key = prefix_key (prefix_at node rec); weight = rec.weight }
 
 -- records may come in parts
-pub fold_snapshot_at-append_in_table : (capacity : ℕ) (node : NodeValue) (entries : List Entry) (front rest : List RecordValue)
-    → fold_snapshot_at capacity node entries (front ++ rest) ≡ fold_snapshot_at capacity node (fold_snapshot_at capacity node entries front) rest
-fold_snapshot_at-append_in_table capacity node entries front rest =
-    ap (fold (table_after_step capacity) entries) (map-append (table_fold_add node) front rest)
-    ∙ fold-append (table_after_step capacity) entries (snapshot_adds node front) (snapshot_adds node rest)
+pub fold_at-append_in_table : (capacity : ℕ) (node : NodeValue) (entries : List Entry) (front rest : List RecordValue)
+    → fold_at capacity node entries (front ++ rest) ≡ fold_at capacity node (fold_at capacity node entries front) rest
+fold_at-append_in_table capacity node entries front rest =
+    ap (fold (after_step capacity) entries) (map-append (table_fold_add node) front rest)
+    ∙ fold-append (after_step capacity) entries (adds_of node front) (adds_of node rest)
 
-pub fold_snapshot_from-append_in_tables : (place capacity : ℕ) (tables : List (List Entry)) (front rest : List RecordValue)
-    → fold_snapshot_from place capacity tables (front ++ rest) ≡ fold_snapshot_from place capacity (fold_snapshot_from place capacity tables front) rest
-fold_snapshot_from-append_in_tables place capacity [] front rest = refl
-fold_snapshot_from-append_in_tables place capacity (entries ∷ tables) front rest =
-    ap (λ es. es ∷ fold_snapshot_from (place + 1) capacity tables (front ++ rest)) (fold_snapshot_at-append_in_table capacity (node_at place) entries front
+pub fold_from-append_in_tables : (place capacity : ℕ) (tables : List (List Entry)) (front rest : List RecordValue)
+    → fold_from place capacity tables (front ++ rest) ≡ fold_from place capacity (fold_from place capacity tables front) rest
+fold_from-append_in_tables place capacity [] front rest = refl
+fold_from-append_in_tables place capacity (entries ∷ tables) front rest =
+    ap (λ es. es ∷ fold_from (place + 1) capacity tables (front ++ rest)) (fold_at-append_in_table capacity (node_at place) entries front
     rest)
-    ∙ ap (λ ts. fold_snapshot_at capacity (node_at place) (fold_snapshot_at capacity (node_at place) entries front) rest ∷ ts)
-    (fold_snapshot_from-append_in_tables (place + 1) capacity tables front rest)
+    ∙ ap (λ ts. fold_at capacity (node_at place) (fold_at capacity (node_at place) entries front) rest ∷ ts)
+    (fold_from-append_in_tables (place + 1) capacity tables front rest)
 
 -- no record changes nothing
-pub fold_snapshot_from-none_in_tables : (place capacity : ℕ) (tables : List (List Entry)) → fold_snapshot_from place capacity tables [] ≡ tables
-fold_snapshot_from-none_in_tables place capacity [] = refl
-fold_snapshot_from-none_in_tables place capacity (entries ∷ tables) = ap (λ ts. entries ∷ ts) (fold_snapshot_from-none_in_tables (place + 1) capacity tables)
+pub fold_from-none_in_tables : (place capacity : ℕ) (tables : List (List Entry)) → fold_from place capacity tables [] ≡ tables
+fold_from-none_in_tables place capacity [] = refl
+fold_from-none_in_tables place capacity (entries ∷ tables) = ap (λ ts. entries ∷ ts) (fold_from-none_in_tables (place + 1) capacity tables)
 
-pub fold_snapshot_from-as_many_tables : (place capacity : ℕ) (tables : List (List Entry)) (records : List RecordValue)
-    → length (fold_snapshot_from place capacity tables records) ≡ length tables
-fold_snapshot_from-as_many_tables place capacity [] records = refl
-fold_snapshot_from-as_many_tables place capacity (entries ∷ tables) records = ap suc (fold_snapshot_from-as_many_tables (place + 1) capacity tables records)
+pub fold_from-as_many_tables : (place capacity : ℕ) (tables : List (List Entry)) (records : List RecordValue)
+    → length (fold_from place capacity tables records) ≡ length tables
+fold_from-as_many_tables place capacity [] records = refl
+fold_from-as_many_tables place capacity (entries ∷ tables) records = ap suc (fold_from-as_many_tables (place + 1) capacity tables records)
 
 -- each table has its own node
-pub fold_snapshot_from-table_at_place : (place capacity : ℕ) (tables : List (List Entry)) (records : List RecordValue) (k : ℕ) → k < length tables
-    → get_or (fold_snapshot_from place capacity tables records) k [] ≡ fold_snapshot_at capacity (node_at (place + k)) (get_or tables k []) records
-fold_snapshot_from-table_at_place place capacity [] records k within = absurd (omega arith)
-fold_snapshot_from-table_at_place place capacity (entries ∷ tables) records zero within =
-    let same : place ≡ place + 0 = omega arith in ap (λ p. fold_snapshot_at capacity (node_at p) entries records) same
-fold_snapshot_from-table_at_place place capacity (entries ∷ tables) records (suc k) within =
+pub fold_from-table_at_place : (place capacity : ℕ) (tables : List (List Entry)) (records : List RecordValue) (k : ℕ) → k < length tables
+    → get_or (fold_from place capacity tables records) k [] ≡ fold_at capacity (node_at (place + k)) (get_or tables k []) records
+fold_from-table_at_place place capacity [] records k within = absurd (omega arith)
+fold_from-table_at_place place capacity (entries ∷ tables) records zero within =
+    let same : place ≡ place + 0 = omega arith in ap (λ p. fold_at capacity (node_at p) entries records) same
+fold_from-table_at_place place capacity (entries ∷ tables) records (suc k) within =
     let same : place + 1 + k ≡ place + suc k = omega arith in
-    fold_snapshot_from-table_at_place (place + 1) capacity tables records k (omega arith)
-    ∙ ap (λ p. fold_snapshot_at capacity (node_at p) (get_or tables k []) records) same
+    fold_from-table_at_place (place + 1) capacity tables records k (omega arith)
+    ∙ ap (λ p. fold_at capacity (node_at p) (get_or tables k []) records) same
 
 -- the same of tables with a capacity
-pub snapshot_tables_after-entries : (place capacity : ℕ) (tables : List (List Entry)) (records : List RecordValue)
-    → snapshot_tables_after place (map (snapshot_part_with_entries capacity) tables) records ≡ map (snapshot_part_with_entries capacity)
-    (fold_snapshot_from place capacity tables records)
-snapshot_tables_after-entries place capacity [] records = refl
-snapshot_tables_after-entries place capacity (entries ∷ tables) records =
-    ap (λ ts. snapshot_part_with_entries capacity (fold_snapshot_at capacity (node_at place) entries records) ∷ ts)
-    (snapshot_tables_after-entries (place + 1) capacity tables records)
+pub tables_after-entries : (place capacity : ℕ) (tables : List (List Entry)) (records : List RecordValue)
+    → tables_after place (map (snapshot_part_with_entries capacity) tables) records ≡ map (snapshot_part_with_entries capacity)
+    (fold_from place capacity tables records)
+tables_after-entries place capacity [] records = refl
+tables_after-entries place capacity (entries ∷ tables) records =
+    ap (λ ts. snapshot_part_with_entries capacity (fold_at capacity (node_at place) entries records) ∷ ts)
+    (tables_after-entries (place + 1) capacity tables records)
 
 -- what a step keeps
 pub record TableFoldKeeps : Type 0 where
   pub table : (capacity : ℕ) (entries : List Entry) (add : TableAdd) → 1 ≤ capacity → 1 ≤ add.weight
-      → IsTable capacity entries → IsTable capacity (table_after_step capacity entries add)
-  pub total : (capacity : ℕ) (entries : List Entry) (add : TableAdd) → 1 ≤ capacity → table_total (table_after_step capacity entries add) ≡ table_total
+      → IsTable capacity entries → IsTable capacity (after_step capacity entries add)
+  pub total : (capacity : ℕ) (entries : List Entry) (add : TableAdd) → 1 ≤ capacity → table_total (after_step capacity entries add) ≡ table_total
       entries + add.weight
   pub key : (node : NodeValue) (rec : RecordValue) → IsNode node → IsPrefixKey node (prefix_key (prefix_at node rec))
 
 -- records add their weight to a table, and leave it one of its node
-pub IsSnapshotTableAt-fold : (capacity total : ℕ) (node : NodeValue) (entries : List Entry) (records : List RecordValue) → TableFoldKeeps → 1 ≤ capacity
+pub IsTableAt-fold : (capacity total : ℕ) (node : NodeValue) (entries : List Entry) (records : List RecordValue) → TableFoldKeeps → 1 ≤ capacity
     → IsNode node
-    → All (λ (r : RecordValue). 1 ≤ r.weight) records → total + total_weight records < 2 ^ 56 → IsSnapshotTableAt capacity total node entries
-    → IsSnapshotTableAt capacity (total + total_weight records) node (fold_snapshot_at capacity node entries records)
-IsSnapshotTableAt-fold capacity total node entries [] keep some is_node weighed fits is_table =
-    let same : total ≡ total + 0 = omega arith in subst (λ n. IsSnapshotTableAt capacity n node entries) same is_table
-IsSnapshotTableAt-fold capacity total node entries (rec ∷ records) keep some is_node weighed fits is_table =
+    → All (λ (r : RecordValue). 1 ≤ r.weight) records → total + total_weight records < 2 ^ 56 → IsTableAt capacity total node entries
+    → IsTableAt capacity (total + total_weight records) node (fold_at capacity node entries records)
+IsTableAt-fold capacity total node entries [] keep some is_node weighed fits is_table =
+    let same : total ≡ total + 0 = omega arith in subst (λ n. IsTableAt capacity n node entries) same is_table
+IsTableAt-fold capacity total node entries (rec ∷ records) keep some is_node weighed fits is_table =
     let weighs : 1 ≤ rec.weight = All-head (λ (r : RecordValue). 1 ≤ r.weight) rec records weighed in
     let sums : total_weight (rec ∷ records) ≡ rec.weight + total_weight records = sum_by-cons (λ (r : RecordValue). r.weight) rec records in
-    let grew : table_total (table_after_step capacity entries (table_fold_add node rec)) ≡ total + rec.weight =
+    let grew : table_total (after_step capacity entries (table_fold_add node rec)) ≡ total + rec.weight =
     keep.total capacity entries (table_fold_add node rec) some ∙ ap (λ n. n + rec.weight) is_table.counted in
-    let stepped : IsSnapshotTableAt capacity (total + rec.weight) node (table_after_step capacity entries (table_fold_add node rec)) = record {
+    let stepped : IsTableAt capacity (total + rec.weight) node (after_step capacity entries (table_fold_add node rec)) = record {
       are_entries = record {
         is_table = keep.table capacity entries (table_fold_add node rec) some weighs is_table.are_entries.is_table;
         bounded = omega arith;
@@ -94,8 +94,8 @@ IsSnapshotTableAt-fold capacity total node entries (rec ∷ records) keep some i
       keyed = KeysHaveProperty-step (IsPrefixKey node) capacity entries (table_fold_add node rec) (keep.key node rec is_node) is_table.keyed;
     } in
     let same : total + rec.weight + total_weight records ≡ total + total_weight (rec ∷ records) = omega arith in
-    subst (λ n. IsSnapshotTableAt capacity n node (fold_snapshot_at capacity node (table_after_step capacity entries (table_fold_add node rec)) records)) same
-    (IsSnapshotTableAt-fold capacity (total + rec.weight) node (table_after_step capacity entries (table_fold_add node rec)) records keep some is_node
+    subst (λ n. IsTableAt capacity n node (fold_at capacity node (after_step capacity entries (table_fold_add node rec)) records)) same
+    (IsTableAt-fold capacity (total + rec.weight) node (after_step capacity entries (table_fold_add node rec)) records keep some is_node
     (All-tail (λ (r : RecordValue). 1 ≤ r.weight) rec records weighed) (omega arith) stepped)
 
 -- a snapshot after more records
@@ -103,20 +103,20 @@ abbrev pub snapshot_after_table_fold : SnapshotValue → ℕ → List RecordValu
 snapshot_after_table_fold snapshot position records = record {
   capacity = snapshot.capacity;
   position = position;
-  tables = fold_snapshot_from 0 snapshot.capacity snapshot.tables records;
+  tables = fold_from 0 snapshot.capacity snapshot.tables records;
 }
 
 -- the entries at a node after more records
 pub table_fold_at_shard_node : (snapshot : SnapshotValue) (position : ℕ) (records : List RecordValue) (node : NodeValue) → length snapshot.tables ≡ 25
     → IsNode node
-    → snapshot_entries_at node (snapshot_after_table_fold snapshot position records) ≡ fold_snapshot_at snapshot.capacity node
-    (snapshot_entries_at node snapshot) records
+    → entries_at node (snapshot_after_table_fold snapshot position records) ≡ fold_at snapshot.capacity node
+    (entries_at node snapshot) records
 table_fold_at_shard_node snapshot position records node shape is_node =
     let small : node_index node < 25 = node_place_is_small node is_node in
     let place : 0 + node_index node ≡ node_index node = omega arith in
-    fold_snapshot_from-table_at_place 0 snapshot.capacity snapshot.tables records (node_index node) (omega arith)
-    ∙ ap (λ p. fold_snapshot_at snapshot.capacity (node_at p) (snapshot_entries_at node snapshot) records) place
-    ∙ ap (λ n. fold_snapshot_at snapshot.capacity n (snapshot_entries_at node snapshot) records) (node_at_own_place node is_node)
+    fold_from-table_at_place 0 snapshot.capacity snapshot.tables records (node_index node) (omega arith)
+    ∙ ap (λ p. fold_at snapshot.capacity (node_at p) (entries_at node snapshot) records) place
+    ∙ ap (λ n. fold_at snapshot.capacity n (entries_at node snapshot) records) (node_at_own_place node is_node)
 
 -- what more records make of a snapshot
 pub record TableFoldAdvances (snapshot : SnapshotValue) (position : ℕ) (records : List RecordValue) : Type 0 where
@@ -129,9 +129,9 @@ table_fold_advances snapshot position records keep is placed weighed fits =
     let some : 1 ≤ snapshot.capacity = omega (arith, is.least) in
     let total = snapshot_total snapshot + total_weight records in
     let at : (node : NodeValue) → IsNode node
-    → IsSnapshotTableAt snapshot.capacity total node (snapshot_entries_at node (snapshot_after_table_fold snapshot position records)) =
-    λ node is_node. subst (IsSnapshotTableAt snapshot.capacity total node) (sym (table_fold_at_shard_node snapshot position records node is.shape is_node))
-    (IsSnapshotTableAt-fold snapshot.capacity (snapshot_total snapshot) node (snapshot_entries_at node snapshot) records keep some is_node weighed fits
+    → IsTableAt snapshot.capacity total node (entries_at node (snapshot_after_table_fold snapshot position records)) =
+    λ node is_node. subst (IsTableAt snapshot.capacity total node) (sym (table_fold_at_shard_node snapshot position records node is.shape is_node))
+    (IsTableAt-fold snapshot.capacity (snapshot_total snapshot) node (entries_at node snapshot) records keep some is_node weighed fits
     (is.tables node is_node)) in
     let root : IsNode (node_at 0) = IsNode-node_at_place 0 (omega arith) in
     let grew : snapshot_total (snapshot_after_table_fold snapshot position records) ≡ total = (at (node_at 0) root).counted in
@@ -140,9 +140,9 @@ table_fold_advances snapshot position records keep is placed weighed fits =
         least = is.least;
         most = is.most;
         placed = placed;
-        shape = fold_snapshot_from-as_many_tables 0 snapshot.capacity snapshot.tables records ∙ is.shape;
+        shape = fold_from-as_many_tables 0 snapshot.capacity snapshot.tables records ∙ is.shape;
         tables = λ node is_node.
-            subst (λ n. IsSnapshotTableAt snapshot.capacity n node (snapshot_entries_at node (snapshot_after_table_fold snapshot position records)))
+            subst (λ n. IsTableAt snapshot.capacity n node (entries_at node (snapshot_after_table_fold snapshot position records)))
             (sym grew) (at node is_node);
       };
       total = grew;

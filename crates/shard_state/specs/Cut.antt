@@ -4,7 +4,7 @@ use Rattle.std.proofs.Math.ListN.{replicate}
 use Rattle.shard_state.specs.Snapshot.{SnapshotValue, IsSnapshot, empty_snapshot, snapshot_total, SnapshotRepresents}
 use Rattle.std.specs.List.{AllZip}
 use Rattle.prefix_lattice.specs.{RecordValue}
-use Rattle.space_saving.specs.{least_table_capacity, most_table_capacity}
+use Rattle.space_saving.specs.{least_capacity, most_capacity}
 
 -- one snapshot for each shard, all of one capacity
 pub record CutValue : Type 0 where
@@ -20,15 +20,15 @@ abbrev pub total_of_cut : CutValue → ℕ
 total_of_cut cut = sum_by snapshot_total cut.shards
 
 -- the most snapshots of a cut, eight times as many as a command has shards
-abbrev pub most_cut_snapshots : ℕ
-most_cut_snapshots = 128
+abbrev pub most_snapshots : ℕ
+most_snapshots = 128
 
 -- what always holds of a cut: 1 to 128 snapshots, each of its capacity
 pub record IsCut (cut : CutValue) : Type 0 where
-  pub least : least_table_capacity ≤ cut.capacity
-  pub most : cut.capacity ≤ most_table_capacity
+  pub least : least_capacity ≤ cut.capacity
+  pub most : cut.capacity ≤ most_capacity
   pub some : 1 ≤ length cut.shards
-  pub few : length cut.shards ≤ most_cut_snapshots
+  pub few : length cut.shards ≤ most_snapshots
   pub alike : All (λ snapshot. snapshot.capacity ≡ cut.capacity) cut.shards
   pub kept : All IsSnapshot cut.shards
 

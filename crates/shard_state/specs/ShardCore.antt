@@ -2,7 +2,7 @@
 use Rattle.std.specs.Prelude.{ℕ, ◌≡◌, ◌<◌, ◌≤◌, zero, suc, List, [], ◌∷◌, length, fold, slice_get, slice_set}
 use Rattle.std.specs.Prelude.{Option, None, Some, All, ◌==◌, ◌&&◌, if◌then◌else◌, ⊤, ◌++◌, map}
 use Rattle.shard_state.specs.Cut.{CutValue}
-use Rattle.shard_state.specs.ShardState.{ShardValue, IsShard, folded_shard, snapshot_of_shard, shard_state_at}
+use Rattle.shard_state.specs.ShardState.{ShardValue, IsShard, folded_shard, snapshot_of, shard_state_at}
 use Rattle.shard_state.specs.declared.event.Event.{Event}
 use Rattle.shard_state.specs.declared.event.Event.TheVariants.{Fold, Read}
 use Rattle.prefix_lattice.specs.{RecordValue, shard_limit}
@@ -14,20 +14,20 @@ pub record CoreValue : Type 0 where
   pub cuts : List CutValue
 
 -- a list with the element at one index changed
-abbrev pub changed_in_core : {X : Type 0} → (X → X) → ℕ → List X → List X
-changed_in_core change place [] = []
-changed_in_core change zero (x ∷ xs) = change x ∷ xs
-changed_in_core change (suc place) (x ∷ xs) = x ∷ changed_in_core change place xs
+abbrev pub changed_in : {X : Type 0} → (X → X) → ℕ → List X → List X
+changed_in change place [] = []
+changed_in change zero (x ∷ xs) = change x ∷ xs
+changed_in change (suc place) (x ∷ xs) = x ∷ changed_in change place xs
 
 -- a cut with its snapshot of this shard replaced by that of the state, if there is such a state
-abbrev pub core_cut_with_shard : ℕ → Option ShardValue → CutValue → CutValue
-core_cut_with_shard shard None cut = cut
-core_cut_with_shard shard (Some state) cut = record cut { shards = slice_set cut.shards shard (snapshot_of_shard state) }
+abbrev pub with_shard : ℕ → Option ShardValue → CutValue → CutValue
+with_shard shard None cut = cut
+with_shard shard (Some state) cut = record cut { shards = slice_set cut.shards shard (snapshot_of state) }
 
 -- the core after one event: a fold moves its shard's position, a read puts its shard's snapshot into its caller's cut
 abbrev pub core_after : CoreValue → Event → CoreValue
-core_after core (Fold shard block) = record core { shards = changed_in_core (folded_shard block) shard core.shards }
-core_after core (Read caller shard) = record core { cuts = changed_in_core (core_cut_with_shard shard (slice_get core.shards shard)) caller core.cuts }
+core_after core (Fold shard block) = record core { shards = changed_in (folded_shard block) shard core.shards }
+core_after core (Read caller shard) = record core { cuts = changed_in (with_shard shard (slice_get core.shards shard)) caller core.cuts }
 
 -- the core after a run of events
 abbrev pub core_after_run : CoreValue → List Event → CoreValue
@@ -60,7 +60,7 @@ IsCoreEvent shards callers (Fold shard block) = (shard < shards) × (1 ≤ block
 IsCoreEvent shards callers (Read caller shard) = (caller < callers) × (shard < shards)
 
 -- a shard of a list has the list and base of this state, at a position from the state's own to the end of its list
-pub record CoreShardMovedOn (shards : List ShardValue) (shard : ℕ) (state : ShardValue) : Type 0 where
+pub record ShardMovedOn (shards : List ShardValue) (shard : ℕ) (state : ShardValue) : Type 0 where
   pub position : ℕ
   pub is : slice_get shards shard ≡ Some (shard_state_at position state)
   pub later : state.position ≤ position
@@ -72,14 +72,14 @@ position_in_core None = []
 position_in_core (Some state) = state.position ∷ []
 
 -- the position that an event meets, if it is a read of this shard by this caller
-abbrev pub position_met_in_core : ℕ → ℕ → List ShardValue → Event → List ℕ
-position_met_in_core caller shard shards (Fold at block) = []
-position_met_in_core caller shard shards (Read by at) = if by == caller && at == shard then position_in_core (slice_get shards shard) else []
+abbrev pub position_met : ℕ → ℕ → List ShardValue → Event → List ℕ
+position_met caller shard shards (Fold at block) = []
+position_met caller shard shards (Read by at) = if by == caller && at == shard then position_in_core (slice_get shards shard) else []
 
 -- the positions that a caller's reads of a shard meet in a run of events, in order
-abbrev pub core_reads_of : ℕ → ℕ → CoreValue → List Event → List ℕ
-core_reads_of caller shard core [] = []
-core_reads_of caller shard core (event ∷ rest) = position_met_in_core caller shard core.shards event ++ core_reads_of caller shard (core_after core event) rest
+abbrev pub reads_of : ℕ → ℕ → CoreValue → List Event → List ℕ
+reads_of caller shard core [] = []
+reads_of caller shard core (event ∷ rest) = position_met caller shard core.shards event ++ reads_of caller shard (core_after core event) rest
 
 -- the last of some positions
 abbrev pub last_core_read : List ℕ → Option ℕ
@@ -88,33 +88,33 @@ last_core_read (position ∷ []) = Some position
 last_core_read (position ∷ next ∷ later) = last_core_read (next ∷ later)
 
 -- the positions are at least this one and never fall
-abbrev pub CorePositionsNeverFall : ℕ → List ℕ → Type 0
-CorePositionsNeverFall least [] = ⊤
-CorePositionsNeverFall least (position ∷ later) = (least ≤ position) × CorePositionsNeverFall position later
+abbrev pub NeverFall : ℕ → List ℕ → Type 0
+NeverFall least [] = ⊤
+NeverFall least (position ∷ later) = (least ≤ position) × NeverFall position later
 
 -- the snapshot of a shard in a cut after reads that met these positions: that at the last of them, or the earlier one
 -- if there were no reads
-abbrev pub latest_core_snapshot : ShardValue → SnapshotValue → List ℕ → SnapshotValue
-latest_core_snapshot state before [] = before
-latest_core_snapshot state before (position ∷ later) = latest_core_snapshot state (snapshot_of_shard (shard_state_at position state)) later
+abbrev pub latest_snapshot : ShardValue → SnapshotValue → List ℕ → SnapshotValue
+latest_snapshot state before [] = before
+latest_snapshot state before (position ∷ later) = latest_snapshot state (snapshot_of (shard_state_at position state)) later
 
 -- the snapshot of a shard in a cut, if there is that cut and that shard
-abbrev pub shard_in_core_cut : ℕ → Option CutValue → Option SnapshotValue
-shard_in_core_cut shard None = None
-shard_in_core_cut shard (Some cut) = slice_get cut.shards shard
+abbrev pub shard_in_cut : ℕ → Option CutValue → Option SnapshotValue
+shard_in_cut shard None = None
+shard_in_cut shard (Some cut) = slice_get cut.shards shard
 
 -- the snapshot of a shard in a caller's cut
-abbrev pub snapshot_in_core : ℕ → ℕ → List CutValue → Option SnapshotValue
-snapshot_in_core caller shard cuts = shard_in_core_cut shard (slice_get cuts caller)
+abbrev pub snapshot_in : ℕ → ℕ → List CutValue → Option SnapshotValue
+snapshot_in caller shard cuts = shard_in_cut shard (slice_get cuts caller)
 
 -- the lists of shards
 abbrev pub core_lists : List ShardValue → List (List RecordValue)
 core_lists shards = map (λ shard. shard.list) shards
 
 -- the base of each shard represents its list
-abbrev pub CoreBasesRepresent : List ShardValue → Type 0
-CoreBasesRepresent shards = All (λ shard. SnapshotRepresents shard.base shard.list) shards
+abbrev pub BasesRepresent : List ShardValue → Type 0
+BasesRepresent shards = All (λ shard. SnapshotRepresents shard.base shard.list) shards
 
 -- in a run of events a caller reads each of these shards at least once
-abbrev pub ReadsEachCoreShard : ℕ → CoreValue → List Event → Type 0
-ReadsEachCoreShard caller core events = (shard : ℕ) → shard < length core.shards → 1 ≤ length (core_reads_of caller shard core events)
+abbrev pub ReadsEachShard : ℕ → CoreValue → List Event → Type 0
+ReadsEachShard caller core events = (shard : ℕ) → shard < length core.shards → 1 ≤ length (reads_of caller shard core events)

@@ -2,7 +2,7 @@
 use Rattle.std.specs.Prelude.{ℕ, ◌≡◌, ◌+◌, ◌^◌, ◌<◌, ◌≤◌, List, length, take, min, All}
 use Rattle.std.specs.List.{slice_range}
 use Rattle.prefix_lattice.specs.{RecordValue, total_weight, record_limit}
-use Rattle.shard_state.specs.Snapshot.{fold_snapshot_from, SnapshotValue, IsSnapshot, snapshot_total}
+use Rattle.shard_state.specs.Snapshot.{fold_from, SnapshotValue, IsSnapshot, snapshot_total}
 
 -- the state of a shard: its records, the snapshot that it started from, and how many of its records it counted
 pub record ShardValue : Type 0 where
@@ -15,11 +15,11 @@ abbrev pub shard_state_at : ℕ → ShardValue → ShardValue
 shard_state_at position shard = record shard { position = position }
 
 -- the tables of a shard: those of its base, after the records from the base's position up to the shard's
-abbrev pub snapshot_of_shard : ShardValue → SnapshotValue
-snapshot_of_shard shard = record {
+abbrev pub snapshot_of : ShardValue → SnapshotValue
+snapshot_of shard = record {
   capacity = shard.base.capacity;
   position = shard.position;
-  tables = fold_snapshot_from 0 shard.base.capacity shard.base.tables (slice_range shard.list shard.base.position shard.position);
+  tables = fold_from 0 shard.base.capacity shard.base.tables (slice_range shard.list shard.base.position shard.position);
 }
 
 -- a shard after its next `block` records, or its remaining records if they are fewer
@@ -33,5 +33,5 @@ pub record IsShard (shard : ShardValue) : Type 0 where
   pub within : shard.position ≤ length shard.list
   pub weighed : All (λ rec. 1 ≤ rec.weight) shard.list
   pub bounded : All (λ rec. rec.weight < 2 ^ 32) shard.list
-  pub counted : snapshot_total (snapshot_of_shard shard) ≡ total_weight (take shard.position shard.list)
-  pub tables : IsSnapshot (snapshot_of_shard shard)
+  pub counted : snapshot_total (snapshot_of shard) ≡ total_weight (take shard.position shard.list)
+  pub tables : IsSnapshot (snapshot_of shard)

@@ -2,10 +2,10 @@
 
 ghost use Rattle.std.specs.Prelude.{◌≡◌, ◌<◌, ◌≤◌, length, slice_get, slice_set, IfOk, Some};
 ghost use Rattle.shard_state.specs.Snapshot.{IsSnapshot};
-ghost use Rattle.shard_state.specs.ShardState.{snapshot_of_shard};
-ghost use Rattle.shard_state.specs.Cut.{IsCut, empty_cut, cut_positions, total_of_cut, most_cut_snapshots};
+ghost use Rattle.shard_state.specs.ShardState.{snapshot_of};
+ghost use Rattle.shard_state.specs.Cut.{IsCut, empty_cut, cut_positions, total_of_cut, most_snapshots};
 ghost use Rattle.prefix_lattice.specs.{shard_limit, total_limit};
-ghost use Rattle.space_saving.specs.{least_table_capacity, most_table_capacity};
+ghost use Rattle.space_saving.specs.{least_capacity, most_capacity};
 
 use crate::{ShardState, Snapshot};
 use hhh_report::Positions;
@@ -20,7 +20,7 @@ pub struct Cut {
 }
 
 impl Model for Cut {
-    ghost use Rattle.shard_state.specs.ShardState.{snapshot_of_shard};
+    ghost use Rattle.shard_state.specs.ShardState.{snapshot_of};
     ghost use Rattle.shard_state.specs.Cut.{CutValue, IsCut};
 
     ghost Value = { CutValue };
@@ -34,9 +34,9 @@ impl Cut {
     /// A cut at position 0 of 1 to 128 shards, with empty tables and memory for `capacity` entries in each, 2 to 4096.
     pub fn with_room(alloc: Global, shards: u32, capacity: u32) -> Result<Cut, AllocError>
         requires some { 1 ≤ shards }
-        requires few { shards ≤ most_cut_snapshots }
-        requires least { least_table_capacity ≤ capacity }
-        requires most { capacity ≤ most_table_capacity }
+        requires few { shards ≤ most_snapshots }
+        requires least { least_capacity ≤ capacity }
+        requires most { capacity ≤ most_capacity }
         ensures { IfOk result (λ cut. cut ≡ empty_cut shards capacity) }
     {
         let mut snapshots = Vec::with_capacity(alloc, shards as usize)?;
@@ -103,7 +103,7 @@ impl Cut {
     pub fn copy_shard(&mut self, shard: u32, state: &ShardState)
         requires within { shard < length self.old.shards }
         requires capacity { state.now.base.capacity ≡ self.old.capacity }
-        ensures { self.new ≡ record self.old { shards = slice_set self.old.shards shard (snapshot_of_shard state.now) } }
+        ensures { self.new ≡ record self.old { shards = slice_set self.old.shards shard (snapshot_of state.now) } }
     {
         let _kept = state.position();
         state.copy_into(&mut self.shards[shard as usize]);

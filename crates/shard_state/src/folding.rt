@@ -3,7 +3,7 @@
 ghost use Rattle.std.specs.Prelude.{◌≡◌, ◌+◌, ◌<◌, ℕ, length, map, slice_get, Some, All, IfOk};
 ghost use Rattle.prefix_lattice.specs.{node_count, total_weight};
 ghost use Rattle.space_saving.specs.{TableValue, table_limit, table_total};
-ghost use Rattle.shard_state.specs.Snapshot.{snapshot_table_after, snapshot_tables_after};
+ghost use Rattle.shard_state.specs.Snapshot.{table_after, tables_after};
 
 use crate::snapshot_parts::NODES;
 use crate::table::Table;
@@ -16,7 +16,7 @@ use std::alloc::{AllocError, Global};
 pub(crate) fn count_in_tables(tables: &mut [Table], records: &[Record])
     requires shape { length tables.old ≡ node_count }
     requires room { All (λ table. table_total table.entries + total_weight records.now < table_limit) tables.old }
-    ensures { tables.new ≡ snapshot_tables_after 0 tables.old records.now }
+    ensures { tables.new ≡ tables_after 0 tables.old records.now }
 {
     for place in 0..NODES {
         let node = Node::from_index(place).unwrap();
@@ -27,7 +27,7 @@ pub(crate) fn count_in_tables(tables: &mut [Table], records: &[Record])
 // Counts records in the table of a node.
 fn count_in_table(table: &mut Table, node: Node, records: &[Record])
     requires { table_total table.old.entries + total_weight records.now < table_limit }
-    ensures { table.new ≡ snapshot_table_after node records.now table.old }
+    ensures { table.new ≡ table_after node records.now table.old }
 {
     for rec in records {
         table.add(Prefix::of(rec, node).key(), rec.weight);

@@ -3,15 +3,15 @@
 ghost use Rattle.std.specs.Prelude.{◌≡◌, ◌≤◌, ℕ, List, All, Some, length, slice_get, take};
 ghost use Rattle.prefix_lattice.specs.{RecordValue, NodeValue, PrefixValue, IsPrefix, prefix_weight, total_weight};
 ghost use Rattle.space_saving.specs.{table_total};
-ghost use Rattle.hhh_report.specs.{records_before_cut};
-ghost use Rattle.shard_state.specs.Snapshot.{snapshot_records_table, SnapshotValue, empty_snapshot, snapshot_total};
+ghost use Rattle.hhh_report.specs.{records_before};
+ghost use Rattle.shard_state.specs.Snapshot.{records_table, SnapshotValue, empty_snapshot, snapshot_total};
 ghost use Rattle.shard_state.specs.Snapshot.{SnapshotRepresents};
 ghost use Rattle.shard_state.specs.Cut.{CutValue, IsCut, cut_positions, total_of_cut, CutRepresents};
-ghost use Rattle.shard_state.specs.ShardState.{ShardValue, snapshot_of_shard};
-ghost use Rattle.shard_state.specs.WeightIntervals.{NarrowIntervalHoldsWeight, NarrowIntervalHoldsWeightOver};
-ghost use Rattle.shard_state.specs.WeightIntervals.{weight_interval_of};
+ghost use Rattle.shard_state.specs.ShardState.{ShardValue, snapshot_of};
+ghost use Rattle.shard_state.specs.WeightIntervals.{HoldsNarrowly, HoldsNarrowlyOver};
+ghost use Rattle.shard_state.specs.WeightIntervals.{interval_of};
 ghost use Rattle.shard_state.specs.ShardCore.{CoreValue, HasCoreShape, IsCore, core_capacity, core_after_run};
-ghost use Rattle.shard_state.specs.ShardCore.{CoreBasesRepresent, ReadsEachCoreShard, core_lists};
+ghost use Rattle.shard_state.specs.ShardCore.{BasesRepresent, ReadsEachShard, core_lists};
 ghost use Rattle.shard_state.specs.declared.event.Event.{Event};
 
 use prefix_lattice::keys_tell_covering;
@@ -22,9 +22,9 @@ use space_saving::{adds_leave_a_table, intervals_hold};
 /// weight.
 pub fn tables_hold_weights()
     ensures weight { (capacity : ℕ) (prefix : PrefixValue) (records : List RecordValue) → 1 ≤ capacity → IsPrefix prefix
-        → All (λ rec. 1 ≤ rec.weight) records → NarrowIntervalHoldsWeightOver capacity prefix records }
+        → All (λ rec. 1 ≤ rec.weight) records → HoldsNarrowlyOver capacity prefix records }
     ensures total { (capacity : ℕ) (node : NodeValue) (records : List RecordValue) → 1 ≤ capacity
-        → table_total (snapshot_records_table capacity node records) ≡ total_weight records }
+        → table_total (records_table capacity node records) ≡ total_weight records }
 {
     keys_tell_covering();
     intervals_hold();
@@ -35,12 +35,12 @@ pub fn tables_hold_weights()
 pub fn snapshots_hold_weights()
     ensures weight { (snapshot : SnapshotValue) (list : List RecordValue) (prefix : PrefixValue) → SnapshotRepresents snapshot list → 1 ≤ snapshot.capacity
         → IsPrefix prefix → All (λ rec. 1 ≤ rec.weight) list
-        → NarrowIntervalHoldsWeight (weight_interval_of prefix snapshot) snapshot.capacity
+        → HoldsNarrowly (interval_of prefix snapshot) snapshot.capacity
         (prefix_weight prefix (take snapshot.position list)) (snapshot_total snapshot) }
     ensures total { (snapshot : SnapshotValue) (list : List RecordValue) → SnapshotRepresents snapshot list → 1 ≤ snapshot.capacity
         → snapshot_total snapshot ≡ total_weight (take snapshot.position list) }
     ensures cut_total { (cut : CutValue) (lists : List (List RecordValue)) → IsCut cut → CutRepresents cut lists
-        → total_of_cut cut ≡ total_weight (records_before_cut lists (cut_positions cut)) }
+        → total_of_cut cut ≡ total_weight (records_before lists (cut_positions cut)) }
 {
     tables_hold_weights();
 }
@@ -50,7 +50,7 @@ pub fn snapshots_hold_weights()
 pub fn shards_stand()
     ensures begins { (capacity : ℕ) (list : List RecordValue) → SnapshotRepresents (empty_snapshot capacity) list }
     ensures goes_on { (shard : ShardValue) → SnapshotRepresents shard.base shard.list → shard.base.position ≤ shard.position
-        → shard.position ≤ length shard.list → SnapshotRepresents (snapshot_of_shard shard) shard.list }
+        → shard.position ≤ length shard.list → SnapshotRepresents (snapshot_of shard) shard.list }
 {}
 
 /// Two cuts of one capacity, at the same positions, that represent the same lists are equal.
@@ -62,6 +62,6 @@ pub fn standing_cuts_are_equal()
 /// After a run of events, the cut of a caller that read every shard represents the lists, if the bases do.
 pub fn runs_stand()
     ensures { (core : CoreValue) (events : List Event) (caller : ℕ) (cut : CutValue) → IsCore core.shards
-        → All (HasCoreShape (length core.shards) (core_capacity core.shards)) core.cuts → CoreBasesRepresent core.shards
-        → slice_get (core_after_run core events).cuts caller ≡ Some cut → ReadsEachCoreShard caller core events → CutRepresents cut (core_lists core.shards) }
+        → All (HasCoreShape (length core.shards) (core_capacity core.shards)) core.cuts → BasesRepresent core.shards
+        → slice_get (core_after_run core events).cuts caller ≡ Some cut → ReadsEachShard caller core events → CutRepresents cut (core_lists core.shards) }
 {}

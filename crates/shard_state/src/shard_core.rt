@@ -5,10 +5,10 @@ ghost use Rattle.shard_state.specs.Snapshot.{SnapshotValue};
 ghost use Rattle.shard_state.specs.Cut.{CutValue, cut_positions, CutRepresents};
 ghost use Rattle.shard_state.specs.ShardState.{ShardValue, IsShard, folded_shard};
 ghost use Rattle.shard_state.specs.ShardCore.{AreCoreShards, HasCoreShape, IsCore, IsCoreEvent, core_after};
-ghost use Rattle.shard_state.specs.ShardCore.{core_capacity, changed_in_core, core_after_run, core_cut_with_shard};
-ghost use Rattle.shard_state.specs.ShardCore.{CoreBasesRepresent, CoreShardMovedOn, CorePositionsNeverFall};
-ghost use Rattle.shard_state.specs.ShardCore.{ReadsEachCoreShard, last_core_read, latest_core_snapshot, core_lists};
-ghost use Rattle.shard_state.specs.ShardCore.{core_reads_of, snapshot_in_core};
+ghost use Rattle.shard_state.specs.ShardCore.{core_capacity, changed_in, core_after_run, with_shard};
+ghost use Rattle.shard_state.specs.ShardCore.{BasesRepresent, ShardMovedOn, NeverFall};
+ghost use Rattle.shard_state.specs.ShardCore.{ReadsEachShard, last_core_read, latest_snapshot, core_lists};
+ghost use Rattle.shard_state.specs.ShardCore.{reads_of, snapshot_in};
 
 use crate::{Cut, Event, ShardState};
 use std::marker::Model;
@@ -50,7 +50,7 @@ impl Core {
         ensures cuts { cuts.new.items ≡ (core_after (record { shards = self.old; cuts = cuts.old.items }) event).cuts }
 
         // Each shard has its list and base, at a position from the one before to the end of its list.
-        ensures moved_on { (shard : ℕ) (state : ShardValue) → slice_get self.old shard ≡ Some state → CoreShardMovedOn self.new shard state }
+        ensures moved_on { (shard : ℕ) (state : ShardValue) → slice_get self.old shard ≡ Some state → ShardMovedOn self.new shard state }
 
         // The numbers of shards and callers are unchanged, and the cuts still have the core's shape.
         ensures shards_stay { length self.new ≡ length self.old }
@@ -70,19 +70,19 @@ impl Core {
 
         // For each shard, a caller's cut has the snapshot at the position that the caller's last read of it met.
         ensures latest { (caller shard : ℕ) (state : ShardValue) (before : SnapshotValue) → slice_get self.old shard ≡ Some state
-            → snapshot_in_core caller shard cuts.old.items ≡ Some before → snapshot_in_core caller shard cuts.new.items
-            ≡ Some (latest_core_snapshot state before (core_reads_of caller shard (record { shards = self.old; cuts = cuts.old.items }) events.now)) }
+            → snapshot_in caller shard cuts.old.items ≡ Some before → snapshot_in caller shard cuts.new.items
+            ≡ Some (latest_snapshot state before (reads_of caller shard (record { shards = self.old; cuts = cuts.old.items }) events.now)) }
         ensures last_reads { (caller shard position : ℕ) (cut : CutValue) → shard < length self.old → slice_get cuts.new.items caller ≡ Some cut
-            → last_core_read (core_reads_of caller shard (record { shards = self.old; cuts = cuts.old.items }) events.now) ≡ Some position
+            → last_core_read (reads_of caller shard (record { shards = self.old; cuts = cuts.old.items }) events.now) ≡ Some position
             → slice_get (cut_positions cut) shard ≡ Some position }
 
         // A later read of a shard by the same caller never meets a smaller position.
         ensures never_fall { (caller shard : ℕ) (state : ShardValue) → slice_get self.old shard ≡ Some state
-            → CorePositionsNeverFall state.position (core_reads_of caller shard (record { shards = self.old; cuts = cuts.old.items }) events.now) }
+            → NeverFall state.position (reads_of caller shard (record { shards = self.old; cuts = cuts.old.items }) events.now) }
 
         // If the bases represent the lists, so does each cut in which every shard was read.
-        ensures stands { CoreBasesRepresent self.old → (caller : ℕ) (cut : CutValue) → slice_get cuts.new.items caller ≡ Some cut
-            → ReadsEachCoreShard caller (record { shards = self.old; cuts = cuts.old.items }) events.now → CutRepresents cut (core_lists self.old) }
+        ensures stands { BasesRepresent self.old → (caller : ℕ) (cut : CutValue) → slice_get cuts.new.items caller ≡ Some cut
+            → ReadsEachShard caller (record { shards = self.old; cuts = cuts.old.items }) events.now → CutRepresents cut (core_lists self.old) }
 
         // The numbers of shards and callers are unchanged, and the cuts still have the core's shape.
         ensures shards_stay { length self.new ≡ length self.old }
@@ -128,7 +128,7 @@ impl Core {
     fn fold(&mut self, shard: u32, block: u32)
         requires within { shard < length self.old }
         requires block { 1 ≤ block }
-        ensures { self.new ≡ changed_in_core (folded_shard block) shard self.old }
+        ensures { self.new ≡ changed_in (folded_shard block) shard self.old }
     {
         self.states[shard as usize].fold_block(block);
     }
@@ -138,7 +138,7 @@ impl Core {
         requires caller { caller < length cuts.old.items }
         requires shard { shard < length self.now }
         requires cuts { All (HasCoreShape (length self.now) (core_capacity self.now)) cuts.old.items }
-        ensures { cuts.new.items ≡ changed_in_core (core_cut_with_shard shard (slice_get self.now shard)) caller cuts.old.items }
+        ensures { cuts.new.items ≡ changed_in (with_shard shard (slice_get self.now shard)) caller cuts.old.items }
     {
         cuts[caller as usize].copy_shard(shard, &self.states[shard as usize]);
     }

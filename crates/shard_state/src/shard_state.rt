@@ -3,9 +3,9 @@
 ghost use Rattle.std.specs.Prelude.{◌≡◌, ◌+◌, ◌≤◌, ◌↔◌, length, take, IfOk};
 ghost use Rattle.std.specs.List.{slice_range};
 ghost use Rattle.prefix_lattice.specs.{total_weight, record_limit};
-ghost use Rattle.shard_state.specs.Snapshot.{fold_snapshot_from, empty_snapshot, snapshot_total};
-ghost use Rattle.shard_state.specs.ShardState.{IsShard, folded_shard, snapshot_of_shard};
-ghost use Rattle.space_saving.specs.{least_table_capacity, most_table_capacity};
+ghost use Rattle.shard_state.specs.Snapshot.{fold_from, empty_snapshot, snapshot_total};
+ghost use Rattle.shard_state.specs.ShardState.{IsShard, folded_shard, snapshot_of};
+ghost use Rattle.space_saving.specs.{least_capacity, most_capacity};
 
 use crate::Snapshot;
 use crate::folding::{count_in_tables, restored};
@@ -36,15 +36,15 @@ pub struct ShardState {
 
 impl Model for ShardState {
     ghost use Rattle.std.specs.Prelude.{◌≡◌};
-    ghost use Rattle.shard_state.specs.Snapshot.{tables_of_snapshot};
-    ghost use Rattle.shard_state.specs.ShardState.{ShardValue, IsShard, snapshot_of_shard};
+    ghost use Rattle.shard_state.specs.Snapshot.{tables_of};
+    ghost use Rattle.shard_state.specs.ShardState.{ShardValue, IsShard, snapshot_of};
 
     ghost Value = { ShardValue };
 
     ghost view = { λ s. record { list = s.list; base = s.base; position = s.position } };
 
     ghost invariant = { λ s. IsShard (record { list = s.list; base = s.base; position = s.position })
-        × (s.tables.items ≡ tables_of_snapshot (snapshot_of_shard (record { list = s.list; base = s.base; position = s.position }))) };
+        × (s.tables.items ≡ tables_of (snapshot_of (record { list = s.list; base = s.base; position = s.position }))) };
 }
 
 impl ShardState {
@@ -52,8 +52,8 @@ impl ShardState {
     /// On an error, which means that memory ran out, the list is dropped.
     pub fn start(alloc: Global, list: RecordList, capacity: u32) -> Result<ShardState, AllocError>
         requires few { length list ≤ record_limit }
-        requires least { least_table_capacity ≤ capacity }
-        requires most { capacity ≤ most_table_capacity }
+        requires least { least_capacity ≤ capacity }
+        requires most { capacity ≤ most_capacity }
         ensures { IfOk result (λ state. state ≡ record { list = list; base = empty_snapshot capacity; position = 0 }) }
     {
         let base = Snapshot::with_room(alloc, capacity)?;
@@ -84,7 +84,7 @@ impl ShardState {
     pub fn fold_block(&mut self, block: u32) -> Folded
         requires { 1 ≤ block }
         ensures state { self.new ≡ folded_shard block self.old }
-        ensures tables { (snapshot_of_shard self.new).tables ≡ fold_snapshot_from 0 self.old.base.capacity (snapshot_of_shard self.old).tables
+        ensures tables { (snapshot_of self.new).tables ≡ fold_from 0 self.old.base.capacity (snapshot_of self.old).tables
             (slice_range self.old.list result.from result.to) }
         ensures from { result.from ≡ self.old.position }
         ensures to { result.to ≡ self.new.position }
@@ -130,7 +130,7 @@ impl ShardState {
     /// Makes a snapshot of the shard's capacity equal to the shard's. It allocates no memory.
     pub fn copy_into(&self, into: &mut Snapshot)
         requires { into.old.capacity ≡ self.now.base.capacity }
-        ensures { into.new ≡ snapshot_of_shard self.now }
+        ensures { into.new ≡ snapshot_of self.now }
     {
         into.copy_from(self.position, &self.tables);
     }

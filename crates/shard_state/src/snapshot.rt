@@ -1,9 +1,9 @@
 //! The tables of a shard at one position.
 
 ghost use Rattle.std.specs.Prelude.{◌≡◌, ◌<◌, ◌≤◌, ◌↔◌, All, IfOk, IfSome, IsSome};
-ghost use Rattle.shard_state.specs.Snapshot.{IsSnapshot, empty_snapshot, snapshot_table_at, tables_of_snapshot};
-ghost use Rattle.shard_state.specs.Snapshot.{snapshot_total, AreSnapshotParts, snapshot_copied_from};
-ghost use Rattle.space_saving.specs.{least_table_capacity, most_table_capacity, table_limit};
+ghost use Rattle.shard_state.specs.Snapshot.{IsSnapshot, empty_snapshot, table_at, tables_of};
+ghost use Rattle.shard_state.specs.Snapshot.{snapshot_total, AreParts, copied_from};
+ghost use Rattle.space_saving.specs.{least_capacity, most_capacity, table_limit};
 
 use crate::folding::copy_tables;
 use crate::snapshot_parts::{are_tables, empty_tables};
@@ -43,8 +43,8 @@ impl Model for Snapshot {
 impl Snapshot {
     /// Empty tables at position 0, each with memory for `capacity` entries, 2 to 4096.
     pub fn with_room(alloc: Global, capacity: u32) -> Result<Snapshot, AllocError>
-        requires least { least_table_capacity ≤ capacity }
-        requires most { capacity ≤ most_table_capacity }
+        requires least { least_capacity ≤ capacity }
+        requires most { capacity ≤ most_capacity }
         ensures { IfOk result (λ snapshot. snapshot ≡ empty_snapshot capacity) }
     {
         Ok(Snapshot {
@@ -58,9 +58,9 @@ impl Snapshot {
     /// exactly where they are not a snapshot: a position above 16,777,216, not 25 tables, capacities or totals
     /// that differ, or a key with a bit set that its node doesn't keep.
     pub fn from_tables(position: u64, tables: Vec<Flat>) -> Option<Snapshot>
-        ensures accepted { IsSome result ↔ AreSnapshotParts position tables.items }
+        ensures accepted { IsSome result ↔ AreParts position tables.items }
         ensures position { IfSome result (λ snapshot. snapshot.position ≡ position) }
-        ensures tables { IfSome result (λ snapshot. tables_of_snapshot snapshot ≡ tables.items) }
+        ensures tables { IfSome result (λ snapshot. tables_of snapshot ≡ tables.items) }
     {
         if position > MOST_RECORDS {
             return None;
@@ -86,15 +86,15 @@ impl Snapshot {
     /// The most entries of each table, 2 to 4096.
     pub fn capacity(&self) -> u32
         ensures capacity { result ≡ self.now.capacity }
-        ensures least { least_table_capacity ≤ result }
-        ensures most { result ≤ most_table_capacity }
+        ensures least { least_capacity ≤ result }
+        ensures most { result ≤ most_capacity }
     {
         self.capacity
     }
 
     /// The table at a node.
     pub fn table(&self, node: Node) -> &Flat
-        ensures table { result.now ≡ snapshot_table_at node self.now }
+        ensures table { result.now ≡ table_at node self.now }
         ensures kept { IsSnapshot self.now }
     {
         &self.tables[usize::from(node.index())]
@@ -111,7 +111,7 @@ impl Snapshot {
 
     /// All tables, in the order of their nodes' indexes.
     pub(crate) fn tables(&self) -> &[Flat]
-        ensures tables { result.now ≡ tables_of_snapshot self.now }
+        ensures tables { result.now ≡ tables_of self.now }
         ensures kept { IsSnapshot self.now }
     {
         self.tables.as_slice()
@@ -120,8 +120,8 @@ impl Snapshot {
     /// Takes the position, and the contents of tables of the snapshot's capacity.
     pub(crate) fn copy_from(&mut self, position: u64, tables: &[Table])
         requires alike { All (λ table. table.capacity ≡ self.old.capacity) tables.now }
-        requires snapshot { IsSnapshot (snapshot_copied_from self.old.capacity position tables.now) }
-        ensures { self.new ≡ snapshot_copied_from self.old.capacity position tables.now }
+        requires snapshot { IsSnapshot (copied_from self.old.capacity position tables.now) }
+        ensures { self.new ≡ copied_from self.old.capacity position tables.now }
     {
         copy_tables(tables, &mut self.tables);
         self.position = position;

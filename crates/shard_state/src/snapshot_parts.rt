@@ -3,8 +3,8 @@
 ghost use Rattle.std.specs.Prelude.{◌≡◌, ◌<◌, ◌≤◌, ◌↔◌, ℕ, [], length, slice_get, Some, IfOk, IsTrue};
 ghost use Rattle.std.proofs.Math.ListN.{replicate};
 ghost use Rattle.prefix_lattice.specs.{node_at, node_count};
-ghost use Rattle.shard_state.specs.Snapshot.{IsLikeSnapshotTable, AreTablesOfSnapshot, HasSnapshotKeys};
-ghost use Rattle.space_saving.specs.{TableValue, AreTableEntries, least_table_capacity, most_table_capacity};
+ghost use Rattle.shard_state.specs.Snapshot.{IsLikeTable, AreTablesOf, HasKeys};
+ghost use Rattle.space_saving.specs.{TableValue, AreTableEntries, least_capacity, most_capacity};
 
 use prefix_lattice::{Node, Prefix};
 use space_saving::Flat;
@@ -15,8 +15,8 @@ pub(crate) const NODES: u8 = 25;
 
 /// One empty table for each node.
 pub(crate) fn empty_tables(alloc: Global, capacity: u32) -> Result<Vec<Flat>, AllocError>
-    requires least { least_table_capacity ≤ capacity }
-    requires most { capacity ≤ most_table_capacity }
+    requires least { least_capacity ≤ capacity }
+    requires most { capacity ≤ most_capacity }
     ensures { IfOk result (λ tables. tables.items ≡ replicate node_count (record { capacity = capacity; entries = [] })) }
 {
     let mut tables = Vec::with_capacity(alloc, usize::from(NODES))?;
@@ -28,7 +28,7 @@ pub(crate) fn empty_tables(alloc: Global, capacity: u32) -> Result<Vec<Flat>, Al
 
 /// Whether there are 25 tables of one capacity and one total, each with keys of the node at its index.
 pub(crate) fn are_tables(tables: &[Flat]) -> bool
-    ensures tables { IsTrue result ↔ AreTablesOfSnapshot tables.now }
+    ensures tables { IsTrue result ↔ AreTablesOf tables.now }
     ensures kept { IsTrue result → (place : ℕ) (table : TableValue) → slice_get tables.now place ≡ Some table → AreTableEntries table.capacity table.entries }
 {
     if tables.len() != usize::from(NODES) {
@@ -46,7 +46,7 @@ pub(crate) fn are_tables(tables: &[Flat]) -> bool
 
 fn is_like(capacity: u32, total: u64, place: u8, table: &Flat) -> bool
     requires { place < node_count }
-    ensures like { IsTrue result ↔ IsLikeSnapshotTable capacity total (node_at place) table.now }
+    ensures like { IsTrue result ↔ IsLikeTable capacity total (node_at place) table.now }
     ensures kept { AreTableEntries table.now.capacity table.now.entries }
 {
     let node = Node::from_index(place).unwrap();
@@ -56,7 +56,7 @@ fn is_like(capacity: u32, total: u64, place: u8, table: &Flat) -> bool
 
 // Whether each key of the table is one of the node.
 fn has_keys_of(node: Node, table: &Flat) -> bool
-    ensures { IsTrue result ↔ HasSnapshotKeys node table.now.entries }
+    ensures { IsTrue result ↔ HasKeys node table.now.entries }
 {
     for place in 0..table.len() {
         if Prefix::from_key(table.entry(place).key, node).is_none() {

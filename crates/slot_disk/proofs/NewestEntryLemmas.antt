@@ -3,7 +3,7 @@ use Rattle.std.proofs.Common.{◌≡◌, ℕ, ◌+◌, List, [], ◌∷◌, ◌+
 use Rattle.std.proofs.Common.{get_or}
 use Rattle.std.proofs.lemmas.List.{take_all, take_more, take_min, drop_min, reverse-append}
 use Rattle.slot_disk.specs.declared.step_entry.StepEntry.{StepEntry}
-use Rattle.slot_disk.specs.StepEntries.{entry_steps, entry_step}
+use Rattle.slot_disk.specs.StepEntry.{entry_steps, entry_step}
 
 -- it is the last in the list of entries
 pub newest_entry_gives_newest_step : (entries earlier : List StepEntry) (log front piece : List ℕ) (last cut : ℕ) (d : StepEntry)

@@ -6,11 +6,11 @@ abbrev pub IfImageKnown : Option (List ℕ) → (List ℕ → Type 0) → Type 0
 IfImageKnown reads P = (bytes : List ℕ) → reads ≡ Some bytes → P bytes
 
 -- the bytes that a read gave and those that it gives are so related, where both are known
-abbrev pub IfBothImagesKnown : Option (List ℕ) → Option (List ℕ) → (List ℕ → List ℕ → Type 0) → Type 0
-IfBothImagesKnown old new R = (before after : List ℕ) → old ≡ Some before → new ≡ Some after → R before after
+abbrev pub IfBothKnown : Option (List ℕ) → Option (List ℕ) → (List ℕ → List ℕ → Type 0) → Type 0
+IfBothKnown old new R = (before after : List ℕ) → old ≡ Some before → new ≡ Some after → R before after
 
 -- these are the bytes from an offset on, up to the end or the room
-pub record GivesImageRange (place room : ℕ) (bytes into : List ℕ) (count : ℕ) : Type 0 where
+pub record GivesRange (place room : ℕ) (bytes into : List ℕ) (count : ℕ) : Type 0 where
   pub count_is : count ≡ min room (length bytes - place)
   pub bytes_are : take count into ≡ take count (drop place bytes)
 
@@ -28,8 +28,8 @@ pub record IsWrittenImage (place : ℕ) (piece old new : List ℕ) : Type 0 wher
   pub range : (k : ℕ) → k < length piece → slice_index new (place + k) ≡ slice_index piece k
 
 -- an image that was possible, after a write that was cut short
-abbrev pub IsTornFromImage : (List ℕ → Type 0) → ℕ → ℕ → List ℕ → Type 0
-IsTornFromImage possible place count image = (old : List ℕ) × possible old × IsTornImage place count old image
+abbrev pub IsTornFrom : (List ℕ → Type 0) → ℕ → ℕ → List ℕ → Type 0
+IsTornFrom possible place count image = (old : List ℕ) × possible old × IsTornImage place count old image
 
 -- no image but these bytes is possible
 abbrev pub IsOnlyImage : List ℕ → (List ℕ → Type 0) → Type 0

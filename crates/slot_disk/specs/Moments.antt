@@ -9,38 +9,38 @@ pub record MomentsGoOn {D : Type 0} (moment : D → ℕ) (image_since : D → �
       → image_since old t image ⊎ image_since new (moment old) image
 
 -- A crash at any moment of a call leaves an image with P. Since an earlier moment no other image came.
-pub record CrashLeavesAtAnyMoment {D : Type 0} (moment : D → ℕ) (image_since : D → ℕ → List ℕ → Type 0) (old new : D)
+pub record CrashLeaves {D : Type 0} (moment : D → ℕ) (image_since : D → ℕ → List ℕ → Type 0) (old new : D)
     (P : List ℕ → Type 0) : Type 0 where
   pub later : moment old ≤ moment new
   pub each : (image : List ℕ) → image_since new (moment old) image → P image
   pub earlier : (t : ℕ) (image : List ℕ) → t ≤ moment old → image_since new t image → image_since old t image ⊎ P image
 
 -- a call changed neither what a read gives nor the images
-pub record IsUnchangedAtMoment {D : Type 0} (reads : D → Option (List ℕ)) (image_now : D → List ℕ → Type 0) (old new : D) : Type 0
+pub record IsUnchangedAt {D : Type 0} (reads : D → Option (List ℕ)) (image_now : D → List ℕ → Type 0) (old new : D) : Type 0
   where
     pub same_reads : reads new ≡ reads old
     pub same_images : (image : List ℕ) → image_now new image ↔ image_now old image
 
 -- before the first call
-pub CrashLeavesAtAnyMoment-none : {D : Type 0} (moment : D → ℕ) (image_since : D → ℕ → List ℕ → Type 0) (disk : D) (P : List ℕ → Type 0)
-    → ((image : List ℕ) → image_since disk (moment disk) image → P image) → CrashLeavesAtAnyMoment moment image_since disk disk P
-CrashLeavesAtAnyMoment-none moment image_since disk P here = record { later = omega arith; each = here; earlier = λ t image le was. inl was }
+pub CrashLeaves-none : {D : Type 0} (moment : D → ℕ) (image_since : D → ℕ → List ℕ → Type 0) (disk : D) (P : List ℕ → Type 0)
+    → ((image : List ℕ) → image_since disk (moment disk) image → P image) → CrashLeaves moment image_since disk disk P
+CrashLeaves-none moment image_since disk P here = record { later = omega arith; each = here; earlier = λ t image le was. inl was }
 
 -- one call of a disk
-pub CrashLeavesAtAnyMoment-call : {D : Type 0} (moment : D → ℕ) (image_since : D → ℕ → List ℕ → Type 0) (old new : D) (P : List ℕ → Type 0)
+pub CrashLeaves-call : {D : Type 0} (moment : D → ℕ) (image_since : D → ℕ → List ℕ → Type 0) (old new : D) (P : List ℕ → Type 0)
     → MomentsGoOn moment image_since old new → ((image : List ℕ) → image_since new (moment old) image → P image)
-    → CrashLeavesAtAnyMoment moment image_since old new P
-CrashLeavesAtAnyMoment-call moment image_since old new P time each = record {
+    → CrashLeaves moment image_since old new P
+CrashLeaves-call moment image_since old new P time each = record {
   later = time.later;
   each = each;
   earlier = λ t image le was. ⊎_elim (λ before. inl before) (λ now. inr (each image now)) (time.earlier t image le was);
 }
 
 -- one call more
-pub CrashLeavesAtAnyMoment-trans : {D : Type 0} (moment : D → ℕ) (image_since : D → ℕ → List ℕ → Type 0) (old mid new : D)
-    (P : List ℕ → Type 0) → CrashLeavesAtAnyMoment moment image_since old mid P → CrashLeavesAtAnyMoment moment image_since mid new P
-    → CrashLeavesAtAnyMoment moment image_since old new P
-CrashLeavesAtAnyMoment-trans moment image_since old mid new P first second = record {
+pub CrashLeaves-trans : {D : Type 0} (moment : D → ℕ) (image_since : D → ℕ → List ℕ → Type 0) (old mid new : D)
+    (P : List ℕ → Type 0) → CrashLeaves moment image_since old mid P → CrashLeaves moment image_since mid new P
+    → CrashLeaves moment image_since old new P
+CrashLeaves-trans moment image_since old mid new P first second = record {
   later = omega (arith, first.later, second.later);
   each = λ image was. ⊎_elim (first.each image) (λ p. p) (second.earlier (moment old) image first.later was);
   earlier = λ t image le was.
@@ -48,10 +48,10 @@ CrashLeavesAtAnyMoment-trans moment image_since old mid new P first second = rec
 }
 
 -- less is said
-pub CrashLeavesAtAnyMoment-weaker : {D : Type 0} (moment : D → ℕ) (image_since : D → ℕ → List ℕ → Type 0) (old new : D)
-    (P Q : List ℕ → Type 0) → CrashLeavesAtAnyMoment moment image_since old new P → ((image : List ℕ) → P image → Q image)
-    → CrashLeavesAtAnyMoment moment image_since old new Q
-CrashLeavesAtAnyMoment-weaker moment image_since old new P Q leaves weaker = record {
+pub CrashLeaves-weaker : {D : Type 0} (moment : D → ℕ) (image_since : D → ℕ → List ℕ → Type 0) (old new : D)
+    (P Q : List ℕ → Type 0) → CrashLeaves moment image_since old new P → ((image : List ℕ) → P image → Q image)
+    → CrashLeaves moment image_since old new Q
+CrashLeaves-weaker moment image_since old new P Q leaves weaker = record {
   later = leaves.later;
   each = λ image was. weaker image (leaves.each image was);
   earlier = λ t image le was. ⊎_elim (λ before. inl before) (λ p. inr (weaker image p)) (leaves.earlier t image le was);

@@ -1,9 +1,9 @@
 //! The bytes that a crash leaves of a record of writes and syncs.
 
 ghost use Rattle.std.specs.Prelude.{◌≡◌, length, IfOk, OnOk};
-ghost use Rattle.slot_disk.specs.Recorded.{recorded_zeros, recorded_reading, recorded_bytes_kept, recorded_crash_range};
-ghost use Rattle.slot_disk.specs.Recorded.{recorded_crash};
-ghost use Rattle.slot_disk.specs.StepEntries.{steps_of_entries_newest_last};
+ghost use Rattle.slot_disk.specs.Recorded.{no_bytes, reading_of, bytes_kept, crash_part};
+ghost use Rattle.slot_disk.specs.Recorded.{crash_image};
+ghost use Rattle.slot_disk.specs.StepEntry.{newest_last};
 
 use crate::overwriting::put_over;
 use crate::step_entry::{StepEntry, StepKind, take_newest};
@@ -17,7 +17,7 @@ pub(crate) fn crashed(
     entries: &[StepEntry],
     written: &[u8],
 ) -> Result<Vec<u8>, AllocError>
-    ensures { IfOk result (λ image. image.items ≡ recorded_crash choice first.now (steps_of_entries_newest_last entries.now written.now)) }
+    ensures { IfOk result (λ image. image.items ≡ crash_image choice first.now (newest_last entries.now written.now)) }
 {
     let Some(newest) = take_newest(entries, written) else {
         return first.to_vec(alloc);
@@ -39,7 +39,7 @@ fn reading(
     entries: &[StepEntry],
     written: &[u8],
 ) -> Result<Vec<u8>, AllocError>
-    ensures { IfOk result (λ bytes. bytes.items ≡ recorded_reading first.now (steps_of_entries_newest_last entries.now written.now)) }
+    ensures { IfOk result (λ bytes. bytes.items ≡ reading_of first.now (newest_last entries.now written.now)) }
 {
     let Some(newest) = take_newest(entries, written) else {
         return first.to_vec(alloc);
@@ -63,7 +63,7 @@ fn crash_range(
     piece: &[u8],
     image: &mut Vec<u8>,
 ) -> Result<(), AllocError>
-    ensures { OnOk result (image.new.items ≡ recorded_crash_range choice place piece.now image.old.items) }
+    ensures { OnOk result (image.new.items ≡ crash_part choice place piece.now image.old.items) }
 {
     let start = place.min(image.len());
     let mut range = zeros(alloc, place - start)?;
@@ -74,14 +74,14 @@ fn crash_range(
 
 // `count` zero bytes.
 fn zeros(alloc: Global, count: usize) -> Result<Vec<u8>, AllocError>
-    ensures { IfOk result (λ bytes. bytes.items ≡ recorded_zeros count) }
+    ensures { IfOk result (λ bytes. bytes.items ≡ no_bytes count) }
 {
     vec![in alloc; 0u8; count]
 }
 
 // What a crash of this choice keeps of a range.
 fn keep(choice: u8, range: &mut Vec<u8>)
-    ensures { range.new.items ≡ recorded_bytes_kept choice range.old.items }
+    ensures { range.new.items ≡ bytes_kept choice range.old.items }
 {
     match choice {
         0 => range.clear(),

@@ -1,11 +1,11 @@
 //! Making a store.
 
 ghost use Rattle.std.specs.Prelude.{◌≡◌, ℕ, ◌∷◌, List, Some, length, is_some, OnOk};
-ghost use Rattle.outside_io.specs.{FailsByFaultCount};
-ghost use Rattle.slot_disk.specs.Images.{IfBothImagesKnown, IsTornImage, IsWrittenImage, IsTornFromImage};
-ghost use Rattle.slot_disk.specs.Moments.{CrashLeavesAtAnyMoment};
-ghost use Rattle.slot_disk.specs.StoreLayout.{layout_front_bytes, layout_header_bytes};
-ghost use Rattle.slot_disk.specs.KnownSlots.{DiskMatchesKnownSlots, closed_known_slots};
+ghost use Rattle.outside_io.specs.{FailsByCount};
+ghost use Rattle.slot_disk.specs.Images.{IfBothKnown, IsTornImage, IsWrittenImage, IsTornFrom};
+ghost use Rattle.slot_disk.specs.Moments.{CrashLeaves};
+ghost use Rattle.slot_disk.specs.StoreLayout.{front_bytes, header_bytes};
+ghost use Rattle.slot_disk.specs.Slots.{MatchesKnown, closed_known_slots};
 
 use crate::Disk;
 use crate::safe_write::write_safely;
@@ -15,11 +15,11 @@ use outside_io::Failed;
 /// is unchanged. After `Failed` those 64 bytes are unspecified.
 pub fn format<D: Disk>(disk: &mut D, header: &[u8; 62]) -> Result<(), Failed>
     ensures known { is_some (D.reads disk.new) ≡ is_some (D.reads disk.old) }
-    ensures torn { IfBothImagesKnown (D.reads disk.old) (D.reads disk.new) (IsTornImage 0 layout_front_bytes) }
-    ensures written { OnOk result (IfBothImagesKnown (D.reads disk.old) (D.reads disk.new) (IsWrittenImage 0 (0 ∷ 0 ∷ header.now))) }
-    ensures stands { OnOk result (DiskMatchesKnownSlots (D.reads disk.new) (D.image_now disk.new) (closed_known_slots header.now)) }
-    ensures any_moment { CrashLeavesAtAnyMoment D.moment D.image_since disk.old disk.new (IsTornFromImage (D.image_now disk.old) 0 layout_front_bytes) }
-    ensures cause { FailsByFaultCount (D.faults disk.old) (D.faults disk.new) result }
+    ensures torn { IfBothKnown (D.reads disk.old) (D.reads disk.new) (IsTornImage 0 front_bytes) }
+    ensures written { OnOk result (IfBothKnown (D.reads disk.old) (D.reads disk.new) (IsWrittenImage 0 (0 ∷ 0 ∷ header.now))) }
+    ensures stands { OnOk result (MatchesKnown (D.reads disk.new) (D.image_now disk.new) (closed_known_slots header.now)) }
+    ensures any_moment { CrashLeaves D.moment D.image_since disk.old disk.new (IsTornFrom (D.image_now disk.old) 0 front_bytes) }
+    ensures cause { FailsByCount (D.faults disk.old) (D.faults disk.new) result }
 {
     let front = closed_front(header);
     write_safely(disk, 0, &front)?;
@@ -29,7 +29,7 @@ pub fn format<D: Disk>(disk: &mut D, header: &[u8; 62]) -> Result<(), Failed>
 // Two closed gates and the header.
 fn closed_front(header: &[u8; 62]) -> [u8; 64]
     ensures front { result ≡ 0 ∷ 0 ∷ header.now }
-    ensures header_length { length header.now ≡ layout_header_bytes }
+    ensures header_length { length header.now ≡ header_bytes }
 {
     let mut front = [0; 64];
     front[2..].copy_from_slice(header);

@@ -2,18 +2,18 @@
 
 ghost use Rattle.std.specs.Prelude.{◌≡◌, ◌+◌, ◌<◌, ◌≤◌, ℕ, List, [], ◌||◌, ◌&&◌, not, nat_le, nat_lt, length, drop};
 ghost use Rattle.std.specs.Prelude.{is_err, is_some, true, IfOk, OnOk, OnErr, Some};
-ghost use Rattle.outside_io.specs.{FailsByFaultCount};
-ghost use Rattle.slot_disk.specs.Images.{IfImageKnown, IfBothImagesKnown, GivesImageRange, IsTornImage, IsWrittenImage};
-ghost use Rattle.slot_disk.specs.Images.{IsTornFromImage, IsOnlyImage};
-ghost use Rattle.slot_disk.specs.Moments.{MomentsGoOn, IsUnchangedAtMoment};
-ghost use Rattle.slot_disk.specs.Recorded.{Wrote, Began, Synced, recorded_reading, recorded_crash};
+ghost use Rattle.outside_io.specs.{FailsByCount};
+ghost use Rattle.slot_disk.specs.Images.{IfImageKnown, IfBothKnown, GivesRange, IsTornImage, IsWrittenImage};
+ghost use Rattle.slot_disk.specs.Images.{IsTornFrom, IsOnlyImage};
+ghost use Rattle.slot_disk.specs.Moments.{MomentsGoOn, IsUnchangedAt};
+ghost use Rattle.slot_disk.specs.Recorded.{Wrote, Began, Synced, reading_of, crash_image};
 ghost use Rattle.slot_disk.specs.RecordedLaws.{is_image-reading, now_is_since, only_now};
-ghost use Rattle.slot_disk.specs.MemoryDisk.{most_memory_disk_steps, disk_fuse_blows_at, disk_fuse_has_blown};
-ghost use Rattle.slot_disk.specs.MemoryDisk.{memory_disk_call_fails, memory_disk_sync_fails, memory_disk_write_fits};
-ghost use Rattle.slot_disk.specs.MemoryDisk.{memory_disk_write_fails};
-ghost use Rattle.slot_disk.specs.MemoryDisk.{memory_disk_after_call, memory_disk_after_fault, memory_disk_with_step};
-ghost use Rattle.slot_disk.specs.MemoryDisk.{memory_disk_after_failed_write, memory_disk_reads};
-ghost use Rattle.slot_disk.specs.MemoryDisk.{memory_disk_image_now, memory_disk_moment, memory_disk_image_since};
+ghost use Rattle.slot_disk.specs.MemoryDisk.{most_steps, fuse_blows_at, fuse_has_blown};
+ghost use Rattle.slot_disk.specs.MemoryDisk.{call_fails, sync_fails, write_fits};
+ghost use Rattle.slot_disk.specs.MemoryDisk.{write_fails};
+ghost use Rattle.slot_disk.specs.MemoryDisk.{after_call, after_fault, with_step};
+ghost use Rattle.slot_disk.specs.MemoryDisk.{after_failed, disk_reads};
+ghost use Rattle.slot_disk.specs.MemoryDisk.{disk_now, disk_moment, disk_since};
 
 use crate::Disk;
 use crate::crashing::crashed;
@@ -49,25 +49,25 @@ pub struct MemoryDisk {
 
 impl Model for MemoryDisk {
     ghost use Rattle.std.specs.Prelude.{◌≡◌, ◌≤◌, length, vec_len, vec_capacity};
-    ghost use Rattle.slot_disk.specs.MemoryDisk.{MemoryDiskState, most_memory_disk_steps};
-    ghost use Rattle.slot_disk.specs.Recorded.{recorded_reading, recorded_bytes};
-    ghost use Rattle.slot_disk.specs.StepEntries.{steps_of_entries_newest_last, HasStepEntries};
+    ghost use Rattle.slot_disk.specs.MemoryDisk.{DiskState, most_steps};
+    ghost use Rattle.slot_disk.specs.Recorded.{reading_of, recorded_bytes};
+    ghost use Rattle.slot_disk.specs.StepEntry.{newest_last, HasEntries};
 
-    ghost Value = { MemoryDiskState };
+    ghost Value = { DiskState };
 
     ghost view = { λ s. record {
       room = s.room;
       log = s.log;
       first = s.first.items;
-      steps = steps_of_entries_newest_last s.entries.items s.written.items;
+      steps = newest_last s.entries.items s.written.items;
       fuse = s.fuse;
       fails = s.fails.items;
       calls = s.calls;
       faults = s.faults;
     } };
 
-    ghost invariant = { λ s. (HasStepEntries s.room s.log s.first.items s.bytes.items s.entries.items s.written.items)
-        × (s.room ≤ vec_capacity s.bytes) × (most_memory_disk_steps ≤ vec_capacity s.entries) × (s.log ≤ vec_capacity s.written) };
+    ghost invariant = { λ s. (HasEntries s.room s.log s.first.items s.bytes.items s.entries.items s.written.items)
+        × (s.room ≤ vec_capacity s.bytes) × (most_steps ≤ vec_capacity s.entries) × (s.log ≤ vec_capacity s.written) };
 }
 
 impl MemoryDisk {
@@ -117,8 +117,8 @@ impl MemoryDisk {
     /// all, and 1 keeps all, the begun write too. Choice 2 fills the written ranges with bytes 0xFF, and any other
     /// choice keeps the first half of each range. A range begins at the old end where its write begins past it.
     pub fn crash(&self, alloc: Global, choice: u8) -> Result<Vec<u8>, AllocError>
-        ensures exact { IfOk result (λ bytes. bytes.items ≡ recorded_crash choice self.now.first self.now.steps) }
-        ensures possible { IfOk result (λ bytes. memory_disk_image_now self.now bytes.items) }
+        ensures exact { IfOk result (λ bytes. bytes.items ≡ crash_image choice self.now.first self.now.steps) }
+        ensures possible { IfOk result (λ bytes. disk_now self.now bytes.items) }
     {
         let image = crashed(alloc, choice, &self.first, &self.entries, &self.written)?;
         Ok(image)
@@ -127,10 +127,10 @@ impl MemoryDisk {
     // Counts a call. It fails where its number is one of those that fail, where the fuse has blown, or where it doesn't
     // fit.
     fn count_call(&mut self, fits: bool) -> Result<(), Failed>
-        ensures fails { is_err result ≡ (memory_disk_call_fails self.old || not fits) }
-        ensures failed { OnErr result (self.new ≡ memory_disk_after_fault self.old) }
-        ensures went { OnOk result (self.new ≡ memory_disk_after_call self.old) }
-        ensures cause { FailsByFaultCount self.old.faults self.new.faults result }
+        ensures fails { is_err result ≡ (call_fails self.old || not fits) }
+        ensures failed { OnErr result (self.new ≡ after_fault self.old) }
+        ensures went { OnOk result (self.new ≡ after_call self.old) }
+        ensures cause { FailsByCount self.old.faults self.new.faults result }
     {
         let fails = self.fails.contains(&self.calls) || has_blown(self.fuse, self.calls) || !fits;
         self.calls = self.calls.saturating_add(1);
@@ -143,7 +143,7 @@ impl MemoryDisk {
 
     // Whether a write of this many bytes at this offset fits the disk and its record.
     fn fits(&self, place: u64, count: usize) -> bool
-        ensures { result ≡ memory_disk_write_fits self.now place count }
+        ensures { result ≡ write_fits self.now place count }
     {
         fits_room(self.room, place, count)
             && fits_record(self.entries.len(), self.written.len(), self.log, count)
@@ -151,8 +151,8 @@ impl MemoryDisk {
 
     // Writes the piece, and records that.
     fn write_whole(&mut self, place: usize, piece: &[u8])
-        requires { memory_disk_write_fits self.old place (length piece.now) ≡ true }
-        ensures { self.new ≡ memory_disk_with_step self.old (Wrote place piece.now) }
+        requires { write_fits self.old place (length piece.now) ≡ true }
+        ensures { self.new ≡ with_step self.old (Wrote place piece.now) }
     {
         write_over(&mut self.bytes, place, piece);
         add_entry(
@@ -166,8 +166,8 @@ impl MemoryDisk {
 
     // Records that a write of the piece was begun.
     fn begin_write(&mut self, place: usize, piece: &[u8])
-        requires { memory_disk_write_fits self.old place (length piece.now) ≡ true }
-        ensures { self.new ≡ memory_disk_with_step self.old (Began place piece.now) }
+        requires { write_fits self.old place (length piece.now) ≡ true }
+        ensures { self.new ≡ with_step self.old (Began place piece.now) }
     {
         add_entry(
             &mut self.entries,
@@ -180,12 +180,12 @@ impl MemoryDisk {
 
     // Writes the piece, or fails. Where the fuse blows and the piece fits, the write was begun.
     fn write_or_begin(&mut self, place: u64, piece: &[u8]) -> Result<(), Failed>
-        ensures fails { is_err result ≡ memory_disk_write_fails self.old place (length piece.now) }
-        ensures failed { OnErr result (self.new ≡ memory_disk_after_failed_write self.old place piece.now) }
-        ensures went { OnOk result (self.new ≡ memory_disk_with_step (memory_disk_after_call self.old) (Wrote place piece.now)) }
-        ensures images { (image : List ℕ) → memory_disk_image_since self.new (memory_disk_moment self.old) image
-            → IsTornFromImage (memory_disk_image_now self.old) place (length piece.now) image }
-        ensures cause { FailsByFaultCount self.old.faults self.new.faults result }
+        ensures fails { is_err result ≡ write_fails self.old place (length piece.now) }
+        ensures failed { OnErr result (self.new ≡ after_failed self.old place piece.now) }
+        ensures went { OnOk result (self.new ≡ with_step (after_call self.old) (Wrote place piece.now)) }
+        ensures images { (image : List ℕ) → disk_since self.new (disk_moment self.old) image
+            → IsTornFrom (disk_now self.old) place (length piece.now) image }
+        ensures cause { FailsByCount self.old.faults self.new.faults result }
     {
         let fits = self.fits(place, piece.len());
         let blows = self.blows();
@@ -202,7 +202,7 @@ impl MemoryDisk {
 
     // Whether the fuse blows at the next call.
     fn blows(&self) -> bool
-        ensures { result ≡ disk_fuse_blows_at self.now.fuse self.now.calls }
+        ensures { result ≡ fuse_blows_at self.now.fuse self.now.calls }
     {
         match self.fuse {
             None => false,
@@ -212,8 +212,8 @@ impl MemoryDisk {
 
     // Records a sync.
     fn note_sync(&mut self)
-        requires { length self.old.steps < most_memory_disk_steps }
-        ensures { self.new ≡ memory_disk_with_step self.old Synced }
+        requires { length self.old.steps < most_steps }
+        ensures { self.new ≡ with_step self.old Synced }
     {
         add_entry(
             &mut self.entries,
@@ -239,7 +239,7 @@ fn fits_room(room: usize, place: u64, count: usize) -> bool
 // Whether a record of this many steps and bytes has room for one more step with `count` bytes.
 fn fits_record(steps: usize, bytes: usize, log: usize, count: usize) -> bool
     requires { bytes ≤ log }
-    ensures { result ≡ (nat_lt steps most_memory_disk_steps && nat_le (bytes + count) log) }
+    ensures { result ≡ (nat_lt steps most_steps && nat_le (bytes + count) log) }
 {
     if steps >= MOST_STEPS {
         return false;
@@ -249,7 +249,7 @@ fn fits_record(steps: usize, bytes: usize, log: usize, count: usize) -> bool
 
 // Whether the fuse has blown at this call, or before it.
 fn has_blown(fuse: Option<u64>, call: u64) -> bool
-    ensures { result ≡ disk_fuse_has_blown fuse call }
+    ensures { result ≡ fuse_has_blown fuse call }
 {
     match fuse {
         None => false,
@@ -258,13 +258,13 @@ fn has_blown(fuse: Option<u64>, call: u64) -> bool
 }
 
 impl Disk for MemoryDisk {
-    ghost reads = { memory_disk_reads };
+    ghost reads = { disk_reads };
 
-    ghost image_now = { memory_disk_image_now };
+    ghost image_now = { disk_now };
 
-    ghost moment = { memory_disk_moment };
+    ghost moment = { disk_moment };
 
-    ghost image_since = { memory_disk_image_since };
+    ghost image_since = { disk_since };
 
     ghost faults = { λ s. s.faults };
 
@@ -275,16 +275,16 @@ impl Disk for MemoryDisk {
     ghost only_now = { λ s image was. only_now s.first s.steps image was };
 
     fn len(&mut self) -> Result<u64, Failed>
-        ensures length { IfOk result (λ count. IfImageKnown (memory_disk_reads self.old) (λ bytes. count ≡ length bytes)) }
-        ensures unchanged { IsUnchangedAtMoment memory_disk_reads memory_disk_image_now self.old self.new }
-        ensures images { (image : List ℕ) → memory_disk_image_since self.new (memory_disk_moment self.old) image → memory_disk_image_now self.old image }
-        ensures time { MomentsGoOn memory_disk_moment memory_disk_image_since self.old self.new }
-        ensures cause { FailsByFaultCount self.old.faults self.new.faults result }
+        ensures length { IfOk result (λ count. IfImageKnown (disk_reads self.old) (λ bytes. count ≡ length bytes)) }
+        ensures unchanged { IsUnchangedAt disk_reads disk_now self.old self.new }
+        ensures images { (image : List ℕ) → disk_since self.new (disk_moment self.old) image → disk_now self.old image }
+        ensures time { MomentsGoOn disk_moment disk_since self.old self.new }
+        ensures cause { FailsByCount self.old.faults self.new.faults result }
 
-        ensures fails { is_err result ≡ memory_disk_call_fails self.old }
-        ensures failed { OnErr result (self.new ≡ memory_disk_after_fault self.old) }
-        ensures counted { IfOk result (λ count. count ≡ length (recorded_reading self.old.first self.old.steps)) }
-        ensures went { OnOk result (self.new ≡ memory_disk_after_call self.old) }
+        ensures fails { is_err result ≡ call_fails self.old }
+        ensures failed { OnErr result (self.new ≡ after_fault self.old) }
+        ensures counted { IfOk result (λ count. count ≡ length (reading_of self.old.first self.old.steps)) }
+        ensures went { OnOk result (self.new ≡ after_call self.old) }
     {
         self.count_call(true)?;
         Ok(self.bytes.len() as u64)
@@ -293,49 +293,49 @@ impl Disk for MemoryDisk {
     fn read_at(&mut self, place: u64, into: &mut [u8]) -> Result<usize, Failed>
         ensures fits { IfOk result (λ count. count ≤ length into.old) }
         ensures later_places { IfOk result (λ count. drop count into.new ≡ drop count into.old) }
-        ensures given { IfOk result (λ count. IfImageKnown (memory_disk_reads self.old)
-            (λ bytes. GivesImageRange place (length into.old) bytes into.new count)) }
-        ensures unchanged { IsUnchangedAtMoment memory_disk_reads memory_disk_image_now self.old self.new }
-        ensures images { (image : List ℕ) → memory_disk_image_since self.new (memory_disk_moment self.old) image → memory_disk_image_now self.old image }
-        ensures time { MomentsGoOn memory_disk_moment memory_disk_image_since self.old self.new }
-        ensures cause { FailsByFaultCount self.old.faults self.new.faults result }
+        ensures given { IfOk result (λ count. IfImageKnown (disk_reads self.old)
+            (λ bytes. GivesRange place (length into.old) bytes into.new count)) }
+        ensures unchanged { IsUnchangedAt disk_reads disk_now self.old self.new }
+        ensures images { (image : List ℕ) → disk_since self.new (disk_moment self.old) image → disk_now self.old image }
+        ensures time { MomentsGoOn disk_moment disk_since self.old self.new }
+        ensures cause { FailsByCount self.old.faults self.new.faults result }
 
-        ensures fails { is_err result ≡ memory_disk_call_fails self.old }
-        ensures failed { OnErr result (self.new ≡ memory_disk_after_fault self.old) }
+        ensures fails { is_err result ≡ call_fails self.old }
+        ensures failed { OnErr result (self.new ≡ after_fault self.old) }
         ensures untouched { OnErr result (into.new ≡ into.old) }
-        ensures gave { IfOk result (λ count. GivesImageRange place (length into.old) (recorded_reading self.old.first self.old.steps) into.new count) }
-        ensures went { OnOk result (self.new ≡ memory_disk_after_call self.old) }
+        ensures gave { IfOk result (λ count. GivesRange place (length into.old) (reading_of self.old.first self.old.steps) into.new count) }
+        ensures went { OnOk result (self.new ≡ after_call self.old) }
     {
         self.count_call(true)?;
         Ok(copy_from(&self.bytes, place, into))
     }
 
     fn write_at(&mut self, place: u64, bytes: &[u8]) -> Result<(), Failed>
-        ensures known { is_some (memory_disk_reads self.new) ≡ is_some (memory_disk_reads self.old) }
-        ensures torn { IfBothImagesKnown (memory_disk_reads self.old) (memory_disk_reads self.new) (IsTornImage place (length bytes.now)) }
-        ensures written { OnOk result (IfBothImagesKnown (memory_disk_reads self.old) (memory_disk_reads self.new) (IsWrittenImage place bytes.now)) }
-        ensures images { (image : List ℕ) → memory_disk_image_since self.new (memory_disk_moment self.old) image
-            → IsTornFromImage (memory_disk_image_now self.old) place (length bytes.now) image }
-        ensures time { MomentsGoOn memory_disk_moment memory_disk_image_since self.old self.new }
-        ensures cause { FailsByFaultCount self.old.faults self.new.faults result }
+        ensures known { is_some (disk_reads self.new) ≡ is_some (disk_reads self.old) }
+        ensures torn { IfBothKnown (disk_reads self.old) (disk_reads self.new) (IsTornImage place (length bytes.now)) }
+        ensures written { OnOk result (IfBothKnown (disk_reads self.old) (disk_reads self.new) (IsWrittenImage place bytes.now)) }
+        ensures images { (image : List ℕ) → disk_since self.new (disk_moment self.old) image
+            → IsTornFrom (disk_now self.old) place (length bytes.now) image }
+        ensures time { MomentsGoOn disk_moment disk_since self.old self.new }
+        ensures cause { FailsByCount self.old.faults self.new.faults result }
 
-        ensures fails { is_err result ≡ memory_disk_write_fails self.old place (length bytes.now) }
-        ensures failed { OnErr result (self.new ≡ memory_disk_after_failed_write self.old place bytes.now) }
-        ensures went { OnOk result (self.new ≡ memory_disk_with_step (memory_disk_after_call self.old) (Wrote place bytes.now)) }
+        ensures fails { is_err result ≡ write_fails self.old place (length bytes.now) }
+        ensures failed { OnErr result (self.new ≡ after_failed self.old place bytes.now) }
+        ensures went { OnOk result (self.new ≡ with_step (after_call self.old) (Wrote place bytes.now)) }
     {
         self.write_or_begin(place, bytes)
     }
 
     fn sync(&mut self) -> Result<(), Failed>
-        ensures reads { memory_disk_reads self.new ≡ memory_disk_reads self.old }
-        ensures images { (image : List ℕ) → memory_disk_image_since self.new (memory_disk_moment self.old) image → memory_disk_image_now self.old image }
-        ensures safe { OnOk result (IfImageKnown (memory_disk_reads self.new) (λ bytes. IsOnlyImage bytes (memory_disk_image_now self.new))) }
-        ensures time { MomentsGoOn memory_disk_moment memory_disk_image_since self.old self.new }
-        ensures cause { FailsByFaultCount self.old.faults self.new.faults result }
+        ensures reads { disk_reads self.new ≡ disk_reads self.old }
+        ensures images { (image : List ℕ) → disk_since self.new (disk_moment self.old) image → disk_now self.old image }
+        ensures safe { OnOk result (IfImageKnown (disk_reads self.new) (λ bytes. IsOnlyImage bytes (disk_now self.new))) }
+        ensures time { MomentsGoOn disk_moment disk_since self.old self.new }
+        ensures cause { FailsByCount self.old.faults self.new.faults result }
 
-        ensures fails { is_err result ≡ memory_disk_sync_fails self.old }
-        ensures failed { OnErr result (self.new ≡ memory_disk_after_fault self.old) }
-        ensures went { OnOk result (self.new ≡ memory_disk_with_step (memory_disk_after_call self.old) Synced) }
+        ensures fails { is_err result ≡ sync_fails self.old }
+        ensures failed { OnErr result (self.new ≡ after_fault self.old) }
+        ensures went { OnOk result (self.new ≡ with_step (after_call self.old) Synced) }
     {
         let fits = self.entries.len() < MOST_STEPS;
         self.count_call(fits)?;
@@ -348,7 +348,7 @@ impl Disk for MemoryDisk {
 fn copy_from(bytes: &[u8], place: u64, into: &mut [u8]) -> usize
     ensures fits { result ≤ length into.old }
     ensures later_places { drop result into.new ≡ drop result into.old }
-    ensures gives { GivesImageRange place (length into.old) bytes.now into.new result }
+    ensures gives { GivesRange place (length into.old) bytes.now into.new result }
 {
     let (_, rest) = bytes.split_at(bytes.len().min(place as usize));
     let count = rest.len().min(into.len());

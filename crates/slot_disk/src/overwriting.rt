@@ -1,14 +1,14 @@
 //! Writing a piece over bytes, past their end too.
 
 ghost use Rattle.std.specs.Prelude.{◌≡◌, ◌≤◌, ◌+◌, ◌-◌, ◌++◌, length, vec_len, vec_capacity, OnOk, IsOk};
-ghost use Rattle.slot_disk.specs.Recorded.{recorded_over, recorded_zeros, recorded_after_write};
+ghost use Rattle.slot_disk.specs.Recorded.{bytes_over, no_bytes, after_write};
 
 use std::alloc::AllocError;
 
 /// Writes the piece over the bytes from `start` on, which is at most their end.
 pub(crate) fn put_over(bytes: &mut Vec<u8>, start: usize, piece: &[u8]) -> Result<(), AllocError>
     requires { start ≤ vec_len bytes.old }
-    ensures over { OnOk result (bytes.new.items ≡ recorded_over start piece.now bytes.old.items) }
+    ensures over { OnOk result (bytes.new.items ≡ bytes_over start piece.now bytes.old.items) }
     ensures room { vec_capacity bytes.old ≤ vec_capacity bytes.new }
     ensures succeeds { start + length piece.now ≤ vec_capacity bytes.old → IsOk result }
 {
@@ -21,7 +21,7 @@ pub(crate) fn put_over(bytes: &mut Vec<u8>, start: usize, piece: &[u8]) -> Resul
 /// Appends zero bytes up to a length.
 pub(crate) fn fill_gap(bytes: &mut Vec<u8>, length: usize)
     requires { length ≤ vec_capacity bytes.old }
-    ensures filled { bytes.new.items ≡ bytes.old.items ++ recorded_zeros (length - vec_len bytes.old) }
+    ensures filled { bytes.new.items ≡ bytes.old.items ++ no_bytes (length - vec_len bytes.old) }
     ensures room { vec_capacity bytes.old ≤ vec_capacity bytes.new }
 {
     for _filled in 0..length.saturating_sub(bytes.len()) {
@@ -32,7 +32,7 @@ pub(crate) fn fill_gap(bytes: &mut Vec<u8>, length: usize)
 /// Writes the piece at an offset. A gap between the end and the offset is filled with zero bytes.
 pub(crate) fn write_over(bytes: &mut Vec<u8>, place: usize, piece: &[u8])
     requires { place + length piece.now ≤ vec_capacity bytes.old }
-    ensures written { bytes.new.items ≡ recorded_after_write place piece.now bytes.old.items }
+    ensures written { bytes.new.items ≡ after_write place piece.now bytes.old.items }
     ensures room { vec_capacity bytes.old ≤ vec_capacity bytes.new }
 {
     fill_gap(bytes, place);

@@ -1,11 +1,11 @@
 //! The three parts of a put, of two disk calls each: the gate is closed, the body is written, the gate is opened.
 
 ghost use Rattle.std.specs.Prelude.{◌≡◌, ℕ, ◌<◌, ◌≤◌, ◌^◌, List, Some, length, is_some, OnOk};
-ghost use Rattle.outside_io.specs.{FailsByFaultCount};
-ghost use Rattle.slot_disk.specs.Images.{IfImageKnown, IfBothImagesKnown, IsOnlyImage};
-ghost use Rattle.slot_disk.specs.Moments.{CrashLeavesAtAnyMoment};
-ghost use Rattle.slot_disk.specs.Puts.{closing_put, PutCanClose, MayBeClosedByPut, IsClosedByPut, PutCanWrite};
-ghost use Rattle.slot_disk.specs.Puts.{FitsPutSlot, IsStoredByPut, PutCanOpen, MayBeOpenByPut, IsPut};
+ghost use Rattle.outside_io.specs.{FailsByCount};
+ghost use Rattle.slot_disk.specs.Images.{IfImageKnown, IfBothKnown, IsOnlyImage};
+ghost use Rattle.slot_disk.specs.Moments.{CrashLeaves};
+ghost use Rattle.slot_disk.specs.Putting.{closing_put, CanClose, MayBeClosed, IsClosed, CanWrite};
+ghost use Rattle.slot_disk.specs.Putting.{FitsSlot, IsStored, CanOpen, MayBeOpen, IsPut};
 
 use crate::Disk;
 use crate::safe_write::write_safely;
@@ -17,12 +17,12 @@ use outside_io::Failed;
 pub(crate) fn close_gate<D: Disk>(disk: &mut D, slot: u8, is_open: bool) -> Result<(), Failed>
     requires { slot < 2 }
     ensures known { is_some (D.reads disk.new) ≡ is_some (D.reads disk.old) }
-    ensures closed { OnOk result ((span : ℕ) → IfBothImagesKnown (D.reads disk.old) (D.reads disk.new)
-        (λ old new. PutCanClose span slot is_open old → IsClosedByPut span slot old new)) }
+    ensures closed { OnOk result ((span : ℕ) → IfBothKnown (D.reads disk.old) (D.reads disk.new)
+        (λ old new. CanClose span slot is_open old → IsClosed span slot old new)) }
     ensures safe { OnOk result (IfImageKnown (D.reads disk.new) (λ new. IsOnlyImage new (D.image_now disk.new))) }
-    ensures any_moment { (span : ℕ) → IfImageKnown (D.reads disk.old) (λ old. IsOnlyImage old (D.image_now disk.old) → PutCanClose span slot is_open old
-        → CrashLeavesAtAnyMoment D.moment D.image_since disk.old disk.new (MayBeClosedByPut span slot old)) }
-    ensures cause { FailsByFaultCount (D.faults disk.old) (D.faults disk.new) result }
+    ensures any_moment { (span : ℕ) → IfImageKnown (D.reads disk.old) (λ old. IsOnlyImage old (D.image_now disk.old) → CanClose span slot is_open old
+        → CrashLeaves D.moment D.image_since disk.old disk.new (MayBeClosed span slot old)) }
+    ensures cause { FailsByCount (D.faults disk.old) (D.faults disk.new) result }
 {
     write_safely(disk, slot as u64, closing(is_open))?;
     Ok(())
@@ -44,14 +44,14 @@ pub(crate) fn write_body<D: Disk>(
 ) -> Result<(), Failed>
     requires slot { slot < 2 }
     requires span { span < 2 ^ 32 }
-    requires body { FitsPutSlot span body.now }
+    requires body { FitsSlot span body.now }
     ensures known { is_some (D.reads disk.new) ≡ is_some (D.reads disk.old) }
-    ensures stored { OnOk result (IfBothImagesKnown (D.reads disk.old) (D.reads disk.new)
-        (λ old new. PutCanWrite span slot old → IsStoredByPut span slot body.now old new)) }
+    ensures stored { OnOk result (IfBothKnown (D.reads disk.old) (D.reads disk.new)
+        (λ old new. CanWrite span slot old → IsStored span slot body.now old new)) }
     ensures safe { OnOk result (IfImageKnown (D.reads disk.new) (λ new. IsOnlyImage new (D.image_now disk.new))) }
-    ensures any_moment { IfImageKnown (D.reads disk.old) (λ old. IsOnlyImage old (D.image_now disk.old) → PutCanWrite span slot old
-        → CrashLeavesAtAnyMoment D.moment D.image_since disk.old disk.new (IsClosedByPut span slot old)) }
-    ensures cause { FailsByFaultCount (D.faults disk.old) (D.faults disk.new) result }
+    ensures any_moment { IfImageKnown (D.reads disk.old) (λ old. IsOnlyImage old (D.image_now disk.old) → CanWrite span slot old
+        → CrashLeaves D.moment D.image_since disk.old disk.new (IsClosed span slot old)) }
+    ensures cause { FailsByCount (D.faults disk.old) (D.faults disk.new) result }
 {
     write_safely(disk, body_place(slot, span), body)?;
     Ok(())
@@ -61,13 +61,13 @@ pub(crate) fn write_body<D: Disk>(
 pub(crate) fn open_gate<D: Disk>(disk: &mut D, slot: u8) -> Result<(), Failed>
     requires { slot < 2 }
     ensures known { is_some (D.reads disk.new) ≡ is_some (D.reads disk.old) }
-    ensures opened { OnOk result ((span : ℕ) (body : List ℕ) → IfBothImagesKnown (D.reads disk.old) (D.reads disk.new)
-        (λ old new. PutCanOpen span slot body old → IsPut span slot body old new)) }
+    ensures opened { OnOk result ((span : ℕ) (body : List ℕ) → IfBothKnown (D.reads disk.old) (D.reads disk.new)
+        (λ old new. CanOpen span slot body old → IsPut span slot body old new)) }
     ensures safe { OnOk result (IfImageKnown (D.reads disk.new) (λ new. IsOnlyImage new (D.image_now disk.new))) }
     ensures any_moment { (span : ℕ) (body : List ℕ)
-        → IfImageKnown (D.reads disk.old) (λ old. IsOnlyImage old (D.image_now disk.old) → PutCanOpen span slot body old
-        → CrashLeavesAtAnyMoment D.moment D.image_since disk.old disk.new (MayBeOpenByPut span slot body old)) }
-    ensures cause { FailsByFaultCount (D.faults disk.old) (D.faults disk.new) result }
+        → IfImageKnown (D.reads disk.old) (λ old. IsOnlyImage old (D.image_now disk.old) → CanOpen span slot body old
+        → CrashLeaves D.moment D.image_since disk.old disk.new (MayBeOpen span slot body old)) }
+    ensures cause { FailsByCount (D.faults disk.old) (D.faults disk.new) result }
 {
     write_safely(disk, slot as u64, &[1])?;
     Ok(())

@@ -2,14 +2,14 @@
 
 ghost use Rattle.std.specs.Prelude.{◌≡◌, ℕ, ◌+◌, ◌<◌, ◌≤◌, ◌^◌, List, None, Some, true, false, length, vec_len};
 ghost use Rattle.std.specs.Prelude.{is_some, IfOk, OnOk, IsErrOf};
-ghost use Rattle.outside_io.specs.{FailsByFaultCount, FaultCountRose};
-ghost use Rattle.slot_disk.specs.Images.{IfImageKnown, IfBothImagesKnown};
-ghost use Rattle.slot_disk.specs.Moments.{CrashLeavesAtAnyMoment, IsUnchangedAtMoment};
-ghost use Rattle.slot_disk.specs.KnownSlots.{known_slot_open, known_slots_after_opening, known_slots_of};
-ghost use Rattle.slot_disk.specs.KnownSlots.{DiskMatchesKnownSlots};
-ghost use Rattle.slot_disk.specs.Puts.{FitsPutSlot, IsReadyForPut, IsPut, PutMayLeave};
-ghost use Rattle.slot_disk.specs.StoreLayout.{layout_front_bytes, layout_body_place, layout_body, layout_body_is_whole};
-ghost use Rattle.slot_disk.specs.StoreLayout.{layout_number_at, IsLayoutNumber};
+ghost use Rattle.outside_io.specs.{FailsByCount, FaultRose};
+ghost use Rattle.slot_disk.specs.Images.{IfImageKnown, IfBothKnown};
+ghost use Rattle.slot_disk.specs.Moments.{CrashLeaves, IsUnchangedAt};
+ghost use Rattle.slot_disk.specs.Slots.{known_slot_open, after_opening, known_slots_of};
+ghost use Rattle.slot_disk.specs.Slots.{MatchesKnown};
+ghost use Rattle.slot_disk.specs.Putting.{FitsSlot, IsReadyForPut, IsPut, PutMayLeave};
+ghost use Rattle.slot_disk.specs.StoreLayout.{front_bytes, place_of_body, slot_body, body_is_whole};
+ghost use Rattle.slot_disk.specs.StoreLayout.{number_at, IsNumber};
 
 use crate::putting::{close_gate, open_gate, write_body};
 use crate::{BeginFault, BodyFault, Disk};
@@ -28,7 +28,7 @@ pub struct Slots {
 
 impl Model for Slots {
     ghost use Rattle.std.specs.Prelude.{◌≡◌, length};
-    ghost use Rattle.slot_disk.specs.KnownSlots.{KnownSlotsState};
+    ghost use Rattle.slot_disk.specs.Slots.{KnownSlotsState};
 
     ghost Value = { KnownSlotsState };
 
@@ -38,12 +38,12 @@ impl Model for Slots {
 impl Slots {
     /// Begins a store: syncs, and reads its gates and its header.
     pub fn begin<D: Disk>(disk: &mut D) -> Result<Slots, BeginFault>
-        ensures stands { IfOk result (λ slots. DiskMatchesKnownSlots (D.reads disk.new) (D.image_now disk.new) slots) }
-        ensures too_short { IsErrOf result BeginFault.TooShort → IfImageKnown (D.reads disk.old) (λ bytes. length bytes < layout_front_bytes) }
+        ensures stands { IfOk result (λ slots. MatchesKnown (D.reads disk.new) (D.image_now disk.new) slots) }
+        ensures too_short { IsErrOf result BeginFault.TooShort → IfImageKnown (D.reads disk.old) (λ bytes. length bytes < front_bytes) }
         ensures reads { D.reads disk.new ≡ D.reads disk.old }
-        ensures any_moment { CrashLeavesAtAnyMoment D.moment D.image_since disk.old disk.new (D.image_now disk.old) }
+        ensures any_moment { CrashLeaves D.moment D.image_since disk.old disk.new (D.image_now disk.old) }
         ensures later { D.faults disk.old ≤ D.faults disk.new }
-        ensures fault { IsErrOf result BeginFault.DiskFault → FaultCountRose (D.faults disk.old) (D.faults disk.new) }
+        ensures fault { IsErrOf result BeginFault.DiskFault → FaultRose (D.faults disk.old) (D.faults disk.new) }
         ensures no_fault { (IsErrOf result BeginFault.DiskFault → ⊥) → D.faults disk.new ≡ D.faults disk.old }
     {
         disk.sync()?;
@@ -84,12 +84,12 @@ impl Slots {
     ) -> Result<Vec<u8>, BodyFault>
         requires slot { slot < 2 }
         requires span { span < 2 ^ 32 }
-        ensures body { IfOk result (λ body. IfImageKnown (D.reads disk.old) (λ bytes. layout_body span slot bytes ≡ Some body.items)) }
-        ensures damaged { IsErrOf result BodyFault.Damaged → IfImageKnown (D.reads disk.old) (λ bytes. layout_body span slot bytes ≡ None) }
-        ensures unchanged { IsUnchangedAtMoment D.reads D.image_now disk.old disk.new }
-        ensures any_moment { CrashLeavesAtAnyMoment D.moment D.image_since disk.old disk.new (D.image_now disk.old) }
+        ensures body { IfOk result (λ body. IfImageKnown (D.reads disk.old) (λ bytes. slot_body span slot bytes ≡ Some body.items)) }
+        ensures damaged { IsErrOf result BodyFault.Damaged → IfImageKnown (D.reads disk.old) (λ bytes. slot_body span slot bytes ≡ None) }
+        ensures unchanged { IsUnchangedAt D.reads D.image_now disk.old disk.new }
+        ensures any_moment { CrashLeaves D.moment D.image_since disk.old disk.new (D.image_now disk.old) }
         ensures later { D.faults disk.old ≤ D.faults disk.new }
-        ensures fault { IsErrOf result BodyFault.DiskFault → FaultCountRose (D.faults disk.old) (D.faults disk.new) }
+        ensures fault { IsErrOf result BodyFault.DiskFault → FaultRose (D.faults disk.old) (D.faults disk.new) }
         ensures no_fault { (IsErrOf result BodyFault.DiskFault → ⊥) → D.faults disk.new ≡ D.faults disk.old }
     {
         let place = body_place(slot, span);
@@ -116,16 +116,16 @@ impl Slots {
     ) -> Result<Slots, Failed>
         requires slot { slot < 2 }
         requires span { span < 2 ^ 32 }
-        requires body { FitsPutSlot span body.now }
-        requires stands { DiskMatchesKnownSlots (D.reads disk.old) (D.image_now disk.old) self }
+        requires body { FitsSlot span body.now }
+        requires stands { MatchesKnown (D.reads disk.old) (D.image_now disk.old) self }
         requires ready { IfImageKnown (D.reads disk.old) (IsReadyForPut span slot) }
         ensures known { is_some (D.reads disk.new) ≡ is_some (D.reads disk.old) }
-        ensures done { OnOk result (IfBothImagesKnown (D.reads disk.old) (D.reads disk.new) (IsPut span slot body.now)) }
-        ensures stands { IfOk result (λ slots. DiskMatchesKnownSlots (D.reads disk.new) (D.image_now disk.new) slots) }
-        ensures opened { IfOk result (λ slots. slots ≡ known_slots_after_opening self slot) }
+        ensures done { OnOk result (IfBothKnown (D.reads disk.old) (D.reads disk.new) (IsPut span slot body.now)) }
+        ensures stands { IfOk result (λ slots. MatchesKnown (D.reads disk.new) (D.image_now disk.new) slots) }
+        ensures opened { IfOk result (λ slots. slots ≡ after_opening self slot) }
         ensures any_moment { IfImageKnown (D.reads disk.old)
-            (λ old. CrashLeavesAtAnyMoment D.moment D.image_since disk.old disk.new (PutMayLeave span slot body.now old)) }
-        ensures cause { FailsByFaultCount (D.faults disk.old) (D.faults disk.new) result }
+            (λ old. CrashLeaves D.moment D.image_since disk.old disk.new (PutMayLeave span slot body.now old)) }
+        ensures cause { FailsByCount (D.faults disk.old) (D.faults disk.new) result }
     {
         let is_open = self.gate(slot);
         close_gate(disk, slot, is_open)?;
@@ -137,7 +137,7 @@ impl Slots {
     // The same slots, after the gate of a slot was opened.
     fn opened(self, slot: u8) -> Slots
         requires { slot < 2 }
-        ensures { result ≡ known_slots_after_opening self slot }
+        ensures { result ≡ after_opening self slot }
     {
         if slot == 0 {
             Slots {
@@ -170,7 +170,7 @@ fn read_front(front: &[u8; 64]) -> Slots
 pub(crate) fn body_place(slot: u8, span: u64) -> u64
     requires slot { slot < 2 }
     requires span { span < 2 ^ 32 }
-    ensures { result ≡ layout_body_place span slot }
+    ensures { result ≡ place_of_body span slot }
 {
     if slot == 0 { 64 } else { 64 + span }
 }
@@ -180,13 +180,13 @@ fn read_length<D: Disk>(disk: &mut D, place: u64, span: u64) -> Result<usize, Bo
     requires place { place < 2 ^ 33 }
     requires span { span < 2 ^ 32 }
     ensures whole { IfOk result (λ length. IfImageKnown (D.reads disk.old)
-        (λ bytes. (layout_body_is_whole span place bytes ≡ true) × (length ≡ layout_number_at place bytes))) }
-    ensures damaged { IsErrOf result BodyFault.Damaged → IfImageKnown (D.reads disk.old) (λ bytes. layout_body_is_whole span place bytes ≡ false) }
+        (λ bytes. (body_is_whole span place bytes ≡ true) × (length ≡ number_at place bytes))) }
+    ensures damaged { IsErrOf result BodyFault.Damaged → IfImageKnown (D.reads disk.old) (λ bytes. body_is_whole span place bytes ≡ false) }
     ensures memory { IsErrOf result BodyFault.OutOfMemory → ⊥ }
-    ensures unchanged { IsUnchangedAtMoment D.reads D.image_now disk.old disk.new }
-    ensures any_moment { CrashLeavesAtAnyMoment D.moment D.image_since disk.old disk.new (D.image_now disk.old) }
+    ensures unchanged { IsUnchangedAt D.reads D.image_now disk.old disk.new }
+    ensures any_moment { CrashLeaves D.moment D.image_since disk.old disk.new (D.image_now disk.old) }
     ensures later { D.faults disk.old ≤ D.faults disk.new }
-    ensures fault { IsErrOf result BodyFault.DiskFault → FaultCountRose (D.faults disk.old) (D.faults disk.new) }
+    ensures fault { IsErrOf result BodyFault.DiskFault → FaultRose (D.faults disk.old) (D.faults disk.new) }
     ensures no_fault { (IsErrOf result BodyFault.DiskFault → ⊥) → D.faults disk.new ≡ D.faults disk.old }
 {
     let end = disk.len()?;
@@ -207,10 +207,10 @@ fn read_length<D: Disk>(disk: &mut D, place: u64, span: u64) -> Result<usize, Bo
 
 // The number in the 8 bytes at an offset, unless the disk ends before or inside them.
 fn read_number<D: Disk>(disk: &mut D, place: u64) -> Result<Option<u64>, Failed>
-    ensures number { IfOk result (λ number. IfImageKnown (D.reads disk.old) (IsLayoutNumber place number)) }
-    ensures unchanged { IsUnchangedAtMoment D.reads D.image_now disk.old disk.new }
-    ensures any_moment { CrashLeavesAtAnyMoment D.moment D.image_since disk.old disk.new (D.image_now disk.old) }
-    ensures cause { FailsByFaultCount (D.faults disk.old) (D.faults disk.new) result }
+    ensures number { IfOk result (λ number. IfImageKnown (D.reads disk.old) (IsNumber place number)) }
+    ensures unchanged { IsUnchangedAt D.reads D.image_now disk.old disk.new }
+    ensures any_moment { CrashLeaves D.moment D.image_since disk.old disk.new (D.image_now disk.old) }
+    ensures cause { FailsByCount (D.faults disk.old) (D.faults disk.new) result }
 {
     let mut head = [0; 8];
     let count = disk.read_at(place, &mut head)?;

@@ -2,7 +2,7 @@
 
 ghost use Rattle.std.specs.Prelude.{◌≡◌, ◌+◌, ◌<◌, ◌≤◌, [], ◌∷◌, ◌++◌, length, vec_len, vec_capacity, MatchOption};
 ghost use Rattle.std.specs.Prelude.{IfSome};
-ghost use Rattle.slot_disk.specs.StepEntries.{steps_of_entries_newest_last, entry_step};
+ghost use Rattle.slot_disk.specs.StepEntry.{newest_last, entry_step};
 
 /// What was done.
 #[derive(Clone, Copy, PartialEq, Eq)]
@@ -36,8 +36,8 @@ pub(crate) fn add_entry(
 )
     requires entry_fits { vec_len entries.old < vec_capacity entries.old }
     requires piece_fits { vec_len written.old + length piece.now ≤ vec_capacity written.old }
-    ensures added { steps_of_entries_newest_last entries.new.items written.new.items ≡ entry_step kind place piece.now
-        ∷ steps_of_entries_newest_last entries.old.items written.old.items }
+    ensures added { newest_last entries.new.items written.new.items ≡ entry_step kind place piece.now
+        ∷ newest_last entries.old.items written.old.items }
     ensures one_more { vec_len entries.new ≡ vec_len entries.old + 1 }
     ensures bytes { written.new.items ≡ written.old.items ++ piece.now }
     ensures entry_room { vec_capacity entries.old ≤ vec_capacity entries.new }
@@ -65,9 +65,9 @@ pub(crate) struct NewestStep<'a> {
 
 /// The newest step of a record, unless there is none.
 pub(crate) fn take_newest<'a>(entries: &'a [StepEntry], written: &'a [u8]) -> Option<NewestStep<'a>>
-    ensures step { MatchOption result (steps_of_entries_newest_last entries.now written.now ≡ [])
-        (λ newest. steps_of_entries_newest_last entries.now written.now
-        ≡ entry_step newest.kind newest.place newest.piece.now ∷ steps_of_entries_newest_last newest.entries.now newest.written.now) }
+    ensures step { MatchOption result (newest_last entries.now written.now ≡ [])
+        (λ newest. newest_last entries.now written.now
+        ≡ entry_step newest.kind newest.place newest.piece.now ∷ newest_last newest.entries.now newest.written.now) }
     ensures fewer { IfSome result (λ newest. length newest.entries.now < length entries.now) }
 {
     if entries.is_empty() {

@@ -4,13 +4,13 @@ use Rattle.std.proofs.Common.{get_or, None, Some, refl, sym, ap, subst, arith}
 use Rattle.std.proofs.lemmas.Bool.{ltb-false, cond_both}
 use Rattle.std.proofs.lemmas.List.Elements.{recursion_from_All}
 use Rattle.space_saving.specs.declared.entry.Entry.{Entry}
-use Rattle.space_saving.specs.Table.{table_entry, table_total, least_table_count, TableInterval, table_interval_from}
-use Rattle.space_saving.specs.Table.{interval_in_table}
-use Rattle.space_saving.specs.Table.{HasSmallTableError, IsTable}
+use Rattle.space_saving.specs.Summary.{table_entry, table_total, least_count, TableInterval, interval_from}
+use Rattle.space_saving.specs.Summary.{interval_in}
+use Rattle.space_saving.specs.Summary.{HasSmallError, IsTable}
 use Rattle.space_saving.proofs.PutEntryLemmas.{table_total-first_put_entry}
 use Rattle.space_saving.proofs.WithoutLemmas.{all-entry_before_without, count-entry_before_without}
 use Rattle.space_saving.proofs.TableStepLemmas.{table_step_counts_add_up}
-use Rattle.space_saving.proofs.IntervalLemmas.{TableRisesFrom-interval_least}
+use Rattle.space_saving.proofs.IntervalLemmas.{RisesFrom-interval_least}
 
 -- what holds of every interval of a table with this capacity and total
 pub record HasNarrowWidth (capacity total : ℕ) (interval : TableInterval) : Type 0 where
@@ -29,7 +29,7 @@ interval_width_count_in_total key e (f ∷ fs) found =
       | false ↦ λ is. omega (arith, table_total-first_put_entry f fs, interval_width_count_in_total key e fs is)
     ]) found
 
-pub interval_width_least_in_total : (es : List Entry) → least_table_count es ≤ table_total es
+pub interval_width_least_in_total : (es : List Entry) → least_count es ≤ table_total es
 interval_width_least_in_total [] = omega arith
 interval_width_least_in_total (f ∷ fs) = omega (arith, table_total-first_put_entry f fs)
 
@@ -37,8 +37,8 @@ interval_width_of_found_key : (capacity : ℕ) (es : List Entry) (key : ℕ) (e 
     → HasNarrowWidth capacity (table_total es) (record { low = e.count - e.error; high = e.count })
 interval_width_of_found_key capacity es key e table found =
     let small =
-    all-entry_before_without (HasSmallTableError capacity (table_total es)) key e es
-    (recursion_from_All (HasSmallTableError capacity (table_total es)) es table.small_errors) found in
+    all-entry_before_without (HasSmallError capacity (table_total es)) key e es
+    (recursion_from_All (HasSmallError capacity (table_total es)) es table.small_errors) found in
     let below : e.error < e.count = small.0 in
     let width : e.count - (e.count - e.error) ≡ e.error = omega arith in
     record {
@@ -49,50 +49,50 @@ interval_width_of_found_key capacity es key e table found =
 
 -- the least count of a full table times the capacity is at most the total
 pub interval_width_of_full_table : (capacity : ℕ) (es : List Entry) → IsTable capacity es → capacity ≤ length es
-    → least_table_count es * capacity ≤ table_total es
+    → least_count es * capacity ≤ table_total es
 interval_width_of_full_table capacity es table full =
     let same : length es ≡ capacity = omega (arith, table.fits) in
-    subst (λ n. least_table_count es * n ≤ table_total es) same
-    (table_step_counts_add_up (least_table_count es) es (TableRisesFrom-interval_least es table.ascending))
+    subst (λ n. least_count es * n ≤ table_total es) same
+    (table_step_counts_add_up (least_count es) es (RisesFrom-interval_least es table.ascending))
 
 interval_width_of_missing_key : (capacity : ℕ) (es : List Entry) → IsTable capacity es
-    → HasNarrowWidth capacity (table_total es) (record { low = 0; high = cond (ltb (length es) capacity) 0 (least_table_count es) })
+    → HasNarrowWidth capacity (table_total es) (record { low = 0; high = cond (ltb (length es) capacity) 0 (least_count es) })
 interval_width_of_missing_key capacity es table =
-    cond_both (ltb (length es) capacity) 0 (least_table_count es)
+    cond_both (ltb (length es) capacity) 0 (least_count es)
     (λ n. HasNarrowWidth capacity (table_total es) (record { low = 0; high = n }))
     (λ _. record { ordered = omega arith; within_total = omega arith; narrow = omega arith })
     (λ more. record {
       ordered = omega arith;
       within_total = interval_width_least_in_total es;
-      narrow = let all : least_table_count es ≡ least_table_count es - 0 = omega arith in
+      narrow = let all : least_count es ≡ least_count es - 0 = omega arith in
           subst (λ n. n * capacity ≤ table_total es) all
           (interval_width_of_full_table capacity es table (ltb-false (length es) capacity more));
     })
 
 -- every interval of a table is narrow
 pub interval_width_is_narrow : (capacity : ℕ) (es : List Entry) (key : ℕ) → IsTable capacity es
-    → HasNarrowWidth capacity (table_total es) (interval_in_table (record { capacity = capacity; entries = es }) key)
+    → HasNarrowWidth capacity (table_total es) (interval_in (record { capacity = capacity; entries = es }) key)
 interval_width_is_narrow capacity es key table =
     (elim (table_entry key es) as
     (λ o. table_entry key es ≡ o
-    → HasNarrowWidth capacity (table_total es) (table_interval_from o (record { capacity = capacity; entries = es }))) [
+    → HasNarrowWidth capacity (table_total es) (interval_from o (record { capacity = capacity; entries = es }))) [
       | None ↦ λ _. interval_width_of_missing_key capacity es table
       | Some e ↦ λ found. interval_width_of_found_key capacity es key e table found
     ]) refl
 
 -- no key has a smaller high than a missing one
 pub interval_width_over_missing_high : (capacity : ℕ) (es : List Entry) (key : ℕ) → IsTable capacity es
-    → (table_interval_from None (record { capacity = capacity; entries = es })).high
-    ≤ (interval_in_table (record { capacity = capacity; entries = es }) key).high
+    → (interval_from None (record { capacity = capacity; entries = es })).high
+    ≤ (interval_in (record { capacity = capacity; entries = es }) key).high
 interval_width_over_missing_high capacity es key table =
     (elim (table_entry key es) as
-    (λ o. table_entry key es ≡ o → cond (ltb (length es) capacity) 0 (least_table_count es)
-    ≤ (table_interval_from o (record { capacity = capacity; entries = es })).high) [
+    (λ o. table_entry key es ≡ o → cond (ltb (length es) capacity) 0 (least_count es)
+    ≤ (interval_from o (record { capacity = capacity; entries = es })).high) [
       | None ↦ λ _. omega arith
       | Some e ↦ λ found.
-          let least : least_table_count es ≤ e.count =
-          count-entry_before_without (least_table_count es) key e es (TableRisesFrom-interval_least es table.ascending) found in
-          cond_both (ltb (length es) capacity) 0 (least_table_count es) (λ n. n ≤ e.count) (λ _. omega arith) (λ _. least)
+          let least : least_count es ≤ e.count =
+          count-entry_before_without (least_count es) key e es (RisesFrom-interval_least es table.ascending) found in
+          cond_both (ltb (length es) capacity) 0 (least_count es) (λ n. n ≤ e.count) (λ _. omega arith) (λ _. least)
     ]) refl
 
 -- the width of a missing key in a full table, by the head

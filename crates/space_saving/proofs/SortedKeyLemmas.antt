@@ -10,7 +10,7 @@ use Rattle.std.proofs.lemmas.Map.Keys.{IsDistinct-IsPermutation, IsDistinct-from
 use Rattle.std.proofs.lemmas.Map.Keys.{IsStrictlyIncreasing-from_distinct, sorted_from_strictly_increasing}
 use Rattle.std.proofs.lemmas.Map.Keys.{below_from_sorted}
 use Rattle.space_saving.specs.declared.entry.Entry.{Entry}
-use Rattle.space_saving.specs.Table.{table_entry, AreApartInTable}
+use Rattle.space_saving.specs.Summary.{table_entry, KeysApart}
 
 -- the keys of entries, in their order
 abbrev pub keys_to_be_sorted : List Entry → List ℕ
@@ -39,12 +39,12 @@ missing_if_sorted_keys_differ key (f ∷ fs) others =
     ap (λ b. cond b (Some f) (table_entry key fs)) (eqb-flip_of_sorted_keys f.key key ∙ others.0) ∙ missing_if_sorted_keys_differ key fs others.1
 
 -- the keys are distinct exactly where no two entries have the same key
-sorted_keys_distinct_if_apart : (es : List Entry) → AreApartInTable es → IsDistinct eqb (keys_to_be_sorted es)
+sorted_keys_distinct_if_apart : (es : List Entry) → KeysApart es → IsDistinct eqb (keys_to_be_sorted es)
 unfolding IsDistinct
 sorted_keys_distinct_if_apart [] apart = tt
 sorted_keys_distinct_if_apart (f ∷ fs) apart = (sorted_keys_differ_from_missing f.key fs apart.0, sorted_keys_distinct_if_apart fs apart.1)
 
-apart_if_sorted_keys_distinct : (es : List Entry) → IsDistinct eqb (keys_to_be_sorted es) → AreApartInTable es
+apart_if_sorted_keys_distinct : (es : List Entry) → IsDistinct eqb (keys_to_be_sorted es) → KeysApart es
 unfolding IsDistinct
 apart_if_sorted_keys_distinct [] distinct = tt
 apart_if_sorted_keys_distinct (f ∷ fs) distinct =
@@ -59,7 +59,7 @@ sorted_keys_distinct_if_rising ks rise =
 
 -- the sorted keys rise strictly exactly where no two entries have the same key
 pub sorted_keys_rise_if_apart : (es : List Entry) (sorted : List ℕ) → IsPermutation (keys_to_be_sorted es) sorted → IsSorted nat_cmp sorted
-    → IsStrictlyIncreasing sorted ↔ AreApartInTable es
+    → IsStrictlyIncreasing sorted ↔ KeysApart es
 sorted_keys_rise_if_apart es sorted moved in_order = (
   λ rise. apart_if_sorted_keys_distinct es
       (IsDistinct-IsPermutation eqb eqb-flip_of_sorted_keys sorted (keys_to_be_sorted es) (IsPermutation-sym (keys_to_be_sorted es) sorted moved)

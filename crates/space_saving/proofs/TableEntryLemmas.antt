@@ -3,9 +3,9 @@ use Rattle.std.proofs.Common.{◌≡◌, ℕ, ◌≤◌, zero, suc, eqb, cond, t
 use Rattle.std.proofs.Common.{Some, refl, sym, ◌∙◌, subst, arith}
 use Rattle.std.proofs.lemmas.Bool.{eqb-true, eq-eqb, false≢true}
 use Rattle.space_saving.specs.declared.entry.Entry.{Entry}
-use Rattle.space_saving.specs.Table.{table_entry, table_total, AreApartInTable, TableRisesFrom}
+use Rattle.space_saving.specs.Summary.{table_entry, table_total, KeysApart, RisesFrom}
 use Rattle.space_saving.proofs.PutEntryLemmas.{table_total-first_put_entry}
-use Rattle.space_saving.proofs.WithoutLemmas.{TableRisesFrom-less_before_without}
+use Rattle.space_saving.proofs.WithoutLemmas.{RisesFrom-less_before_without}
 
 -- the key of an entry in the table differs from one that has no entry
 table_entry_has_other_key : (key : ℕ) (es : List Entry) (place : ℕ) (e : Entry) → table_entry key es ≡ None
@@ -24,7 +24,7 @@ table_entry_has_other_key key (f ∷ fs) (suc place) e missing at =
     ]) missing
 
 -- no earlier entry has the key of an entry
-pub table_entry_stands_apart : (es : List Entry) (place : ℕ) (e : Entry) → AreApartInTable es → slice_get es place ≡ Some e
+pub table_entry_stands_apart : (es : List Entry) (place : ℕ) (e : Entry) → KeysApart es → slice_get es place ≡ Some e
     → table_entry e.key (take place es) ≡ None
 table_entry_stands_apart es zero e apart at = refl
 table_entry_stands_apart [] (suc place) e apart at = refl
@@ -37,12 +37,12 @@ table_entry_stands_apart (f ∷ fs) (suc place) e apart at =
     ]) refl
 
 -- the count of an entry is at least the number that the counts rise from
-pub table_entry_rises_from_least : (least : ℕ) (es : List Entry) (place : ℕ) (e : Entry) → TableRisesFrom least es
+pub table_entry_rises_from_least : (least : ℕ) (es : List Entry) (place : ℕ) (e : Entry) → RisesFrom least es
     → slice_get es place ≡ Some e → least ≤ e.count
 table_entry_rises_from_least least [] place e rises at = cc
 table_entry_rises_from_least least (f ∷ fs) zero e rises at = let same : f ≡ e = cc in subst (λ (g : Entry). least ≤ g.count) same rises.0
 table_entry_rises_from_least least (f ∷ fs) (suc place) e rises at =
-    table_entry_rises_from_least least fs place e (TableRisesFrom-less_before_without least f.count fs rises.1 rises.0) at
+    table_entry_rises_from_least least fs place e (RisesFrom-less_before_without least f.count fs rises.1 rises.0) at
 
 -- and at most the total
 pub table_entry_within_total : (es : List Entry) (place : ℕ) (e : Entry) → slice_get es place ≡ Some e

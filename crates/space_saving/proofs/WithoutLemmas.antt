@@ -4,7 +4,7 @@ use Rattle.std.proofs.Common.{sym, ap, subst, ◌∙◌, arith}
 use Rattle.std.specs.List.{AllByRecursion}
 use Rattle.std.proofs.lemmas.Bool.{eqb-true, ne_eqb, cond-false, cond_both}
 use Rattle.space_saving.specs.declared.entry.Entry.{Entry}
-use Rattle.space_saving.specs.Table.{table_without, table_entry, table_total, TableRisesFrom, AreApartInTable}
+use Rattle.space_saving.specs.Summary.{table_without, table_entry, table_total, RisesFrom, KeysApart}
 use Rattle.space_saving.proofs.PutEntryLemmas.{table_total-first_put_entry}
 
 pub length-without : (key : ℕ) (e : Entry) (es : List Entry) → table_entry key es ≡ Some e
@@ -52,25 +52,25 @@ key-entry_before_without key e (f ∷ fs) found =
     ]) refl found
 
 -- counts that rise are all at least the number that they rise from
-pub TableRisesFrom-less_before_without : (less least : ℕ) (es : List Entry) → TableRisesFrom least es → less ≤ least → TableRisesFrom less es
-TableRisesFrom-less_before_without less least [] rises below = tt
-TableRisesFrom-less_before_without less least (f ∷ fs) rises below = (let above : least ≤ f.count = rises.0 in omega arith, rises.1)
+pub RisesFrom-less_before_without : (less least : ℕ) (es : List Entry) → RisesFrom least es → less ≤ least → RisesFrom less es
+RisesFrom-less_before_without less least [] rises below = tt
+RisesFrom-less_before_without less least (f ∷ fs) rises below = (let above : least ≤ f.count = rises.0 in omega arith, rises.1)
 
-pub count-entry_before_without : (least key : ℕ) (e : Entry) (es : List Entry) → TableRisesFrom least es → table_entry key es ≡ Some e
+pub count-entry_before_without : (least key : ℕ) (e : Entry) (es : List Entry) → RisesFrom least es → table_entry key es ≡ Some e
     → least ≤ e.count
 count-entry_before_without least key e [] rises found = cc
 count-entry_before_without least key e (f ∷ fs) rises found =
     (elim (eqb f.key key) as (λ b. cond b (Some f) (table_entry key fs) ≡ Some e → least ≤ e.count) [
       | true ↦ λ is. let same : f ≡ e = cc in subst (λ (g : Entry). least ≤ g.count) same rises.0
-      | false ↦ λ is. count-entry_before_without least key e fs (TableRisesFrom-less_before_without least f.count fs rises.1 rises.0) is
+      | false ↦ λ is. count-entry_before_without least key e fs (RisesFrom-less_before_without least f.count fs rises.1 rises.0) is
     ]) found
 
-pub TableRisesFrom-without : (least key : ℕ) (es : List Entry) → TableRisesFrom least es → TableRisesFrom least (table_without key es)
-TableRisesFrom-without least key [] rises = tt
-TableRisesFrom-without least key (f ∷ fs) rises =
-    cond_both (eqb f.key key) fs (f ∷ table_without key fs) (TableRisesFrom least)
-    (λ _. TableRisesFrom-less_before_without least f.count fs rises.1 rises.0)
-    (λ _. (rises.0, TableRisesFrom-without f.count key fs rises.1))
+pub RisesFrom-without : (least key : ℕ) (es : List Entry) → RisesFrom least es → RisesFrom least (table_without key es)
+RisesFrom-without least key [] rises = tt
+RisesFrom-without least key (f ∷ fs) rises =
+    cond_both (eqb f.key key) fs (f ∷ table_without key fs) (RisesFrom least)
+    (λ _. RisesFrom-less_before_without least f.count fs rises.1 rises.0)
+    (λ _. (rises.0, RisesFrom-without f.count key fs rises.1))
 
 -- another key has the entry that it had
 pub table_entry-without_other : (other key : ℕ) (es : List Entry) → (key ≡ other → ⊥)
@@ -100,7 +100,7 @@ missing-without other key (f ∷ fs) missing =
     ]) refl missing
 
 -- the key whose entry was removed is missing
-pub table_entry-without_same : (key : ℕ) (es : List Entry) → AreApartInTable es → table_entry key (table_without key es) ≡ None
+pub table_entry-without_same : (key : ℕ) (es : List Entry) → KeysApart es → table_entry key (table_without key es) ≡ None
 table_entry-without_same key [] apart = refl
 table_entry-without_same key (f ∷ fs) apart =
     (elim (eqb f.key key) as (λ b. eqb f.key key ≡ b → table_entry key (cond b fs (f ∷ table_without key fs)) ≡ None) [
@@ -110,12 +110,12 @@ table_entry-without_same key (f ∷ fs) apart =
           ∙ table_entry-without_same key fs apart.1
     ]) refl
 
-pub AreApartInTable-without : (key : ℕ) (es : List Entry) → AreApartInTable es → AreApartInTable (table_without key es)
-AreApartInTable-without key [] apart = tt
-AreApartInTable-without key (f ∷ fs) apart =
-    cond_both (eqb f.key key) fs (f ∷ table_without key fs) AreApartInTable
+pub KeysApart-without : (key : ℕ) (es : List Entry) → KeysApart es → KeysApart (table_without key es)
+KeysApart-without key [] apart = tt
+KeysApart-without key (f ∷ fs) apart =
+    cond_both (eqb f.key key) fs (f ∷ table_without key fs) KeysApart
     (λ _. apart.1)
-    (λ _. (missing-without f.key key fs apart.0, AreApartInTable-without key fs apart.1))
+    (λ _. (missing-without f.key key fs apart.0, KeysApart-without key fs apart.1))
 
 pub all-without : (P : Entry → Type 0) (key : ℕ) (es : List Entry) → AllByRecursion P es
     → AllByRecursion P (table_without key es)

@@ -2,7 +2,7 @@
 use Rattle.std.specs.Prelude.{ℕ, ◌≡◌, ◌<◌, List, length, slice_get}
 use Rattle.std.specs.List.{remove}
 use Rattle.space_saving.specs.declared.entry.Entry.{Entry}
-use Rattle.space_saving.specs.Table.{table_entry, table_without}
+use Rattle.space_saving.specs.Summary.{table_entry, table_without}
 
 -- the first entry of the key is at this index
 pub record IsPlaceOf (key : ℕ) (entries : List Entry) (place : ℕ) : Type 0 where

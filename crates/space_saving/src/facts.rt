@@ -2,8 +2,8 @@
 
 ghost use Rattle.std.specs.Prelude.{◌≡◌, ◌<◌, ◌≤◌, ◌↔◌, IsTrue, All};
 ghost use Rattle.std.specs.Option.{SomeIff};
-ghost use Rattle.space_saving.specs.Table.{table_total, HasSmallTableError, IsTable, TableRisesFrom};
-ghost use Rattle.space_saving.specs.Table.{most_table_capacity, table_limit};
+ghost use Rattle.space_saving.specs.Summary.{table_total, HasSmallError, IsTable, RisesFrom};
+ghost use Rattle.space_saving.specs.Summary.{most_capacity, table_limit};
 
 use crate::Entry;
 use crate::keys::are_apart;
@@ -28,7 +28,7 @@ pub(crate) fn total_of(entries: &[Entry]) -> Option<u64>
 /// Whether these entries, whose counts add up to `total`, are those of a table of this capacity.
 pub(crate) fn is_table(capacity: u32, total: u64, entries: &[Entry]) -> bool
     requires some { 1 ≤ capacity }
-    requires most { capacity ≤ most_table_capacity }
+    requires most { capacity ≤ most_capacity }
     requires total { total ≡ table_total entries.now }
     ensures { IsTrue result ↔ IsTable capacity entries.now }
 {
@@ -40,7 +40,7 @@ pub(crate) fn is_table(capacity: u32, total: u64, entries: &[Entry]) -> bool
 
 /// Whether the counts never fall.
 fn rises(entries: &[Entry]) -> bool
-    ensures { IsTrue result ↔ TableRisesFrom 0 entries.now }
+    ensures { IsTrue result ↔ RisesFrom 0 entries.now }
 {
     let mut least = 0;
     for entry in entries {
@@ -55,7 +55,7 @@ fn rises(entries: &[Entry]) -> bool
 /// Whether each error is below its count and, times the capacity, at most the total.
 fn has_small_errors(capacity: u64, total: u64, entries: &[Entry]) -> bool
     requires { 1 ≤ capacity }
-    ensures { IsTrue result ↔ All (HasSmallTableError capacity total) entries.now }
+    ensures { IsTrue result ↔ All (HasSmallError capacity total) entries.now }
 {
     for entry in entries {
         if !has_small_error(capacity, total, entry) {
@@ -67,7 +67,7 @@ fn has_small_errors(capacity: u64, total: u64, entries: &[Entry]) -> bool
 
 fn has_small_error(capacity: u64, total: u64, entry: &Entry) -> bool
     requires { 1 ≤ capacity }
-    ensures { IsTrue result ↔ HasSmallTableError capacity total entry.now }
+    ensures { IsTrue result ↔ HasSmallError capacity total entry.now }
 {
     entry.error < entry.count && entry.error <= total / capacity
 }

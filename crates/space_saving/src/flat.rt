@@ -2,9 +2,9 @@
 
 ghost use Rattle.std.specs.Prelude.{◌≡◌, ◌+◌, ◌-◌, ◌*◌, ◌<◌, ◌≤◌, ◌↔◌, [], length, take, slice_get, vec_capacity, IfOk};
 ghost use Rattle.std.specs.Prelude.{IfSome, IsSome, None};
-ghost use Rattle.space_saving.specs.Table.{table_after_step, table_entry, table_total, least_table_count};
-ghost use Rattle.space_saving.specs.Table.{interval_in_table, AreTableEntries, least_table_capacity};
-ghost use Rattle.space_saving.specs.Table.{most_table_capacity, table_limit};
+ghost use Rattle.space_saving.specs.Summary.{after_step, table_entry, table_total, least_count};
+ghost use Rattle.space_saving.specs.Summary.{interval_in, AreTableEntries, least_capacity};
+ghost use Rattle.space_saving.specs.Summary.{most_capacity, table_limit};
 
 use crate::facts::{is_table, total_of};
 use crate::places::place_of;
@@ -31,7 +31,7 @@ pub struct Flat {
 
 impl Model for Flat {
     ghost use Rattle.std.specs.Prelude.{vec_capacity};
-    ghost use Rattle.space_saving.specs.Table.{TableValue, IsKeptTable};
+    ghost use Rattle.space_saving.specs.Summary.{TableValue, IsKeptTable};
 
     ghost Value = { TableValue };
 
@@ -43,8 +43,8 @@ impl Model for Flat {
 impl Flat {
     /// An empty table with memory for `capacity` entries, 2 to 4096.
     pub fn with_room(alloc: Global, capacity: u32) -> Result<Flat, AllocError>
-        requires least { least_table_capacity ≤ capacity }
-        requires most { capacity ≤ most_table_capacity }
+        requires least { least_capacity ≤ capacity }
+        requires most { capacity ≤ most_capacity }
         ensures { IfOk result (λ table. table ≡ record { capacity = capacity; entries = [] }) }
     {
         Ok(Flat {
@@ -60,8 +60,8 @@ impl Flat {
     /// the capacity, is above the total, or a total of 2^56 or more. It allocates no memory, and needs the time of
     /// a sort of the keys.
     pub fn from_entries(capacity: u32, entries: Vec<Entry>) -> Option<Flat>
-        requires least { least_table_capacity ≤ capacity }
-        requires most { capacity ≤ most_table_capacity }
+        requires least { least_capacity ≤ capacity }
+        requires most { capacity ≤ most_capacity }
         requires reserved { capacity ≤ vec_capacity entries }
         ensures accepted { IsSome result ↔ AreTableEntries capacity entries.items }
         ensures content { IfSome result (λ table.
@@ -80,8 +80,8 @@ impl Flat {
 
     /// The least and the greatest weight that the key can have had.
     pub fn interval(&self, key: u64) -> (u64, u64)
-        ensures low { result.0 ≡ (interval_in_table self.now key).low }
-        ensures high { result.1 ≡ (interval_in_table self.now key).high }
+        ensures low { result.0 ≡ (interval_in self.now key).low }
+        ensures high { result.1 ≡ (interval_in self.now key).high }
         ensures ordered { result.0 ≤ result.1 }
         ensures within_total { result.1 ≤ table_total self.now.entries }
         ensures narrow { (result.1 - result.0) * self.now.capacity ≤ table_total self.now.entries }
@@ -102,7 +102,7 @@ impl Flat {
         ensures entry { slice_get self.now.entries place ≡ Some result }
         ensures apart { table_entry result.key (take place self.now.entries) ≡ None }
         ensures error { result.error < result.count }
-        ensures least { least_table_count self.now.entries ≤ result.count }
+        ensures least { least_count self.now.entries ≤ result.count }
         ensures within_total { result.count ≤ table_total self.now.entries }
     {
         self.entries[place]
@@ -119,8 +119,8 @@ impl Flat {
     /// The most entries that the table can have, 2 to 4096.
     pub fn capacity(&self) -> u32
         ensures capacity { result ≡ self.now.capacity }
-        ensures least { least_table_capacity ≤ result }
-        ensures most { result ≤ most_table_capacity }
+        ensures least { least_capacity ≤ result }
+        ensures most { result ≤ most_capacity }
     {
         self.capacity
     }
@@ -150,7 +150,7 @@ impl Flat {
         requires weighs { 1 ≤ weight }
         requires room { table_total self.old.entries + weight < table_limit }
         ensures stepped { self.new ≡ record self.old {
-          entries = table_after_step self.old.capacity self.old.entries (record { key = key; weight = weight });
+          entries = after_step self.old.capacity self.old.entries (record { key = key; weight = weight });
         } }
         ensures grew { table_total self.new.entries ≡ table_total self.old.entries + weight }
     {

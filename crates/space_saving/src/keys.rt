@@ -3,7 +3,7 @@
 ghost use Rattle.std.specs.Prelude.{◌≡◌, ◌≤◌, ◌↔◌, IsTrue, length, map, IsPermutation, IsSorted};
 ghost use Rattle.std.specs.List.Sorted.{IsStrictlyIncreasing};
 ghost use Rattle.std.specs.Ordering.{nat_cmp};
-ghost use Rattle.space_saving.specs.Table.{AreApartInTable, most_table_capacity};
+ghost use Rattle.space_saving.specs.Summary.{KeysApart, most_capacity};
 
 use crate::Entry;
 
@@ -13,8 +13,8 @@ const MOST_ENTRIES: usize = 4096;
 /// Whether no two entries have the same key. The keys are sorted on the stack: it allocates no memory, and no choice of
 /// keys makes it slow.
 pub(crate) fn are_apart(entries: &[Entry]) -> bool
-    requires { length entries.now ≤ most_table_capacity }
-    ensures { IsTrue result ↔ AreApartInTable entries.now }
+    requires { length entries.now ≤ most_capacity }
+    ensures { IsTrue result ↔ KeysApart entries.now }
 {
     let mut room = room_for_keys();
     are_apart_in(&mut room[..entries.len()], entries)
@@ -28,7 +28,7 @@ fn room_for_keys() -> [u64; MOST_ENTRIES] {
 /// Whether no two entries have the same key. It overwrites `keys`, which has as many numbers as there are entries.
 fn are_apart_in(keys: &mut [u64], entries: &[Entry]) -> bool
     requires { length keys.old ≡ length entries.now }
-    ensures { IsTrue result ↔ AreApartInTable entries.now }
+    ensures { IsTrue result ↔ KeysApart entries.now }
 {
     write_sorted_keys(keys, entries);
     rise_strictly(keys)

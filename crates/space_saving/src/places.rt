@@ -2,7 +2,7 @@
 
 ghost use Rattle.std.specs.Prelude.{◌≡◌, ◌+◌, ◌<◌, ◌≤◌, ◌++◌, None, MatchOption, length, insert, take, drop};
 ghost use Rattle.space_saving.specs.Places.{IsPlaceOf};
-ghost use Rattle.space_saving.specs.Table.{put_in_table, table_entry};
+ghost use Rattle.space_saving.specs.Summary.{put_into, table_entry};
 
 use crate::Entry;
 
@@ -21,7 +21,7 @@ pub(crate) fn place_of(entries: &[Entry], key: u64) -> Option<usize>
 /// The index at which this entry is inserted: after every entry whose count is at most its own.
 pub(crate) fn place_for(entries: &[Entry], new: &Entry) -> usize
     ensures within { result ≤ length entries.now }
-    ensures place { put_in_table new.now entries.now ≡ insert entries.now result new.now }
+    ensures place { put_into new.now entries.now ≡ insert entries.now result new.now }
 {
     for (place, entry) in entries.iter().enumerate() {
         if new.count < entry.count {
@@ -35,7 +35,7 @@ pub(crate) fn place_for(entries: &[Entry], new: &Entry) -> usize
 /// the two indexes move down by one.
 pub(crate) fn settle(entries: &mut [Entry], from: usize, new: Entry)
     requires { from < length entries.old }
-    ensures { entries.new ≡ take from entries.old ++ put_in_table new (drop (from + 1) entries.old) }
+    ensures { entries.new ≡ take from entries.old ++ put_into new (drop (from + 1) entries.old) }
 {
     let mut place = from;
     while place + 1 < entries.len() && entries[place + 1].count <= new.count {

@@ -12,7 +12,7 @@ pub struct PlainTable {
 }
 
 impl Model for PlainTable {
-    ghost use Rattle.space_saving.specs.Table.{TableValue};
+    ghost use Rattle.space_saving.specs.Summary.{TableValue};
 
     ghost Value = { TableValue };
 

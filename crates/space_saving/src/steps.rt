@@ -1,7 +1,7 @@
 //! One step of Space-Saving on a list of entries.
 
 ghost use Rattle.std.specs.Prelude.{◌≡◌, ◌+◌, ◌<◌, ◌≤◌, vec_capacity};
-ghost use Rattle.space_saving.specs.Table.{table_after_step, table_total, IsTable, table_limit};
+ghost use Rattle.space_saving.specs.Summary.{after_step, table_total, IsTable, table_limit};
 
 use crate::Entry;
 use crate::places::{place_for, place_of, settle};
@@ -13,7 +13,7 @@ pub(crate) fn add_weight(entries: &mut Vec<Entry>, capacity: usize, key: u64, we
     requires table { IsTable capacity entries.old.items }
     requires room { table_total entries.old.items + weight < table_limit }
     ensures stepped { entries.new.items
-        ≡ table_after_step capacity entries.old.items (record { key = key; weight = weight }) }
+        ≡ after_step capacity entries.old.items (record { key = key; weight = weight }) }
     ensures still_reserved { capacity ≤ vec_capacity entries.new }
 {
     match place_of(entries, key) {

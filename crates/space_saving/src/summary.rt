@@ -1,8 +1,8 @@
 //! A Space-Saving table, in whatever form it keeps its entries.
 
 ghost use Rattle.std.specs.Prelude.{◌≡◌, ◌+◌, ◌-◌, ◌*◌, ◌<◌, ◌≤◌, ◌↔◌, [], length, slice_get, IfOk, IsTrue, Some};
-ghost use Rattle.space_saving.specs.Table.{TableValue, table_after_step, table_total, interval_in_table};
-ghost use Rattle.space_saving.specs.Table.{AreTableEntries, least_table_capacity, most_table_capacity, table_limit};
+ghost use Rattle.space_saving.specs.Summary.{TableValue, after_step, table_total, interval_in};
+ghost use Rattle.space_saving.specs.Summary.{AreTableEntries, least_capacity, most_capacity, table_limit};
 
 use crate::{Entry, Flat};
 use std::alloc::{AllocError, Global};
@@ -15,8 +15,8 @@ pub trait Summary: Sized {
 
     /// An empty table of a capacity of 2 to 4096. All memory is reserved here.
     fn with_capacity(alloc: Global, capacity: u32) -> Result<Self, AllocError>
-        requires least { least_table_capacity ≤ capacity }
-        requires most { capacity ≤ most_table_capacity }
+        requires least { least_capacity ≤ capacity }
+        requires most { capacity ≤ most_capacity }
         ensures { IfOk result (λ table. content table ≡ record { capacity = capacity; entries = [] }) };
 
     /// A table with the capacity and the entries of this one. All memory is reserved here.
@@ -29,7 +29,7 @@ pub trait Summary: Sized {
         requires weighs { 1 ≤ weight }
         requires room { table_total (content self.old).entries + weight < table_limit }
         ensures stepped { content self.new ≡ record (content self.old) {
-          entries = table_after_step (content self.old).capacity (content self.old).entries
+          entries = after_step (content self.old).capacity (content self.old).entries
               (record { key = key; weight = weight });
         } }
         ensures grew { table_total (content self.new).entries
@@ -37,8 +37,8 @@ pub trait Summary: Sized {
 
     /// The least and the greatest weight that the key can have had.
     fn interval(&self, key: u64) -> (u64, u64)
-        ensures low { result.0 ≡ (interval_in_table (content self.now) key).low }
-        ensures high { result.1 ≡ (interval_in_table (content self.now) key).high }
+        ensures low { result.0 ≡ (interval_in (content self.now) key).low }
+        ensures high { result.1 ≡ (interval_in (content self.now) key).high }
         ensures ordered { result.0 ≤ result.1 }
         ensures within_total { result.1 ≤ table_total (content self.now).entries }
         ensures narrow { (result.1 - result.0) * (content self.now).capacity
@@ -57,8 +57,8 @@ pub trait Summary: Sized {
     /// The most entries that the table can have, 2 to 4096.
     fn capacity(&self) -> u32
         ensures capacity { result ≡ (content self.now).capacity }
-        ensures least { least_table_capacity ≤ result }
-        ensures most { result ≤ most_table_capacity };
+        ensures least { least_capacity ≤ result }
+        ensures most { result ≤ most_capacity };
 
     /// The sum of the counts, below 2^56, which equals the weight that was added.
     fn total(&self) -> u64

@@ -1,10 +1,10 @@
 -- The saver of a store that was just made.
 use Rattle.std.proofs.Common.{◌≡◌, ◌∙◌, ℕ, List, Bool, true, false, nat_lt, Option, None, Some, refl, sym, ap}
 use Rattle.std.specs.Prelude.{if◌then◌else◌}
-use Rattle.slot_disk.specs.{IsStoreOfKnownSlots, KnownSlotsState, closed_known_slots}
+use Rattle.slot_disk.specs.{IsStoreOfKnown, KnownSlotsState, closed_known_slots}
 use Rattle.checkpoint.specs.declared.settings.StoreSettings.{StoreSettings}
-use Rattle.checkpoint.specs.{FormattedStoresAreEmpty, IsSafeForSaver, SavedValue, header_of_settings, saver_of}
-use Rattle.checkpoint.specs.{newest_in_store, newest_slot_in_store, store_positions, store_sequence}
+use Rattle.checkpoint.specs.{FormatIsEmpty, IsSafeSaver, SavedValue, settings_header, saver_of}
+use Rattle.checkpoint.specs.{newest_in, newest_slot_in, store_positions, store_sequence}
 
 -- two closed gates and a header
 pub new_saver_slots_are_closed : (slots : KnownSlotsState) (header : List ℕ) → slots.first_open ≡ false → slots.second_open ≡ false
@@ -15,7 +15,7 @@ new_saver_slots_are_closed slots header first second same =
     ∙ ap closed_known_slots same
 
 -- where no slot is the newest, the next save goes to slot 0
-new_saver_begins_with_slot_zero : (first second : Option SavedValue) → None ≡ newest_in_store first second → 1 ≡ newest_slot_in_store first second
+new_saver_begins_with_slot_zero : (first second : Option SavedValue) → None ≡ newest_in first second → 1 ≡ newest_slot_in first second
 new_saver_begins_with_slot_zero None second none = refl
 new_saver_begins_with_slot_zero (Some one) None none = cc none
 new_saver_begins_with_slot_zero (Some one) (Some two) none = by_test (nat_lt one.sequence two.sequence) none
@@ -25,9 +25,9 @@ new_saver_begins_with_slot_zero (Some one) (Some two) none = by_test (nat_lt one
     by_test false none = cc none
 
 -- the saver of a store with no gate open
-pub new_saver_stands : FormattedStoresAreEmpty → (settings : StoreSettings) (slots : KnownSlotsState) (digest : List ℕ)
-    (possible : List ℕ → Type 0) (bytes : List ℕ) → slots ≡ closed_known_slots (header_of_settings settings)
-    → IsStoreOfKnownSlots bytes possible slots → IsSafeForSaver (saver_of slots settings digest None) possible bytes
+pub new_saver_stands : FormatIsEmpty → (settings : StoreSettings) (slots : KnownSlotsState) (digest : List ℕ)
+    (possible : List ℕ → Type 0) (bytes : List ℕ) → slots ≡ closed_known_slots (settings_header settings)
+    → IsStoreOfKnown bytes possible slots → IsSafeSaver (saver_of slots settings digest None) possible bytes
 new_saver_stands empty settings slots digest possible bytes closed store =
     let opens = empty settings bytes store.long (sym store.slots_are ∙ closed) in
     record {

@@ -6,7 +6,7 @@ use Rattle.std.specs.declared.cmp.Ordering.TheVariants.{Less}
 use Rattle.prefix_lattice.specs.{report_order}
 use Rattle.hhh_report.specs.declared.line.Line.{Line}
 use Rattle.hhh_report.specs.{AreReportLines}
-use Rattle.report_text.specs.{ReportTextShowsPositions}
+use Rattle.report_text.specs.{ShowsPositions}
 
 -- a line has its low at most at its high
 abbrev IsOrderedInLinePair : Line → Type 0
@@ -29,7 +29,7 @@ line_pair_is_in_order line later ordered later_ordered less = record {
 }
 
 -- two numbers of at most 16,777,216 are positions
-pub pair_of_positions_is_shown : (first second : ℕ) → first ≤ 16777216 → second ≤ 16777216 → ReportTextShowsPositions (first ∷ second ∷ [])
+pub pair_of_positions_is_shown : (first second : ℕ) → first ≤ 16777216 → second ≤ 16777216 → ShowsPositions (first ∷ second ∷ [])
 pair_of_positions_is_shown first second first_within second_within = record {
   some = omega arith;
   few = omega arith;

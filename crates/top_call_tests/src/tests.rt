@@ -1,5 +1,5 @@
 ghost use Rattle.std.specs.Prelude.{◌≡◌, ◌%◌, bit_xor};
-ghost use Rattle.deal_rules.specs.{IsAskedOfDealRule};
+ghost use Rattle.deal_rules.specs.{IsAsked};
 
 mod audits;
 mod captures;
@@ -90,21 +90,21 @@ pub(crate) fn run_gated<R: Threads + Wait + Sync, G: Gate + Sync>(
 }
 
 fn by_place(place: u64, rec: Record, shards: u32) -> u32
-    requires { IsAskedOfDealRule place rec shards }
+    requires { IsAsked place rec shards }
     ensures { result ≡ place % shards }
 {
     (place % u64::from(shards)) as u32
 }
 
 fn by_source(place: u64, rec: Record, shards: u32) -> u32
-    requires { IsAskedOfDealRule place rec shards }
+    requires { IsAsked place rec shards }
     ensures { result ≡ rec.src % shards }
 {
     rec.src % shards
 }
 
 fn by_both(place: u64, rec: Record, shards: u32) -> u32
-    requires { IsAskedOfDealRule place rec shards }
+    requires { IsAsked place rec shards }
     ensures { result ≡ bit_xor rec.src rec.dst % shards }
 {
     (rec.src ^ rec.dst) % shards
@@ -112,7 +112,7 @@ fn by_both(place: u64, rec: Record, shards: u32) -> u32
 
 // A rule that uses only the first shard.
 fn to_the_first(place: u64, rec: Record, shards: u32) -> u32
-    requires { IsAskedOfDealRule place rec shards }
+    requires { IsAsked place rec shards }
     ensures { result ≡ 0 }
 {
     0

@@ -4,11 +4,11 @@ use Rattle.std.proofs.Common.{append_assoc, arith}
 use Rattle.std.specs.Io.KnownBytes.{Appends}
 use Rattle.std.specs.Result.{OnErr}
 use Rattle.std.proofs.KnownBytes.{Appends-nil, Appends-trans}
-use Rattle.outside_io.specs.{AppendsBeginning}
+use Rattle.outside_io.specs.{AppendsPart}
 
 -- some parts and a strict prefix of the next part are a strict prefix of the whole
 pub begins_in_later_capture_piece : (old mid new : Option (List ℕ)) (written part rest whole : List ℕ) → Appends old mid written
-    → AppendsBeginning mid new part → whole ≡ (written ++ part) ++ rest → AppendsBeginning old new whole
+    → AppendsPart mid new part → whole ≡ (written ++ part) ++ rest → AppendsPart old new whole
 begins_in_later_capture_piece old mid new written part rest whole appended begins joined =
     let front = begins.front in
     let remaining = begins.is_beginning.0 in
@@ -32,8 +32,8 @@ begins_in_later_capture_piece old mid new written part rest whole appended begin
     }
 
 -- so is a strict prefix of the first part
-pub begins_in_first_capture_piece : (old new : Option (List ℕ)) (part rest whole : List ℕ) → AppendsBeginning old new part
-    → whole ≡ part ++ rest → AppendsBeginning old new whole
+pub begins_in_first_capture_piece : (old new : Option (List ℕ)) (part rest whole : List ℕ) → AppendsPart old new part
+    → whole ≡ part ++ rest → AppendsPart old new whole
 begins_in_first_capture_piece old new part rest whole begins joined =
     begins_in_later_capture_piece old old new [] part rest whole (Appends-nil old) begins joined
 

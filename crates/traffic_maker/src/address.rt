@@ -1,7 +1,7 @@
 //! The addresses of frames.
 
 ghost use Rattle.std.specs.Prelude.{◌≡◌};
-ghost use Rattle.traffic_maker.specs.MadeAddress.{made_address};
+ghost use Rattle.traffic_maker.specs.Address.{made_address};
 
 /// The address with this first byte that a number gives.
 pub(crate) fn address(first: u8, number: u32) -> [u8; 4]

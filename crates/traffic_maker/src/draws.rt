@@ -1,7 +1,7 @@
 //! The numbers drawn from a seed.
 
 ghost use Rattle.std.specs.Prelude.{◌≡◌};
-ghost use Rattle.traffic_maker.specs.Draw.{draw_from_state, next_draw_state};
+ghost use Rattle.traffic_maker.specs.Draws.{draw_from, next_state};
 
 // Knuth's multiplier and increment for 64 bits, as in MMIX.
 const MULTIPLIER: u64 = 6_364_136_223_846_793_005;
@@ -23,10 +23,10 @@ impl Draws {
     }
 
     /// The next number.
-    #[tactic(auto, unfolding(crate::specs::Draw::next_draw_state))]
+    #[tactic(auto, unfolding(crate::specs::Draw::next_state))]
     pub(crate) fn draw(&mut self) -> u32
-        ensures state { self.new.state ≡ next_draw_state self.old.state }
-        ensures value { result ≡ draw_from_state self.new.state }
+        ensures state { self.new.state ≡ next_state self.old.state }
+        ensures value { result ≡ draw_from self.new.state }
     {
         self.state = self.state.wrapping_mul(MULTIPLIER).wrapping_add(INCREMENT);
         (self.state >> 32) as u32

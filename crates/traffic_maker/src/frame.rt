@@ -1,8 +1,8 @@
 //! The bytes of a frame.
 
 ghost use Rattle.std.specs.Prelude.{ℕ, ◌≡◌, ◌+◌, ◌*◌};
-ghost use Rattle.traffic_maker.specs.Draw.{draw_state_after};
-ghost use Rattle.traffic_maker.specs.MadeFrame.{made_frame_bytes, made_frame};
+ghost use Rattle.traffic_maker.specs.Draws.{state_after};
+ghost use Rattle.traffic_maker.specs.Frame.{frame_bytes, made_frame};
 
 use crate::address::address;
 use crate::draws::Draws;
@@ -14,9 +14,9 @@ pub(crate) const FRAME_LENGTH: usize = 50;
 /// The frame at this index. The next two numbers are drawn for it: for the source, then for the destination. The
 /// numbers for the frames before it must be drawn.
 pub(crate) fn next_frame(draws: &mut Draws, index: u32) -> [u8; 50]
-    ensures made { (seed : ℕ) → draws.old.state ≡ draw_state_after seed (2 * index) → result ≡ made_frame seed index }
-    ensures drawn { (seed : ℕ) → draws.old.state ≡ draw_state_after seed (2 * index)
-        → draws.new.state ≡ draw_state_after seed (2 * (index + 1)) }
+    ensures made { (seed : ℕ) → draws.old.state ≡ state_after seed (2 * index) → result ≡ made_frame seed index }
+    ensures drawn { (seed : ℕ) → draws.old.state ≡ state_after seed (2 * index)
+        → draws.new.state ≡ state_after seed (2 * (index + 1)) }
 {
     let source = address(10, draws.draw());
     let dest = address(20, draws.draw());
@@ -24,9 +24,9 @@ pub(crate) fn next_frame(draws: &mut Draws, index: u32) -> [u8; 50]
 }
 
 // The frame at this index between two addresses.
-#[tactic(auto, unfolding(crate::specs::MadeFrame::made_frame_bytes))]
+#[tactic(auto, unfolding(crate::specs::MadeFrame::frame_bytes))]
 fn frame(index: u32, source: &[u8; 4], dest: &[u8; 4]) -> [u8; 50]
-    ensures { result ≡ made_frame_bytes index source.now dest.now }
+    ensures { result ≡ frame_bytes index source.now dest.now }
 {
     let length = 100 * (1 + index % 4);
     let mut time = [0; 4];

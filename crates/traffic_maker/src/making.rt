@@ -2,8 +2,8 @@
 
 ghost use Rattle.std.specs.Prelude.{◌≡◌, ◌+◌, ◌≤◌, ◌++◌, length, vec_capacity, IfOk, OnOk, OnErr};
 ghost use Rattle.std.specs.Io.KnownBytes.{Appends};
-ghost use Rattle.outside_io.specs.{AppendsBeginning, FailsByFaultCount};
-ghost use Rattle.traffic_maker.specs.MadeCapture.{made_capture, most_made_capture_frames};
+ghost use Rattle.outside_io.specs.{AppendsPart, FailsByCount};
+ghost use Rattle.traffic_maker.specs.Making.{made_capture, most_frames};
 
 use crate::draws::Draws;
 use crate::frame::{FRAME_LENGTH, next_frame};
@@ -21,10 +21,10 @@ const HEADER: [u8; 24] = [
 /// allocates no memory. `Failed` is returned only if a call of the sink failed; the sink then took a strict prefix of
 /// the capture.
 pub fn make<K: Sink>(seed: u64, frames: u32, sink: &mut K) -> Result<(), Failed>
-    requires { (1 ≤ frames) × (frames ≤ most_made_capture_frames) }
+    requires { (1 ≤ frames) × (frames ≤ most_frames) }
     ensures whole { OnOk result (Appends (K.taken sink.old) (K.taken sink.new) (made_capture seed frames)) }
-    ensures beginning { OnErr result (AppendsBeginning (K.taken sink.old) (K.taken sink.new) (made_capture seed frames)) }
-    ensures cause { FailsByFaultCount (K.faults sink.old) (K.faults sink.new) result }
+    ensures beginning { OnErr result (AppendsPart (K.taken sink.old) (K.taken sink.new) (made_capture seed frames)) }
+    ensures cause { FailsByCount (K.faults sink.old) (K.faults sink.new) result }
 {
     write_all(sink, &HEADER)?;
     let mut draws = Draws::from_seed(seed);
@@ -41,7 +41,7 @@ pub fn make<K: Sink>(seed: u64, frames: u32, sink: &mut K) -> Result<(), Failed>
 
 /// The capture of `frames` frames, 1 to 1,000,000, that `seed` makes. Memory is allocated once, for all of it.
 pub fn make_bytes(alloc: Global, seed: u64, frames: u32) -> Result<Vec<u8>, OutOfMemory>
-    requires { (1 ≤ frames) × (frames ≤ most_made_capture_frames) }
+    requires { (1 ≤ frames) × (frames ≤ most_frames) }
     ensures { IfOk result (λ bytes. bytes.items ≡ made_capture seed frames) }
 {
     let mut bytes = Vec::with_capacity(alloc, HEADER.len() + FRAME_LENGTH * frames as usize)?;

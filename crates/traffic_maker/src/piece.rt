@@ -1,10 +1,10 @@
 //! Frames that wait to be written together.
 
 ghost use Rattle.std.specs.Prelude.{ℕ, ◌≡◌, ◌+◌, ◌*◌, ◌≤◌, [], ◌++◌, length};
-ghost use Rattle.traffic_maker.specs.MadeCapture.{made_capture_frames, most_made_capture_frames};
-ghost use Rattle.traffic_maker.specs.Draw.{draw_state_after};
-ghost use Rattle.traffic_maker.specs.MadeFrame.{made_frame_length};
-ghost use Rattle.traffic_maker.specs.PieceSize.{piece_size_in_frames, piece_size_in_bytes};
+ghost use Rattle.traffic_maker.specs.Making.{capture_frames, most_frames};
+ghost use Rattle.traffic_maker.specs.Draws.{state_after};
+ghost use Rattle.traffic_maker.specs.Frame.{frame_length};
+ghost use Rattle.traffic_maker.specs.Piece.{frames_in_piece, bytes_in_piece};
 
 use crate::draws::Draws;
 use crate::frame::{FRAME_LENGTH, next_frame};
@@ -23,13 +23,13 @@ pub(crate) struct Piece {
 
 impl Model for Piece {
     ghost use Rattle.std.specs.Prelude.{ℕ, List, ◌≤◌, take};
-    ghost use Rattle.traffic_maker.specs.PieceSize.{piece_size_in_bytes};
+    ghost use Rattle.traffic_maker.specs.Piece.{bytes_in_piece};
 
     ghost Value = { List ℕ };
 
     ghost view = { λ piece. take piece.length piece.bytes };
 
-    ghost invariant = { λ piece. piece.length ≤ piece_size_in_bytes };
+    ghost invariant = { λ piece. piece.length ≤ bytes_in_piece };
 }
 
 impl Piece {
@@ -53,10 +53,10 @@ impl Piece {
     /// Replaces the contents by `count` frames, at most 640, from the index `first` on. The numbers for the frames before
     /// them must be drawn.
     pub(crate) fn fill(&mut self, draws: &mut Draws, first: u32, count: u32)
-        requires { (count ≤ piece_size_in_frames) × (first + count ≤ most_made_capture_frames) }
-        ensures made { (seed : ℕ) → draws.old.state ≡ draw_state_after seed (2 * first) → self.new ≡ made_capture_frames seed first count }
-        ensures drawn { (seed : ℕ) → draws.old.state ≡ draw_state_after seed (2 * first)
-            → draws.new.state ≡ draw_state_after seed (2 * (first + count)) }
+        requires { (count ≤ frames_in_piece) × (first + count ≤ most_frames) }
+        ensures made { (seed : ℕ) → draws.old.state ≡ state_after seed (2 * first) → self.new ≡ capture_frames seed first count }
+        ensures drawn { (seed : ℕ) → draws.old.state ≡ state_after seed (2 * first)
+            → draws.new.state ≡ state_after seed (2 * (first + count)) }
     {
         self.length = 0;
         for index in first..first + count {
@@ -66,7 +66,7 @@ impl Piece {
 
     // Adds a frame.
     fn push(&mut self, frame: &[u8; 50])
-        requires { length self.old + made_frame_length ≤ piece_size_in_bytes }
+        requires { length self.old + frame_length ≤ bytes_in_piece }
         ensures { self.new ≡ self.old ++ frame.now }
     {
         let end = self.length + FRAME_LENGTH;

@@ -1,6 +1,6 @@
 -- Worked examples of the definitions.
 use Rattle.std.proofs.Common.{◌≡◌, ◌<◌, ◌≤◌, ℕ, List, [], ◌∷◌, zero, suc, drop, refl, arith}
-use Rattle.winner_tree.specs.TreeNodes.{TreeNodeHoldsLesserChild, AreTreeNodes}
+use Rattle.winner_tree.specs.Nodes.{HoldsLesser, AreTreeNodes}
 
 -- an unused node, the root 3, its child 3, and the leaves 7, 3 and 5, the last two of which are that child's children
 abbrev nodes : List ℕ
@@ -9,14 +9,14 @@ nodes = 0 ∷ 3 ∷ 3 ∷ 7 ∷ 3 ∷ 5 ∷ []
 pub leaves_come_last : drop 3 nodes ≡ 7 ∷ 3 ∷ 5 ∷ []
 leaves_come_last = refl
 
-pub root_is_the_lesser : TreeNodeHoldsLesserChild nodes 1
+pub root_is_the_lesser : HoldsLesser nodes 1
 root_is_the_lesser = refl
 
-pub inner_node_is_the_lesser : TreeNodeHoldsLesserChild nodes 2
+pub inner_node_is_the_lesser : HoldsLesser nodes 2
 inner_node_is_the_lesser = refl
 
 -- a root that is the greater of its children
-pub greater_child_at_the_root : TreeNodeHoldsLesserChild (0 ∷ 7 ∷ 3 ∷ 7 ∷ 3 ∷ 5 ∷ []) 1 → ⊥
+pub greater_child_at_the_root : HoldsLesser (0 ∷ 7 ∷ 3 ∷ 7 ∷ 3 ∷ 5 ∷ []) 1 → ⊥
 greater_child_at_the_root lesser = omega (arith, lesser)
 
 pub tree_of_three_leaves : AreTreeNodes 3 nodes
@@ -27,7 +27,7 @@ tree_of_three_leaves = record {
   mended = mended;
 }
   where
-    mended : (node : ℕ) → 1 ≤ node → node < 3 → TreeNodeHoldsLesserChild nodes node
+    mended : (node : ℕ) → 1 ≤ node → node < 3 → HoldsLesser nodes node
     mended zero some below = absurd (omega arith)
     mended (suc zero) some below = refl
     mended (suc (suc zero)) some below = refl

@@ -7,12 +7,12 @@ use Rattle.std.specs.List.{range_with_len}
 use Rattle.std.proofs.lemmas.List.{get_or-drop, get_or_default, ext_get_or}
 use Rattle.std.proofs.lemmas.List.FromFn.{length-range_with_len, get_or-range_with_len}
 use Rattle.std.proofs.Math.Nat.{min_comm}
-use Rattle.winner_tree.specs.TreeNodes.{TreeNodeHoldsLesserChild, AreTreeNodes}
+use Rattle.winner_tree.specs.Nodes.{HoldsLesser, AreTreeNodes}
 
 -- a node that was written, and whose children were not, is the lesser of them
 pub written_tree_node_is_lesser : (nodes : List ℕ) (node word : ℕ) → 1 ≤ node → node < length nodes
     → word ≡ min (get_or nodes (2 * node) 0) (get_or nodes (2 * node + 1) 0)
-    → TreeNodeHoldsLesserChild (set nodes node word) node
+    → HoldsLesser (set nodes node word) node
 written_tree_node_is_lesser nodes node word inner within is =
     get_or-set_same nodes node word 0 within ∙ is
     ∙ ap (λ n. min n (get_or nodes (2 * node + 1) 0)) (sym (get_or-set_other nodes node (2 * node) word 0 (omega arith)))
@@ -20,7 +20,7 @@ written_tree_node_is_lesser nodes node word inner within is =
 
 -- a node of which neither it nor a child was written stays the lesser
 pub other_tree_nodes_stay_lesser : (nodes : List ℕ) (written word node : ℕ) → node ≢ written → 2 * node ≢ written → 2 * node + 1 ≢ written
-    → TreeNodeHoldsLesserChild nodes node → TreeNodeHoldsLesserChild (set nodes written word) node
+    → HoldsLesser nodes node → HoldsLesser (set nodes written word) node
 other_tree_nodes_stay_lesser nodes written word node apart first second lesser =
     get_or-set_other nodes written node word 0 apart ∙ lesser
     ∙ ap (λ n. min n (get_or nodes (2 * node + 1) 0)) (sym (get_or-set_other nodes written (2 * node) word 0 first))
@@ -115,11 +115,11 @@ tree_root_node_is_least leaves nodes root tree read place d within =
 -- once this node is written, the nodes from it on are mended, if those after it were
 pub one_more_tree_node_mended : (nodes : List ℕ) (leaves from word : ℕ) → 1 ≤ from → from < length nodes
     → word ≡ min (get_or nodes (2 * from) 0) (get_or nodes (2 * from + 1) 0)
-    → ((node : ℕ) → from + 1 ≤ node → 1 ≤ node → node < leaves → TreeNodeHoldsLesserChild nodes node)
-    → (node : ℕ) → from ≤ node → 1 ≤ node → node < leaves → TreeNodeHoldsLesserChild (set nodes from word) node
+    → ((node : ℕ) → from + 1 ≤ node → 1 ≤ node → node < leaves → HoldsLesser nodes node)
+    → (node : ℕ) → from ≤ node → 1 ≤ node → node < leaves → HoldsLesser (set nodes from word) node
 one_more_tree_node_mended nodes leaves from word inner within is behind node at_least some below =
     ⊎_elim
-    (λ (same : node ≡ from). subst (λ i. TreeNodeHoldsLesserChild (set nodes from word) i) (sym same) (written_tree_node_is_lesser nodes from word inner
+    (λ (same : node ≡ from). subst (λ i. HoldsLesser (set nodes from word) i) (sym same) (written_tree_node_is_lesser nodes from word inner
     within is))
     (λ (other : node ≡ from → ⊥). other_tree_nodes_stay_lesser nodes from word node other (omega arith) (omega arith) (behind node (omega arith) some below))
     (cases_eq node from)

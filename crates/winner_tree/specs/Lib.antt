@@ -1,2 +1,2 @@
 -- within the crate
-pub mod TreeNodes
+pub mod Nodes

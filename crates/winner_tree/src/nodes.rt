@@ -3,7 +3,7 @@
 
 ghost use Rattle.std.specs.Prelude.{◌≡◌, ◌+◌, ◌*◌, ◌^◌, ◌<◌, ◌≤◌, drop, length, min, slice_index, slice_set};
 ghost use Rattle.std.specs.List.{range_with_len};
-ghost use Rattle.winner_tree.specs.TreeNodes.{AreTreeNodes};
+ghost use Rattle.winner_tree.specs.Nodes.{AreTreeNodes};
 
 /// Writes a leaf, and mends the nodes above it from its parent up to the root.
 pub(crate) fn write_leaf(nodes: &mut [u64], leaves: usize, place: usize, word: u64)

@@ -17,7 +17,7 @@ pub struct WinnerTree {
 
 impl Model for WinnerTree {
     ghost use Rattle.std.specs.Prelude.{ℕ, List, drop};
-    ghost use Rattle.winner_tree.specs.TreeNodes.{AreTreeNodes};
+    ghost use Rattle.winner_tree.specs.Nodes.{AreTreeNodes};
 
     ghost Value = { List ℕ };
 

@@ -3,10 +3,10 @@
 ghost use Rattle.std.specs.Prelude.{⊤, ◌≡◌, List, ℕ, Option, IfOk, IfErr, OnOk, IsErrOf};
 ghost use Rattle.std.specs.Io.KnownBytes.{IsAtEnd};
 ghost use Rattle.deal_rules.specs.{dealer_of};
-ghost use Rattle.command_words.specs.{AreLimitedSettings};
-ghost use Rattle.hhh_engine.specs.Reading.{AreAuditingInputs, HasNoAudit};
+ghost use Rattle.command_words.specs.{AreLimited};
+ghost use Rattle.hhh_engine.specs.Reading.{AreAuditing, HasNoAudit};
 ghost use Rattle.hhh_engine.specs.Tasks.{audit_task};
-ghost use Rattle.hhh_engine.specs.Ending.{course, Ends, EndsInOrder, ending_source_faults};
+ghost use Rattle.hhh_engine.specs.Ending.{course, Ends, EndsInOrder, faults_of_source};
 ghost use Rattle.hhh_engine.specs.Inputs.{inputs};
 
 use crate::{Settings, Status};
@@ -29,15 +29,15 @@ pub(crate) fn audit<S: Source, T: Source, K: Sink>(
     sink: &mut K,
     dealers: &Dealers,
 ) -> Status
-    requires { AreLimitedSettings settings.now }
+    requires { AreLimited settings.now }
     ensures ends { (store : Option (List ℕ)) → Ends
         (audit_task settings.now (λ kind. ⟦<Dealer as Deals>⟧.may_answer (dealer_of kind dealers.now))
         (inputs (S.left capture.old) (S.left capture.new) (T.left text.old) (T.left text.new) store) (K.taken sink.old) (K.taken sink.new))
-        (course K.Sink (S.left capture.old) (ending_source_faults (S.faults capture.old) (T.faults text.old))
-        (ending_source_faults (S.faults capture.new) (T.faults text.new)) sink.old sink.new) result }
+        (course K.Sink (S.left capture.old) (faults_of_source (S.faults capture.old) (T.faults text.old))
+        (faults_of_source (S.faults capture.new) (T.faults text.new)) sink.old sink.new) result }
     ensures order { (store : Option (List ℕ)) → EndsInOrder ⊤ ⊤ (inputs (S.left capture.old) (S.left capture.new) (T.left text.old) (T.left text.new) store)
-        (ending_source_faults (S.faults capture.old) (T.faults text.old))
-        (ending_source_faults (S.faults capture.new) (T.faults text.new)) text.old text.new result }
+        (faults_of_source (S.faults capture.old) (T.faults text.old))
+        (faults_of_source (S.faults capture.new) (T.faults text.new)) text.old text.new result }
 {
     let audited = match read_audited(alloc, settings, capture, text, dealers) {
         Ok(audited) => audited,
@@ -61,20 +61,20 @@ fn read_audited<S: Source, T: Source>(
     text: &mut T,
     dealers: &Dealers,
 ) -> Result<Audited, Status>
-    requires { AreLimitedSettings settings.now }
+    requires { AreLimited settings.now }
     ensures audited { (store : Option (List ℕ))
-        → IfOk result (AreAuditingInputs settings.now (λ kind. ⟦<Dealer as Deals>⟧.may_answer (dealer_of kind dealers.now))
+        → IfOk result (AreAuditing settings.now (λ kind. ⟦<Dealer as Deals>⟧.may_answer (dealer_of kind dealers.now))
         (inputs (S.left capture.old) (S.left capture.new) (T.left text.old) (T.left text.new) store)) }
     ensures capture_at_end { OnOk result (IsAtEnd (S.left capture.new)) }
     ensures text_at_end { OnOk result (IsAtEnd (T.left text.new)) }
     ensures refused { (store : Option (List ℕ))
         → IfErr result (HasNoAudit (inputs (S.left capture.old) (S.left capture.new) (T.left text.old) (T.left text.new) store)
-        (ending_source_faults (S.faults capture.old) (T.faults text.old)) (ending_source_faults (S.faults capture.new) (T.faults text.new))) }
+        (faults_of_source (S.faults capture.old) (T.faults text.old)) (faults_of_source (S.faults capture.new) (T.faults text.new))) }
     ensures order { (store : Option (List ℕ))
         → IfErr result (EndsInOrder ⊤ ⊤ (inputs (S.left capture.old) (S.left capture.new) (T.left text.old) (T.left text.new) store)
-        (ending_source_faults (S.faults capture.old) (T.faults text.old)) (ending_source_faults (S.faults capture.new) (T.faults text.new)) text.old text.new) }
+        (faults_of_source (S.faults capture.old) (T.faults text.old)) (faults_of_source (S.faults capture.new) (T.faults text.new)) text.old text.new) }
     ensures told { (IsErrOf result Status.ReadFault → ⊥)
-        → ending_source_faults (S.faults capture.new) (T.faults text.new) ≡ ending_source_faults (S.faults capture.old) (T.faults text.old) }
+        → faults_of_source (S.faults capture.new) (T.faults text.new) ≡ faults_of_source (S.faults capture.old) (T.faults text.old) }
 {
     let records = read_records(alloc, capture, settings.weigh)?;
     let bytes = read_text(alloc, text)?;

@@ -3,17 +3,17 @@
 ghost use Rattle.std.specs.Prelude.{◌≡◌, ◌≤◌, ◌↔◌, ℕ, List, length, Option, IfErr, IfOk};
 ghost use Rattle.prefix_lattice.specs.{record_limit};
 ghost use Rattle.pcap_frames.specs.{FrameValue};
-ghost use Rattle.frame_records.specs.{AreRecordsOf, CaptureFileHasFrames, HasRecords};
+ghost use Rattle.frame_records.specs.{AreRecordsOf, FileHasFrames, HasRecords};
 ghost use Rattle.deal_rules.specs.{dealer_of};
 ghost use Rattle.pcap_frames.specs.declared.fault.CaptureFault.{CaptureFault};
-ghost use Rattle.traffic_maker.specs.{made_capture, most_made_capture_frames};
+ghost use Rattle.traffic_maker.specs.{made_capture, most_frames};
 ghost use Rattle.hhh_report.specs.{IsSound};
 ghost use Rattle.exact_audit.specs.{IsVerdict};
 ghost use Rattle.exact_audit.specs.declared.verdict.Verdict.TheVariants.{Good};
-ghost use Rattle.command_words.specs.{AreLimitedSettings, AreWideSettings};
+ghost use Rattle.command_words.specs.{AreLimited, AreWide};
 ghost use Rattle.hhh_engine.specs.Demo.{IsDemoText, demo_text as text_of_demo};
 ghost use Rattle.hhh_engine.specs.Tasks.{made_task};
-ghost use Rattle.hhh_engine.specs.Ending.{course, Ends, EndingSourceFaults};
+ghost use Rattle.hhh_engine.specs.Ending.{course, Ends, SourceFaults};
 ghost use Rattle.hhh_engine.specs.Reading.{HasNoText};
 ghost use Rattle.run_status.specs.declared.status.Status.TheVariants.{BadCapture, ReadFault};
 
@@ -46,10 +46,10 @@ pub(crate) fn demo<R: Threads + Wait + Sync, K: Sink, G: Gate + Sync>(
     gate: &G,
     dealers: &Dealers,
 ) -> Status
-    requires frames { (1 ≤ frames) × (frames ≤ most_made_capture_frames) }
-    requires limited { AreLimitedSettings settings.now }
-    requires wide { AreWideSettings settings.now }
-    ensures ends { (capture : Option (List ℕ)) (faults : EndingSourceFaults) → Ends
+    requires frames { (1 ≤ frames) × (frames ≤ most_frames) }
+    requires limited { AreLimited settings.now }
+    requires wide { AreWide settings.now }
+    ensures ends { (capture : Option (List ℕ)) (faults : SourceFaults) → Ends
         (made_task (IsDemoText settings.now (λ kind. ⟦<Dealer as Deals>⟧.may_answer (dealer_of kind dealers.now)) seed frames))
         (course K.Sink capture faults faults sink.old sink.new) result }
     ensures no_capture { (fault : CaptureFault) → result ≡ BadCapture fault → ⊥ }
@@ -75,9 +75,9 @@ fn demo_text<R: Threads + Wait + Sync, G: Gate + Sync>(
     gate: &G,
     dealers: &Dealers,
 ) -> Result<Vec<u8>, AllocError>
-    requires frames { (1 ≤ frames) × (frames ≤ most_made_capture_frames) }
-    requires limited { AreLimitedSettings settings.now }
-    requires wide { AreWideSettings settings.now }
+    requires frames { (1 ≤ frames) × (frames ≤ most_frames) }
+    requires limited { AreLimited settings.now }
+    requires wide { AreWide settings.now }
     ensures { IfOk result (λ text. IsDemoText settings.now (λ kind. ⟦<Dealer as Deals>⟧.may_answer (dealer_of kind dealers.now)) seed frames text.items) }
 {
     let records = made_records(alloc, seed, frames, settings.weigh)?;
@@ -98,7 +98,7 @@ fn verdict_on(
     report: &Report,
     settings: &Settings,
 ) -> Result<Verdict, AllocError>
-    requires { AreLimitedSettings settings.now }
+    requires { AreLimited settings.now }
     ensures verdict { IfOk result (IsVerdict plain.now settings.now.capacity settings.now.phi report.now) }
     ensures good { IfOk result (λ verdict. (verdict ≡ Good) ↔ IsSound report.now plain.now settings.now.capacity settings.now.phi) }
 {
@@ -107,8 +107,8 @@ fn verdict_on(
 
 // The records of the capture that a seed and a number of frames determine.
 fn made_records(alloc: Global, seed: u64, frames: u32, weigh: Weigh) -> Result<Records, AllocError>
-    requires { (1 ≤ frames) × (frames ≤ most_made_capture_frames) }
-    ensures records { IfOk result (λ records. (made : List FrameValue) × CaptureFileHasFrames (made_capture seed frames) made
+    requires { (1 ≤ frames) × (frames ≤ most_frames) }
+    ensures records { IfOk result (λ records. (made : List FrameValue) × FileHasFrames (made_capture seed frames) made
         × AreRecordsOf weigh made records) }
     ensures few { IfOk result (λ records. length records.list ≤ record_limit) }
 {

@@ -2,7 +2,7 @@
 
 ghost use Rattle.std.specs.Prelude.{◌≡◌, ◌≤◌, length, drop, IfOk, Some};
 ghost use Rattle.std.specs.Io.KnownBytes.{ReadConsumes};
-ghost use Rattle.outside_io.specs.{FailsByFaultCount};
+ghost use Rattle.outside_io.specs.{FailsByCount};
 
 use outside_io::{Failed, MemorySource, Source};
 use std::alloc::Global;
@@ -48,7 +48,7 @@ impl Source for MadeSource {
         ensures fits { IfOk result (λ count. count ≤ length into.old) }
         ensures later_places { IfOk result (λ count. drop count into.new ≡ drop count into.old) }
         ensures first_bytes { ReadConsumes (Some self.old) (Some self.new) result into.new }
-        ensures cause { FailsByFaultCount 0 0 result }
+        ensures cause { FailsByCount 0 0 result }
     {
         match self.source.read(into) {
             Ok(count) => Ok(count),

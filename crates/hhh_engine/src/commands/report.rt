@@ -3,11 +3,11 @@
 ghost use Rattle.std.specs.Prelude.{ℕ, ◌≡◌, ◌<◌, false, length, IfOk, IfErr, IfSome, OnOk, IsErrOf};
 ghost use Rattle.std.specs.Io.KnownBytes.{IsAtEnd};
 ghost use Rattle.deal_rules.specs.{dealer_of};
-ghost use Rattle.command_words.specs.{AreLimitedSettings, AreWideSettings};
+ghost use Rattle.command_words.specs.{AreLimited, AreWide};
 ghost use Rattle.hhh_engine.specs.Tasks.{report_task};
-ghost use Rattle.hhh_engine.specs.Ending.{course, Ends, ending_source_faults};
+ghost use Rattle.hhh_engine.specs.Ending.{course, Ends, faults_of_source};
 ghost use Rattle.hhh_engine.specs.Reading.{HasNoText};
-ghost use Rattle.report_session.specs.{IsDealtFeedCapture};
+ghost use Rattle.report_session.specs.{IsFeedCapture};
 ghost use Rattle.run_status.specs.declared.status.Status.TheVariants.{DiskFault};
 
 use crate::{Settings, Status};
@@ -36,12 +36,12 @@ pub(crate) fn report<R: Threads + Wait + Sync, S: Source, K: Sink, D: Disk, G: G
     gate: &G,
     dealers: &Dealers,
 ) -> Status
-    requires limited { AreLimitedSettings settings.now }
-    requires wide { AreWideSettings settings.now }
+    requires limited { AreLimited settings.now }
+    requires wide { AreWide settings.now }
     ensures ends { (other : ℕ) → Ends
         (report_task D.Disk settings.now (λ kind. ⟦<Dealer as Deals>⟧.may_answer (dealer_of kind dealers.now))
         (S.left capture.old) (S.left capture.new) disk.old disk.new)
-        (course K.Sink (S.left capture.old) (ending_source_faults (S.faults capture.old) other) (ending_source_faults (S.faults capture.new) other)
+        (course K.Sink (S.left capture.old) (faults_of_source (S.faults capture.old) other) (faults_of_source (S.faults capture.new) other)
         sink.old sink.new) result }
     ensures told { (result ≡ DiskFault → ⊥) → D.faults disk.new ≡ D.faults disk.old }
     ensures unused { settings.now.store ≡ false → disk.new ≡ disk.old }
@@ -60,9 +60,9 @@ fn read_dealt<S: Source>(
     capture: &mut S,
     dealers: &Dealers,
 ) -> Result<DealtFeed, Status>
-    requires limited { AreLimitedSettings settings.now }
+    requires limited { AreLimited settings.now }
     ensures dealt { IfOk result (λ fed. IfSome (S.left capture.old) (λ file.
-        IsDealtFeedCapture settings.now (λ kind. ⟦<Dealer as Deals>⟧.may_answer (dealer_of kind dealers.now)) file fed.dealt fed.tail.items)) }
+        IsFeedCapture settings.now (λ kind. ⟦<Dealer as Deals>⟧.may_answer (dealer_of kind dealers.now)) file fed.dealt fed.tail.items)) }
     ensures shards { IfOk result (λ fed. length fed.dealt ≡ settings.now.shards) }
     ensures tail { IfOk result (λ fed. 0 < length fed.tail.items) }
     ensures at_end { OnOk result (IsAtEnd (S.left capture.new)) }

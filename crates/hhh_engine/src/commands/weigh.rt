@@ -3,11 +3,11 @@
 ghost use Rattle.std.specs.Prelude.{ℕ, ◌≡◌, ◌≤◌, length, All, IfOk, IfErr, IfSome, OnOk, IsErrOf};
 ghost use Rattle.std.specs.Io.KnownBytes.{IsAtEnd};
 ghost use Rattle.prefix_lattice.specs.{record_limit};
-ghost use Rattle.shard_state.specs.{snapshot_records_table, NarrowIntervalHoldsWeightOver};
+ghost use Rattle.shard_state.specs.{records_table, HoldsNarrowlyOver};
 ghost use Rattle.hhh_engine.specs.Tasks.{weigh_task};
-ghost use Rattle.hhh_engine.specs.Ending.{course, Ends, ending_source_faults};
+ghost use Rattle.hhh_engine.specs.Ending.{course, Ends, faults_of_source};
 ghost use Rattle.hhh_engine.specs.Reading.{HasNoText};
-ghost use Rattle.hhh_engine.specs.WeightText.{weight_text_for, weight_text_capacity, weight_text, IsWeightText};
+ghost use Rattle.hhh_engine.specs.Weigh.{text_for, text_capacity, weight_text, IsWeightText};
 
 use crate::{Settings, Status};
 use frame_records::read_records;
@@ -30,7 +30,7 @@ pub(crate) fn weigh<S: Source, K: Sink>(
     sink: &mut K,
 ) -> Status
     ensures { (other : ℕ) → Ends (weigh_task prefix.now settings.now (S.left capture.old) (S.left capture.new))
-        (course K.Sink (S.left capture.old) (ending_source_faults (S.faults capture.old) other) (ending_source_faults (S.faults capture.new) other)
+        (course K.Sink (S.left capture.old) (faults_of_source (S.faults capture.old) other) (faults_of_source (S.faults capture.new) other)
         sink.old sink.new) result }
 {
     let text = match read_weight(alloc, prefix, settings, capture) {
@@ -63,8 +63,8 @@ fn read_weight<S: Source>(
 fn weigh_text(alloc: Global, prefix: &Prefix, records: &[Record]) -> Result<Vec<u8>, AllocError>
     requires few { length records.now ≤ record_limit }
     requires weighed { All (λ rec. 1 ≤ rec.weight) records.now }
-    ensures text { IfOk result (λ text. text.items ≡ weight_text_for prefix.now records.now) }
-    ensures holds { IfOk result (λ _. NarrowIntervalHoldsWeightOver weight_text_capacity prefix.now records.now) }
+    ensures text { IfOk result (λ text. text.items ≡ text_for prefix.now records.now) }
+    ensures holds { IfOk result (λ _. HoldsNarrowlyOver text_capacity prefix.now records.now) }
 {
     tables_hold_weights();
     let key = prefix.key();
@@ -77,7 +77,7 @@ fn weigh_text(alloc: Global, prefix: &Prefix, records: &[Record]) -> Result<Vec<
 fn fold_records(alloc: Global, node: Node, records: &[Record]) -> Result<PlainTable, AllocError>
     requires { length records.now ≤ record_limit }
     ensures { IfOk result (λ table.
-        table ≡ record { capacity = weight_text_capacity; entries = snapshot_records_table weight_text_capacity node records.now }) }
+        table ≡ record { capacity = text_capacity; entries = records_table text_capacity node records.now }) }
 {
     let mut table = PlainTable::with_capacity(alloc, WEIGH_CAPACITY)?;
     for rec in records {

@@ -2,7 +2,7 @@
 
 ghost use Rattle.std.specs.Prelude.{◌≡◌, ◌≤◌, ◌<◌, ◌^◌, OnOk, if◌then◌else◌};
 ghost use Rattle.std.specs.List.{list_any};
-ghost use Rattle.prefix_lattice.specs.{covers, same_in_lattice};
+ghost use Rattle.prefix_lattice.specs.{covers, same_as};
 
 use super::prefix_of_texts;
 use conditioned_bounds::{Intervals, LineIndex, bound, closest, kept_pairs};
@@ -132,7 +132,7 @@ fn bounds_of_prefixes(rt: HostRuntime) -> Result<(), Fail> {
 
 /// Whether a prefix is one of some lines.
 fn is_among(lines: &Prefixes, prefix: &Prefix) -> bool
-    ensures { result ≡ list_any (λ line. same_in_lattice prefix.now line) lines.now }
+    ensures { result ≡ list_any (λ line. same_as prefix.now line) lines.now }
 {
     lines
         .as_slice()

@@ -1,11 +1,11 @@
 //! What the bytes at the front of a frame say.
 
 ghost use Rattle.std.specs.Prelude.{◌≡◌, ℕ, ◌+◌, ◌<◌, ◌≤◌, length, min, take, drop, slice_index, IfSome};
-ghost use Rattle.pcap_frames.specs.FileOrder.{number_in_file_order};
+ghost use Rattle.pcap_frames.specs.FileOrder.{number_in_order};
 ghost use Rattle.pcap_frames.specs.Frame.{frame_content};
-ghost use Rattle.pcap_frames.specs.Frame.{frame_at, frame_bytes_needed, frame_fault, IsFrame};
-ghost use Rattle.pcap_frames.specs.ReaderSteps.{StepSplitsFrame};
-ghost use Rattle.pcap_frames.specs.Lengths.{frame_header_length, frame_head_length, most_captured_length};
+ghost use Rattle.pcap_frames.specs.Frame.{frame_at, bytes_needed, frame_fault, IsFrame};
+ghost use Rattle.pcap_frames.specs.Reader.{SplitsFrame};
+ghost use Rattle.pcap_frames.specs.Lengths.{record_length, frame_head_length, most_captured};
 
 use crate::file_order::FileOrder;
 use crate::header::fault_at;
@@ -18,9 +18,9 @@ pub(crate) const MOST_CAPTURED: u32 = 262_144;
 
 /// The frame whose header and head are at the front of the bytes.
 pub(crate) fn frame_at(order: FileOrder, bytes: &[u8]) -> Frame<'_>
-    requires header { frame_header_length ≤ length bytes.now }
-    requires limit { number_in_file_order order 4 8 bytes.now ≤ most_captured_length }
-    requires head { frame_header_length + min frame_head_length (number_in_file_order order 4 8 bytes.now) ≤ length bytes.now }
+    requires header { record_length ≤ length bytes.now }
+    requires limit { number_in_order order 4 8 bytes.now ≤ most_captured }
+    requires head { record_length + min frame_head_length (number_in_order order 4 8 bytes.now) ≤ length bytes.now }
     ensures content { frame_content result ≡ frame_at order bytes.now }
     ensures is_frame { IsFrame (frame_content result) }
 {
@@ -36,9 +36,9 @@ pub(crate) fn frame_at(order: FileOrder, bytes: &[u8]) -> Frame<'_>
 /// The first 42 of this many captured bytes after the frame header.
 #[tactic(auto, using(crate::proofs::FrameHeadLemmas::frame_head_of_front))]
 fn head_of(bytes: &[u8], captured: u32) -> &[u8]
-    requires header { frame_header_length ≤ length bytes.now }
-    requires head { frame_header_length + min frame_head_length captured ≤ length bytes.now }
-    ensures value { result.now ≡ take frame_head_length (take captured (drop frame_header_length bytes.now)) }
+    requires header { record_length ≤ length bytes.now }
+    requires head { record_length + min frame_head_length captured ≤ length bytes.now }
+    ensures value { result.now ≡ take frame_head_length (take captured (drop record_length bytes.now)) }
     ensures length { length result.now ≡ min frame_head_length captured }
     ensures bytes { (place : ℕ) → slice_index result.now place < 256 }
 {
@@ -49,7 +49,7 @@ fn head_of(bytes: &[u8], captured: u32) -> &[u8]
 
 /// The frame at the front of the bytes and the rest after it, if the whole frame is there.
 pub(crate) fn whole_at(order: FileOrder, bytes: &[u8]) -> Option<(Frame<'_>, &[u8])>
-    ensures splits { IfSome result (λ found. StepSplitsFrame order bytes.now found.1.now (frame_content found.0)) }
+    ensures splits { IfSome result (λ found. SplitsFrame order bytes.now found.1.now (frame_content found.0)) }
     ensures is_frame { IfSome result (λ found. IsFrame (frame_content found.0)) }
 {
     if bytes.len() < 16 {
@@ -64,9 +64,9 @@ pub(crate) fn whole_at(order: FileOrder, bytes: &[u8]) -> Option<(Frame<'_>, &[u
 }
 
 /// The least number of bytes that the frame takes, as far as its header is known.
-#[tactic(auto, unfolding(crate::specs::Frame::frame_bytes_needed))]
+#[tactic(auto, unfolding(crate::specs::Frame::bytes_needed))]
 pub(crate) fn needed(order: FileOrder, bytes: &[u8]) -> u64
-    ensures { result ≡ frame_bytes_needed order bytes.now }
+    ensures { result ≡ bytes_needed order bytes.now }
 {
     if bytes.len() < 16 {
         return 16;

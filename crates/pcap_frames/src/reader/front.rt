@@ -1,7 +1,7 @@
 //! The first bytes of a header or frame that is split between pieces.
 
 ghost use Rattle.std.specs.Prelude.{◌≡◌, ◌+◌, ◌^◌, ◌<◌, ◌≤◌, [], ◌++◌, length, min, take};
-ghost use Rattle.pcap_frames.specs.Lengths.{kept_frame_length};
+ghost use Rattle.pcap_frames.specs.Lengths.{kept_length};
 
 use std::marker::Model;
 
@@ -15,7 +15,7 @@ pub(crate) struct FrontBytes {
 
 impl Model for FrontBytes {
     ghost use Rattle.std.specs.Prelude.{take};
-    ghost use Rattle.pcap_frames.specs.FrontValue.{FrontValue};
+    ghost use Rattle.pcap_frames.specs.Front.{FrontValue};
 
     ghost Value = { FrontValue };
 
@@ -36,7 +36,7 @@ impl FrontBytes {
     /// How many bytes arrived.
     pub(crate) fn came(&self) -> u32
         ensures count { result ≡ self.now.came }
-        ensures length { length self.now.first ≡ min kept_frame_length self.now.came }
+        ensures length { length self.now.first ≡ min kept_length self.now.came }
     {
         self.came
     }
@@ -44,7 +44,7 @@ impl FrontBytes {
     /// The first 58 of the bytes that arrived.
     pub(crate) fn first(&self) -> &[u8]
         ensures bytes { result.now ≡ self.now.first }
-        ensures length { length result.now ≡ min kept_frame_length self.now.came }
+        ensures length { length result.now ≡ min kept_length self.now.came }
     {
         &self.bytes[..(self.came as usize).min(58)]
     }
@@ -52,7 +52,7 @@ impl FrontBytes {
     /// Adds more bytes.
     pub(crate) fn add(&mut self, more: &[u8])
         requires { self.old.came + length more.now < 2 ^ 32 }
-        ensures first { self.new.first ≡ take kept_frame_length (self.old.first ++ more.now) }
+        ensures first { self.new.first ≡ take kept_length (self.old.first ++ more.now) }
         ensures came { self.new.came ≡ self.old.came + length more.now }
     {
         let from = (self.came as usize).min(58);

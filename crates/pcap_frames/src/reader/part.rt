@@ -2,14 +2,14 @@
 
 ghost use Rattle.std.specs.Prelude.{◌≡◌, ℕ, ◌+◌, ◌*◌, ◌<◌, ◌≤◌, List, [], ◌∷◌, ◌++◌, length, take, IfSome, IfNone};
 ghost use Rattle.pcap_frames.specs.Frame.{frame_content};
-ghost use Rattle.pcap_frames.specs.Frame.{IsFrame, frame_bytes_needed};
-ghost use Rattle.pcap_frames.specs.ReaderState.{ReaderAdvances};
-ghost use Rattle.pcap_frames.specs.ReaderSteps.{ReaderStepTakes, frames_held_in_step};
-ghost use Rattle.pcap_frames.specs.ReaderState as state;
-ghost use Rattle.pcap_frames.specs.ReaderPart.{reader_state_of_part, IsReaderPartInStage, IsReaderPartWithin};
-ghost use Rattle.pcap_frames.specs.ReaderPart.{reader_place_of_part};
-ghost use Rattle.pcap_frames.specs.Lengths.{file_header_length, frame_header_length, kept_frame_length};
-ghost use Rattle.pcap_frames.specs.Lengths.{most_captured_length};
+ghost use Rattle.pcap_frames.specs.Frame.{IsFrame, bytes_needed};
+ghost use Rattle.pcap_frames.specs.FrameReader.{Advances};
+ghost use Rattle.pcap_frames.specs.Reader.{StepTakes, frames_held};
+ghost use Rattle.pcap_frames.specs.FrameReader as state;
+ghost use Rattle.pcap_frames.specs.Part.{state_of_part, IsPartInStage, IsPartWithin};
+ghost use Rattle.pcap_frames.specs.Part.{place_of_part};
+ghost use Rattle.pcap_frames.specs.Lengths.{header_length, record_length, kept_length};
+ghost use Rattle.pcap_frames.specs.Lengths.{most_captured};
 ghost use Rattle.pcap_frames.specs.Frame.{frame_count_limit};
 
 use crate::file_order::FileOrder;
@@ -66,10 +66,10 @@ impl FramePart {
     /// Takes the next bytes that this stage waits for.
     pub(crate) fn take<'a>(&mut self, stage: Stage, piece: &'a [u8]) -> Taken<'a>
         requires has_bytes { 0 < length piece.now }
-        requires sound { IsReaderPartInStage stage self.old }
-        ensures sound { IsReaderPartInStage result.stage self.new }
-        ensures takes { ReaderStepTakes (reader_state_of_part stage self.old) (reader_state_of_part result.stage self.new) piece.now
-            result.rest.now (frames_held_in_step result.held) }
+        requires sound { IsPartInStage stage self.old }
+        ensures sound { IsPartInStage result.stage self.new }
+        ensures takes { StepTakes (state_of_part stage self.old) (state_of_part result.stage self.new) piece.now
+            result.rest.now (frames_held result.held) }
     {
         match stage {
             Stage::Header => self.take_header(piece),
@@ -81,10 +81,10 @@ impl FramePart {
     /// Takes the next bytes of the file header.
     fn take_header<'a>(&mut self, piece: &'a [u8]) -> Taken<'a>
         requires has_bytes { 0 < length piece.now }
-        requires sound { self.old.kept.came < file_header_length }
-        ensures sound { IsReaderPartInStage result.stage self.new }
-        ensures takes { ReaderStepTakes (state.InHeader self.old.kept.first) (reader_state_of_part result.stage self.new) piece.now result.rest.now [] }
-        ensures no_frame { frames_held_in_step result.held ≡ [] }
+        requires sound { self.old.kept.came < header_length }
+        ensures sound { IsPartInStage result.stage self.new }
+        ensures takes { StepTakes (state.InHeader self.old.kept.first) (state_of_part result.stage self.new) piece.now result.rest.now [] }
+        ensures no_frame { frames_held result.held ≡ [] }
     {
         let count = (24 - self.kept.came() as usize).min(piece.len());
         let (front, rest) = piece.split_at(count);
@@ -99,11 +99,11 @@ impl FramePart {
 
     /// The stage after the bytes of the file header that arrived.
     fn leave_header(&mut self) -> Stage
-        requires { self.old.kept.came ≤ file_header_length }
-        ensures sound { IsReaderPartInStage result self.new }
-        ensures advances { (kept front : List ℕ) → self.old.kept.first ≡ take kept_frame_length (kept ++ front)
+        requires { self.old.kept.came ≤ header_length }
+        ensures sound { IsPartInStage result self.new }
+        ensures advances { (kept front : List ℕ) → self.old.kept.first ≡ take kept_length (kept ++ front)
             → length kept + length front ≡ self.old.kept.came
-            → ReaderAdvances (state.InHeader kept) (reader_state_of_part result self.new) front [] }
+            → Advances (state.InHeader kept) (state_of_part result self.new) front [] }
     {
         let header = self.kept.first();
         if let Some(fault) = header_fault(header) {
@@ -124,10 +124,10 @@ impl FramePart {
 
     /// Takes the frame at the front of the piece, if the whole frame is there.
     pub(crate) fn whole_frame<'a>(&mut self, piece: &'a [u8]) -> Option<(Frame<'a>, &'a [u8])>
-        requires { IsReaderPartWithin self.old }
-        ensures sound { IsReaderPartWithin self.new }
-        ensures takes { IfSome result (λ found. ReaderStepTakes (state.InFrames (reader_place_of_part self.old))
-            (state.InFrames (reader_place_of_part self.new))
+        requires { IsPartWithin self.old }
+        ensures sound { IsPartWithin self.new }
+        ensures takes { IfSome result (λ found. StepTakes (state.InFrames (place_of_part self.old))
+            (state.InFrames (place_of_part self.new))
             piece.now found.1.now (frame_content found.0 ∷ [])) }
         ensures is_frame { IfSome result (λ found. IsFrame (frame_content found.0)) }
         ensures none { IfNone result (self.new ≡ self.old) }
@@ -144,10 +144,10 @@ impl FramePart {
     /// Takes the next bytes of a frame, and gives the whole frame with the last of them.
     fn take_frame<'a>(&mut self, piece: &'a [u8]) -> Taken<'a>
         requires has_bytes { 0 < length piece.now }
-        requires sound { IsReaderPartWithin self.old }
-        ensures sound { IsReaderPartInStage result.stage self.new }
-        ensures takes { ReaderStepTakes (state.InFrames (reader_place_of_part self.old)) (reader_state_of_part result.stage self.new)
-            piece.now result.rest.now (frames_held_in_step result.held) }
+        requires sound { IsPartWithin self.old }
+        ensures sound { IsPartInStage result.stage self.new }
+        ensures takes { StepTakes (state.InFrames (place_of_part self.old)) (state_of_part result.stage self.new)
+            piece.now result.rest.now (frames_held result.held) }
     {
         let left = needed(self.order, self.kept.first()) - self.kept.came() as u64;
         let count = (left as usize).min(piece.len());
@@ -160,13 +160,13 @@ impl FramePart {
     /// The stage after the bytes of a frame that arrived, and the frame once it is whole.
     fn leave_frame(&mut self) -> (Stage, Option<HeldFrame>)
         requires count { self.old.count ≤ frame_count_limit }
-        requires place { self.old.place ≤ file_header_length + (frame_header_length + most_captured_length) * self.old.count }
-        requires came { self.old.kept.came ≤ frame_bytes_needed self.old.order self.old.kept.first }
-        ensures sound { IsReaderPartInStage result.0 self.new }
-        ensures advances { (kept front : List ℕ) (came : ℕ) → self.old.kept.first ≡ take kept_frame_length (kept ++ front)
+        requires place { self.old.place ≤ header_length + (record_length + most_captured) * self.old.count }
+        requires came { self.old.kept.came ≤ bytes_needed self.old.order self.old.kept.first }
+        ensures sound { IsPartInStage result.0 self.new }
+        ensures advances { (kept front : List ℕ) (came : ℕ) → self.old.kept.first ≡ take kept_length (kept ++ front)
             → self.old.kept.came ≡ came + length front
-            → ReaderAdvances (state.InFrames (record (reader_place_of_part self.old) { kept = kept; came = came }))
-            (reader_state_of_part result.0 self.new) front (frames_held_in_step result.1) }
+            → Advances (state.InFrames (record (place_of_part self.old) { kept = kept; came = came }))
+            (state_of_part result.0 self.new) front (frames_held result.1) }
     {
         let bytes = self.kept.first();
         if let Some(fault) = frame_fault(self.order, self.count, self.place, bytes) {
@@ -190,7 +190,7 @@ impl FramePart {
 /// Takes all the bytes, in a stage that no bytes change.
 fn pass_over(stage: Stage, piece: &[u8]) -> Taken<'_>
     ensures stage { result.stage ≡ stage }
-    ensures nothing { frames_held_in_step result.held ≡ [] }
+    ensures nothing { frames_held result.held ≡ [] }
     ensures rest { result.rest.now ≡ [] }
 {
     let (_, rest) = piece.split_at(piece.len());

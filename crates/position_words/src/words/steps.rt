@@ -2,10 +2,10 @@
 
 ghost use Rattle.std.specs.Prelude.{◌≡◌, ◌<◌, ◌≤◌, ◌^◌, ◌/◌, [], ◌∷◌, length, None, Some};
 ghost use Rattle.prefix_lattice.specs.{record_limit};
-ghost use Rattle.position_words.specs.View.{view_after_giving, view_after_look};
+ghost use Rattle.position_words.specs.View.{after_giving, after_look};
 ghost use Rattle.position_words.specs.Seat.{IsSeatOf, view};
-ghost use Rattle.position_words.specs.WordSteps.{WordStepHasTaken, WordStepIsReady, IsSameSeatInWordStep};
-ghost use Rattle.position_words.specs.WordSteps.{WordStepMarks, WordStepMeets};
+ghost use Rattle.position_words.specs.Steps.{StepHasTaken, StepIsReady, IsSameSeat};
+ghost use Rattle.position_words.specs.Steps.{StepMarks, StepMeets};
 
 use super::{Seat, Words};
 use crate::rule::{Giving, Looking, TakingToFold, TakingToRead};
@@ -17,9 +17,9 @@ impl Words {
     pub(super) fn load(&self, shard: u32, seat: &mut Seat) -> u64
         requires within { shard < length self.now.opening }
         requires seat { IsSeatOf self.now seat.old }
-        ensures same { IsSameSeatInWordStep seat.old seat.new }
-        ensures meets { WordStepMeets shard (result / 2) (view seat.old) }
-        ensures me { seat.new.me ≡ (view_after_look shard (result / 2) (view seat.old), seat.old.me.1) }
+        ensures same { IsSameSeat seat.old seat.new }
+        ensures meets { StepMeets shard (result / 2) (view seat.old) }
+        ensures me { seat.new.me ≡ (after_look shard (result / 2) (view seat.old), seat.old.me.1) }
     {
         self.table.shared.load::<Looking>(seat, shard as usize)
     }
@@ -29,8 +29,8 @@ impl Words {
         requires within { shard < length self.now.opening }
         requires seat { IsSeatOf self.now seat.old }
         requires free { (view seat.old).held ≡ None }
-        ensures same { IsSameSeatInWordStep seat.old seat.new }
-        ensures take { WordStepMarks aim shard seat.old.me result seat.new.me }
+        ensures same { IsSameSeat seat.old seat.new }
+        ensures take { StepMarks aim shard seat.old.me result seat.new.me }
     {
         let word = shard as usize;
         let shared = &self.table.shared;
@@ -43,8 +43,8 @@ impl Words {
     // The state in the slot that the seat has taken, which is empty afterwards.
     pub(super) fn take_out(&self, shard: u32, seat: &mut Seat) -> ShardState
         requires id { seat.old.table_id ≡ self.now.id }
-        requires taken { WordStepHasTaken shard seat.old.me.1 }
-        ensures same { IsSameSeatInWordStep seat.old seat.new }
+        requires taken { StepHasTaken shard seat.old.me.1 }
+        ensures same { IsSameSeat seat.old seat.new }
         ensures out { seat.old.me.1 ≡ (shard, Some result) ∷ [] }
         ensures me { seat.new.me ≡ (view seat.old, (shard, None) ∷ []) }
     {
@@ -58,7 +58,7 @@ impl Words {
     pub(super) fn put_in(&self, shard: u32, state: ShardState, seat: &mut Seat)
         requires id { seat.old.table_id ≡ self.now.id }
         requires empty { seat.old.me.1 ≡ (shard, None) ∷ [] }
-        ensures same { IsSameSeatInWordStep seat.old seat.new }
+        ensures same { IsSameSeat seat.old seat.new }
         ensures me { seat.new.me ≡ (view seat.old, (shard, Some state) ∷ []) }
     {
         let _empty = self
@@ -71,9 +71,9 @@ impl Words {
     pub(super) fn store(&self, shard: u32, position: u64, seat: &mut Seat)
         requires id { seat.old.table_id ≡ self.now.id }
         requires small { position ≤ record_limit }
-        requires ready { WordStepIsReady self.now.opening shard position seat.old.me }
-        ensures same { IsSameSeatInWordStep seat.old seat.new }
-        ensures me { seat.new.me ≡ (view_after_giving position (view seat.old), []) }
+        requires ready { StepIsReady self.now.opening shard position seat.old.me }
+        ensures same { IsSameSeat seat.old seat.new }
+        ensures me { seat.new.me ≡ (after_giving position (view seat.old), []) }
     {
         self.table
             .shared

@@ -1,10 +1,10 @@
 //! Reading the lines of a text, one after the other.
 
 ghost use Rattle.std.specs.Prelude.{◌≡◌, ◌≤◌, [], length, IfOk, IfErr, OnOk};
-ghost use Rattle.report_text.specs.SessionText.{HasSessionTextReadFault, IsTextSession, longest_session_text_length};
-ghost use Rattle.report_text.specs.SessionText.{session_lines};
+ghost use Rattle.report_text.specs.Session.{HasReadFault, IsTextSession, longest_session};
+ghost use Rattle.report_text.specs.Session.{session_lines};
 ghost use Rattle.report_text.specs.Stages.{FollowsStage, IsStageBeforeEnd, Stage};
-ghost use Rattle.report_text.specs.LineReading.{HasReadLines, ReadsLine, HasReadLinesToStage};
+ghost use Rattle.report_text.specs.LineReading.{HasReadLines, ReadsLine, HasReadToStage};
 ghost use Rattle.report_text.specs.declared.line_cursor.LineCursor.{LineCursor as CursorValue};
 ghost use Rattle.report_text.specs.declared.session.Session.{Session as SessionValue};
 ghost use Rattle.report_text.specs.declared.session_line.SessionLine.{SessionLine as LineValue};
@@ -20,7 +20,7 @@ use std::alloc::Global;
 impl<'a> LineCursor<'a> {
     /// The start of a text.
     pub(crate) fn new(text: &'a [u8]) -> LineCursor<'a>
-        requires { length text.now ≤ longest_session_text_length }
+        requires { length text.now ≤ longest_session }
         ensures text { result.text ≡ text.entry }
         ensures start { HasReadLines result [] }
     {
@@ -34,8 +34,8 @@ impl<'a> LineCursor<'a> {
     /// Reads the next line.
     pub(crate) fn next(&mut self, alloc: Global) -> Result<SessionLine, SessionFault>
         ensures read { IfOk result (ReadsLine self.old self.new) }
-        ensures fault { IfErr result (λ fault. (stage : Stage) → IsStageBeforeEnd stage → HasReadLinesToStage self.old stage
-            → HasSessionTextReadFault self.old.text.now fault) }
+        ensures fault { IfErr result (λ fault. (stage : Stage) → IsStageBeforeEnd stage → HasReadToStage self.old stage
+            → HasReadFault self.old.text.now fault) }
     {
         prefix_texts_read_back();
         report_order_is_total();
@@ -54,8 +54,8 @@ impl<'a> LineCursor<'a> {
 
     /// Refuses the line that was read last.
     pub(crate) fn refuse(&self) -> SessionFault
-        ensures { (old : CursorValue) (line : LineValue) (stage : Stage) → HasReadLinesToStage old stage → ReadsLine old self.now line
-            → ((next : Stage) → ¬ FollowsStage stage line next) → HasSessionTextReadFault self.now.text.now result }
+        ensures { (old : CursorValue) (line : LineValue) (stage : Stage) → HasReadToStage old stage → ReadsLine old self.now line
+            → ((next : Stage) → ¬ FollowsStage stage line next) → HasReadFault self.now.text.now result }
     {
         prefix_texts_read_back();
         report_order_is_total();
@@ -66,7 +66,7 @@ impl<'a> LineCursor<'a> {
     pub(crate) fn finish(&self) -> Result<(), SessionFault>
         ensures ok { OnOk result (self.now.at ≡ length self.now.text.now) }
         ensures err { IfErr result (λ fault. (session : SessionValue) → HasReadLines self.now (session_lines session)
-            → IsTextSession session → HasSessionTextReadFault self.now.text.now fault) }
+            → IsTextSession session → HasReadFault self.now.text.now fault) }
     {
         if self.at < self.text.len() {
             return Err(SessionFault::Text(TextFault::BadLine(self.lines + 1)));

@@ -1,8 +1,8 @@
 //! The line that reports how a command ended.
 
 ghost use Rattle.std.specs.Prelude.{◌≡◌, ◌++◌, codes, decimal, IfOk, OnOk};
-ghost use Rattle.run_status.specs.Status.{status_line, status_text, words_status_text, fault_status_text};
-ghost use Rattle.run_status.specs.Status.{session_status_text};
+ghost use Rattle.run_status.specs.Status.{status_line, status_text, words_text, fault_text};
+ghost use Rattle.run_status.specs.Status.{session_text};
 
 use crate::Status;
 use crate::decimal_text::push_number;
@@ -42,7 +42,7 @@ fn push_status(line: &mut Vec<u8>, status: &Status) -> Result<(), AllocError>
 }
 
 fn push_words(line: &mut Vec<u8>, kind: &WordsKind) -> Result<(), AllocError>
-    ensures { OnOk result (line.new.items ≡ line.old.items ++ codes "bad words: " ++ words_status_text kind.now) }
+    ensures { OnOk result (line.new.items ≡ line.old.items ++ codes "bad words: " ++ words_text kind.now) }
 {
     line.extend_from_slice(b"bad words: ")?;
     match kind {
@@ -58,7 +58,7 @@ fn push_words(line: &mut Vec<u8>, kind: &WordsKind) -> Result<(), AllocError>
 }
 
 fn push_fault(line: &mut Vec<u8>, fault: &CaptureFault) -> Result<(), AllocError>
-    ensures { OnOk result (line.new.items ≡ line.old.items ++ codes "bad capture: " ++ fault_status_text fault.now.kind ++ codes " at "
+    ensures { OnOk result (line.new.items ≡ line.old.items ++ codes "bad capture: " ++ fault_text fault.now.kind ++ codes " at "
         ++ decimal fault.now.place) }
 {
     line.extend_from_slice(b"bad capture: ")?;
@@ -67,7 +67,7 @@ fn push_fault(line: &mut Vec<u8>, fault: &CaptureFault) -> Result<(), AllocError
 }
 
 fn push_text_fault(line: &mut Vec<u8>, fault: &TextFault) -> Result<(), AllocError>
-    ensures { OnOk result (line.new.items ≡ line.old.items ++ codes "bad report: " ++ session_status_text fault.now) }
+    ensures { OnOk result (line.new.items ≡ line.old.items ++ codes "bad report: " ++ session_text fault.now) }
 {
     line.extend_from_slice(b"bad report: ")?;
     match fault {
@@ -78,7 +78,7 @@ fn push_text_fault(line: &mut Vec<u8>, fault: &TextFault) -> Result<(), AllocErr
 }
 
 fn kind_text(kind: FaultKind) -> &'static [u8]
-    ensures { result.now ≡ fault_status_text kind }
+    ensures { result.now ≡ fault_text kind }
 {
     match kind {
         FaultKind::ShortHeader => b"short header",

@@ -1,7 +1,7 @@
 //! Headers, bodies and saves of a store.
 
 ghost use Rattle.std.specs.Prelude.{◌≡◌, [], ◌∷◌, IfOk};
-ghost use Rattle.checkpoint.specs.{DiskMatchesSaver};
+ghost use Rattle.checkpoint.specs.{DiskMatches};
 
 use super::worked_saves::{DIGEST, PACKET, by_place, cut_of, disk_of, records};
 use checkpoint::{
@@ -241,7 +241,7 @@ const SMALLEST: StoreSettings = StoreSettings {
 
 // Makes a store, and a saver of it: calls 0 to 3 of the disk.
 fn make_store<D: Disk>(alloc: Global, disk: &mut D) -> Result<Saver, Fail>
-    ensures stands { IfOk result (λ saver. DiskMatchesSaver (D.reads disk.new) (D.image_now disk.new) saver) }
+    ensures stands { IfOk result (λ saver. DiskMatches (D.reads disk.new) (D.image_now disk.new) saver) }
     ensures settings { IfOk result (λ saver. saver.settings ≡ SMALLEST) }
     ensures sequence { IfOk result (λ saver. saver.sequence ≡ 0) }
     ensures positions { IfOk result (λ saver. saver.positions ≡ 0 ∷ []) }
@@ -264,7 +264,7 @@ fn make_store<D: Disk>(alloc: Global, disk: &mut D) -> Result<Saver, Fail>
 
 // Saves a cut of one packet: calls 4 to 9 of the disk.
 fn save_first<D: Disk>(alloc: Global, disk: &mut D) -> Result<Saver, Fail>
-    ensures stands { IfOk result (λ saver. DiskMatchesSaver (D.reads disk.new) (D.image_now disk.new) saver) }
+    ensures stands { IfOk result (λ saver. DiskMatches (D.reads disk.new) (D.image_now disk.new) saver) }
     ensures settings { IfOk result (λ saver. saver.settings ≡ SMALLEST) }
     ensures sequence { IfOk result (λ saver. saver.sequence ≡ 1) }
     ensures positions { IfOk result (λ saver. saver.positions ≡ 1 ∷ []) }

@@ -1,7 +1,7 @@
 //! The opening of a store.
 
 ghost use Rattle.std.specs.Prelude.{◌≡◌, ◌≤◌, ◌^◌, length, IfOk};
-ghost use Rattle.checkpoint.specs.{AreHeaderSettings, greatest_body_sequence};
+ghost use Rattle.checkpoint.specs.{AreSettings, greatest_sequence};
 
 use super::worked_saves::{DIGEST, PACKET, by_place, cut_of, disk_of, records};
 use checkpoint::{Saver, StoreSettings, digest_of, encode, header_of, read_header};
@@ -30,7 +30,7 @@ const LAST_OPENED: u64 = 0x3fff_ffff_ffff_ffc0;
 
 // The settings of one shard with tables of this capacity, by bytes and dealt in turn.
 fn settings_of(capacity: u16) -> Result<StoreSettings, Fail>
-    ensures { IfOk result AreHeaderSettings }
+    ensures { IfOk result AreSettings }
 {
     let [high, low] = capacity.to_be_bytes();
     let mut header = [0; 62];
@@ -64,7 +64,7 @@ fn body_of(
     count: usize,
 ) -> Result<Vec<u8>, AllocError>
     requires first { 1 ≤ sequence }
-    requires last { sequence ≤ greatest_body_sequence }
+    requires last { sequence ≤ greatest_sequence }
     requires few { count ≤ 2 ^ 24 }
 {
     let cut = cut_of(alloc, records(alloc, rec, count)?, 2)?;

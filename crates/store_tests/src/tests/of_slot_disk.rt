@@ -1,7 +1,7 @@
 //! Disks, and a store of two slots.
 
 ghost use Rattle.std.specs.Prelude.{◌≡◌, ◌<◌, IfOk, OnOk};
-ghost use Rattle.slot_disk.specs.{IfImageKnown, DiskMatchesKnownSlots, IsReadyForPut};
+ghost use Rattle.slot_disk.specs.{IfImageKnown, MatchesKnown, IsReadyForPut};
 
 use super::worked_saves::disk_of;
 use outside_io::Failed;
@@ -19,7 +19,7 @@ const SECOND: [u8; 9] = [0, 0, 0, 0, 0, 0, 0, 9, 5];
 
 // Makes a store, and puts a body into its slot 0: calls 0 to 9 of the disk.
 fn put_first<D: Disk>(disk: &mut D) -> Result<Slots, Failed>
-    ensures stands { IfOk result (λ slots. DiskMatchesKnownSlots (D.reads disk.new) (D.image_now disk.new) slots) }
+    ensures stands { IfOk result (λ slots. MatchesKnown (D.reads disk.new) (D.image_now disk.new) slots) }
     ensures ready { OnOk result (IfImageKnown (D.reads disk.new) (IsReadyForPut 16 1)) }
 {
     format(disk, &[0; 62])?;

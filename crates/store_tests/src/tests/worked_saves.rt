@@ -1,7 +1,7 @@
 //! Cuts of a worked packet, and disks in memory that they are saved on.
 
 ghost use Rattle.std.specs.Prelude.{◌≡◌, ◌≤◌, ◌%◌, ◌^◌, [], ◌∷◌, length, IfOk};
-ghost use Rattle.deal_rules.specs.{IsAskedOfDealRule};
+ghost use Rattle.deal_rules.specs.{IsAsked};
 ghost use Rattle.shard_state.specs.{cut_positions};
 
 use prefix_lattice::{Record, RecordList};
@@ -24,7 +24,7 @@ pub(crate) const DIGEST: [u8; 32] = [
 ];
 
 pub(crate) fn by_place(place: u64, rec: Record, shards: u32) -> u32
-    requires { IsAskedOfDealRule place rec shards }
+    requires { IsAsked place rec shards }
     ensures { result ≡ place % shards }
 {
     (place % u64::from(shards)) as u32

@@ -1,7 +1,7 @@
 //! Audits of reports.
 
 ghost use Rattle.std.specs.Prelude.{◌≡◌, ◌%◌};
-ghost use Rattle.deal_rules.specs.{IsAskedOfDealRule};
+ghost use Rattle.deal_rules.specs.{IsAsked};
 
 use super::worked_lines::{prefix_of, two_lines};
 use deal_rules::{DealKind, Dealer, Dealt, deal};
@@ -40,7 +40,7 @@ const ELEVEN: [Sent; 11] = [
 ];
 
 fn in_turn(place: u64, rec: Record, shards: u32) -> u32
-    requires { IsAskedOfDealRule place rec shards }
+    requires { IsAsked place rec shards }
     ensures { result ≡ place % shards }
 {
     (place % u64::from(shards)) as u32

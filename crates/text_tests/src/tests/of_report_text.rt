@@ -1,7 +1,7 @@
 //! The text of a report and of the lines around it, and the reader of a session.
 
 ghost use Rattle.std.specs.Prelude.{◌≤◌, IfOk};
-ghost use Rattle.report_text.specs.{ReportTextShowsPositions};
+ghost use Rattle.report_text.specs.{ShowsPositions};
 
 use super::worked_lines::{prefix_of, two_lines};
 use frame_records::Records;
@@ -23,7 +23,7 @@ fn line_of(source: &str, dest: &str, lo: u64, hi: u64) -> Result<Line, Fail> {
 fn positions_of(alloc: Global, first: u64, second: u64) -> Result<Positions, AllocError>
     requires first { first ≤ 16777216 }
     requires second { second ≤ 16777216 }
-    ensures { IfOk result ReportTextShowsPositions }
+    ensures { IfOk result ShowsPositions }
 {
     let mut positions = Positions::new(alloc);
     positions.push(first)?;
@@ -33,8 +33,8 @@ fn positions_of(alloc: Global, first: u64, second: u64) -> Result<Positions, All
 
 // A report of two lines in their order.
 fn report_of(alloc: Global, positions: Positions, first: Line, second: Line) -> Result<Report, Fail>
-    requires { ReportTextShowsPositions positions }
-    ensures positions { IfOk result (λ report. ReportTextShowsPositions report.positions) }
+    requires { ShowsPositions positions }
+    ensures positions { IfOk result (λ report. ShowsPositions report.positions) }
     ensures threshold { IfOk result (λ report. 1 ≤ report.threshold) }
 {
     let lines = two_lines(alloc, first, second)?;

@@ -24,11 +24,11 @@ struct MergedIntervals<'a> {
 }
 
 impl Intervals for MergedIntervals<'_> {
-    ghost use Rattle.cut_merge.specs.{merged_interval_for};
+    ghost use Rattle.cut_merge.specs.{interval_for};
 
-    ghost low = { λ s prefix. (merged_interval_for s.merged.now prefix).low };
+    ghost low = { λ s prefix. (interval_for s.merged.now prefix).low };
 
-    ghost high = { λ s prefix. (merged_interval_for s.merged.now prefix).high };
+    ghost high = { λ s prefix. (interval_for s.merged.now prefix).high };
 
     fn interval(&self, prefix: &Prefix) -> (u64, u64) {
         self.merged.interval(prefix)

@@ -2,8 +2,8 @@ use Rattle.std.proofs.Common.{◌≤◌, map, arith}
 use Rattle.std.proofs.lemmas.Result.{err_from_is_err_and}
 use Rattle.prefix_lattice.specs.{record_limit}
 use Rattle.shard_state.specs.{snapshot_total}
-use Rattle.checkpoint.specs.Body.{body_table_bytes}
-use Rattle.checkpoint.specs.Spellings.{TableFitsSpelling}
+use Rattle.checkpoint.specs.Body.{table_bytes}
+use Rattle.checkpoint.specs.Decoding.{TableFits}
 use Rattle.checkpoint.proofs.DecodeFaultLemmas.{decode_fault_is_same}
 use Rattle.checkpoint.proofs.PrefixFreeLemmas.{tables_are_prefix_free}
 use Rattle.checkpoint.proofs.ReadListLemmas.{read_list_is_same}
@@ -27,7 +27,7 @@ pub returns-in_default-clause-damaged : goal.returns-in_default-clause-damaged
 returns-in_default-clause-damaged c = λ is snapshot rest begins.
     let parts = snapshot_has_front c.args.capacity c.args.bytes.now c.first_number-position.result.1.now rest
     c.first_number-position.result.0 snapshot (omega arith) c.first_number-position.ensures.spelled begins in
-    let same = read_list_is_same body_table_bytes (TableFitsSpelling c.args.capacity) (tables_are_prefix_free c.args.capacity c.requires.most)
+    let same = read_list_is_same table_bytes (TableFits c.args.capacity) (tables_are_prefix_free c.args.capacity c.requires.most)
     c.first_number-position.result.1.now c.in_ok-tables.rest.now rest 25 (map entries_in_snapshot c.in_ok-tables.tables.items) snapshot.tables
     c.in_ok-tables.ensures.read parts.tables_begin in
     let are = snapshot_tables_are_alike c.args.capacity snapshot c.in_ok-tables.tables.items begins.fits c.in_ok-tables.ensures.capacity same.0 in

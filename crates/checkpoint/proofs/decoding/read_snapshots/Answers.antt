@@ -3,8 +3,8 @@ use Rattle.std.specs.List.{flat_map}
 use Rattle.std.proofs.lemmas.List.{length-set, take_more_set}
 use Rattle.std.proofs.lemmas.Result.{err_from_is_err_and}
 use Rattle.shard_state.specs.{CutValue, SnapshotValue}
-use Rattle.checkpoint.specs.Body.{body_snapshot_bytes}
-use Rattle.checkpoint.specs.Spellings.{ListFitsSpelling, BeginsWithSpelling, SnapshotFitsSpelling}
+use Rattle.checkpoint.specs.Body.{snapshot_bytes}
+use Rattle.checkpoint.specs.Decoding.{ListFits, BeginsWith, SnapshotFits}
 use Rattle.checkpoint.proofs.DecodeFaultLemmas.{decode_fault_is_same}
 use Rattle.checkpoint.proofs.PrefixFreeLemmas.{snapshots_are_prefix_free}
 use Rattle.checkpoint.proofs.ReadListLemmas.{read_list_grows, read_list_has_too_few}
@@ -15,7 +15,7 @@ returns-in_err-snapshot-clause-damaged c =
     let p = err_from_is_err_and c.from_residual-in_err-snapshot.result c.from_residual-in_err-snapshot.ensures.1 in
     let capacity = c.args.settings.now.capacity in
     rw (p.1, p.2) (λ is.
-    read_list_has_too_few body_snapshot_bytes (SnapshotFitsSpelling capacity) (snapshots_are_prefix_free capacity c.requires.most) c.args.bytes.now
+    read_list_has_too_few snapshot_bytes (SnapshotFits capacity) (snapshots_are_prefix_free capacity c.requires.most) c.args.bytes.now
     c.loop-shard.rest.now c.loop-shard.shard c.args.settings.now.shards (take c.loop-shard.shard c.loop-shard.cut.shards)
     c.loop-shard.invariant.2 (omega arith) (c.in_err-snapshot.ensures.damaged (decode_fault_is_same _ _ is)))
 
@@ -28,11 +28,11 @@ loop-shard-preserved c =
     let are = ap (λ (cut : CutValue). cut.shards) c.put_shard.ensures in
     let front : take (shard + 1) c.put_shard.new.self.shards ≡ take shard shards ++ c.in_ok-snapshot.snapshot ∷ [] =
     ap (take (shard + 1)) are ∙ take_more_set shards shard c.in_ok-snapshot.snapshot within in
-    let more = read_list_grows body_snapshot_bytes (SnapshotFitsSpelling capacity) c.args.bytes.now c.loop-shard.rest.now c.in_ok-snapshot.after.now
+    let more = read_list_grows snapshot_bytes (SnapshotFits capacity) c.args.bytes.now c.loop-shard.rest.now c.in_ok-snapshot.after.now
     shard (take shard shards) c.in_ok-snapshot.snapshot c.loop-shard.invariant.2 c.in_ok-snapshot.ensures.read in (
       ap length are ∙ length-set shards shard c.in_ok-snapshot.snapshot ∙ c.loop-shard.invariant.0,
       ap (λ (cut : CutValue). cut.capacity) c.put_shard.ensures ∙ c.loop-shard.invariant.1,
-      subst (λ (l : List SnapshotValue). BeginsWithSpelling (flat_map body_snapshot_bytes) (ListFitsSpelling (SnapshotFitsSpelling capacity) (shard + 1))
+      subst (λ (l : List SnapshotValue). BeginsWith (flat_map snapshot_bytes) (ListFits (SnapshotFits capacity) (shard + 1))
           c.args.bytes.now l
           c.in_ok-snapshot.after.now) (sym front) more,
     )

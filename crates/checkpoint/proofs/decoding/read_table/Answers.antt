@@ -1,8 +1,8 @@
 use Rattle.std.proofs.Common.{◌≡◌, ◌∙◌, ap, sym, subst, arith}
 use Rattle.std.proofs.lemmas.Result.{err_from_is_err_and}
 use Rattle.space_saving.specs.{AreTableEntries, TableValue, table_total}
-use Rattle.checkpoint.specs.Body.{body_entry_bytes}
-use Rattle.checkpoint.specs.Spellings.{EntryFitsSpelling}
+use Rattle.checkpoint.specs.Body.{entry_bytes}
+use Rattle.checkpoint.specs.Decoding.{EntryFits}
 use Rattle.checkpoint.proofs.DecodeFaultLemmas.{decode_fault_is_same}
 use Rattle.checkpoint.proofs.PrefixFreeLemmas.{entries_are_prefix_free}
 use Rattle.checkpoint.proofs.ReadListLemmas.{read_list_is_same}
@@ -34,7 +34,7 @@ returns-in_default-clause-damaged c = λ is entries rest begins.
     let parts = saved_table_has_front c.args.capacity c.requires.most c.args.bytes.now c.first_number-total.result.1.now c.first_count-count.result.1.now rest
     c.first_number-total.result.0 c.first_count-count.result.0 entries (omega arith) (omega arith)
     c.first_number-total.ensures.spelled c.first_count-count.ensures.spelled begins in
-    let same = read_list_is_same body_entry_bytes EntryFitsSpelling entries_are_prefix_free c.first_count-count.result.1.now c.in_ok-entries.rest.now rest
+    let same = read_list_is_same entry_bytes EntryFits entries_are_prefix_free c.first_count-count.result.1.now c.in_ok-entries.rest.now rest
     c.first_count-count.result.0 c.in_ok-entries.entries.items entries c.in_ok-entries.ensures.read parts.entries_begin in
     cc (c.in_default.ensures.accepted.1 (subst (AreTableEntries c.args.capacity) (sym same.0) begins.fits.are_entries))
 
@@ -43,7 +43,7 @@ returns-then-total-clause-damaged c = λ is entries rest begins.
     let parts = saved_table_has_front c.args.capacity c.requires.most c.args.bytes.now c.first_number-total.result.1.now c.first_count-count.result.1.now rest
     c.first_number-total.result.0 c.first_count-count.result.0 entries (omega arith) (omega arith)
     c.first_number-total.ensures.spelled c.first_count-count.ensures.spelled begins in
-    let same = read_list_is_same body_entry_bytes EntryFitsSpelling entries_are_prefix_free c.first_count-count.result.1.now c.in_ok-entries.rest.now rest
+    let same = read_list_is_same entry_bytes EntryFits entries_are_prefix_free c.first_count-count.result.1.now c.in_ok-entries.rest.now rest
     c.first_count-count.result.0 c.in_ok-entries.entries.items entries c.in_ok-entries.ensures.read parts.entries_begin in
     let table_is : c.in-Some.table ≡ record { capacity = c.args.capacity; entries = c.in_ok-entries.entries.items } = c.in-Some.ensures.content in
     c.if-total.true (c.total.ensures.total ∙ ap (λ (t : TableValue). table_total t.entries) table_is

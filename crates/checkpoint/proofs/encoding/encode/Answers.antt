@@ -1,5 +1,5 @@
 use Rattle.std.proofs.Common.{◌++◌, ℕ, List, length, ap, ◌∙◌, arith}
-use Rattle.checkpoint.specs.NumberBytes.{number_bytes}
+use Rattle.checkpoint.specs.Numbers.{number_bytes}
 use Rattle.checkpoint.proofs.BodyPartLemmas.{body_parts_fit_span, body_is_made_from_parts}
 use Rattle.checkpoint.proofs.encoding.encode.Goals as goal
 

@@ -1,10 +1,10 @@
 use Rattle.std.proofs.Common.{◌≡◌, ◌++◌, take}
 use Rattle.std.specs.List.{flat_map}
 use Rattle.std.specs.Prelude.{All}
-use Rattle.checkpoint.specs.Body.{body_snapshot_bytes, BodyKeysFit}
+use Rattle.checkpoint.specs.Body.{snapshot_bytes, KeysFit}
 use Rattle.checkpoint.proofs.encoding.push_snapshots.Given as goal
 
 abbrev pub invariant-loop-shard : goal.invariant-loop-shard
 invariant-loop-shard l =
-    (l.out.items ≡ l.fn.out.items ++ flat_map body_snapshot_bytes (take l.shard l.cut.shards))
-    × All BodyKeysFit (take l.shard l.cut.shards)
+    (l.out.items ≡ l.fn.out.items ++ flat_map snapshot_bytes (take l.shard l.cut.shards))
+    × All KeysFit (take l.shard l.cut.shards)

@@ -1,7 +1,7 @@
 use Rattle.std.proofs.Common.{Some, ◌≡◌, slice_get, subst, arith}
 use Rattle.std.specs.Prelude.{IfSome}
 use Rattle.prefix_lattice.specs.{node_index}
-use Rattle.checkpoint.specs.Body.{body_table_bytes, HasShortBodyKeys}
+use Rattle.checkpoint.specs.Body.{table_bytes, HasShortKeys}
 use Rattle.checkpoint.proofs.NextValueLemmas.{spelling_of_next_value, all_with_next_value}
 use Rattle.checkpoint.proofs.SnapshotLemmas.{snapshot_gets_table}
 use Rattle.checkpoint.proofs.encoding.push_tables.Goals as goal
@@ -14,7 +14,7 @@ loop-index-preserved c =
     let placed = subst (λ (node : _). IfSome node (λ n. node_index n ≡ index)) c.unwrap-node.ensures c.from_index.ensures.back in
     let got : slice_get tables index ≡ Some entries =
     snapshot_gets_table c.args.snapshot.now _ index c.table.result.now c.table.ensures.table placed (omega (arith, c.requires.shape)) in (
-      spelling_of_next_value body_table_bytes c.args.out.now.items c.loop-index.out.items c.push_table.new.out.items tables index entries
+      spelling_of_next_value table_bytes c.args.out.now.items c.loop-index.out.items c.push_table.new.out.items tables index entries
           got c.loop-index.invariant.0 c.in_ok-push_table.ensures.spelled,
-      all_with_next_value HasShortBodyKeys tables index entries got c.loop-index.invariant.1 c.in_ok-push_table.ensures.keys,
+      all_with_next_value HasShortKeys tables index entries got c.loop-index.invariant.1 c.in_ok-push_table.ensures.keys,
     )

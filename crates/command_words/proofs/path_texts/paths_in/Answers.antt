@@ -1,7 +1,7 @@
 -- The paths that `clap` found are those that the words name.
 use Rattle.std.proofs.Common.{[], arith, codes, subst, sym}
-use Rattle.command_words.specs.Forms.{form_of}
-use Rattle.command_words.specs.NamedPaths.{NamesPath}
+use Rattle.command_words.specs.FormNames.{form_of}
+use Rattle.command_words.specs.PathTexts.{NamesPath}
 use Rattle.command_words.proofs.MatchLemmas.{matches_tell_named_path}
 use Rattle.command_words.proofs.path_texts.paths_in.Goals as goal
 

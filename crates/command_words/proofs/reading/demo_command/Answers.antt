@@ -1,9 +1,9 @@
 -- What `clap` found for SEED and FRAMES is the traffic that the words ask for.
 use Rattle.std.proofs.Common.{subst, sym}
 use Rattle.std.proofs.lemmas.Result.{err_from_is_err_and, IfErr-weaker, IfOk-weaker}
-use Rattle.command_words.specs.Matches.{values_in_matches, store_in_matches}
-use Rattle.command_words.specs.AskedCommand.{AskForCommand}
-use Rattle.command_words.specs.WordsFault.{HasWordsFault}
+use Rattle.command_words.specs.Matches.{values_in, store_in}
+use Rattle.command_words.specs.Command.{AskForCommand}
+use Rattle.command_words.specs.WordsRefusal.{HasWordsFault}
 use Rattle.command_words.specs.declared.command_word.CommandWord.TheVariants.{Demo}
 use Rattle.command_words.proofs.MatchLemmas.{matches_tell_demo, matches_tell_fault, matches_tell_narrow_settings}
 use Rattle.command_words.proofs.OneValueFaultLemmas.{given_values_have_no_fault}
@@ -31,6 +31,6 @@ returns-clause-err c = λ words tells.
     IfErr-weaker c.demo_of.result _ (HasWordsFault words)
     (λ kind bad.
     matches_tell_narrow_settings words Demo matches tells given.settings kind tt
-    (given_values_have_no_fault (values_in_matches matches) (store_in_matches matches) given gives) gives.settings_set
+    (given_values_have_no_fault (values_in matches) (store_in matches) given gives) gives.settings_set
     bad.0 bad.1)
     c.demo_of.ensures.err

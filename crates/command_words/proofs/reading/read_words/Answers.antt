@@ -1,7 +1,7 @@
 -- Words have one meaning, so what is read soundly is read exactly.
 use Rattle.std.proofs.lemmas.Result.{IfOk-weaker}
 use Rattle.command_words.specs.Arguments.{argument_texts}
-use Rattle.command_words.specs.AskedCommand.{AskForCommand, IsLimitedCommand}
+use Rattle.command_words.specs.Command.{AskForCommand, IsLimitedCommand}
 use Rattle.command_words.proofs.LimitLemmas.{asked_command_is_in_limits}
 use Rattle.command_words.proofs.OneMeaningLemmas.{PrefixHasOneMeaning, asked_command_meaning_is_read}
 use Rattle.command_words.proofs.OneMeaningLemmas.{faulty_meaning_is_always_told}

@@ -1,7 +1,7 @@
 -- What `clap` found for SRC and DST are the two sides that the words give.
 use Rattle.std.proofs.Common.{refl}
 use Rattle.std.proofs.lemmas.Result.{err_from_is_err_and}
-use Rattle.command_words.specs.AskedCommand.{CommandHasSides}
+use Rattle.command_words.specs.Command.{HasSides}
 use Rattle.command_words.specs.declared.command_word.CommandWord.TheVariants.{Weigh}
 use Rattle.command_words.proofs.MatchLemmas.{matches_tell_sides, match_told_is_found, matches_tell_settings}
 use Rattle.command_words.proofs.MatchLemmas.{matches_tell_fault, matches_found_are_sides}
@@ -34,7 +34,7 @@ returns-in-Err-clause-err c = λ words tells. record {
 
 pub returns-in_err-settings-clause-err : goal.returns-in_err-settings-clause-err
 returns-in_err-settings-clause-err c = λ words tells.
-    let sides : CommandHasSides tells.arguments c.as_bytes.result.now c.as_bytes-2.result.now =
+    let sides : HasSides tells.arguments c.as_bytes.result.now c.as_bytes-2.result.now =
     matches_found_are_sides words c.args.matches.now tells c.get_str.result c.get_str-2.result c.unwrap-source.result
     c.unwrap-dest.result c.get_str.ensures c.get_str-2.ensures
     c.unwrap-source.ensures c.unwrap-dest.ensures _ _ c.as_bytes.ensures.value c.as_bytes-2.ensures.value in

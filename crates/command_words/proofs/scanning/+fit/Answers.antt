@@ -1,7 +1,7 @@
 use Rattle.std.proofs.Common.{refl, sym, ap, ◌∙◌, arith}
 use Rattle.std.proofs.lemmas.Bool.{false≢true}
 use Rattle.std.proofs.lemmas.Bool.Decides.{Decides-eqb, Decides-ltb}
-use Rattle.command_words.specs.Scanning.{scanned_form, scanned_text_at}
+use Rattle.command_words.specs.Scanning.{scanned_form, text_at}
 use Rattle.command_words.specs.Arguments.{argument_texts}
 use Rattle.command_words.proofs.ArgumentTailLemmas.{argument_leaves_tail_range, argument_tail_has_no_texts}
 use Rattle.command_words.proofs.ArgumentTailLemmas.{argument_tail_has_no_words}
@@ -33,7 +33,7 @@ pub returns-then-positionals-gt0 : goal.returns-then-positionals-gt0
 returns-then-positionals-gt0 t c =
     let form = scanned_form c.args.form.now in let n = c.args.positionals in
     let front = argument_leaves_tail_range c.args.words.now c.in-Some.front.words _ c.in-Some.ensures.some in
-    let is = sym (ap scanned_text_at c.in_default-option.is) ∙ front.2 in (
+    let is = sym (ap text_at c.in_default-option.is) ∙ front.2 in (
       λ yes. positional_fits_form form n _ _ front.0 front.1 is (omega arith) (c.fit.ensures.0 yes),
       λ fits. c.fit.ensures.1 (form_fit_behind_positional form n _ _ front.0 front.1 is fits).1,
     )
@@ -42,7 +42,7 @@ pub returns-else-positionals-gt0 : goal.returns-else-positionals-gt0
 returns-else-positionals-gt0 t c =
     let form = scanned_form c.args.form.now in let n = c.args.positionals in
     let front = argument_leaves_tail_range c.args.words.now c.in-Some.front.words _ c.in-Some.ensures.some in
-    let is = sym (ap scanned_text_at c.in_default-option.is) ∙ front.2 in (
+    let is = sym (ap text_at c.in_default-option.is) ∙ front.2 in (
       λ yes. absurd (omega (arith, (Decides-ltb 0 n).0 yes)),
       λ fits. (Decides-ltb 0 n).1 (form_fit_behind_positional form n _ _ front.0 front.1 is fits).0,
     )
@@ -51,7 +51,7 @@ pub returns-then-not-has_option : goal.returns-then-not-has_option
 returns-then-not-has_option t c =
     let form = scanned_form c.args.form.now in let n = c.args.positionals in
     let front = argument_leaves_tail_range c.args.words.now c.in-Some.front.words _ c.in-Some.ensures.some in
-    let is = sym (ap scanned_text_at c.in-Some-option.is) ∙ front.2 in (
+    let is = sym (ap text_at c.in-Some-option.is) ∙ front.2 in (
       λ yes. absurd (false≢true yes),
       λ fits.
           let behind = form_fit_behind_option form n _ _ front.0 _ front.1 is fits in c.if-not-has_option.ensures.1 behind.known,
@@ -61,7 +61,7 @@ pub returns-then-stands : goal.returns-then-stands
 returns-then-stands t c =
     let form = scanned_form c.args.form.now in let n = c.args.positionals in
     let front = argument_leaves_tail_range c.args.words.now c.in-Some.front.words _ c.in-Some.ensures.some in
-    let is = sym (ap scanned_text_at c.in-Some-option.is) ∙ front.2 in (
+    let is = sym (ap text_at c.in-Some-option.is) ∙ front.2 in (
       λ yes. absurd (false≢true yes),
       λ fits.
           let behind = form_fit_behind_option form n _ _ front.0 _ front.1 is fits in
@@ -72,7 +72,7 @@ pub returns : goal.returns
 returns t c =
     let form = scanned_form c.args.form.now in let n = c.args.positionals in
     let front = argument_leaves_tail_range c.args.words.now c.in-Some.front.words _ c.in-Some.ensures.some in
-    let is = sym (ap scanned_text_at c.in-Some-option.is) ∙ front.2 in (
+    let is = sym (ap text_at c.in-Some-option.is) ∙ front.2 in (
       λ yes.
           option_fits_form form n _ _ front.0 _ front.1 is (c.if-not-has_option.ensures.0 refl)
           (λ list spelled stands. false≢true ((c.if-stands.ensures list spelled).1 stands)) (c.fit-2.ensures.0 yes),

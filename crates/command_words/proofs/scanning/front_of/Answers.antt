@@ -1,6 +1,6 @@
 use Rattle.std.proofs.Common.{refl, sym, ap, ◌∙◌, arith, subst, Some, None}
 use Rattle.std.proofs.lemmas.Str.Pattern.{split_parts}
-use Rattle.command_words.specs.Arguments.{positional, option, argument_equals_sign, IsArgumentValue, long_argument}
+use Rattle.command_words.specs.Arguments.{positional, option, equals_sign, IsValue, long_argument}
 use Rattle.command_words.specs.Arguments.{argument_texts}
 use Rattle.command_words.proofs.WordFrontLemmas.{word_front_given_if_true, no_word_front_unless_true}
 use Rattle.command_words.proofs.WordFrontLemmas.{no_word_front_if_none, nothing_behind_word_front, name_at_word_front}
@@ -32,7 +32,7 @@ returns-in-Some-split_once-clause-some c =
     let name = c.in-Some-split_once.name.now in let value = c.in-Some-split_once.value.now in
     let stripped = c.in-Some.ensures.cases in
     let parts =
-    split_parts argument_equals_sign c.in-Some.text.now (Some (c.in-Some-split_once.name, c.in-Some-split_once.value))
+    split_parts equals_sign c.in-Some.text.now (Some (c.in-Some-split_once.name, c.in-Some-split_once.value))
     c.in-Some-split_once.ensures.cases (omega arith) in
     word_front_given_if_true _ _ _ _ c.then_some-in-Some-split_once.ensures
     (λ test. (
@@ -48,7 +48,7 @@ returns-in-Some-split_once-clause-none c =
     let name = c.in-Some-split_once.name.now in let value = c.in-Some-split_once.value.now in
     let stripped = c.in-Some.ensures.cases in
     let parts =
-    split_parts argument_equals_sign c.in-Some.text.now (Some (c.in-Some-split_once.name, c.in-Some-split_once.value))
+    split_parts equals_sign c.in-Some.text.now (Some (c.in-Some-split_once.name, c.in-Some-split_once.value))
     c.in-Some-split_once.ensures.cases (omega arith) in
     no_word_front_unless_true _ _ _ _ c.then_some-in-Some-split_once.ensures
     (λ fails. no_joined_word_front _ _ _ name value c.in_ok-word.ensures.cases.0
@@ -58,7 +58,7 @@ returns-in-Some-split_once-clause-none c =
 pub returns-in_err-value-clause-none : goal.returns-in_err-value-clause-none
 returns-in_err-value-clause-none c =
     let stripped = c.in-Some.ensures.cases in
-    let lacks = split_parts argument_equals_sign c.in-Some.text.now None c.in_default-split_once.ensures.cases (omega arith) in
+    let lacks = split_parts equals_sign c.in-Some.text.now None c.in_default-split_once.ensures.cases (omega arith) in
     no_word_front_if_none _ _ c.from_residual-in_err-value.ensures
     (no_apart_word_front _ _ _ c.in-Some.text.now c.in_ok-word.ensures.cases.0 (stripped_word_front_is_long _ _ _ stripped.1.1 stripped.2)
     (name_at_word_front _ lacks)
@@ -67,7 +67,7 @@ returns-in_err-value-clause-none c =
 pub returns-clause-some : goal.returns-clause-some
 returns-clause-some c =
     let stripped = c.in-Some.ensures.cases in
-    let lacks = split_parts argument_equals_sign c.in-Some.text.now None c.in_default-split_once.ensures.cases (omega arith) in
+    let lacks = split_parts equals_sign c.in-Some.text.now None c.in_default-split_once.ensures.cases (omega arith) in
     word_front_given_if_true _ _ _ _ c.then_some-2.ensures
     (λ test. (
       option c.in-Some.text.now c.in_ok-value.value.now.now,
@@ -79,10 +79,10 @@ returns-clause-some c =
 pub returns-clause-none : goal.returns-clause-none
 returns-clause-none c =
     let stripped = c.in-Some.ensures.cases in
-    let lacks = split_parts argument_equals_sign c.in-Some.text.now None c.in_default-split_once.ensures.cases (omega arith) in
+    let lacks = split_parts equals_sign c.in-Some.text.now None c.in_default-split_once.ensures.cases (omega arith) in
     no_word_front_unless_true _ _ _ _ c.then_some-2.ensures
     (λ fails. no_apart_word_front _ _ _ c.in-Some.text.now c.in_ok-word.ensures.cases.0
     (stripped_word_front_is_long _ _ _ stripped.1.1 stripped.2) (name_at_word_front _ lacks)
     (λ value rest are is_value. fails
     (c.is_value-2.ensures.1
-    (subst IsArgumentValue (sym (one_reading_of_head _ _ _ _ (sym (ap argument_texts c.in_ok-value.ensures.cases.0) ∙ are))) is_value))))
+    (subst IsValue (sym (one_reading_of_head _ _ _ _ (sym (ap argument_texts c.in_ok-value.ensures.cases.0) ∙ are))) is_value))))

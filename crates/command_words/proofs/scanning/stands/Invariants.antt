@@ -1,5 +1,5 @@
 use Rattle.std.proofs.Common.{List, length, drop, ◌≤◌, ◌-◌}
-use Rattle.command_words.specs.Arguments.{Argument, SpellAllArguments}
+use Rattle.command_words.specs.Arguments.{Argument, SpellAll}
 use Rattle.command_words.specs.Arguments.{argument_texts}
 use Rattle.command_words.proofs.ArgumentTailLemmas.{ArgumentTailKeepsName}
 use Rattle.command_words.proofs.scanning.stands.Given as goal
@@ -8,7 +8,7 @@ use Rattle.command_words.proofs.scanning.stands.Given as goal
 abbrev pub invariant-fronts : goal.invariant-fronts
 invariant-fronts l =
     (l.from ≤ length l.words)
-    × ((arguments : List Argument) → SpellAllArguments (argument_texts l.words) arguments
+    × ((arguments : List Argument) → SpellAll (argument_texts l.words) arguments
     → ArgumentTailKeepsName (argument_texts (drop l.from l.words)) arguments l.name)
 
 abbrev pub decreases-fronts : goal.decreases-fronts

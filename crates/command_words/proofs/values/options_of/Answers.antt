@@ -1,7 +1,7 @@
 -- Each value that was read is good, so the first one that isn't is the first fault.
 use Rattle.std.proofs.Common.{sym}
 use Rattle.std.proofs.lemmas.Result.{err_from_is_err_and}
-use Rattle.command_words.specs.Matches.{values_in_matches}
+use Rattle.command_words.specs.Matches.{values_in}
 use Rattle.command_words.specs.declared.opt.Opt.TheVariants.{Weigh, Shards, Capacity, Phi, Deal}
 use Rattle.command_words.proofs.ValueLemmas.{values_before_next_are_good, weigh_value_is_good, numeric_value_is_good}
 use Rattle.command_words.proofs.ValueLemmas.{deal_value_is_good}
@@ -10,7 +10,7 @@ use Rattle.command_words.proofs.values.options_of.Goals as goal
 
 pub returns-in_err-weigh-clause-err : goal.returns-in_err-weigh-clause-err
 returns-in_err-weigh-clause-err c =
-    let values = values_in_matches c.args.matches.now in
+    let values = values_in c.args.matches.now in
     let p = err_from_is_err_and c.from_residual.result c.from_residual.ensures.1 in
     rw (p.1, p.2)
     (bad_choice_value_is_first values Weigh _ _ (sym c.text_of.ensures) c.requires
@@ -18,7 +18,7 @@ returns-in_err-weigh-clause-err c =
 
 pub returns-in_err-shards-clause-err : goal.returns-in_err-shards-clause-err
 returns-in_err-shards-clause-err c =
-    let values = values_in_matches c.args.matches.now in
+    let values = values_in c.args.matches.now in
     let before_shards =
     values_before_next_are_good values Weigh _ (sym c.text_of.ensures) c.requires
     (weigh_value_is_good _ _ c.in_ok-weigh.ensures.ok) in
@@ -28,7 +28,7 @@ returns-in_err-shards-clause-err c =
 
 pub returns-in_err-capacity-clause-err : goal.returns-in_err-capacity-clause-err
 returns-in_err-capacity-clause-err c =
-    let values = values_in_matches c.args.matches.now in
+    let values = values_in c.args.matches.now in
     let before_shards =
     values_before_next_are_good values Weigh _ (sym c.text_of.ensures) c.requires
     (weigh_value_is_good _ _ c.in_ok-weigh.ensures.ok) in
@@ -41,7 +41,7 @@ returns-in_err-capacity-clause-err c =
 
 pub returns-in_err-phi-clause-err : goal.returns-in_err-phi-clause-err
 returns-in_err-phi-clause-err c =
-    let values = values_in_matches c.args.matches.now in
+    let values = values_in c.args.matches.now in
     let before_shards =
     values_before_next_are_good values Weigh _ (sym c.text_of.ensures) c.requires
     (weigh_value_is_good _ _ c.in_ok-weigh.ensures.ok) in
@@ -56,7 +56,7 @@ returns-in_err-phi-clause-err c =
 
 pub returns-in_err-deal-clause-err : goal.returns-in_err-deal-clause-err
 returns-in_err-deal-clause-err c =
-    let values = values_in_matches c.args.matches.now in
+    let values = values_in c.args.matches.now in
     let before_shards =
     values_before_next_are_good values Weigh _ (sym c.text_of.ensures) c.requires
     (weigh_value_is_good _ _ c.in_ok-weigh.ensures.ok) in
@@ -74,7 +74,7 @@ returns-in_err-deal-clause-err c =
 
 pub running_of-requires : goal.running_of-requires
 running_of-requires c =
-    let values = values_in_matches c.args.matches.now in
+    let values = values_in c.args.matches.now in
     let before_shards =
     values_before_next_are_good values Weigh _ (sym c.text_of.ensures) c.requires
     (weigh_value_is_good _ _ c.in_ok-weigh.ensures.ok) in

@@ -1,7 +1,7 @@
 -- Each value that was read is good, so the first one that isn't is the first fault.
 use Rattle.std.proofs.Common.{sym}
 use Rattle.std.proofs.lemmas.Result.{err_from_is_err_and}
-use Rattle.command_words.specs.Matches.{values_in_matches}
+use Rattle.command_words.specs.Matches.{values_in}
 use Rattle.command_words.specs.declared.opt.Opt.TheVariants.{Block, Workers, Callers, Rounds}
 use Rattle.command_words.proofs.ValueLemmas.{values_before_next_are_good, numeric_value_is_good}
 use Rattle.command_words.proofs.ValueLemmas.{bad_numeric_value_is_first}
@@ -9,14 +9,14 @@ use Rattle.command_words.proofs.values.running_of.Goals as goal
 
 pub returns-in_err-block-clause-err : goal.returns-in_err-block-clause-err
 returns-in_err-block-clause-err c =
-    let values = values_in_matches c.args.matches.now in
+    let values = values_in c.args.matches.now in
     let p = err_from_is_err_and c.from_residual.result c.from_residual.ensures.1 in
     rw (p.1, p.2)
     (bad_numeric_value_is_first values Block _ _ (sym c.text_of.ensures) c.requires c.in_err-block.ensures.err)
 
 pub returns-in_err-workers-clause-err : goal.returns-in_err-workers-clause-err
 returns-in_err-workers-clause-err c =
-    let values = values_in_matches c.args.matches.now in
+    let values = values_in c.args.matches.now in
     let before_workers =
     values_before_next_are_good values Block _ (sym c.text_of.ensures) c.requires
     (numeric_value_is_good Block _ _ c.in_ok-block.ensures.ok) in
@@ -26,7 +26,7 @@ returns-in_err-workers-clause-err c =
 
 pub returns-in_err-callers-clause-err : goal.returns-in_err-callers-clause-err
 returns-in_err-callers-clause-err c =
-    let values = values_in_matches c.args.matches.now in
+    let values = values_in c.args.matches.now in
     let before_workers =
     values_before_next_are_good values Block _ (sym c.text_of.ensures) c.requires
     (numeric_value_is_good Block _ _ c.in_ok-block.ensures.ok) in
@@ -39,7 +39,7 @@ returns-in_err-callers-clause-err c =
 
 pub returns-in_err-rounds-clause-err : goal.returns-in_err-rounds-clause-err
 returns-in_err-rounds-clause-err c =
-    let values = values_in_matches c.args.matches.now in
+    let values = values_in c.args.matches.now in
     let before_workers =
     values_before_next_are_good values Block _ (sym c.text_of.ensures) c.requires
     (numeric_value_is_good Block _ _ c.in_ok-block.ensures.ok) in

@@ -2,7 +2,7 @@ use Rattle.std.proofs.Common.{◌≡◌, ◌+◌, ◌++◌, ◌∷◌, [], lengt
 use Rattle.std.specs.List.{filter_map}
 use Rattle.std.proofs.lemmas.List.{length_push}
 use Rattle.std.proofs.lemmas.List.Sums.{sum_by_push}
-use Rattle.prefix_lattice.specs.{kept_pair_meet}
+use Rattle.prefix_lattice.specs.{pair_meet}
 use Rattle.conditioned_bounds.proofs.MeetSumLemmas.{meet_sum-more, meet_sum-no_more}
 use Rattle.conditioned_bounds.proofs.meet_sums.sum_of_meets_with.Goals as goal
 use Rattle.conditioned_bounds.proofs.meet_sums.sum_of_meets_with.Goals.{in-Some, in_default}
@@ -10,7 +10,7 @@ use Rattle.conditioned_bounds.proofs.meet_sums.sum_of_meets_with.Goals.{in-Some,
 pub loop-second-preserved : goal.loop-second-preserved
 loop-second-preserved g c =
     let high = g.I.Intervals.high c.args.intervals.now in
-    let kept = kept_pair_meet c.args.members.now c.args.first.now in
+    let kept = pair_meet c.args.members.now c.args.first.now in
     let seconds = c.args.seconds.now in
     let at = c.loop-second.second-index in
     let before = filter_map kept (take at seconds) in

@@ -1,6 +1,6 @@
 use Rattle.std.proofs.Common.{◌∙◌, take}
 use Rattle.std.proofs.lemmas.List.Elements.{All-more, All-weaker}
-use Rattle.conditioned_bounds.specs.LineNumbers.{HasRoomForLineNumber}
+use Rattle.conditioned_bounds.specs.Numbers.{HasRoomFor}
 use Rattle.conditioned_bounds.proofs.numbers.make_room.Goals as goal
 
 pub loop-code-preserved : goal.loop-code-preserved
@@ -10,8 +10,8 @@ loop-code-preserved c =
     record {
       same = λ code. c.make_room_at.ensures.same code ∙ c.loop-code.invariant.same code;
       room =
-          All-more (HasRoomForLineNumber c.make_room_at.new.kept) codes at 0 c.loop-code-test.true
-          (All-weaker (HasRoomForLineNumber c.loop-code.kept) (HasRoomForLineNumber c.make_room_at.new.kept)
+          All-more (HasRoomFor c.make_room_at.new.kept) codes at 0 c.loop-code-test.true
+          (All-weaker (HasRoomFor c.loop-code.kept) (HasRoomFor c.make_room_at.new.kept)
           (λ code roomy. c.make_room_at.ensures.kept code roomy) (take at codes) c.loop-code.invariant.room)
           c.in_ok-make_room_at.ensures.room;
     }

@@ -1,7 +1,7 @@
 use Rattle.std.proofs.Common.{get_or, ◌∙◌, arith}
 use Rattle.std.proofs.lemmas.Bool.{ne_eqb}
 use Rattle.std.proofs.lemmas.List.{get_or_default}
-use Rattle.conditioned_bounds.specs.LineNumbers.{line_numbers_at}
+use Rattle.conditioned_bounds.specs.Numbers.{line_numbers_at}
 use Rattle.conditioned_bounds.proofs.NotedNumberLemmas.{noted_number-more}
 use Rattle.conditioned_bounds.proofs.numbers.note.Goals as goal
 

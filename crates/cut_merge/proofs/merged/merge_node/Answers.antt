@@ -1,7 +1,7 @@
 use Rattle.std.proofs.Common.{sym, take, subst}
 use Rattle.space_saving.specs.{TableValue}
-use Rattle.cut_merge.specs.Merged.{MergedWithTable, IsBoundedToBeMerged}
-use Rattle.cut_merge.specs.CutTables.{cut_tables_at}
+use Rattle.cut_merge.specs.Merged.{WithTable, CanBeMerged}
+use Rattle.cut_merge.specs.KeyInterval.{tables_at}
 use Rattle.cut_merge.proofs.CutMergeLemmas.{cut_merge_within_total, cut_merge_bounded_at_shard}
 use Rattle.cut_merge.proofs.CutMergeLemmas.{cut_merge_of_more_shards}
 use Rattle.cut_merge.proofs.TableMergeLemmas.{monitored_of_table_merge}
@@ -9,12 +9,12 @@ use Rattle.cut_merge.proofs.merged.merge_node.Goals as goal
 
 pub add-requires-clause-known : goal.add-requires-clause-known
 add-requires-clause-known c = λ key.
-    monitored_of_table_merge c.loop-shard.merge (take c.loop-shard.shard (cut_tables_at c.args.node c.args.cut.now)) key
+    monitored_of_table_merge c.loop-shard.merge (take c.loop-shard.shard (tables_at c.args.node c.args.cut.now)) key
     c.loop-shard.invariant
 
 pub add-requires-clause-bounded : goal.add-requires-clause-bounded
 add-requires-clause-bounded c = λ key.
-    subst (IsBoundedToBeMerged key) (sym c.table.ensures.table)
+    subst (CanBeMerged key) (sym c.table.ensures.table)
     (cut_merge_bounded_at_shard c.args.node c.args.cut.now c.loop-shard.shard c.shard.result.now key
     c.tables_are_bounded.ensures c.requires.is_node c.shards-shard-end.ensures.kept c.shard.ensures.shard)
 
@@ -22,7 +22,7 @@ pub loop-shard-preserved : goal.loop-shard-preserved
 loop-shard-preserved c =
     cut_merge_of_more_shards c.args.node c.args.cut.now c.loop-shard.shard c.shard.result.now c.loop-shard.merge
     c.add.new.self c.shard.ensures.shard c.loop-shard.invariant
-    (subst (λ (t : TableValue). MergedWithTable c.loop-shard.merge t c.add.new.self) c.table.ensures.table
+    (subst (λ (t : TableValue). WithTable c.loop-shard.merge t c.add.new.self) c.table.ensures.table
     c.in_ok-add.ensures)
 
 pub returns-clause-within : goal.returns-clause-within

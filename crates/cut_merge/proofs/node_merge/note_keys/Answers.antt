@@ -1,8 +1,8 @@
 use Rattle.std.proofs.Common.{◌≡◌, ℕ, ◌+◌, ◌-◌, ◌∷◌, [], ◌++◌, map, take, fold, ap, ◌∙◌, sym, subst, if◌then◌else◌}
 use Rattle.std.proofs.Common.{arith}
 use Rattle.space_saving.specs.declared.entry.Entry.{Entry}
-use Rattle.cut_merge.specs.Merged.{merged_keys_seen}
-use Rattle.cut_merge.specs.HighBounds.{HighBoundsNoteKey}
+use Rattle.cut_merge.specs.Merged.{keys_seen}
+use Rattle.cut_merge.specs.HighBounds.{NoteKey}
 use Rattle.cut_merge.proofs.NewKeyLemmas.{new_keys_after_entry}
 use Rattle.cut_merge.proofs.HighBoundLemmas.{high_bound_notes_more}
 use Rattle.cut_merge.proofs.node_merge.note_keys.Goals as goal
@@ -25,7 +25,7 @@ loop-place-preserved c =
     c.loop-place.invariant.keys c.entry-entry.ensures.entry c.entry-entry.ensures.apart
     (c.requires.known entry.key ∙ sym c.is_known.ensures) in
     let keys : c.if-not-is_known.keys.items
-    ≡ fold merged_keys_seen c.args.keys.now.items
+    ≡ fold keys_seen c.args.keys.now.items
     (map (λ (e : Entry). e.key) (take (c.loop-place.place + 1) c.args.table.now.entries)) =
     elim c.if-not-is_known.branch [
       | then-not-is_known+in_ok-push w ↦
@@ -40,6 +40,6 @@ loop-place-preserved c =
       bounds =
           high_bound_notes_more c.args.table.now c.args.bounds.now c.loop-place.bounds c.note.new.self c.loop-place.place entry
           c.loop-place.invariant.bounds c.entry-entry.ensures.entry c.entry-entry.ensures.apart
-          (subst (λ (missing : ℕ). HighBoundsNoteKey c.loop-place.bounds c.note.new.self entry.key (entry.count - missing))
+          (subst (λ (missing : ℕ). NoteKey c.loop-place.bounds c.note.new.self entry.key (entry.count - missing))
           c.requires.missing c.note.ensures);
     }

@@ -1,13 +1,13 @@
 use Rattle.std.proofs.Common.{◌≡◌, ℕ, ◌↔◌, List, refl, ap, sym, ◌∙◌, subst, arith}
 use Rattle.std.proofs.lemmas.Result.{IfOk-weaker}
 use Rattle.prefix_lattice.specs.{total_weight}
-use Rattle.hhh_report.specs.{records_before_cut, IsSound, IsThreshold, prefixes_of_lines}
+use Rattle.hhh_report.specs.{records_before, IsSound, IsThreshold, prefixes_of_lines}
 use Rattle.hhh_report.specs.declared.line.Line.{Line}
 use Rattle.exact_audit.specs.declared.counted.Counted.{Counted}
 use Rattle.exact_audit.specs.declared.verdict.Verdict.TheVariants.{Good, BadThreshold}
 use Rattle.exact_audit.specs.declared.verdict.Verdict.{Verdict}
-use Rattle.exact_audit.specs.NodeSums.{AreCountedInNodeSums, records_in_node_sums}
-use Rattle.exact_audit.specs.Verdict.{IsLineVerdict, IsVerdict, VerdictReachesLines}
+use Rattle.exact_audit.specs.NodeSums.{AreCountedIn, records_in}
+use Rattle.exact_audit.specs.Verdict.{IsLineVerdict, IsVerdict, ReachesLines}
 use Rattle.exact_audit.proofs.VerdictLemmas.{verdict_threshold_is_unique, verdict_from_lines, verdict_is_good_iff_sound}
 use Rattle.exact_audit.proofs.auditing.audit.Goals as goal
 
@@ -28,8 +28,8 @@ returns-then-report-threshold-clause-good c =
 pub find-requires-clause-light : goal.find-requires-clause-light
 find-requires-clause-light c =
     let are = c.in_ok-counted.ensures (prefixes_of_lines c.as_slice-lines.result.now) c.in_ok-codes.ensures in
-    let same : total_weight (records_in_node_sums c.deref.result.now) ≡ c.total_before-total.result =
-    ap (λ (counted : List Counted). total_weight (records_in_node_sums counted)) c.deref.ensures.value
+    let same : total_weight (records_in c.deref.result.now) ≡ c.total_before-total.result =
+    ap (λ (counted : List Counted). total_weight (records_in counted)) c.deref.ensures.value
     ∙ ap total_weight are.same ∙ sym c.total_before-total.ensures.total in
     omega (arith, same, c.total_before-total.ensures.bounded)
 
@@ -37,14 +37,14 @@ pub returns-clause-verdict : goal.returns-clause-verdict
 returns-clause-verdict c =
     let report = c.args.report.now in
     let lists = c.args.dealt.now in
-    let records = records_before_cut lists report.positions in
+    let records = records_before lists report.positions in
     let are = c.in_ok-counted.ensures (prefixes_of_lines c.as_slice-lines.result.now) c.in_ok-codes.ensures in
     let found = c.in_ok-findings.ensures.found records
-    (subst (AreCountedInNodeSums (prefixes_of_lines c.as_slice-lines.result.now) records) (sym c.deref.ensures.value) are) in
+    (subst (AreCountedIn (prefixes_of_lines c.as_slice-lines.result.now) records) (sym c.deref.ensures.value) are) in
     let ByTotal : ℕ → List Line → Verdict → Type 0 = λ total lines verdict.
     IsLineVerdict (record { capacity = c.args.capacity; threshold = report.threshold; total = total }) records lines
     verdict in
-    let head : VerdictReachesLines lists c.args.phi report = record {
+    let head : ReachesLines lists c.args.phi report = record {
       positions = c.if-not-are_within.ensures.0 refl;
       total = c.if-report-total.false ∙ c.total_before-total.ensures.total;
       threshold =

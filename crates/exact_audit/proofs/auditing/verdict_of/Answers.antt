@@ -1,9 +1,9 @@
 use Rattle.std.proofs.Common.{All, sym, subst}
 use Rattle.hhh_report.specs.{prefixes_of_lines}
-use Rattle.exact_audit.specs.LineTests.{IsLineTestResult, LinePassesJustifiedTest, LineTestMeasures}
+use Rattle.exact_audit.specs.LineTests.{IsTestResult, PassesJustified, TestMeasures}
 use Rattle.exact_audit.specs.LeftOut.{IsLeftOut}
 use Rattle.exact_audit.specs.Verdict.{IsLineVerdict}
-use Rattle.exact_audit.specs.Findings.{AreFindingSums, IsFirstFinding}
+use Rattle.exact_audit.specs.Findings.{AreSumsOf, IsFirst}
 use Rattle.exact_audit.proofs.VerdictLemmas.{verdict_leaves_out_first, verdict_leaves_out_none}
 use Rattle.exact_audit.proofs.auditing.verdict_of.Goals as goal
 use Rattle.exact_audit.proofs.auditing.verdict_of.Goals.{in-Some-left_out, in-None}
@@ -12,11 +12,11 @@ pub returns : goal.returns
 returns c = λ records are total.
     let lines = c.args.lines.now in
     let prefixes = prefixes_of_lines lines in
-    let by : LineTestMeasures = record { capacity = c.args.capacity; threshold = c.args.threshold; total = c.args.total } in
-    let held = c.in_default.ensures records (subst (AreFindingSums lines records) (sym c.deref.ensures.value) are.sums) in
-    let justified : All (LinePassesJustifiedTest by records lines) lines =
-    subst (IsLineTestResult (LinePassesJustifiedTest by records lines) lines) c.in_default-2.is
-    (c.in_ok-line.ensures records (subst (AreFindingSums lines records) (sym c.deref-2.ensures.value) are.sums) total) in
+    let by : TestMeasures = record { capacity = c.args.capacity; threshold = c.args.threshold; total = c.args.total } in
+    let held = c.in_default.ensures records (subst (AreSumsOf lines records) (sym c.deref.ensures.value) are.sums) in
+    let justified : All (PassesJustified by records lines) lines =
+    subst (IsTestResult (PassesJustified by records lines) lines) c.in_default-2.is
+    (c.in_ok-line.ensures records (subst (AreSumsOf lines records) (sym c.deref-2.ensures.value) are.sums) total) in
     elim c.match-findings.branch [
       | in-Some-left_out w ↦
           subst (IsLineVerdict by records lines) (sym w.result-is) (
@@ -25,7 +25,7 @@ returns c = λ records are total.
             c.in_default-low_line.ensures,
             justified,
             verdict_leaves_out_first prefixes records c.args.threshold w.in-Some-left_out.left_out
-                (subst (IsFirstFinding (IsLeftOut prefixes records c.args.threshold)) w.in-Some-left_out.is are.left_out),
+                (subst (IsFirst (IsLeftOut prefixes records c.args.threshold)) w.in-Some-left_out.is are.left_out),
           )
       | in-None w ↦
           subst (IsLineVerdict by records lines) (sym w.result-is) (
@@ -34,6 +34,6 @@ returns c = λ records are total.
             c.in_default-low_line.ensures,
             justified,
             verdict_leaves_out_none prefixes records c.args.threshold
-                (subst (IsFirstFinding (IsLeftOut prefixes records c.args.threshold)) w.in-None.is are.left_out),
+                (subst (IsFirst (IsLeftOut prefixes records c.args.threshold)) w.in-None.is are.left_out),
           )
     ]

@@ -1,10 +1,10 @@
 use Rattle.std.proofs.Common.{◌≡◌, ◌≤◌, length, take}
 use Rattle.std.specs.List.{filter_map}
-use Rattle.prefix_lattice.specs.{kept_pair_meet}
+use Rattle.prefix_lattice.specs.{pair_meet}
 use Rattle.exact_audit.proofs.closest_lines.count_kept_with.Given as goal
 
 -- the kept pairs with the others so far
 abbrev pub invariant-loop-second : goal.invariant-loop-second
 invariant-loop-second l =
-    (l.pairs ≡ length (filter_map (kept_pair_meet l.members l.first) (take l.second-index l.seconds)))
+    (l.pairs ≡ length (filter_map (pair_meet l.members l.first) (take l.second-index l.seconds)))
     × (l.pairs ≤ l.second-index)

@@ -1,12 +1,12 @@
 use Rattle.std.proofs.Common.{List, ◌++◌, take}
 use Rattle.prefix_lattice.specs.{PrefixValue, RecordValue}
 use Rattle.exact_audit.specs.LineCodes.{AreLineCodes}
-use Rattle.exact_audit.specs.NodeSums.{AreCountedInNodeSums}
+use Rattle.exact_audit.specs.NodeSums.{AreCountedIn}
 use Rattle.exact_audit.proofs.counted.push_counted.Given as goal
 
 -- the records so far are counted too
 abbrev pub invariant-loop-rec : goal.invariant-loop-rec
 invariant-loop-rec l = (prefixes : List PrefixValue) (before : List RecordValue) → AreLineCodes prefixes
     l.lines.codes.keys
-    → AreCountedInNodeSums prefixes before l.initial.counted.items
-    → AreCountedInNodeSums prefixes (before ++ take l.rec-index l.records) l.counted.items
+    → AreCountedIn prefixes before l.initial.counted.items
+    → AreCountedIn prefixes (before ++ take l.rec-index l.records) l.counted.items

@@ -1,7 +1,7 @@
 use Rattle.std.proofs.Common.{◌≡◌, ◌+◌, sym, subst, IfSome, arith}
 use Rattle.prefix_lattice.specs.{node_index}
 use Rattle.hhh_report.specs.{prefixes_of_lines}
-use Rattle.exact_audit.specs.Findings.{AreFindingSumsBefore, IsFirstFindingBefore}
+use Rattle.exact_audit.specs.Findings.{AreSumsBefore, IsFirstBefore}
 use Rattle.exact_audit.proofs.FindingLemmas.{findings_hold_all_line_sums, findings_leave_out_first}
 use Rattle.exact_audit.proofs.findings.find.Goals as goal
 
@@ -15,13 +15,13 @@ loop-index-preserved c =
       λ records are.
           let before = c.loop-index.invariant.1 records are in
           let sums = c.in_ok-sums.ensures.sums (prefixes_of_lines lines) records are in (
-            subst (λ i. AreFindingSumsBefore (i + 1) lines records c.note_lines.new.line_sums.items) at
+            subst (λ i. AreSumsBefore (i + 1) lines records c.note_lines.new.line_sums.items) at
                 (c.note_lines.ensures.sums records sums
-                (subst (λ i. AreFindingSumsBefore i lines records c.loop-index.line_sums.items) (sym at) before.0)),
-            subst (λ i. IsFirstFindingBefore (i + 1) (prefixes_of_lines lines) records c.args.threshold
+                (subst (λ i. AreSumsBefore i lines records c.loop-index.line_sums.items) (sym at) before.0)),
+            subst (λ i. IsFirstBefore (i + 1) (prefixes_of_lines lines) records c.args.threshold
                 c.first_left_out-left_out.result) at
                 (c.first_left_out-left_out.ensures (prefixes_of_lines lines) records c.requires.codes sums
-                (subst (λ i. IsFirstFindingBefore i (prefixes_of_lines lines) records c.args.threshold c.loop-index.left_out)
+                (subst (λ i. IsFirstBefore i (prefixes_of_lines lines) records c.args.threshold c.loop-index.left_out)
                 (sym at) before.1)),
           ),
     )

@@ -1,14 +1,14 @@
 use Rattle.std.proofs.Common.{◌≡◌, List, length}
 use Rattle.prefix_lattice.specs.{RecordValue}
 use Rattle.hhh_report.specs.{prefixes_of_lines}
-use Rattle.exact_audit.specs.NodeSums.{AreCountedInNodeSums}
-use Rattle.exact_audit.specs.Findings.{AreFindingSumsBefore, IsFirstFindingBefore}
+use Rattle.exact_audit.specs.NodeSums.{AreCountedIn}
+use Rattle.exact_audit.specs.Findings.{AreSumsBefore, IsFirstBefore}
 use Rattle.exact_audit.proofs.findings.find.Given as goal
 
 -- what the nodes so far show
 abbrev pub invariant-loop-index : goal.invariant-loop-index
 invariant-loop-index l =
     (length l.line_sums.items ≡ length l.lines)
-    × ((records : List RecordValue) → AreCountedInNodeSums (prefixes_of_lines l.lines) records l.counted
-    → AreFindingSumsBefore l.index l.lines records l.line_sums.items
-    × IsFirstFindingBefore l.index (prefixes_of_lines l.lines) records l.threshold l.left_out)
+    × ((records : List RecordValue) → AreCountedIn (prefixes_of_lines l.lines) records l.counted
+    → AreSumsBefore l.index l.lines records l.line_sums.items
+    × IsFirstBefore l.index (prefixes_of_lines l.lines) records l.threshold l.left_out)

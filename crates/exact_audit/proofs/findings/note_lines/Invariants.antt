@@ -3,7 +3,7 @@ use Rattle.prefix_lattice.specs.{RecordValue, node_index, node_of_prefix}
 use Rattle.hhh_report.specs.declared.line.Line.{Line}
 use Rattle.hhh_report.specs.{prefixes_of_lines}
 use Rattle.exact_audit.specs.NodeSums.{AreNodeSums, sums_of}
-use Rattle.exact_audit.specs.Findings.{AreFindingSumsBefore}
+use Rattle.exact_audit.specs.Findings.{AreSumsBefore}
 use Rattle.exact_audit.proofs.findings.note_lines.Given as goal
 
 -- the lines of the nodes before, and those of the node so far
@@ -11,7 +11,7 @@ abbrev pub invariant-loop-place : goal.invariant-loop-place
 invariant-loop-place l =
     (length l.line_sums.items ≡ length l.lines)
     × ((records : List RecordValue) → AreNodeSums l.node (prefixes_of_lines l.lines) records l.sums
-    → AreFindingSumsBefore (node_index l.node) l.lines records l.initial.line_sums.items
+    → AreSumsBefore (node_index l.node) l.lines records l.initial.line_sums.items
     → (place : ℕ) (line : Line) → slice_get l.lines place ≡ Some line
     → (node_index (node_of_prefix line.prefix) < node_index l.node)
     ⊎ ((node_index (node_of_prefix line.prefix) ≡ node_index l.node) × (place < l.place))

@@ -8,7 +8,7 @@ use Rattle.std.proofs.lemmas.Option.{get_or_from_slice_get, slice_get-map, slice
 use Rattle.prefix_lattice.specs.{node_index}
 use Rattle.exact_audit.specs.declared.node_sums.Sums.{Sums}
 use Rattle.exact_audit.specs.NodeSums.{no_sums, sums_for}
-use Rattle.exact_audit.specs.Findings.{IsFirstFindingWith}
+use Rattle.exact_audit.specs.Findings.{IsFirstWith}
 use Rattle.exact_audit.proofs.LeftOutLemmas.{first_left_out_before_keys, first_left_out_after_keys}
 use Rattle.exact_audit.proofs.LeftOutLemmas.{first_left_out_skips_light, first_left_out_takes_heavy}
 use Rattle.exact_audit.proofs.left_out.first_left_out.Goals as goal
@@ -37,7 +37,7 @@ loop-place-preserved c = λ prefixes records coded are before.
       | then-of_key-threshold w ↦
           let one = w.unwrap-prefix.result in
           let has = (w.from_key.ensures.prefix one).0 w.unwrap-prefix.ensures in
-          subst (IsFirstFindingWith (node_index c.args.node) (take (place + 1) (keys sums)) prefixes records c.args.threshold)
+          subst (IsFirstWith (node_index c.args.node) (take (place + 1) (keys sums)) prefixes records c.args.threshold)
           (sym (w.found-is ∙ w.first_unless_line-found.ensures.value))
           (first_left_out_takes_heavy c.report_order_is_total.ensures.total c.keys_are_of_their_node.ensures.apart c.args.node prefixes
           records c.args.lines.now.codes.keys c.args.threshold sums place key own.left one c.loop-place.found
@@ -45,7 +45,7 @@ loop-place-preserved c = λ prefixes records coded are before.
           (omega (arith, w.first_unless_line-found.ensures.small, has.of_key))
           (c.loop-place.invariant prefixes records coded are before))
       | else-of_key-threshold w ↦
-          subst (IsFirstFindingWith (node_index c.args.node) (take (place + 1) (keys sums)) prefixes records c.args.threshold)
+          subst (IsFirstWith (node_index c.args.node) (take (place + 1) (keys sums)) prefixes records c.args.threshold)
           (sym w.found-is)
           (first_left_out_skips_light c.args.node prefixes records c.args.threshold sums place key own.left c.loop-place.found
           c.requires.node are within key_at left w.if-of_key-threshold.false
@@ -65,6 +65,6 @@ returns c = λ prefixes records coded are before.
     ) in
     first_left_out_after_keys c.args.node prefixes records c.args.threshold sums c.loop-place.found c.requires.node
     c.requires.some are
-    (subst (λ some. IsFirstFindingWith (node_index c.args.node) some prefixes records c.args.threshold c.loop-place.found)
+    (subst (λ some. IsFirstWith (node_index c.args.node) some prefixes records c.args.threshold c.loop-place.found)
     (take_all c.loop-place.place (keys sums) all)
     (c.loop-place.invariant prefixes records coded are before))

@@ -3,7 +3,7 @@ use Rattle.std.specs.HashMap.{keys}
 use Rattle.prefix_lattice.specs.{RecordValue, PrefixValue, node_index}
 use Rattle.exact_audit.specs.LineCodes.{AreLineCodes}
 use Rattle.exact_audit.specs.NodeSums.{AreNodeSums}
-use Rattle.exact_audit.specs.Findings.{IsFirstFindingBefore, IsFirstFindingWith}
+use Rattle.exact_audit.specs.Findings.{IsFirstBefore, IsFirstWith}
 use Rattle.exact_audit.proofs.left_out.first_left_out.Given as goal
 
 -- the first of those before, and of those of the node so far
@@ -11,5 +11,5 @@ abbrev pub invariant-loop-place : goal.invariant-loop-place
 invariant-loop-place l = (prefixes : List PrefixValue) (records : List RecordValue) → AreLineCodes prefixes
     l.lines.codes.keys
     → AreNodeSums l.node prefixes records l.sums
-    → IsFirstFindingBefore (node_index l.node) prefixes records l.threshold l.fn.found
-    → IsFirstFindingWith (node_index l.node) (take l.place (keys l.sums)) prefixes records l.threshold l.found
+    → IsFirstBefore (node_index l.node) prefixes records l.threshold l.fn.found
+    → IsFirstWith (node_index l.node) (take l.place (keys l.sums)) prefixes records l.threshold l.found

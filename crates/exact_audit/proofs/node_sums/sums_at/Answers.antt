@@ -4,16 +4,16 @@ use Rattle.std.proofs.lemmas.Bool.{eqb-true, or_cases}
 use Rattle.std.proofs.lemmas.List.{take_all}
 use Rattle.prefix_lattice.specs.{IsPrefixKey, prefix_key, prefix_at}
 use Rattle.exact_audit.specs.declared.counted.Counted.{Counted}
-use Rattle.exact_audit.specs.Depths.{explained_by_depth}
-use Rattle.exact_audit.specs.NodeSums.{has_node_sum_key, sums_for, AreNodeKeySums}
-use Rattle.exact_audit.proofs.NodeSumLemmas.{AreNodeSumLaws, partial_node_sum_fits, AreNodeKeySums-next_in_node}
+use Rattle.exact_audit.specs.Depths.{explained_by}
+use Rattle.exact_audit.specs.NodeSums.{has_sum, sums_for, AreKeySums}
+use Rattle.exact_audit.proofs.NodeSumLemmas.{AreNodeSumLaws, partial_node_sum_fits, AreKeySums-next_in_node}
 use Rattle.exact_audit.proofs.NodeSumLemmas.{AreNodeSums-by_prefix}
 use Rattle.exact_audit.proofs.node_sums.sums_at.Goals as goal
 
 pub add-requires-clause-weight : goal.add-requires-clause-weight
 add-requires-clause-weight c =
     let key = c.key-key.result in
-    let fits = partial_node_sum_fits c.args.counted.now (has_node_sum_key c.args.node key) c.loop-one.one-index c.one-item.result
+    let fits = partial_node_sum_fits c.args.counted.now (has_sum c.args.node key) c.loop-one.one-index c.one-item.result
     c.loop-one-test.true c.one-item.is in
     omega (arith, fits, c.loop-one.invariant.0.weight key, c.requires.light)
 
@@ -21,7 +21,7 @@ pub add-requires-clause-left : goal.add-requires-clause-left
 add-requires-clause-left c =
     let key = c.key-key.result in
     let fits = partial_node_sum_fits c.args.counted.now
-    (λ (one : Counted). has_node_sum_key c.args.node key one && not (explained_by_depth one.depths c.args.node))
+    (λ (one : Counted). has_sum c.args.node key one && not (explained_by one.depths c.args.node))
     c.loop-one.one-index c.one-item.result c.loop-one-test.true c.one-item.is in
     omega (arith, fits, c.loop-one.invariant.0.left key, c.requires.light)
 
@@ -29,7 +29,7 @@ pub loop-one-preserved : goal.loop-one-preserved
 loop-one-preserved c =
     let key : c.key-key.result ≡ prefix_key (prefix_at c.args.node c.one-item.result.rec) =
     c.key-key.ensures.value ∙ ap prefix_key c.of.ensures.value in (
-      AreNodeKeySums-next_in_node c.args.node c.args.counted.now c.loop-one.one-index c.one-item.result c.key-key.result
+      AreKeySums-next_in_node c.args.node c.args.counted.now c.loop-one.one-index c.one-item.result c.key-key.result
           c.loop-one.sums c.add.new.sums c.loop-one-test.true c.one-item.is key
           c.in_ok-add.ensures.weight
           (λ other. c.in_ok-add.ensures.left other
@@ -53,5 +53,5 @@ returns-clause-sums c = λ lines records are.
       apart = c.keys_are_of_their_node.ensures.apart;
     } in
     AreNodeSums-by_prefix laws c.args.node lines records c.args.counted.now c.loop-one.sums c.requires.node
-    (subst (λ counted. AreNodeKeySums c.args.node counted c.loop-one.sums)
+    (subst (λ counted. AreKeySums c.args.node counted c.loop-one.sums)
     (take_all c.loop-one.one-index c.args.counted.now c.loop-one-test.false) c.loop-one.invariant.0) are

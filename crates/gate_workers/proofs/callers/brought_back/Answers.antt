@@ -1,7 +1,7 @@
 use Rattle.std.proofs.Common.{◌≡◌, refl, ap, sym, subst, ◌++◌, ◌∷◌, [], ◌∙◌, Ok, append_assoc}
 use Rattle.std.specs.List.{AllZip}
 use Rattle.std.specs.Vec.Iter.{into_iter_items}
-use Rattle.gate_workers.specs.Threads.{CallerThreadBringsBack}
+use Rattle.gate_workers.specs.Running.{BringsBack}
 use Rattle.gate_workers.specs.declared.gathered.Called.{Called}
 use Rattle.gate_workers.proofs.GatheredLemmas.{gathered_one_more_caller}
 use Rattle.gate_workers.proofs.callers.brought_back.Goals as goal
@@ -16,6 +16,6 @@ loop-caller-preserved c =
     let pushed : c.push.new.self.items ≡ c.loop-caller.called.items ++ one ∷ [] = c.in_ok-push.ensures.items in (
       kept.0 ∙ ap (λ xs. done ++ xs) c.in-Some.ensures.steps.0
           ∙ sym (append_assoc done (caller ∷ []) (into_iter_items c.next.new.self)),
-      subst (AllZip CallerThreadBringsBack (done ++ caller ∷ [])) (sym pushed)
+      subst (AllZip BringsBack (done ++ caller ∷ [])) (sym pushed)
           (gathered_one_more_caller done c.loop-caller.called.items caller one kept.1 (record { pass = refl; reports = was })),
     )

@@ -1,7 +1,7 @@
 use Rattle.std.proofs.Common.{◌≡◌, ◌+◌, ◌++◌, [], ◌∷◌, ◌∙◌, All, length, length-append, ap, sym, subst, arith}
 use Rattle.std.proofs.lemmas.List.Elements.{All-nil, All-push}
 use Rattle.pass_tokens.specs.{newcomer_view, view}
-use Rattle.gate_workers.specs.Threads.{CallerThreadCanCall, EachThreadByNumber, after_thread_splits}
+use Rattle.gate_workers.specs.Running.{CanCall, EachByNumber, after_splits}
 use Rattle.gate_workers.proofs.GatheredLemmas.{gathered_one_more_thread, gathered_splits_are_none, gathered_splits_are_summed}
 use Rattle.gate_workers.proofs.callers.split_callers.Goals as goal
 
@@ -12,8 +12,8 @@ loop-caller-init c =
     let none : c.new-callers.result.items ≡ [] = c.new-callers.ensures.items in (
       c.requires.pass,
       ap length none,
-      subst (All (CallerThreadCanCall board)) (sym none) (All-nil (CallerThreadCanCall board)),
-      subst (EachThreadByNumber (λ number caller. view caller.pass ≡ newcomer_view (after_thread_splits number before))) (sym none)
+      subst (All (CanCall board)) (sym none) (All-nil (CanCall board)),
+      subst (EachByNumber (λ number caller. view caller.pass ≡ newcomer_view (after_splits number before))) (sym none)
           (λ place default below. absurd (omega (arith, below))),
       gathered_splits_are_none before,
     )
@@ -29,11 +29,11 @@ loop-caller-preserved c =
     let items : c.push.new.self.items ≡ callers ++ made ∷ [] = c.in_ok-push.ensures.items in (
       c.in_ok-made.ensures.pass,
       ap length items ∙ length-append callers (made ∷ []) ∙ ap (λ n. n + 1) kept.1,
-      subst (All (CallerThreadCanCall board)) (sym items)
-          (All-push (CallerThreadCanCall board) callers made kept.2 c.in_ok-made.ensures.caller),
-      subst (EachThreadByNumber (λ number caller. view caller.pass ≡ newcomer_view (after_thread_splits number before))) (sym items)
+      subst (All (CanCall board)) (sym items)
+          (All-push (CanCall board) callers made kept.2 c.in_ok-made.ensures.caller),
+      subst (EachByNumber (λ number caller. view caller.pass ≡ newcomer_view (after_splits number before))) (sym items)
           (gathered_one_more_thread
-          (λ number caller. view caller.pass ≡ newcomer_view (after_thread_splits number before)) callers made number
+          (λ number caller. view caller.pass ≡ newcomer_view (after_splits number before)) callers made number
           kept.1 kept.3 (c.in_ok-made.ensures.newcomer ∙ ap newcomer_view kept.4)),
-      c.in_ok-made.ensures.split ∙ ap (after_thread_splits 1) kept.4 ∙ gathered_splits_are_summed number 1 before,
+      c.in_ok-made.ensures.split ∙ ap (after_splits 1) kept.4 ∙ gathered_splits_are_summed number 1 before,
     )

@@ -4,7 +4,7 @@ use Rattle.shard_state.specs.{core_capacity, core_lists}
 use Rattle.hhh_report.specs.{IsSound}
 use Rattle.hhh_report.specs.declared.reports.Reported.{Reported}
 use Rattle.pass_tokens.specs.{view}
-use Rattle.gate_workers.specs.Call.{Calls}
+use Rattle.gate_workers.specs.Calling.{Calls}
 use Rattle.gate_workers.proofs.CallLemmas.{no_calls, more_calls}
 use Rattle.gate_workers.proofs.calling.report_in_rounds.Goals as goal
 

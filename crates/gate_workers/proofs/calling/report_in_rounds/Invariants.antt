@@ -1,15 +1,15 @@
 use Rattle.std.proofs.Common.{length, All}
-use Rattle.shard_state.specs.{CoreBasesRepresent, HasCoreShape, core_capacity, core_lists}
+use Rattle.shard_state.specs.{BasesRepresent, HasCoreShape, core_capacity, core_lists}
 use Rattle.hhh_report.specs.{IsSound}
-use Rattle.pass_tokens.specs.{IsPassOfBoard, view}
-use Rattle.gate_workers.specs.Call.{Calls}
+use Rattle.pass_tokens.specs.{IsPassOf, view}
+use Rattle.gate_workers.specs.Calling.{Calls}
 use Rattle.gate_workers.proofs.calling.report_in_rounds.Given as goal
 
 -- the reports of the rounds so far
 abbrev pub invariant-loop-round : goal.invariant-loop-round
 invariant-loop-round g l =
-    IsPassOfBoard l.board l.pass × HasCoreShape (length l.board.opening) (core_capacity l.board.opening) l.cut
-    × (CoreBasesRepresent l.board.opening
+    IsPassOf l.board l.pass × HasCoreShape (length l.board.opening) (core_capacity l.board.opening) l.cut
+    × (BasesRepresent l.board.opening
     → All (λ reported. IsSound reported.report (core_lists l.board.opening) (core_capacity l.board.opening) l.phi)
     l.reports)
     × Calls l.board.opening l.phi l.round (view l.initial.pass) (view l.pass) l.reports

@@ -1,6 +1,6 @@
 use Rattle.std.proofs.Common.{◌∙◌, ap, sym}
 use Rattle.pass_tokens.specs.{view}
-use Rattle.gate_workers.specs.Call.{cut_at_call}
+use Rattle.gate_workers.specs.Calling.{cut_at}
 use Rattle.gate_workers.proofs.CallLemmas.{call_cut_at_its_positions, one_call}
 use Rattle.gate_workers.proofs.calling.report_once.Goals as goal
 
@@ -19,4 +19,4 @@ pub returns-clause-cut : goal.returns-clause-cut
 returns-clause-cut g c =
     (call_cut_at_its_positions c.args.board.now.opening (view c.args.pass.now) (view c.read_cut.new.pass) c.args.cut.now
     c.read_cut.new.cut c.read_cut.ensures.read c.requires.shape).is
-    ∙ ap (cut_at_call c.args.board.now.opening) (sym c.in_ok-report.ensures.positions)
+    ∙ ap (cut_at c.args.board.now.opening) (sym c.in_ok-report.ensures.positions)

@@ -1,7 +1,7 @@
 use Rattle.std.proofs.Common.{ap, sym, subst, ◌∙◌, All, fold, map}
 use Rattle.std.specs.Vec.Iter.{into_iter_items}
 use Rattle.std.proofs.lemmas.List.Elements.{All-tail}
-use Rattle.pass_tokens.specs.{IsPassOfBoard, view_after_join, view}
+use Rattle.pass_tokens.specs.{IsPassOf, after_join, view}
 use Rattle.gate_workers.proofs.workers.join_workers.Goals as goal
 
 pub loop-worker-preserved : goal.loop-worker-preserved
@@ -11,7 +11,7 @@ loop-worker-preserved c =
     let steps = c.in-Some.ensures.steps.0 in
     let board = c.args.board.now in (
       c.join.ensures.pass,
-      All-tail (IsPassOfBoard board) c.in-Some.worker rest (subst (All (IsPassOfBoard board)) steps kept.1),
-      ap (λ v. fold view_after_join v (map view rest)) c.join.ensures.join
-          ∙ sym (ap (λ passes. fold view_after_join (view c.loop-worker.pass) (map view passes)) steps) ∙ kept.2,
+      All-tail (IsPassOf board) c.in-Some.worker rest (subst (All (IsPassOf board)) steps kept.1),
+      ap (λ v. fold after_join v (map view rest)) c.join.ensures.join
+          ∙ sym (ap (λ passes. fold after_join (view c.loop-worker.pass) (map view passes)) steps) ∙ kept.2,
     )

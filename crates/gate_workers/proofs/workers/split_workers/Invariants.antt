@@ -1,12 +1,12 @@
 use Rattle.std.proofs.Common.{◌≡◌, length}
-use Rattle.pass_tokens.specs.{IsPassOfBoard, view}
-use Rattle.gate_workers.specs.Threads.{EachThreadByNumber, IsSplitOffForThread, after_thread_splits}
+use Rattle.pass_tokens.specs.{IsPassOf, view}
+use Rattle.gate_workers.specs.Running.{EachByNumber, IsSplitOff, after_splits}
 use Rattle.gate_workers.proofs.workers.split_workers.Given as goal
 
 -- so far this many passes were split off, one after the other
 abbrev pub invariant-loop-worker : goal.invariant-loop-worker
 invariant-loop-worker l =
-    IsPassOfBoard l.board l.pass
+    IsPassOf l.board l.pass
     × (length l.workers.items ≡ l._worker)
-    × EachThreadByNumber (λ number. IsSplitOffForThread l.board (after_thread_splits number (view l.initial.pass))) l.workers.items
-    × (view l.pass ≡ after_thread_splits l._worker (view l.initial.pass))
+    × EachByNumber (λ number. IsSplitOff l.board (after_splits number (view l.initial.pass))) l.workers.items
+    × (view l.pass ≡ after_splits l._worker (view l.initial.pass))

@@ -1,6 +1,6 @@
 use Rattle.std.proofs.Common.{ap, sym}
-use Rattle.session_audit.specs.{sound_audit_text}
-use Rattle.dealt_capture.specs.{rules_by_formula}
+use Rattle.session_audit.specs.{sound_audit}
+use Rattle.dealt_capture.specs.{rules_by}
 use Rattle.hhh_engine.proofs.OwnSessionLemmas.{own_session_is_dealt_alike, own_session_is_sound_alike}
 use Rattle.hhh_engine.proofs.laws.own_sessions_are_audited_good.Goals as goal
 
@@ -17,11 +17,11 @@ returns-clause-good g c = λ formula before now settings other store file text i
       session = known.0;
       audited = record {
         records = is.records;
-        dealt = own_session_is_dealt_alike settings other (rules_by_formula formula) file is.records is.lists shards deal weigh
+        dealt = own_session_is_dealt_alike settings other (rules_by formula) file is.records is.lists shards deal weigh
             is.dealt;
         is_session = known.1;
         not_long = short;
       };
       sound = own_session_is_sound_alike settings other is.lists known.0.reports capacity phi known.2;
-      spelled = ap sound_audit_text (sym known.3);
+      spelled = ap sound_audit (sym known.3);
     }

@@ -2,7 +2,7 @@ use Rattle.std.proofs.Common.{refl}
 use Rattle.command_words.specs.declared.command.Command.TheVariants.{Weigh, Report, Format, Audit, Make, Demo}
 use Rattle.hhh_engine.specs.Tasks.{made_task, report_task, weigh_task}
 use Rattle.hhh_engine.specs.TopCall.{streams}
-use Rattle.report_session.specs.{IsAsBeforeSaves-untouched}
+use Rattle.report_session.specs.{IsAsBefore-untouched}
 use Rattle.hhh_engine.proofs.AuditEndLemmas.{audit_ends_as}
 use Rattle.hhh_engine.proofs.ReadOrderLemmas.{read_order_of_capture_alone, read_order_of_neither}
 use Rattle.hhh_engine.proofs.ReadOrderLemmas.{read_order_of_variant}
@@ -15,7 +15,7 @@ returns-in-Weigh-clause-ends g c =
     (Weigh c.in-Weigh.prefix c.in-Weigh.settings) c.weigh.result c.in-Weigh.is
     (status_beside_disk (weigh_task c.in-Weigh.prefix c.in-Weigh.settings (g.S.Source.left c.args.capture.now)
     (g.S.Source.left c.weigh.new.capture)) _ _ _ c.weigh.result (λ failed. failed) refl
-    (IsAsBeforeSaves-untouched g.D.Disk c.args.disk.now c.args.disk.now g.met.D.Disk.only_now refl) (c.weigh.ensures _))
+    (IsAsBefore-untouched g.D.Disk c.args.disk.now c.args.disk.now g.met.D.Disk.only_now refl) (c.weigh.ensures _))
 
 pub returns-in-Report-clause-ends : goal.returns-in-Report-clause-ends
 returns-in-Report-clause-ends g c =
@@ -34,7 +34,7 @@ returns-in-Audit-clause-ends g c =
     (audit_ends_as g.S.Source g.T.Source g.K.Sink g.D.Disk
     (streams c.args.capture.now c.args.text.now c.args.sink.now c.args.disk.now)
     (streams c.audit.new.capture c.audit.new.text c.audit.new.sink c.args.disk.now) _ c.in-Audit.settings c.audit.result refl
-    (IsAsBeforeSaves-untouched g.D.Disk c.args.disk.now c.args.disk.now g.met.D.Disk.only_now refl)
+    (IsAsBefore-untouched g.D.Disk c.args.disk.now c.args.disk.now g.met.D.Disk.only_now refl)
     (c.audit.ensures.ends (g.D.Disk.reads c.args.disk.now)))
 
 pub returns-in-Make-clause-ends : goal.returns-in-Make-clause-ends
@@ -42,7 +42,7 @@ returns-in-Make-clause-ends g c =
     status_as_named_command g.S.Source g.T.Source g.K.Sink g.D.Disk _ _ _ c.args.command.now (Make c.in-Make.seed c.in-Make.frames)
     c.make.result c.in-Make.is
     (status_beside_disk (made_task _) _ _ _ c.make.result (λ failed. failed) refl
-    (IsAsBeforeSaves-untouched g.D.Disk c.args.disk.now c.args.disk.now g.met.D.Disk.only_now refl)
+    (IsAsBefore-untouched g.D.Disk c.args.disk.now c.args.disk.now g.met.D.Disk.only_now refl)
     (c.make.ensures.ends (g.S.Source.left c.args.capture.now) _))
 
 pub returns-in-Demo-clause-ends : goal.returns-in-Demo-clause-ends
@@ -50,7 +50,7 @@ returns-in-Demo-clause-ends g c =
     status_as_named_command g.S.Source g.T.Source g.K.Sink g.D.Disk _ _ _ c.args.command.now
     (Demo c.in-Demo.seed c.in-Demo.frames c.in-Demo.settings) c.demo.result c.in-Demo.is
     (status_beside_disk (made_task _) _ _ _ c.demo.result (λ failed. failed) refl
-    (IsAsBeforeSaves-untouched g.D.Disk c.args.disk.now c.args.disk.now g.met.D.Disk.only_now refl)
+    (IsAsBefore-untouched g.D.Disk c.args.disk.now c.args.disk.now g.met.D.Disk.only_now refl)
     (c.demo.ensures.ends (g.S.Source.left c.args.capture.now) _))
 
 pub returns-in-Weigh-clause-order : goal.returns-in-Weigh-clause-order

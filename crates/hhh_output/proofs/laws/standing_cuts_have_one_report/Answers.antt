@@ -1,5 +1,5 @@
 use Rattle.std.proofs.Common.{◌≡◌, sym, subst}
-use Rattle.hhh_output.specs.Report.{IsReportOf}
+use Rattle.hhh_output.specs.Reporting.{IsReportOf}
 use Rattle.hhh_output.proofs.laws.standing_cuts_have_one_report.Goals as goal
 
 pub returns : goal.returns

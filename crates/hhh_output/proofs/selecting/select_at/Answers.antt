@@ -1,7 +1,7 @@
 use Rattle.std.proofs.Common.{◌≡◌, ℕ, ◌+◌, ◌≤◌, ◌↔◌, List, length, get_or, AllPairs, ◌≢◌, Some, sym, subst}
 use Rattle.std.proofs.lemmas.List.{get_or_default}
 use Rattle.prefix_lattice.specs.{PrefixValue, HasPrefixKey}
-use Rattle.cut_merge.specs.{merged_candidates_at}
+use Rattle.cut_merge.specs.{candidates_at}
 use Rattle.hhh_output.proofs.NodeLineLemmas.{HasJudgedNodeLines, next_node_line_judged, all_node_lines_judged}
 use Rattle.hhh_output.proofs.selecting.select_at.Goals as goal
 
@@ -26,7 +26,7 @@ loop-key-preserved c =
 pub returns-clause-members : goal.returns-clause-members
 returns-clause-members c =
     let keys = c.candidates-key-items.result.now in
-    let done : length (merged_candidates_at c.args.merged.now c.args.node) ≤ c.loop-key.key-index =
+    let done : length (candidates_at c.args.merged.now c.args.node) ≤ c.loop-key.key-index =
     subst (λ (ks : List ℕ). length ks ≤ c.loop-key.key-index) c.candidates-key-items.ensures.known
     c.loop-key-test.false in
     all_node_lines_judged c.args.merged.now c.args.threshold c.args.reported.now c.args.node c.args.found.now.items

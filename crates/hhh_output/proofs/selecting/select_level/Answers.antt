@@ -2,7 +2,7 @@ use Rattle.std.proofs.Common.{◌≡◌, IfSome, length, sym, subst, ◌∙◌, 
 use Rattle.std.specs.Ordering.{is_lt}
 use Rattle.std.proofs.lemmas.List.Sorted.{ranks_by, answers_always}
 use Rattle.prefix_lattice.specs.{NodeValue, IsNode, node_index, node_at, report_order}
-use Rattle.cut_merge.specs.{merged_candidates_at}
+use Rattle.cut_merge.specs.{candidates_at}
 use Rattle.hhh_report.specs.declared.line.Line.{Line}
 use Rattle.hhh_output.proofs.LevelSearchLemmas.{IsLevelSearch, LevelSearchIsOrdered, level_search_skips_node}
 use Rattle.hhh_output.proofs.LevelSearchLemmas.{level_search_takes_node, level_search_is_sorted}
@@ -29,7 +29,7 @@ loop-place-preserved c =
     (subst (λ found. IfSome found (λ n. n ≡ node_at place)) c.unwrap-node.ensures c.from_index.ensures.some)
     (subst (λ found. IfSome found (λ n. node_index n ≡ place)) c.unwrap-node.ensures c.from_index.ensures.back)
     (sym c.level.ensures.value ∙ c.if-level.false) c.select_at.new.found.items
-    (length (merged_candidates_at c.args.merged.now node)) (c.requires.few node is_node)
+    (length (candidates_at c.args.merged.now node)) (c.requires.few node is_node)
     c.in_ok-select_at.ensures.members c.in_ok-select_at.ensures.distinct c.in_ok-select_at.ensures.few
 
 pub returns : goal.returns

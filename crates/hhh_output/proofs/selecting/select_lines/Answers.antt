@@ -5,7 +5,7 @@ use Rattle.cut_merge.specs.{MergedValue}
 use Rattle.conditioned_bounds.specs.{member_limit}
 use Rattle.hhh_report.specs.declared.line.Line.{Line}
 use Rattle.hhh_report.specs.{prefixes_of_lines}
-use Rattle.hhh_output.specs.Selecting.{AreSelectedOfLevel, AreSelectedDownTo}
+use Rattle.hhh_output.specs.Selecting.{AreOfLevel, AreDownTo}
 use Rattle.hhh_output.proofs.NearLineLemmas.{NearLineLevelsFall}
 use Rattle.hhh_output.proofs.LevelDescentLemmas.{level_descent_goes_on}
 use Rattle.hhh_output.proofs.SoundReportLemmas.{sound_report_prefixes_differ}
@@ -15,15 +15,15 @@ use Rattle.hhh_output.proofs.selecting.select_lines.Goals as goal
 -- the lines with those of one more level
 further : (merged : MergedValue) (threshold levels : ℕ) (lines found : List Line) (reported : List PrefixValue)
     (items : List Line) → NearLineLevelsFall → levels < 9 → reported ≡ prefixes_of_lines lines → items ≡ found
-    → AreSelectedDownTo merged threshold levels lines → AreSelectedOfLevel merged threshold reported (8 - levels) found
+    → AreDownTo merged threshold levels lines → AreOfLevel merged threshold reported (8 - levels) found
     → (reported ++ prefixes_of_lines items ≡ prefixes_of_lines (lines ++ found))
-    × AreSelectedDownTo merged threshold (levels + 1) (lines ++ found)
+    × AreDownTo merged threshold (levels + 1) (lines ++ found)
 further merged threshold levels lines found reported items law some same same_items down of_level = (
   ap (λ before. before ++ prefixes_of_lines items) same
       ∙ ap (λ (more : List Line). prefixes_of_lines lines ++ prefixes_of_lines more) same_items
       ∙ sym (map-append (λ (l : Line). l.prefix) lines found),
   level_descent_goes_on merged threshold levels lines found law some down
-      (subst (λ before. AreSelectedOfLevel merged threshold before (8 - levels) found) same of_level),
+      (subst (λ before. AreOfLevel merged threshold before (8 - levels) found) same of_level),
 )
 
 pub append-requires-clause-distinct : goal.append-requires-clause-distinct
@@ -68,11 +68,11 @@ loop-levels-preserved c =
     ∙ ap (λ (more : List Line). c.loop-levels.reported ++ prefixes_of_lines more) c.deref.ensures.value
     ∙ ap (λ before. before ++ prefixes_of_lines found) c.loop-levels.invariant.0
     ∙ sym (map-append (λ (l : Line). l.prefix) lines found) in
-    let of_level : AreSelectedOfLevel merged threshold (prefixes_of_lines lines) (8 - levels) found =
-    subst (λ reported. AreSelectedOfLevel merged threshold reported (8 - levels) found) c.loop-levels.invariant.0
+    let of_level : AreOfLevel merged threshold (prefixes_of_lines lines) (8 - levels) found =
+    subst (λ reported. AreOfLevel merged threshold reported (8 - levels) found) c.loop-levels.invariant.0
     c.in_ok-found.ensures in (
       new_prefixes ∙ ap prefixes_of_lines (sym new_lines),
-      subst (AreSelectedDownTo merged threshold (levels + 1)) (sym new_lines)
+      subst (AreDownTo merged threshold (levels + 1)) (sym new_lines)
           (level_descent_goes_on merged threshold levels lines found (record { falls = c.prefixes_are_ordered.ensures.level })
           c.loop-levels-test.true c.loop-levels.invariant.1 of_level),
     )

@@ -1,7 +1,7 @@
 use Rattle.std.proofs.Common.{◌≡◌}
 use Rattle.hhh_report.specs.{prefixes_of_lines}
-use Rattle.hhh_output.specs.Selecting.{AreSelectedDownTo}
+use Rattle.hhh_output.specs.Selecting.{AreDownTo}
 use Rattle.hhh_output.proofs.selecting.select_lines.Given as goal
 
 abbrev pub invariant-loop-levels : goal.invariant-loop-levels
-invariant-loop-levels l = (l.reported ≡ prefixes_of_lines l.lines) × AreSelectedDownTo l.merged l.threshold l.levels l.lines
+invariant-loop-levels l = (l.reported ≡ prefixes_of_lines l.lines) × AreDownTo l.merged l.threshold l.levels l.lines

@@ -1,7 +1,7 @@
 use Rattle.std.proofs.Common.{◌≡◌, ◌≢◌, ℕ, ◌<◌, ◌≤◌, length, get_or, sym, arith}
 use Rattle.std.specs.Bool.{⊤}
 use Rattle.std.proofs.lemmas.Option.{MatchOption-at_some}
-use Rattle.key_index.specs.CellPaths.{cell_path_home}
+use Rattle.key_index.specs.Homes.{cell_home}
 use Rattle.key_index.proofs.PathLemmas.{LeavesPath-start, LeavesPath-turn, found_in_path_window, found_at_path_end}
 use Rattle.key_index.proofs.searching.free_cell.Goals as goal
 
@@ -23,7 +23,7 @@ loop-turn-preserved c = record {
 
 pub returns-clause-reached : goal.returns-clause-reached
 returns-clause-reached c = λ place.
-    let at_home : cell_path_home c.args.room 0 c.args.key ≡ c.home_of.result = sym c.home_of.ensures.home in
+    let at_home : cell_home c.args.room 0 c.args.key ≡ c.home_of.result = sym c.home_of.ensures.home in
     let from = MatchOption-at_some ⊤ (λ cell. c.home_of.result ≤ cell) c.unwrap.result c.unwrap.ensures c.first_free-2.ensures.from in
     let to = MatchOption-at_some ⊤ (λ cell. cell < length c.args.marks.now) c.unwrap.result c.unwrap.ensures c.first_free-2.ensures.to in
     let first = MatchOption-at_some ⊤ (λ cell. (other : ℕ) → c.home_of.result ≤ other → other < cell → get_or c.args.marks.now other 0 ≢ 0)

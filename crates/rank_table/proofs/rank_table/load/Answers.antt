@@ -4,9 +4,9 @@ use Rattle.std.proofs.lemmas.Option.{get_or_from_slice_get}
 use Rattle.key_index.specs.{IndexedKeys}
 use Rattle.rank_table.specs.declared.slot.Slot.{Slot}
 use Rattle.space_saving.specs.declared.entry.Entry.{Entry}
-use Rattle.rank_table.specs.Slots.{Slots}
-use Rattle.rank_table.specs.Marks.{numbered_for_marks}
-use Rattle.rank_table.proofs.NumberedEntryLemmas.{length-numbered_entries, numbered_for_marks-push_entry}
+use Rattle.rank_table.specs.Slot.{Slots}
+use Rattle.rank_table.specs.Marks.{numbered}
+use Rattle.rank_table.proofs.NumberedEntryLemmas.{length-numbered_entries, numbered-push_entry}
 use Rattle.rank_table.proofs.rank_table.load.Goals as goal
 
 pub push-requires-in-loop-place : goal.push-requires-in-loop-place
@@ -39,5 +39,5 @@ loop-place-preserved c =
             } in t) ∷ [];
           } in s) c.loop-place.invariant.ranked
           ∙ ap (λ slots. let s : Slots = record { capacity = c.args.ranked.now.capacity; slots = slots } in s)
-          (sym (ap (numbered_for_marks 0) more ∙ numbered_for_marks-push_entry 0 (take place entries) entry place count));
+          (sym (ap (numbered 0) more ∙ numbered-push_entry 0 (take place entries) entry place count));
     }

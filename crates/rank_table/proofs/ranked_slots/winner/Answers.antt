@@ -1,8 +1,8 @@
 use Rattle.std.proofs.Common.{◌≡◌, ◌≢◌, ◌-◌, ◌*◌, ◌%◌, ◌^◌, ◌<◌, length, get_or, set, sum, refl, sym, ap, subst, ◌∙◌}
 use Rattle.std.proofs.lemmas.List.{get_or_default}
 use Rattle.rank_table.specs.declared.slot.Slot.{Slot}
-use Rattle.rank_table.specs.RankWords.{rank_word}
-use Rattle.rank_table.specs.Ranks.{AreRankLeaves}
+use Rattle.rank_table.specs.Words.{rank_word}
+use Rattle.rank_table.specs.Ranks.{AreLeaves}
 use Rattle.rank_table.proofs.LeafLemmas.{leaf_is_mended_to_word, leaf_stands_at_its_place, leaf_rises_when_mended}
 use Rattle.rank_table.proofs.ranked_slots.winner.Goals as goal
 
@@ -16,7 +16,7 @@ mending-preserved c =
     let named = leaf_stands_at_its_place (length slots) c.args.base c.least-leaf.result c.mending.tree slots c.mending.invariant c.least-leaf.ensures.present in
     let after : c.set.new.self ≡ set c.mending.tree place (rank_word c.args.base (get_or slots place blank) place) = c.set.ensures
     ∙ ap (set c.mending.tree place) c.word_of-word.ensures in
-    subst (λ leaves. AreRankLeaves (length slots) c.args.base leaves slots) (sym after)
+    subst (λ leaves. AreLeaves (length slots) c.args.base leaves slots) (sym after)
     (leaf_is_mended_to_word (length slots) c.args.base c.mending.tree slots place (get_or slots place blank) c.mending.invariant named.0
     (get_or_default slots place blank (get_or slots place blank) named.0))
 

@@ -1,10 +1,10 @@
 use Rattle.std.proofs.Common.{◌-◌, ◌*◌, ◌^◌, length, sum}
-use Rattle.rank_table.specs.Ranks.{AreRankLeaves}
+use Rattle.rank_table.specs.Ranks.{AreLeaves}
 use Rattle.rank_table.proofs.ranked_slots.winner.Given as goal
 
 -- the leaves are still lower bounds
 abbrev pub invariant-mending : goal.invariant-mending
-invariant-mending l = AreRankLeaves (length l.slots) l.base l.tree l.slots
+invariant-mending l = AreLeaves (length l.slots) l.base l.tree l.slots
 
 -- the sum by which all leaves can still rise
 abbrev pub decreases-mending : goal.decreases-mending

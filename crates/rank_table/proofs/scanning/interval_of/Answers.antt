@@ -1,7 +1,7 @@
 use Rattle.std.proofs.Common.{◌^◌, sym, ap, arith}
-use Rattle.space_saving.specs.{TableValue, table_interval_from}
-use Rattle.rank_table.specs.Marks.{slot_without_mark}
-use Rattle.rank_table.specs.SlotOrder.{entries_in_slot_order}
+use Rattle.space_saving.specs.{TableValue, interval_from}
+use Rattle.rank_table.specs.Marks.{without_mark}
+use Rattle.rank_table.specs.SlotOrder.{ordered_entries}
 use Rattle.rank_table.proofs.SlotChangeLemmas.{entry_found_in_slot_change, missing_entry_in_slot_change}
 use Rattle.rank_table.proofs.SlotKeyLemmas.{missing_key_has_no_slot, slot_key_place_is_within, slot_key_at_its_place}
 use Rattle.rank_table.proofs.RankTableLemmas.{rank_table_error_below_count, rank_table_high_with_room}
@@ -13,7 +13,7 @@ overflow_sub-result c =
     let slots = c.args.slots.now in
     omega (
       arith,
-      rank_table_error_below_count c.args.capacity c.in-Some.place slots slot_without_mark c.requires.entries
+      rank_table_error_below_count c.args.capacity c.in-Some.place slots without_mark c.requires.entries
           (slot_key_place_is_within c.args.key c.in-Some.place c.args.index.now.keys slots c.requires.keyed c.in-Some.ensures),
     )
 
@@ -21,25 +21,25 @@ pub returns-in-Some-clause-low : goal.returns-in-Some-clause-low
 returns-in-Some-clause-low c =
     let slots = c.args.slots.now in
     let within = slot_key_place_is_within c.args.key c.in-Some.place c.args.index.now.keys slots c.requires.keyed c.in-Some.ensures in
-    let has = slot_key_at_its_place c.args.key c.in-Some.place c.args.index.now.keys slots slot_without_mark c.requires.keyed c.in-Some.ensures in
-    let table : TableValue = record { capacity = c.args.capacity; entries = entries_in_slot_order slots } in
-    sym (ap (λ o. (table_interval_from o table).low) (entry_found_in_slot_change c.args.key (2 ^ 64) c.in-Some.place slots slot_without_mark (omega arith)
+    let has = slot_key_at_its_place c.args.key c.in-Some.place c.args.index.now.keys slots without_mark c.requires.keyed c.in-Some.ensures in
+    let table : TableValue = record { capacity = c.args.capacity; entries = ordered_entries slots } in
+    sym (ap (λ o. (interval_from o table).low) (entry_found_in_slot_change c.args.key (2 ^ 64) c.in-Some.place slots without_mark (omega arith)
     c.requires.slots within has))
 
 pub returns-in-Some-clause-high : goal.returns-in-Some-clause-high
 returns-in-Some-clause-high c =
     let slots = c.args.slots.now in
     let within = slot_key_place_is_within c.args.key c.in-Some.place c.args.index.now.keys slots c.requires.keyed c.in-Some.ensures in
-    let has = slot_key_at_its_place c.args.key c.in-Some.place c.args.index.now.keys slots slot_without_mark c.requires.keyed c.in-Some.ensures in
-    let table : TableValue = record { capacity = c.args.capacity; entries = entries_in_slot_order slots } in
-    sym (ap (λ o. (table_interval_from o table).high) (entry_found_in_slot_change c.args.key (2 ^ 64) c.in-Some.place slots slot_without_mark (omega arith)
+    let has = slot_key_at_its_place c.args.key c.in-Some.place c.args.index.now.keys slots without_mark c.requires.keyed c.in-Some.ensures in
+    let table : TableValue = record { capacity = c.args.capacity; entries = ordered_entries slots } in
+    sym (ap (λ o. (interval_from o table).high) (entry_found_in_slot_change c.args.key (2 ^ 64) c.in-Some.place slots without_mark (omega arith)
     c.requires.slots within has))
 
 pub returns-in-None-clause-low : goal.returns-in-None-clause-low
 returns-in-None-clause-low c =
     let slots = c.args.slots.now in
-    let table : TableValue = record { capacity = c.args.capacity; entries = entries_in_slot_order slots } in
-    sym (ap (λ o. (table_interval_from o table).low) (missing_entry_in_slot_change c.args.key slots
+    let table : TableValue = record { capacity = c.args.capacity; entries = ordered_entries slots } in
+    sym (ap (λ o. (interval_from o table).low) (missing_entry_in_slot_change c.args.key slots
     (missing_key_has_no_slot c.args.key c.args.index.now.keys slots c.requires.keyed c.in-None.ensures)))
 
 pub returns-in-None-clause-high : goal.returns-in-None-clause-high
@@ -51,13 +51,13 @@ returns-in-None-clause-high c =
 pub returns-in-None-2-clause-low : goal.returns-in-None-2-clause-low
 returns-in-None-2-clause-low c =
     let slots = c.args.slots.now in
-    let table : TableValue = record { capacity = c.args.capacity; entries = entries_in_slot_order slots } in
-    sym (ap (λ o. (table_interval_from o table).low) (missing_entry_in_slot_change c.args.key slots
+    let table : TableValue = record { capacity = c.args.capacity; entries = ordered_entries slots } in
+    sym (ap (λ o. (interval_from o table).low) (missing_entry_in_slot_change c.args.key slots
     (missing_key_has_no_slot c.args.key c.args.index.now.keys slots c.requires.keyed c.in-None-2.ensures)))
 
 pub returns-in-None-2-clause-high : goal.returns-in-None-2-clause-high
 returns-in-None-2-clause-high c =
     let slots = c.args.slots.now in
-    rank_table_high_when_full c.args.capacity c.args.key c.least_of.result slots slot_without_mark (missing_entry_in_slot_change c.args.key slots
+    rank_table_high_when_full c.args.capacity c.args.key c.least_of.result slots without_mark (missing_entry_in_slot_change c.args.key slots
     (missing_key_has_no_slot c.args.key c.args.index.now.keys slots c.requires.keyed c.in-None-2.ensures))
     (omega arith) c.requires.slots c.least_of.ensures.least

@@ -2,12 +2,12 @@ use Rattle.std.proofs.Common.{◌+◌, get_or, set, refl, sym, ap, subst, ◌∙
 use Rattle.std.proofs.lemmas.List.{map-set}
 use Rattle.key_index.specs.{IndexedKeys}
 use Rattle.rank_table.specs.declared.slot.Slot.{Slot}
-use Rattle.rank_table.specs.SlotOrder.{AreOrderedSlots, entries_in_slot_order}
-use Rattle.rank_table.specs.Slots.{Slots}
-use Rattle.rank_table.specs.TableSteps.{raised_slot_of_table_step, heir_slot_of_table_step}
-use Rattle.rank_table.specs.RankTable.{AreRankTableParts}
-use Rattle.rank_table.proofs.SlotChangeLemmas.{AreOrderedSlots-grown_change, AreOrderedSlots-fresh_change}
-use Rattle.rank_table.proofs.SlotChangeLemmas.{AreOrderedSlots-heir_change, grown_slot_change_is_step}
+use Rattle.rank_table.specs.SlotOrder.{AreOrdered, ordered_entries}
+use Rattle.rank_table.specs.Slot.{Slots}
+use Rattle.rank_table.specs.Steps.{raised_slot, heir_slot}
+use Rattle.rank_table.specs.RankTable.{AreParts}
+use Rattle.rank_table.proofs.SlotChangeLemmas.{AreOrdered-grown_change, AreOrdered-fresh_change}
+use Rattle.rank_table.proofs.SlotChangeLemmas.{AreOrdered-heir_change, grown_slot_change_is_step}
 use Rattle.rank_table.proofs.SlotChangeLemmas.{fresh_slot_change_is_step, heir_slot_change_is_step}
 use Rattle.rank_table.proofs.SlotKeyLemmas.{slot_key, missing_key_has_no_slot, slot_key_place_is_within}
 use Rattle.rank_table.proofs.SlotKeyLemmas.{slot_key_at_its_place, slot_keys_stay_on_set}
@@ -23,27 +23,27 @@ pub returns-in-Some-clause-together : goal.returns-in-Some-clause-together
 returns-in-Some-clause-together c =
     let slots = c.args.ranked.now.slots in
     let keyed = c.requires.together.keyed in
-    subst (λ (r : Slots). AreRankTableParts r.capacity c.args.index.now r) (sym (c.grow.ensures blank))
+    subst (λ (r : Slots). AreParts r.capacity c.args.index.now r) (sym (c.grow.ensures blank))
     (record {
       roomy = c.requires.together.roomy;
       as_many = refl;
       keyed = slot_keys_stay_on_set c.in-Some.place c.args.index.now.keys slots
-          (raised_slot_of_table_step c.args.weight c.args.now (get_or slots c.in-Some.place blank)) blank
+          (raised_slot c.args.weight c.args.now (get_or slots c.in-Some.place blank)) blank
           (slot_key_place_is_within c.args.key c.in-Some.place c.args.index.now.keys slots keyed c.in-Some.ensures) keyed refl;
     })
 
 pub returns-in-Some-clause-slots : goal.returns-in-Some-clause-slots
 returns-in-Some-clause-slots c =
     let slots = c.args.ranked.now.slots in
-    subst (λ (r : Slots). AreOrderedSlots (c.args.now + 1) r.slots) (sym (c.grow.ensures blank))
-    (AreOrderedSlots-grown_change c.args.weight c.args.now c.in-Some.place slots blank c.requires.slots
+    subst (λ (r : Slots). AreOrdered (c.args.now + 1) r.slots) (sym (c.grow.ensures blank))
+    (AreOrdered-grown_change c.args.weight c.args.now c.in-Some.place slots blank c.requires.slots
     (slot_key_place_is_within c.args.key c.in-Some.place c.args.index.now.keys slots c.requires.together.keyed c.in-Some.ensures))
 
 pub returns-in-Some-clause-stepped : goal.returns-in-Some-clause-stepped
 returns-in-Some-clause-stepped c =
     let slots = c.args.ranked.now.slots in
     let keyed = c.requires.together.keyed in
-    ap (λ (r : Slots). entries_in_slot_order r.slots) (c.grow.ensures blank)
+    ap (λ (r : Slots). ordered_entries r.slots) (c.grow.ensures blank)
     ∙ grown_slot_change_is_step c.args.ranked.now.capacity c.args.key c.args.weight c.args.now c.in-Some.place slots blank (omega arith) c.requires.slots
     (slot_key_place_is_within c.args.key c.in-Some.place c.args.index.now.keys slots keyed c.in-Some.ensures)
     (slot_key_at_its_place c.args.key c.in-Some.place c.args.index.now.keys slots blank keyed c.in-Some.ensures)
@@ -56,30 +56,30 @@ returns-in-None-2-clause-together c =
     let slots = c.args.ranked.now.slots in
     let place = c.take_over.ensures.place in
     let keyed = c.requires.together.keyed in
-    subst (λ (r : Slots). AreRankTableParts r.capacity c.take_over.new.index r) (sym (c.take_over.ensures.taken blank))
-    (subst (λ (i : IndexedKeys). AreRankTableParts c.args.ranked.now.capacity i (record c.args.ranked.now {
+    subst (λ (r : Slots). AreParts r.capacity c.take_over.new.index r) (sym (c.take_over.ensures.taken blank))
+    (subst (λ (i : IndexedKeys). AreParts c.args.ranked.now.capacity i (record c.args.ranked.now {
       slots = set slots place
-          (heir_slot_of_table_step c.args.key c.args.weight c.args.now (get_or slots place blank));
+          (heir_slot c.args.key c.args.weight c.args.now (get_or slots place blank));
     })) (sym c.take_over.ensures.indexed)
     (record {
       roomy = c.requires.together.roomy;
       as_many = refl;
       keyed = ap (λ keys. set keys place c.args.key) keyed
-          ∙ sym (map-set slot_key slots place (heir_slot_of_table_step c.args.key c.args.weight c.args.now (get_or slots place blank)));
+          ∙ sym (map-set slot_key slots place (heir_slot c.args.key c.args.weight c.args.now (get_or slots place blank)));
     }))
 
 pub returns-in-None-2-clause-slots : goal.returns-in-None-2-clause-slots
 returns-in-None-2-clause-slots c =
     let slots = c.args.ranked.now.slots in
     let missing = missing_key_has_no_slot c.args.key c.args.index.now.keys slots c.requires.together.keyed c.in-None-2.ensures in
-    subst (λ (r : Slots). AreOrderedSlots (c.args.now + 1) r.slots) (sym (c.take_over.ensures.taken blank))
-    (AreOrderedSlots-heir_change c.args.key c.args.weight c.args.now c.take_over.ensures.place slots blank c.requires.slots missing)
+    subst (λ (r : Slots). AreOrdered (c.args.now + 1) r.slots) (sym (c.take_over.ensures.taken blank))
+    (AreOrdered-heir_change c.args.key c.args.weight c.args.now c.take_over.ensures.place slots blank c.requires.slots missing)
 
 pub returns-in-None-2-clause-stepped : goal.returns-in-None-2-clause-stepped
 returns-in-None-2-clause-stepped c =
     let slots = c.args.ranked.now.slots in
     let missing = missing_key_has_no_slot c.args.key c.args.index.now.keys slots c.requires.together.keyed c.in-None-2.ensures in
-    ap (λ (r : Slots). entries_in_slot_order r.slots) (c.take_over.ensures.taken blank)
+    ap (λ (r : Slots). ordered_entries r.slots) (c.take_over.ensures.taken blank)
     ∙ heir_slot_change_is_step c.args.ranked.now.capacity c.args.key c.args.weight c.args.now c.take_over.ensures.place slots blank
     (omega arith) c.requires.slots missing (c.has_room.ensures.full c.if-has_room.false) c.take_over.ensures.least
 
@@ -87,13 +87,13 @@ pub returns-in-None-clause-slots : goal.returns-in-None-clause-slots
 returns-in-None-clause-slots c =
     let slots = c.args.ranked.now.slots in
     let missing = missing_key_has_no_slot c.args.key c.args.index.now.keys slots c.requires.together.keyed c.in-None.ensures in
-    subst (λ (r : Slots). AreOrderedSlots (c.args.now + 1) r.slots) (sym c.take_room.ensures.ranked)
-    (AreOrderedSlots-fresh_change c.args.key c.args.weight c.args.now slots c.requires.slots missing)
+    subst (λ (r : Slots). AreOrdered (c.args.now + 1) r.slots) (sym c.take_room.ensures.ranked)
+    (AreOrdered-fresh_change c.args.key c.args.weight c.args.now slots c.requires.slots missing)
 
 pub returns-in-None-clause-stepped : goal.returns-in-None-clause-stepped
 returns-in-None-clause-stepped c =
     let slots = c.args.ranked.now.slots in
     let missing = missing_key_has_no_slot c.args.key c.args.index.now.keys slots c.requires.together.keyed c.in-None.ensures in
-    ap (λ (r : Slots). entries_in_slot_order r.slots) c.take_room.ensures.ranked
+    ap (λ (r : Slots). ordered_entries r.slots) c.take_room.ensures.ranked
     ∙ fresh_slot_change_is_step c.args.ranked.now.capacity c.args.key c.args.weight c.args.now slots (omega arith) c.requires.slots missing
     (c.has_room.ensures.room.0 c.if-has_room.true)

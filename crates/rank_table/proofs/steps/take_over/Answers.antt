@@ -1,7 +1,7 @@
 use Rattle.std.proofs.Common.{◌≡◌, ◌<◌, ◌≤◌, List, length, get_or, sym, ap, subst, ◌∙◌, arith}
 use Rattle.std.proofs.lemmas.List.{get_or_default}
 use Rattle.rank_table.specs.declared.slot.Slot.{Slot}
-use Rattle.rank_table.specs.Slots.{Slots}
+use Rattle.rank_table.specs.Slot.{Slots}
 use Rattle.rank_table.proofs.RankedSlotLemmas.{all-ranked_slot_at, ranked_slot_count_in_total}
 use Rattle.rank_table.proofs.steps.take_over.Goals as goal
 

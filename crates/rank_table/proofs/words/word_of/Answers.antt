@@ -1,5 +1,5 @@
 use Rattle.std.proofs.Common.{arith}
-use Rattle.rank_table.specs.RankWords.{rank_word}
+use Rattle.rank_table.specs.Words.{rank_word}
 use Rattle.rank_table.proofs.words.word_of.Goals as goal
 
 pub returns : goal.returns

@@ -1,7 +1,7 @@
 use Rattle.std.proofs.Common.{◌≡◌, ◌∙◌, ap, sym, subst, true, ℕ, Some, Err, rules}
-use Rattle.slot_disk.specs.{known_slot_open, shown_in_layout, layout_body}
-use Rattle.checkpoint.specs.{IsBody, span_of_settings, saved_value}
-use Rattle.recovery.specs.OpeningParts.{IsOpeningFaultOfBodyPart}
+use Rattle.slot_disk.specs.{known_slot_open, shown_in, slot_body}
+use Rattle.checkpoint.specs.{IsBody, span_of, saved_value}
+use Rattle.recovery.specs.Found.{IsBodyFault}
 use Rattle.recovery.specs.declared.fault.OpenFault.{OpenFault}
 use Rattle.recovery.proofs.OpenSlotLemmas.{open_slot_is_damaged, open_slot_is_known, open_slot_shows_stored}
 use Rattle.recovery.proofs.OpenSlotLemmas.{open_slot_fault_without_body}
@@ -12,10 +12,10 @@ returns-in-Ok-decode-clause-holds g c = λ image is slots.
     let gate : known_slot_open c.args.slots.now c.args.slot ≡ true = search rules in
     let shows = open_slot_shows_stored c.args.settings.now c.args.slot image (open_slot_is_known c.args.slots.now c.args.slot image c.requires.slot slots
     gate) in
-    let stored : layout_body (span_of_settings c.args.settings.now) c.args.slot image ≡ Some c.in-Ok.body.items =
-    subst (λ (n : ℕ). layout_body n c.args.slot image ≡ Some c.in-Ok.body.items) c.span.ensures.span (c.in-Ok.ensures.body image is) in (
+    let stored : slot_body (span_of c.args.settings.now) c.args.slot image ≡ Some c.in-Ok.body.items =
+    subst (λ (n : ℕ). slot_body n c.args.slot image ≡ Some c.in-Ok.body.items) c.span.ensures.span (c.in-Ok.ensures.body image is) in (
       c.in-Ok.body.items,
-      shows ∙ ap shown_in_layout stored,
+      shows ∙ ap shown_in stored,
       subst (IsBody c.args.settings.now.shards c.args.settings.now.capacity (saved_value c.in-Ok-decode.saved)) c.deref.ensures.value
           c.in-Ok-decode.ensures.body,
     )
@@ -23,9 +23,9 @@ returns-in-Ok-decode-clause-holds g c = λ image is slots.
 pub returns-clause-refused : goal.returns-clause-refused
 returns-clause-refused g c = λ image is slots.
     let gate : known_slot_open c.args.slots.now c.args.slot ≡ true = search rules in
-    let stored : layout_body (span_of_settings c.args.settings.now) c.args.slot image ≡ Some c.in-Ok.body.items =
-    subst (λ (n : ℕ). layout_body n c.args.slot image ≡ Some c.in-Ok.body.items) c.span.ensures.span (c.in-Ok.ensures.body image is) in
-    subst (λ (f : OpenFault). IsOpeningFaultOfBodyPart c.args.settings.now c.args.slot image f) (sym c.fault_of_decode.ensures)
+    let stored : slot_body (span_of c.args.settings.now) c.args.slot image ≡ Some c.in-Ok.body.items =
+    subst (λ (n : ℕ). slot_body n c.args.slot image ≡ Some c.in-Ok.body.items) c.span.ensures.span (c.in-Ok.ensures.body image is) in
+    subst (λ (f : OpenFault). IsBodyFault c.args.settings.now c.args.slot image f) (sym c.fault_of_decode.ensures)
     (open_slot_fault_without_body c.args.settings.now c.args.slot image c.in-Err-decode.fault
     (λ same. open_slot_is_damaged c.args.settings.now c.args.slot image c.in-Ok.body.items
     (open_slot_is_known c.args.slots.now c.args.slot image c.requires.slot slots gate) stored

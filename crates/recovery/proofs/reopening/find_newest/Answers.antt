@@ -1,6 +1,6 @@
 use Rattle.std.proofs.Common.{◌∙◌, ap, sym}
 use Rattle.std.proofs.lemmas.Result.{err_from_is_err_and}
-use Rattle.slot_disk.specs.{KnownSlotsState, DiskMatchesKnownSlots-unchanged}
+use Rattle.slot_disk.specs.{KnownSlotsState, MatchesKnown-unchanged}
 use Rattle.recovery.proofs.FoundStoreLemmas.{found_store_fault_at_zero, found_store_fault_at_one}
 use Rattle.recovery.proofs.reopening.find_newest.Goals as goal
 
@@ -25,7 +25,7 @@ returns-in_err-second-clause-refused g c =
 
 pub returns-clause-stands : goal.returns-clause-stands
 returns-clause-stands g c =
-    DiskMatchesKnownSlots-unchanged g.D.Disk.reads g.D.Disk.image_now c.read_slot.new.disk c.read_slot-2.new.disk c.in_ok-slots.slots
+    MatchesKnown-unchanged g.D.Disk.reads g.D.Disk.image_now c.read_slot.new.disk c.read_slot-2.new.disk c.in_ok-slots.slots
     c.in_ok-second.ensures.unchanged
-    (DiskMatchesKnownSlots-unchanged g.D.Disk.reads g.D.Disk.image_now c.open_front.new.disk c.read_slot.new.disk c.in_ok-slots.slots
+    (MatchesKnown-unchanged g.D.Disk.reads g.D.Disk.image_now c.open_front.new.disk c.read_slot.new.disk c.in_ok-slots.slots
     c.in_ok-first.ensures.unchanged c.in_ok-slots.ensures.stands)

@@ -1,6 +1,6 @@
 use Rattle.std.proofs.Common.{◌∙◌, sym, subst}
 use Rattle.std.proofs.lemmas.Result.{err_from_is_err_and}
-use Rattle.checkpoint.specs.{IsSafeForSaver, SaverState}
+use Rattle.checkpoint.specs.{IsSafeSaver, SaverState}
 use Rattle.recovery.proofs.FoundStoreLemmas.{found_store_saver_stands, list_fault_of_found_store}
 use Rattle.recovery.proofs.FoundStoreLemmas.{found_store_opens_to_base}
 use Rattle.recovery.proofs.reopening.reopen.Goals as goal
@@ -19,7 +19,7 @@ returns-clause-opens g c = λ image is.
 
 pub returns-clause-stands : goal.returns-clause-stands
 returns-clause-stands g c = λ image is.
-    subst (λ (s : SaverState). IsSafeForSaver s (g.D.Disk.image_now c.find_newest.new.disk) image) (sym c.in_ok-saver.ensures)
+    subst (λ (s : SaverState). IsSafeSaver s (g.D.Disk.image_now c.find_newest.new.disk) image) (sym c.in_ok-saver.ensures)
     (found_store_saver_stands c.args.settings.now c.in_ok-found.found.slots c.digest_of-digest.result c.in_ok-found.found.newest
     (g.D.Disk.image_now c.find_newest.new.disk) image
     (c.in_ok-found.ensures.holds image (sym c.in_ok-found.ensures.reads ∙ is)) (c.in_ok-found.ensures.stands image is))

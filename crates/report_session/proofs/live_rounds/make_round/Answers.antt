@@ -2,10 +2,10 @@ use Rattle.std.proofs.Common.{◌∙◌, ◌++◌, [], ◌∷◌, inl, inr, ap, 
 use Rattle.std.specs.Prelude.{is_some}
 use Rattle.std.specs.Io.KnownBytes.{Appends}
 use Rattle.std.proofs.KnownBytes.{Appends-trans}
-use Rattle.outside_io.specs.{AppendsBeginning}
+use Rattle.outside_io.specs.{AppendsPart}
 use Rattle.report_text.specs.{report_text}
-use Rattle.report_session.specs.Saves.{SavesInPart, SavesInTurn}
-use Rattle.report_session.specs.Session.{session_save_line}
+use Rattle.report_session.specs.Saving.{SavesInPart, SavesInTurn}
+use Rattle.report_session.specs.Session.{save_line}
 use Rattle.report_session.proofs.RoundLemmas.{round_broken_by_memory, round_makes_report, round_report_has_positions}
 use Rattle.report_session.proofs.RoundLemmas.{round_broken_at_saving, round_broken_by_sink, writes_one_round}
 use Rattle.report_session.proofs.SaveLemmas.{no_saver_no_save, no_save_broke_off, save_of_reported_cut}
@@ -41,7 +41,7 @@ returns-in-Err-clause-broken g c =
     (inl (record {
       report = report;
       reports = record { calls = c.in_ok-report.ensures.calls; sound = c.in_ok-report.ensures.sound };
-      written = subst (AppendsBeginning _ _) text c.in-Err.ensures.beginning;
+      written = subst (AppendsPart _ _) text c.in-Err.ensures.beginning;
       kept = no_save_broke_off g.D.Disk c.args.saver.now
           c.args.saver.now c.args.disk.now c.args.disk.now g.met.D.Disk.only_now
           (seen_positions_saver_stands _ _ c.args.board.now.opening _ _ c.args.saver.now c.requires.can_save) refl refl;
@@ -79,7 +79,7 @@ pub returns-clause-broken : goal.returns-clause-broken
 returns-clause-broken g c =
     let report = c.in_ok-report.report in
     let text = c.deref.ensures.value ∙ c.in_ok-print.ensures.ok ∙ ap (λ bytes. bytes ++ report_text report) c.new-text.ensures.items in
-    let line = c.deref-2.ensures.value ∙ c.in_ok-line.ensures ∙ ap (λ store. session_save_line store report.positions) c.is_some.ensures in
+    let line = c.deref-2.ensures.value ∙ c.in_ok-line.ensures ∙ ap (λ store. save_line store report.positions) c.is_some.ensures in
     round_broken_by_sink _ _ _ _ (is_some c.args.saver.now) _ _ _ _ _ _ _ _ c.in-Err-write.status c.in-Err-write.ensures.fault
     c.in_default.ensures.faults c.in_default-save_cut.ensures.no_fault
     (inr (record {
@@ -87,7 +87,7 @@ returns-clause-broken g c =
       reports = record { calls = c.in_ok-report.ensures.calls; sound = c.in_ok-report.ensures.sound };
       between = _;
       whole = subst (Appends _ _) text c.in_default.ensures.whole;
-      written = subst (AppendsBeginning _ _) line c.in-Err-write.ensures.beginning;
+      written = subst (AppendsPart _ _) line c.in-Err-write.ensures.beginning;
       kept = whole_saves_broke_off g.D.Disk c.args.saver.now
           c.save_cut.new.saver c.args.disk.now c.save_cut.new.disk _
           (save_of_reported_cut (is_some c.args.saver.now) _ report _ (SavesInTurn g.D.Disk c.args.saver.now c.save_cut.new.saver
@@ -100,9 +100,9 @@ pub returns-in-Ok-clause-whole : goal.returns-in-Ok-clause-whole
 returns-in-Ok-clause-whole g c =
     let report = c.in_ok-report.report in
     let text = c.deref.ensures.value ∙ c.in_ok-print.ensures.ok ∙ ap (λ bytes. bytes ++ report_text report) c.new-text.ensures.items in
-    let line = c.deref-2.ensures.value ∙ c.in_ok-line.ensures ∙ ap (λ store. session_save_line store report.positions) c.is_some.ensures in
+    let line = c.deref-2.ensures.value ∙ c.in_ok-line.ensures ∙ ap (λ store. save_line store report.positions) c.is_some.ensures in
     writes_one_round _ _ _ _ (is_some c.args.saver.now) _ _ _ report c.in_ok-report.ensures.calls c.in_ok-report.ensures.sound
-    (Appends-trans _ _ _ (report_text report) (session_save_line (is_some c.args.saver.now) report.positions)
+    (Appends-trans _ _ _ (report_text report) (save_line (is_some c.args.saver.now) report.positions)
     (subst (Appends _ _) text c.in_default.ensures.whole) (subst (Appends _ _) line c.in-Ok.ensures.whole))
     (save_of_reported_cut (is_some c.args.saver.now) _ report _ (SavesInTurn g.D.Disk c.args.saver.now c.save_cut.new.saver c.args.disk.now c.save_cut.new.disk)
     c.in_ok-report.ensures.cut (no_saver_no_save g.D.Disk c.args.saver.now _ _ _ _) c.in_default-save_cut.ensures.saved)

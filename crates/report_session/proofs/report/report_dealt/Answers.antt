@@ -1,7 +1,7 @@
 use Rattle.std.proofs.Common.{◌≡◌, ◌∙◌, ◌⊎◌, [], ap, ap₂, sym, subst}
-use Rattle.report_session.specs.Session.{WritesAnswer, BeginsSession, IsSessionOverShards, session_opening}
-use Rattle.report_session.specs.DealtFeed.{IsDealtFeedBase}
-use Rattle.report_session.specs.Saves.{IsAsBeforeSaves, Saves, SavesInPart}
+use Rattle.report_session.specs.Session.{WritesAnswer, BeginsSession, IsOverShards, session_opening}
+use Rattle.report_session.specs.DealtFeed.{IsFeedBase}
+use Rattle.report_session.specs.Saving.{IsAsBefore, Saves, SavesInPart}
 use Rattle.report_session.proofs.BaseLemmas.{base_goes_on}
 use Rattle.report_session.proofs.DealtReportLemmas.{dealt_report_ends_without_base, dealt_report_keeps_saves}
 use Rattle.report_session.proofs.DealtReportLemmas.{dealt_report_ends_broken_off, dealt_report_is_written}
@@ -22,7 +22,7 @@ returns-in-Err-clause-ends g c =
 
 pub write_session-requires-clause-base : goal.write_session-requires-clause-base
 write_session-requires-clause-base g c = λ lifetimes outlive.
-    subst (λ store. IsDealtFeedBase c.args.settings.now c.args.fed.dealt store c.in-Ok.base) (sym c.open_base.ensures.reads)
+    subst (λ store. IsFeedBase c.args.settings.now c.args.fed.dealt store c.in-Ok.base) (sym c.open_base.ensures.reads)
     c.in-Ok.ensures.base
 
 pub returns-in-Ok-write_session-clause-ends : goal.returns-in-Ok-write_session-clause-ends
@@ -38,7 +38,7 @@ returns-in-Ok-write_session-clause-ends g c =
           c.open_base.ensures.reads
           (part_of_saves g.D.Disk c.in-Ok.base.saver
           c.open_base.new.disk c.write_session.new.disk cuts saves) used)
-          (subst (λ tail. WritesAnswer (IsSessionOverShards (session_opening c.args.settings.now.capacity c.args.fed.dealt c.in-Ok.base.cut)
+          (subst (λ tail. WritesAnswer (IsOverShards (session_opening c.args.settings.now.capacity c.args.fed.dealt c.in-Ok.base.cut)
           c.args.settings.now
           (λ cuts. Saves g.D.Disk c.in-Ok.base.saver cuts
           c.open_base.new.disk c.write_session.new.disk) tail) (g.K.Sink.taken c.args.sink.now)
@@ -60,7 +60,7 @@ returns-clause-ends g c =
     c.open_base.new.disk c.write_session.new.disk base.used base.saver c.open_base.ensures.any_moment
     c.open_base.ensures.reads saves used)
     (λ same. (
-      subst (IsAsBeforeSaves g.D.Disk c.args.disk.now) (sym same)
+      subst (IsAsBefore g.D.Disk c.args.disk.now) (sym same)
           (record { same_reads = c.open_base.ensures.reads; any_moment = c.open_base.ensures.any_moment }),
       no_save_into_untouched_disk g.D.Disk c.in-Ok.base.saver
           c.open_base.new.disk c.write_session.new.disk g.met.D.Disk.only_now c.in-Ok.ensures.stands same,

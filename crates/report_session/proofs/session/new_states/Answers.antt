@@ -3,7 +3,7 @@ use Rattle.std.specs.List.{All}
 use Rattle.std.specs.Vec.Iter.{into_iter_items}
 use Rattle.std.proofs.lemmas.List.{nil_from_length}
 use Rattle.std.proofs.lemmas.List.Elements.{All-drop}
-use Rattle.report_session.specs.Session.{new_session_shards}
+use Rattle.report_session.specs.Session.{new_shards}
 use Rattle.report_session.proofs.OpeningShardLemmas.{opening_shards_have_few_records, opening_shards_grow_by_one}
 use Rattle.report_session.proofs.session.new_states.Goals as goal
 
@@ -43,4 +43,4 @@ returns-clause-states c =
     let none =
     nil_from_length (into_iter_items c.loop-list.list-iterator)
     (sym c.loop-list.list-iterator.rest.ok.0 ∙ c.in-None.ensures.steps.0) in
-    kept.states ∙ ap (new_session_shards c.args.capacity) (sym (kept.parted ∙ ap (λ xs. done ++ xs) none ∙ append-nil done))
+    kept.states ∙ ap (new_shards c.args.capacity) (sym (kept.parted ∙ ap (λ xs. done ++ xs) none ∙ append-nil done))

@@ -1,8 +1,8 @@
 use Rattle.std.proofs.Common.{false, ◌∙◌, ◌++◌, take, sym, ap, subst, arith}
 use Rattle.std.proofs.lemmas.List.{length-map, take_all}
 use Rattle.gate_workers.specs.declared.gathered.Called.{Called}
-use Rattle.report_session.specs.DealtFeed.{dealt_feed_other_reports}
-use Rattle.report_session.specs.Session.{AreReportsOfCaller, session_caller_parts, session_parts}
+use Rattle.report_session.specs.DealtFeed.{other_reports}
+use Rattle.report_session.specs.Session.{AreOfCaller, caller_parts, session_parts}
 use Rattle.report_session.proofs.SessionThreadLemmas.{session_thread_caller_at_index, session_thread_adds_caller}
 use Rattle.report_session.proofs.session.reports_text.Goals as goal
 
@@ -14,7 +14,7 @@ put_reports-requires c =
     let index = c.loop-caller.caller-index in
     let called = c.args.called.now in
     let d = c.caller-item.result in
-    subst (AreReportsOfCaller c.args.board.now.opening c.args.settings.now c.args.settings.now.rounds)
+    subst (AreOfCaller c.args.board.now.opening c.args.settings.now c.args.settings.now.rounds)
     (session_thread_caller_at_index called index d ∙ ap (λ (caller : Called). caller.reports) (sym c.caller-item.is))
     (c.requires index d.reports
     (omega (arith, c.loop-caller-test.true, length-map called (λ (caller : Called). caller.reports))))
@@ -25,7 +25,7 @@ loop-caller-preserved c =
     let called = c.args.called.now in
     let d = c.caller-item.result in
     c.in_ok-put_reports.ensures ∙ ap (λ bytes. bytes ++ session_parts false d.reports) c.loop-caller.invariant
-    ∙ ap (λ (caller : Called). session_caller_parts (take index (dealt_feed_other_reports called)) ++ session_parts false caller.reports)
+    ∙ ap (λ (caller : Called). caller_parts (take index (other_reports called)) ++ session_parts false caller.reports)
     c.caller-item.is
     ∙ sym (session_thread_adds_caller called index d c.loop-caller-test.true)
 
@@ -33,8 +33,8 @@ pub returns : goal.returns
 returns c =
     let called = c.args.called.now in
     c.loop-caller.invariant
-    ∙ ap (session_caller_parts)
-    (take_all c.loop-caller.caller-index (dealt_feed_other_reports called)
+    ∙ ap (caller_parts)
+    (take_all c.loop-caller.caller-index (other_reports called)
     (omega (
       arith,
       c.loop-caller.auto.caller-index-end,

@@ -3,8 +3,8 @@ use Rattle.std.specs.List.{All, AllZip}
 use Rattle.std.specs.Vec.Iter.{into_iter_items}
 use Rattle.std.specs.Iterator.Adapters.{zip_first, zip_second}
 use Rattle.std.proofs.lemmas.List.Elements.{All-tail}
-use Rattle.recovery.specs.{OpeningContinuesList}
-use Rattle.report_session.specs.Session.{resumed_session_shards}
+use Rattle.recovery.specs.{ContinuesList}
+use Rattle.report_session.specs.Session.{resumed_shards}
 use Rattle.report_session.proofs.OpeningShardLemmas.{resumed_opening_shards_grow}
 use Rattle.report_session.proofs.session.resumed_states.Goals as goal
 
@@ -17,13 +17,13 @@ loop-list-preserved c =
     let rest_bases = into_iter_items (zip_second c.next.new.self) in
     record {
       states =
-          ap (λ states. states ++ resumed_session_shards rest_lists rest_bases) c.in_ok-push.ensures.items
-          ∙ resumed_opening_shards_grow c.loop-list.states.items (resumed_session_shards c.args.dealt c.args.cut.shards) c.in_ok-resume.field-0
+          ap (λ states. states ++ resumed_shards rest_lists rest_bases) c.in_ok-push.ensures.items
+          ∙ resumed_opening_shards_grow c.loop-list.states.items (resumed_shards c.args.dealt c.args.cut.shards) c.in_ok-resume.field-0
           c.in-Some.list c.in-Some.base rest_lists rest_bases c.in_ok-resume.ensures
-          (ap₂ (λ ls bs. c.loop-list.states.items ++ resumed_session_shards ls bs) (sym lists) (sym bases) ∙ kept.states);
+          (ap₂ (λ ls bs. c.loop-list.states.items ++ resumed_shards ls bs) (sym lists) (sym bases) ∙ kept.states);
       continue =
-          (subst (λ ls. AllZip OpeningContinuesList (c.in-Some.base ∷ rest_bases) ls) lists
-          (subst (λ bs. AllZip OpeningContinuesList bs (into_iter_items (zip_first c.loop-list.list-iterator))) bases
+          (subst (λ ls. AllZip ContinuesList (c.in-Some.base ∷ rest_bases) ls) lists
+          (subst (λ bs. AllZip ContinuesList bs (into_iter_items (zip_first c.loop-list.list-iterator))) bases
           kept.continue)).1;
       small =
           All-tail (λ list. length list ≤ 2 ^ 24) c.in-Some.list rest_lists

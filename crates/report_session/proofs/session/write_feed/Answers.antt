@@ -1,6 +1,6 @@
 use Rattle.std.proofs.Common.{◌++◌, [], ◌∷◌, refl, ap}
-use Rattle.report_session.specs.Saves.{Saves, SavesInPart}
-use Rattle.report_session.specs.Session.{session_parts, session_saved_cuts}
+use Rattle.report_session.specs.Saving.{Saves, SavesInPart}
+use Rattle.report_session.specs.Session.{session_parts, saved_cuts}
 use Rattle.report_session.proofs.FeedFaultLemmas.{feed_fault_after_good_steps, feed_fault_of_sink}
 use Rattle.report_session.proofs.LastSaveLemmas.{last_save_after_fewer_saves, last_save_is_possible}
 use Rattle.report_session.proofs.LastSaveLemmas.{last_save_broken_off, last_save_completes_session}
@@ -69,7 +69,7 @@ returns-in-Ok-write_rest-clause-whole g c =
     c.write_rest.new.disk c.requires.used end.cut_is
     (saves_follow c.stores_open_to_one.ensures g.D.Disk
     c.args.saver c.feed.new.saver c.write_rest.new.saver
-    (session_saved_cuts settings.store board.opening gathered.rounds) (rest.cut ∷ []) c.args.disk.now c.feed.new.disk
+    (saved_cuts settings.store board.opening gathered.rounds) (rest.cut ∷ []) c.args.disk.now c.feed.new.disk
     c.write_rest.new.disk (seen_positions_allowed_settings _ _ board.opening _ _ c.args.saver c.requires.can_save) g.met.D.Disk.reading_is_image
     gathered.kept c.in-Ok-write_rest.ensures.saved) in
     session_text_is_written board.opening settings

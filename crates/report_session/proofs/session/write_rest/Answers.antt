@@ -1,7 +1,7 @@
 use Rattle.std.proofs.Common.{inl, inr, refl, subst}
 use Rattle.std.specs.Io.KnownBytes.{Appends}
 use Rattle.std.proofs.KnownBytes.{Appends-trans}
-use Rattle.outside_io.specs.{AppendsBeginning}
+use Rattle.outside_io.specs.{AppendsPart}
 use Rattle.report_session.proofs.FeedFaultLemmas.{feed_fault_of_save, feed_fault_of_sink}
 use Rattle.report_session.proofs.SaveLemmas.{no_save_into_untouched_disk, part_of_saves}
 use Rattle.report_session.proofs.SeenPositionLemmas.{seen_positions_cut_saver_stands}
@@ -9,7 +9,7 @@ use Rattle.report_session.proofs.session.write_rest.Goals as goal
 
 pub returns-in-Err-clause-part : goal.returns-in-Err-clause-part
 returns-in-Err-clause-part g c =
-    let begun = subst (AppendsBeginning _ _) c.deref.ensures.value c.in-Err.ensures.beginning in
+    let begun = subst (AppendsPart _ _) c.deref.ensures.value c.in-Err.ensures.beginning in
     record {
       text = begun.front;
       is_text = inl (
@@ -43,7 +43,7 @@ returns-in-Ok-clause-whole g c =
 
 pub returns-in-Err-write-clause-part : goal.returns-in-Err-write-clause-part
 returns-in-Err-write-clause-part g c =
-    let begun = subst (AppendsBeginning _ _) c.deref-2.ensures.value c.in-Err-write.ensures.beginning in
+    let begun = subst (AppendsPart _ _) c.deref-2.ensures.value c.in-Err-write.ensures.beginning in
     record {
       text = _;
       is_text = inr (inr (

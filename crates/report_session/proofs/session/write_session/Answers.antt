@@ -1,10 +1,10 @@
 use Rattle.std.proofs.Common.{◌∙◌, inr, length, sym, ap, subst}
 use Rattle.shard_state.specs.{core_capacity}
-use Rattle.report_text.specs.{ReportTextShowsPositions, report_mark_text}
+use Rattle.report_text.specs.{ShowsPositions, mark_text}
 use Rattle.report_text.specs.declared.mark.Mark.TheVariants.{Opened}
-use Rattle.report_session.specs.Session.{WritesAnswer, BeginsSession, IsSessionOverShards, session_start}
-use Rattle.report_session.specs.DealtFeed.{IsDealtFeedOpening, FeedStartsBeforeEnds}
-use Rattle.report_session.specs.Saves.{Saves, SavesInPart}
+use Rattle.report_session.specs.Session.{WritesAnswer, BeginsSession, IsOverShards, session_start}
+use Rattle.report_session.specs.DealtFeed.{IsFeedOpening, StartsBefore}
+use Rattle.report_session.specs.Saving.{Saves, SavesInPart}
 use Rattle.report_session.proofs.BaseLemmas.{base_goes_on, base_saver_is_ready}
 use Rattle.report_session.proofs.SessionThreadLemmas.{session_thread_on_err_implies, session_thread_on_ok_implies}
 use Rattle.report_session.proofs.session.write_session.Goals as goal
@@ -15,7 +15,7 @@ openings_stand-requires g c =
 
 pub opened_line-requires : goal.opened_line-requires
 opened_line-requires g c =
-    subst ReportTextShowsPositions (sym c.requires.base.positions_are) c.openings_stand.ensures.positions
+    subst ShowsPositions (sym c.requires.base.positions_are) c.openings_stand.ensures.positions
 
 pub open-requires-clause-fits : goal.open-requires-clause-fits
 open-requires-clause-fits g c =
@@ -23,7 +23,7 @@ open-requires-clause-fits g c =
 
 pub write_feed-requires-clause-opened : goal.write_feed-requires-clause-opened
 write_feed-requires-clause-opened g c = λ lifetimes outlive.
-    subst (λ shards. IsDealtFeedOpening shards c.in_ok-opened.opened) (sym c.in_ok-opened.ensures.opening) c.in_ok-opened.ensures
+    subst (λ shards. IsFeedOpening shards c.in_ok-opened.opened) (sym c.in_ok-opened.ensures.opening) c.in_ok-opened.ensures
 
 pub write_feed-requires-clause-alike : goal.write_feed-requires-clause-alike
 write_feed-requires-clause-alike g c = λ lifetimes outlive.
@@ -31,12 +31,12 @@ write_feed-requires-clause-alike g c = λ lifetimes outlive.
 
 pub write_feed-requires-clause-starts : goal.write_feed-requires-clause-starts
 write_feed-requires-clause-starts g c = λ lifetimes outlive.
-    subst FeedStartsBeforeEnds (sym c.in_ok-opened.ensures.opening) c.openings_stand.ensures.starts
+    subst StartsBefore (sym c.in_ok-opened.ensures.opening) c.openings_stand.ensures.starts
 
 pub write_feed-requires-clause-line : goal.write_feed-requires-clause-line
 write_feed-requires-clause-line g c = λ lifetimes outlive.
-    c.deref.ensures.value ∙ c.in_ok-line.ensures ∙ ap (report_mark_text Opened) c.requires.base.positions_are
-    ∙ ap (λ shards. report_mark_text Opened (session_start shards)) (sym c.in_ok-opened.ensures.opening)
+    c.deref.ensures.value ∙ c.in_ok-line.ensures ∙ ap (mark_text Opened) c.requires.base.positions_are
+    ∙ ap (λ shards. mark_text Opened (session_start shards)) (sym c.in_ok-opened.ensures.opening)
 
 pub write_feed-requires-clause-can_save : goal.write_feed-requires-clause-can_save
 write_feed-requires-clause-can_save g c = λ lifetimes outlive.
@@ -49,7 +49,7 @@ write_feed-requires-clause-can_save g c = λ lifetimes outlive.
 pub returns-clause-whole : goal.returns-clause-whole
 returns-clause-whole g c =
     session_thread_on_ok_implies c.write_feed.result _ _
-    (subst (λ shards. WritesAnswer (IsSessionOverShards shards c.args.settings.now
+    (subst (λ shards. WritesAnswer (IsOverShards shards c.args.settings.now
     (λ cuts. Saves g.D.Disk c.args.base.saver cuts
     c.args.disk.now c.write_feed.new.disk) c.args.tail.now) (g.K.Sink.taken c.args.sink.now)
     (g.K.Sink.taken c.write_feed.new.sink)) c.in_ok-opened.ensures.opening)

@@ -1,11 +1,11 @@
 use Rattle.std.proofs.Common.{◌≡◌, ◌≤◌, ◌<◌, ◌++◌, ℕ, All, map, decimal, length}
-use Rattle.report_text.specs.Stages.{stage_words_in}
+use Rattle.report_text.specs.Stages.{words_in}
 use Rattle.report_text.proofs.line_reading.positions_of.Given as goal
 
 -- the first words spell the positions so far
 abbrev pub invariant-loop-cut : goal.invariant-loop-cut
 invariant-loop-cut l = record {
-  words : stage_words_in l.text ≡ map decimal l.positions ++ stage_words_in l.rest;
+  words : words_in l.text ≡ map decimal l.positions ++ words_in l.rest;
   few : length l.positions < 16;
   within : All (λ (position : ℕ). position ≤ 16777216) l.positions;
 }

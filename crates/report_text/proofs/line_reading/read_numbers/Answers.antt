@@ -1,13 +1,13 @@
 use Rattle.std.proofs.Common.{eqb, ap, ◌∙◌}
 use Rattle.std.specs.Cmp.Lexicographic.{pointwise}
 use Rattle.report_text.proofs.NamedLineLemmas.{named_line_texts_unlike, named_line_has_words, no_named_line_with_words}
-use Rattle.report_text.specs.Stages.{stage_words_in}
+use Rattle.report_text.specs.Stages.{words_in}
 use Rattle.report_text.proofs.line_reading.read_numbers.Goals as goal
 
 pub returns-clause-refused : goal.returns-clause-refused
 returns-clause-refused c = λ line is same.
     let name = c.args.name.now in
-    no_named_line_with_words name (stage_words_in c.args.rest.now)
+    no_named_line_with_words name (words_in c.args.rest.now)
     (record {
       line = c.requires.line;
       at = c.requires.at;

@@ -1,7 +1,7 @@
 use Rattle.std.proofs.Common.{[], ◌∷◌, ◌++◌, ap, refl, subst}
 use Rattle.std.specs.List.{flat_map}
 use Rattle.std.proofs.lemmas.Result.{err_from_is_err_and}
-use Rattle.report_text.specs.SessionText.{session_reported_lines}
+use Rattle.report_text.specs.Session.{reported_lines}
 use Rattle.report_text.specs.Stages.{nothing, opened, counted, skipped, ended}
 use Rattle.report_text.specs.LineReading.{ReadsLines}
 use Rattle.report_text.specs.declared.session_line.SessionLine.TheVariants.{Opened, Frames, Skipped, End}
@@ -38,7 +38,7 @@ pub returns-in_err-skips-clause-fault : goal.returns-in_err-skips-clause-fault
 returns-in_err-skips-clause-fault c =
     let start = c.args.lines.now in
     let listed = c.in_ok-listed.listed in
-    let reports = flat_map session_reported_lines listed.reports ++ Frames listed.frames ∷ [] in
+    let reports = flat_map reported_lines listed.reports ++ Frames listed.frames ∷ [] in
     let first = line_reading_known_line start start c.next.new.self [] c.in_ok-opened.field-0 (Opened c.in-Opened.opened) nothing
     nothing (opened c.len.result) (line_reading_stays start nothing) c.in_ok-opened.ensures.read c.in-Opened.is
     (ap opened c.len.ensures) in
@@ -53,7 +53,7 @@ pub returns-in_default-2 : goal.returns-in_default-2
 returns-in_default-2 c =
     let start = c.args.lines.now in
     let listed = c.in_ok-listed.listed in
-    let reports = flat_map session_reported_lines listed.reports ++ Frames listed.frames ∷ [] in
+    let reports = flat_map reported_lines listed.reports ++ Frames listed.frames ∷ [] in
     let first = line_reading_known_line start start c.next.new.self [] c.in_ok-opened.field-0 (Opened c.in-Opened.opened) nothing
     nothing (opened c.len.result) (line_reading_stays start nothing) c.in_ok-opened.ensures.read c.in-Opened.is
     (ap opened c.len.ensures) in
@@ -71,7 +71,7 @@ pub returns-in_err-next-clause-fault : goal.returns-in_err-next-clause-fault
 returns-in_err-next-clause-fault c =
     let start = c.args.lines.now in
     let listed = c.in_ok-listed.listed in
-    let reports = flat_map session_reported_lines listed.reports ++ Frames listed.frames ∷ [] in
+    let reports = flat_map reported_lines listed.reports ++ Frames listed.frames ∷ [] in
     let skips = c.in-Skipped.skips in
     let first = line_reading_known_line start start c.next.new.self [] c.in_ok-opened.field-0 (Opened c.in-Opened.opened) nothing
     nothing (opened c.len.result) (line_reading_stays start nothing) c.in_ok-opened.ensures.read c.in-Opened.is
@@ -89,7 +89,7 @@ pub returns-in_default-3 : goal.returns-in_default-3
 returns-in_default-3 c =
     let start = c.args.lines.now in
     let listed = c.in_ok-listed.listed in
-    let reports = flat_map session_reported_lines listed.reports ++ Frames listed.frames ∷ [] in
+    let reports = flat_map reported_lines listed.reports ++ Frames listed.frames ∷ [] in
     let skips = c.in-Skipped.skips in
     let first = line_reading_known_line start start c.next.new.self [] c.in_ok-opened.field-0 (Opened c.in-Opened.opened) nothing
     nothing (opened c.len.result) (line_reading_stays start nothing) c.in_ok-opened.ensures.read c.in-Opened.is
@@ -110,7 +110,7 @@ pub returns-clause-read : goal.returns-clause-read
 returns-clause-read c =
     let start = c.args.lines.now in
     let listed = c.in_ok-listed.listed in
-    let reports = flat_map session_reported_lines listed.reports ++ Frames listed.frames ∷ [] in
+    let reports = flat_map reported_lines listed.reports ++ Frames listed.frames ∷ [] in
     let skips = c.in-Skipped.skips in
     let first = line_reading_known_line start start c.next.new.self [] c.in_ok-opened.field-0 (Opened c.in-Opened.opened) nothing
     nothing (opened c.len.result) (line_reading_stays start nothing) c.in_ok-opened.ensures.read c.in-Opened.is
@@ -124,5 +124,5 @@ returns-clause-read c =
     c.in_ok-next.ensures.read c.in-End.is refl in
     subst (λ l. ReadsLines start c.next-3.new.self l nothing ended)
     (read_session_line_groups (Opened c.in-Opened.opened) (Frames listed.frames) (Skipped skips) End
-    (flat_map session_reported_lines listed.reports))
+    (flat_map reported_lines listed.reports))
     whole

@@ -1,8 +1,8 @@
 use Rattle.std.proofs.Common.{Some, None, [], ◌∷◌, ◌++◌, sym, subst}
 use Rattle.std.specs.List.{flat_map}
 use Rattle.std.proofs.lemmas.Result.{err_from_is_err_and}
-use Rattle.report_text.specs.SessionText.{session_reported_lines, session_saved_lines}
-use Rattle.report_text.specs.Stages.{opened, begun, done, stage_line_after_report, stage_after_report, stage_body_lines}
+use Rattle.report_text.specs.Session.{reported_lines, saved_lines}
+use Rattle.report_text.specs.Stages.{opened, begun, done, line_after_report, after_report, body_lines}
 use Rattle.report_text.specs.LineReading.{ReadsLines}
 use Rattle.report_text.specs.declared.session_line.SessionLine.TheVariants.{Report}
 use Rattle.report_text.proofs.LineReadingLemmas.{line_reading_stays, line_reading_goes_on, line_reading_reads_more}
@@ -28,15 +28,15 @@ returns-in_default c = record {
 
 pub read_report-requires : goal.read_report-requires
 read_report-requires c =
-    line_reading_reads_more c.args.lines.now c.reports.lines (flat_map session_reported_lines c.reports.reports ++ Report ∷ [])
+    line_reading_reads_more c.args.lines.now c.reports.lines (flat_map reported_lines c.reports.reports ++ Report ∷ [])
     (opened c.args.shards) (begun c.args.shards) c.requires c.reports.invariant
 
 pub read_after_report-requires : goal.read_after_report-requires
 read_after_report-requires c =
-    let begins = flat_map session_reported_lines c.reports.reports ++ Report ∷ [] in
-    line_reading_reads_more c.args.lines.now c.read_report.new.lines (begins ++ stage_body_lines c.in_ok-report.report)
+    let begins = flat_map reported_lines c.reports.reports ++ Report ∷ [] in
+    line_reading_reads_more c.args.lines.now c.read_report.new.lines (begins ++ body_lines c.in_ok-report.report)
     (opened c.args.shards) (done c.args.shards) c.requires
-    (line_reading_goes_on c.args.lines.now c.reports.lines c.read_report.new.lines begins (stage_body_lines c.in_ok-report.report)
+    (line_reading_goes_on c.args.lines.now c.reports.lines c.read_report.new.lines begins (body_lines c.in_ok-report.report)
     (opened c.args.shards) (begun c.args.shards) (done c.args.shards) c.reports.invariant c.in_ok-report.ensures.read)
 
 pub returns-in-Some-clause-read : goal.returns-in-Some-clause-read
@@ -47,22 +47,22 @@ returns-in-Some-clause-read c =
     c.in_ok-report.ensures.read c.in_ok-after.ensures.read in
     let known = subst
     (λ frames. ReadsLines c.args.lines.now c.read_after_report.new.lines
-    (flat_map session_reported_lines
+    (flat_map reported_lines
     (c.reports.reports ++ record { report = c.in_ok-report.report; saved = c.in_ok-after.after.saved } ∷ [])
-    ++ stage_line_after_report frames ∷ [])
-    (opened n) (stage_after_report n frames))
+    ++ line_after_report frames ∷ [])
+    (opened n) (after_report n frames))
     c.in-Some.is more in
     subst
     (λ reports. ReadsLines c.args.lines.now c.read_after_report.new.lines
-    (flat_map session_reported_lines reports ++ stage_line_after_report (Some c.in-Some.frames) ∷ []) (opened n)
-    (stage_after_report n (Some c.in-Some.frames)))
+    (flat_map reported_lines reports ++ line_after_report (Some c.in-Some.frames) ∷ []) (opened n)
+    (after_report n (Some c.in-Some.frames)))
     (sym c.in_ok-push.ensures.ok) known
 
 pub reports-smaller : goal.reports-smaller
 reports-smaller c =
     read_report_leaves_fewer c.reports.lines c.read_report.new.lines c.read_after_report.new.lines c.in_ok-report.report
-    (session_saved_lines c.in_ok-after.after.saved ++ stage_line_after_report c.in_ok-after.after.frames ∷ []) (begun c.args.shards)
-    (done c.args.shards) (stage_after_report c.args.shards c.in_ok-after.after.frames) c.in_ok-report.ensures.read
+    (saved_lines c.in_ok-after.after.saved ++ line_after_report c.in_ok-after.after.frames ∷ []) (begun c.args.shards)
+    (done c.args.shards) (after_report c.args.shards c.in_ok-after.after.frames) c.in_ok-report.ensures.read
     c.in_ok-after.ensures.read
 
 pub reports-preserved : goal.reports-preserved
@@ -73,12 +73,12 @@ reports-preserved c =
     c.in_ok-report.ensures.read c.in_ok-after.ensures.read in
     let known = subst
     (λ frames. ReadsLines c.args.lines.now c.read_after_report.new.lines
-    (flat_map session_reported_lines
+    (flat_map reported_lines
     (c.reports.reports ++ record { report = c.in_ok-report.report; saved = c.in_ok-after.after.saved } ∷ [])
-    ++ stage_line_after_report frames ∷ [])
-    (opened n) (stage_after_report n frames))
+    ++ line_after_report frames ∷ [])
+    (opened n) (after_report n frames))
     c.in_default-frames.is more in
     subst
     (λ reports. ReadsLines c.args.lines.now c.read_after_report.new.lines
-    (flat_map session_reported_lines reports ++ stage_line_after_report None ∷ []) (opened n) (stage_after_report n None))
+    (flat_map reported_lines reports ++ line_after_report None ∷ []) (opened n) (after_report n None))
     (sym c.in_ok-push.ensures.ok) known

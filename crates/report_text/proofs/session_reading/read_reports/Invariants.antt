@@ -1,6 +1,6 @@
 use Rattle.std.proofs.Common.{◌-◌, ◌++◌, [], ◌∷◌, length}
 use Rattle.std.specs.List.{flat_map}
-use Rattle.report_text.specs.SessionText.{session_reported_lines}
+use Rattle.report_text.specs.Session.{reported_lines}
 use Rattle.report_text.specs.Stages.{opened, begun}
 use Rattle.report_text.specs.LineReading.{ReadsLines}
 use Rattle.report_text.specs.declared.session_line.SessionLine.TheVariants.{Report}
@@ -9,7 +9,7 @@ use Rattle.report_text.proofs.session_reading.read_reports.Given as goal
 -- the reports so far, and the first line of the next
 abbrev pub invariant-reports : goal.invariant-reports
 invariant-reports l =
-    ReadsLines l.fn.lines l.lines (flat_map session_reported_lines l.reports ++ Report ∷ []) (opened l.shards) (begun l.shards)
+    ReadsLines l.fn.lines l.lines (flat_map reported_lines l.reports ++ Report ∷ []) (opened l.shards) (begun l.shards)
 
 -- the bytes after them
 abbrev pub decreases-reports : goal.decreases-reports

@@ -1,6 +1,6 @@
 use Rattle.std.proofs.Common.{◌≡◌, [], refl, ap, ◌∙◌, subst}
 use Rattle.std.proofs.lemmas.Result.{err_from_is_err_and}
-use Rattle.report_text.specs.SessionText.{session_lines, HasSessionTextReadFault}
+use Rattle.report_text.specs.Session.{session_lines, HasReadFault}
 use Rattle.report_text.specs.Stages.{nothing, ended}
 use Rattle.report_text.proofs.ReadSessionLemmas.{read_session_from_start, read_session_is_session}
 use Rattle.report_text.proofs.ReadSessionLemmas.{read_session_has_its_text}
@@ -18,7 +18,7 @@ returns-in_err-finish-clause-fault c =
     let same : new.text.now ≡ c.args.bytes.now = ap (λ t. t.now) (reads.same ∙ c.new-lines.ensures.text) in
     let p = err_from_is_err_and c.from_residual-in_err-finish.result c.from_residual-in_err-finish.ensures.1 in
     rw (p.1, p.2)
-    (subst (λ text. HasSessionTextReadFault text c.in_err-finish.field-0.0) same
+    (subst (λ text. HasReadFault text c.in_err-finish.field-0.0) same
     (c.in_err-finish.ensures.err session
     (read_session_from_start old new (session_lines session) nothing ended c.new-lines.ensures.start reads)
     (read_session_is_session c.report_order_is_total.ensures.total old new session reads)))

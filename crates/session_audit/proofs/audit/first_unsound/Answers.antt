@@ -1,6 +1,6 @@
 use Rattle.std.proofs.Common.{◌∙◌, ◌+◌, All, subst}
 use Rattle.std.proofs.lemmas.List.{take_all}
-use Rattle.session_audit.specs.Audit.{IsAuditedAsFirstUnsound, IsAuditedAsSound}
+use Rattle.session_audit.specs.Audit.{IsFirstUnsound, IsAuditedSound}
 use Rattle.session_audit.proofs.FirstUnsoundLemmas.{first_unsound_next_is_sound, first_unsound_next_is_unsound}
 use Rattle.session_audit.proofs.audit.first_unsound.Goals as goal
 
@@ -16,7 +16,7 @@ returns-in_default c =
     let lists = c.args.audited.now.dealt in
     record {
       none = tt;
-      some = subst (λ reports. IsAuditedAsFirstUnsound settings lists reports (c.loop-place.place + 1) c.in_ok-verdict.verdict)
+      some = subst (λ reports. IsFirstUnsound settings lists reports (c.loop-place.place + 1) c.in_ok-verdict.verdict)
           c.as_slice-reports.ensures
           (first_unsound_next_is_unsound settings lists c.as_slice-reports.result.now c.loop-place.place c.index-reports-place.result
           c.in_ok-verdict.verdict c.loop-place-test.true c.index-reports-place.is c.in_ok-verdict.ensures.verdict
@@ -25,7 +25,7 @@ returns-in_default c =
 
 pub returns-clause-none : goal.returns-clause-none
 returns-clause-none c =
-    let sound = IsAuditedAsSound c.args.settings.now c.args.audited.now.dealt in
+    let sound = IsAuditedSound c.args.settings.now c.args.audited.now.dealt in
     subst (All sound)
     (take_all c.loop-place.place c.as_slice-reports.result.now c.loop-place-test.false ∙ c.as_slice-reports.ensures)
     c.loop-place.invariant

@@ -1,5 +1,5 @@
 use Rattle.std.proofs.Common.{◌∙◌}
-use Rattle.shard_state.specs.Snapshot.{snapshot_adds}
+use Rattle.shard_state.specs.Snapshot.{adds_of}
 use Rattle.shard_state.proofs.PrefixWeightLemmas.{IntervalsHoldPrefixWeight, PrefixWeightIsTold, prefix_weight_is_held}
 use Rattle.shard_state.proofs.PrefixWeightLemmas.{prefix_weight_totals_agree}
 use Rattle.shard_state.proofs.laws.tables_hold_weights.Goals as goal
@@ -15,5 +15,5 @@ returns-clause-weight c = λ capacity prefix records some valid weighed.
     prefix_weight_is_held capacity prefix records keys laws some weighed
 
 pub returns-clause-total : goal.returns-clause-total
-returns-clause-total c = λ capacity node records some. c.adds_leave_a_table.ensures.total capacity (snapshot_adds node records) some
+returns-clause-total c = λ capacity node records some. c.adds_leave_a_table.ensures.total capacity (adds_of node records) some
     ∙ prefix_weight_totals_agree node records

@@ -2,7 +2,7 @@ use Rattle.std.proofs.Common.{◌≡◌, ◌<◌, get_or, subst, length, refl, a
 use Rattle.std.proofs.lemmas.Option.{slice_get_within}
 use Rattle.prefix_lattice.specs.{node_at}
 use Rattle.space_saving.specs.{AreTableEntries}
-use Rattle.shard_state.specs.Snapshot.{IsLikeSnapshotTable}
+use Rattle.shard_state.specs.Snapshot.{IsLikeTable}
 use Rattle.shard_state.proofs.SnapshotPartLemmas.{more_snapshot_parts}
 use Rattle.shard_state.proofs.snapshot_parts.are_tables.Goals as goal
 
@@ -12,7 +12,7 @@ loop-place-preserved c =
     let here = c.index-tables-from.result in
     let read : here ≡ get_or tables c.loop-place.place here = subst (λ n. here ≡ get_or tables n here) c.from-in-loop-place.ensures c.index-tables-from.is in
     record {
-      alike = more_snapshot_parts (λ k t. IsLikeSnapshotTable c.capacity-capacity.result c.total-total.result (node_at k) t) tables c.loop-place.place here
+      alike = more_snapshot_parts (λ k t. IsLikeTable c.capacity-capacity.result c.total-total.result (node_at k) t) tables c.loop-place.place here
           (omega arith) read
           (c.is_like.ensures.like.0 c.if-not-is_like.false) c.loop-place.invariant.alike;
       kept =

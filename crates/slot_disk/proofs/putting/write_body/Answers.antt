@@ -1,14 +1,14 @@
 use Rattle.std.proofs.Common.{ℕ, length, subst}
 use Rattle.slot_disk.specs.Images.{IsTornImage, IsWrittenImage}
-use Rattle.slot_disk.specs.Moments.{CrashLeavesAtAnyMoment-weaker}
-use Rattle.slot_disk.specs.Puts.{IsClosedByPut}
+use Rattle.slot_disk.specs.Moments.{CrashLeaves-weaker}
+use Rattle.slot_disk.specs.Putting.{IsClosed}
 use Rattle.slot_disk.proofs.ContentLemmas.{content_while_body_is_written, content_once_body_is_written}
 use Rattle.slot_disk.proofs.ContentLemmas.{content_torn_from_only}
 use Rattle.slot_disk.proofs.putting.write_body.Goals as goal
 
 pub returns-in_err-write_safely-clause-any_moment : goal.returns-in_err-write_safely-clause-any_moment
 returns-in_err-write_safely-clause-any_moment g c = λ old was only can.
-    CrashLeavesAtAnyMoment-weaker g.D.Disk.moment g.D.Disk.image_since _ _ _ (IsClosedByPut c.args.span c.args.slot old)
+    CrashLeaves-weaker g.D.Disk.moment g.D.Disk.image_since _ _ _ (IsClosed c.args.span c.args.slot old)
     c.in_err-write_safely.ensures.any_moment
     (λ image torn.
     content_while_body_is_written c.args.span c.args.slot (length c.args.body.now) old image c.requires.slot c.requires.body.most can
@@ -22,7 +22,7 @@ returns-clause-stored g c = λ old new was is can.
 
 pub returns-clause-any_moment : goal.returns-clause-any_moment
 returns-clause-any_moment g c = λ old was only can.
-    CrashLeavesAtAnyMoment-weaker g.D.Disk.moment g.D.Disk.image_since _ _ _ (IsClosedByPut c.args.span c.args.slot old) c.in_ok-write_safely.ensures.any_moment
+    CrashLeaves-weaker g.D.Disk.moment g.D.Disk.image_since _ _ _ (IsClosed c.args.span c.args.slot old) c.in_ok-write_safely.ensures.any_moment
     (λ image torn.
     content_while_body_is_written c.args.span c.args.slot (length c.args.body.now) old image c.requires.slot c.requires.body.most can
     (subst (λ (place : ℕ). IsTornImage place (length c.args.body.now) old image) c.body_place.ensures

@@ -1,5 +1,5 @@
 use Rattle.std.proofs.Common.{◌≡◌, ◌^◌, ◌<◌, take}
-use Rattle.space_saving.specs.Table.{table_total}
+use Rattle.space_saving.specs.Summary.{table_total}
 use Rattle.space_saving.proofs.facts.total_of.Given as goal
 
 -- the sum so far, which is small

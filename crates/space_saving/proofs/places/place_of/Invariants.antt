@@ -1,5 +1,5 @@
 use Rattle.std.proofs.Common.{◌≡◌, ◌++◌, take, drop}
-use Rattle.space_saving.specs.Table.{table_entry, table_without}
+use Rattle.space_saving.specs.Summary.{table_entry, table_without}
 use Rattle.space_saving.proofs.places.place_of.Given as goal
 
 -- no entry so far has the key

@@ -1,13 +1,13 @@
 use Rattle.std.proofs.Common.{◌++◌, ◌∙◌, ap, ap₂, arith, length, length-append, sym}
-use Rattle.traffic_maker.specs.MadeCapture.{made_capture_header}
+use Rattle.traffic_maker.specs.Making.{capture_header}
 use Rattle.traffic_maker.proofs.MadeFrameLemmas.{capture_of_no_made_frames, capture_of_next_made_frame}
 use Rattle.traffic_maker.proofs.making.make_bytes.Goals as goal
 
 pub loop-index-init : goal.loop-index-init
-unfolding made_capture_header
+unfolding capture_header
 loop-index-init c =
     let empty = c.in_ok-bytes.ensures.items in
-    let header = c.append.ensures.items ∙ ap (λ before. before ++ made_capture_header) empty in
+    let header = c.append.ensures.items ∙ ap (λ before. before ++ capture_header) empty in
     record {
       room = omega (arith, c.in_ok-bytes.ensures.capacity, c.append.ensures.capacity);
       long = ap length header;

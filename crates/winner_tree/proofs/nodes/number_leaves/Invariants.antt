@@ -1,6 +1,6 @@
 use Rattle.std.proofs.Common.{◌≡◌, ℕ, ◌+◌, ◌<◌, ◌≤◌, get_or, drop}
 use Rattle.std.specs.List.{range_with_len}
-use Rattle.winner_tree.specs.TreeNodes.{TreeNodeHoldsLesserChild}
+use Rattle.winner_tree.specs.Nodes.{HoldsLesser}
 use Rattle.winner_tree.proofs.nodes.number_leaves.Given as goal
 
 -- each leaf so far is its own index
@@ -13,7 +13,7 @@ invariant-loop-node l = record {
   inner : 1 ≤ l.node;
   within : l.node ≤ l.leaves;
   numbered : drop l.leaves l.nodes ≡ range_with_len 0 l.leaves;
-  mended : (node : ℕ) → l.node ≤ node → 1 ≤ node → node < l.leaves → TreeNodeHoldsLesserChild l.nodes node;
+  mended : (node : ℕ) → l.node ≤ node → 1 ≤ node → node < l.leaves → HoldsLesser l.nodes node;
 }
 
 abbrev pub decreases-loop-node : goal.decreases-loop-node

@@ -4,8 +4,8 @@ use Rattle.std.specs.List.{list_any}
 use Rattle.std.proofs.lemmas.List.{get_or_default}
 use Rattle.std.proofs.lemmas.List.Elements.{All-get_or}
 use Rattle.prefix_lattice.specs.{PrefixValue, strictly_under, lines_under, prefix_code}
-use Rattle.conditioned_bounds.specs.LineNumbers.{line_numbers_at}
-use Rattle.conditioned_bounds.specs.LineIndex.{indexed_line, indexed_root_line}
+use Rattle.conditioned_bounds.specs.Numbers.{line_numbers_at}
+use Rattle.conditioned_bounds.specs.LineIndex.{indexed_line, root_line}
 use Rattle.conditioned_bounds.proofs.IndexLemmas.{index_line-strictly_under, index_line-filter}
 use Rattle.conditioned_bounds.proofs.line_index.LineIndex.closest.Goals as goal
 use Rattle.conditioned_bounds.proofs.line_index.LineIndex.closest.Goals.{then-not-is_under_another+in_ok-push}
@@ -28,7 +28,7 @@ is_under_another-requires c =
     let line : c.index-lines-number.result ≡ indexed_line lines number =
     c.index-lines-number.is
     ∙ ap (λ (ls : List PrefixValue). get_or ls number c.index-lines-number.result) c.as_slice-lines.ensures.value
-    ∙ get_or_default lines number c.index-lines-number.result indexed_root_line few in
+    ∙ get_or_default lines number c.index-lines-number.result root_line few in
     subst (λ l. strictly_under l prefix ≡ true) (sym line)
     (index_line-strictly_under lines numbers prefix at same c.loop-number-test.true)
 
@@ -47,7 +47,7 @@ loop-number-preserved c =
     let line : c.index-lines-number.result ≡ indexed_line lines number =
     c.index-lines-number.is
     ∙ ap (λ (ls : List PrefixValue). get_or ls number c.index-lines-number.result) c.as_slice-lines.ensures.value
-    ∙ get_or_default lines number c.index-lines-number.result indexed_root_line few in
+    ∙ get_or_default lines number c.index-lines-number.result root_line few in
     let Test : PrefixValue → Bool =
     λ member. not (list_any (λ other. strictly_under member other) (lines_under prefix lines)) in
     let answer : list_any (λ other. strictly_under c.index-lines-number.result other) (lines_under prefix lines)

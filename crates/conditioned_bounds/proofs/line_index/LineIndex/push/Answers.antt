@@ -1,8 +1,8 @@
 use Rattle.std.proofs.Common.{◌≡◌, ◌+◌, ◌<◌, length, ◌++◌, ◌∷◌, [], ℕ, List, Contains, if◌then◌else◌, eqb, sym, subst}
 use Rattle.std.specs.List.{list_any}
 use Rattle.prefix_lattice.specs.{PrefixValue}
-use Rattle.conditioned_bounds.specs.LineNumbers.{line_numbers_at}
-use Rattle.conditioned_bounds.specs.LineIndex.{LinesAreIndexed}
+use Rattle.conditioned_bounds.specs.Numbers.{line_numbers_at}
+use Rattle.conditioned_bounds.specs.LineIndex.{AreIndexed}
 use Rattle.conditioned_bounds.specs.Members.{member_limit}
 use Rattle.conditioned_bounds.proofs.IndexLemmas.{index-same, index-push}
 use Rattle.conditioned_bounds.proofs.line_index.LineIndex.push.Goals as goal
@@ -13,7 +13,7 @@ invariant_of-self c =
 
 pub invariant_of-self-in_err-push : goal.invariant_of-self-in_err-push
 invariant_of-self-in_err-push c =
-    subst (λ (lines : List PrefixValue). LinesAreIndexed lines c.make_room.new.kept) (sym c.in_err-push.ensures.err)
+    subst (λ (lines : List PrefixValue). AreIndexed lines c.make_room.new.kept) (sym c.in_err-push.ensures.err)
     (index-same c.self.inside.lines c.self.inside.under c.make_room.new.kept c.make_room.ensures.same
     c.self.invariant)
 
@@ -30,6 +30,6 @@ invariant_of-self-2 c =
     subst (λ (cs : List ℕ). (code : ℕ) → line_numbers_at c.note.new.kept code
     ≡ (if list_any (λ other. eqb other code) cs then line_numbers_at kept code ++ c.len-number.result ∷ []
     else line_numbers_at kept code)) c.as_slice-2.ensures.value c.note.ensures in
-    subst (λ (ls : List PrefixValue). LinesAreIndexed ls c.note.new.kept) (sym c.in_ok-push.ensures.ok)
+    subst (λ (ls : List PrefixValue). AreIndexed ls c.note.new.kept) (sym c.in_ok-push.ensures.ok)
     (index-push lines c.args.prefix.now kept c.note.new.kept codes c.len-number.result indexed new
     c.in_ok-codes.ensures c.len-number.ensures.length few notes)

@@ -3,18 +3,18 @@ use Rattle.std.proofs.Common.{arith}
 use Rattle.std.specs.List.{list_any}
 use Rattle.space_saving.specs.{table_entry}
 use Rattle.space_saving.specs.declared.entry.Entry.{Entry}
-use Rattle.cut_merge.specs.Run.{RunValue, missing_run_high}
-use Rattle.cut_merge.specs.NodeMerge.{NodeMergeValue, node_merge_has_key}
-use Rattle.cut_merge.specs.HighBounds.{high_bound_home, high_bound_cell, greatest_high_bound, counted_in_high_bound}
-use Rattle.cut_merge.specs.HighBounds.{AreHighBoundsOfRuns}
+use Rattle.cut_merge.specs.Run.{RunValue, missing_high}
+use Rattle.cut_merge.specs.NodeMerge.{NodeMergeValue, has_key}
+use Rattle.cut_merge.specs.HighBounds.{bound_home, bound_cell, greatest_bound, counted_in}
+use Rattle.cut_merge.specs.HighBounds.{AreBoundsOf}
 use Rattle.cut_merge.proofs.HighBoundLemmas.{high_bounds_with_more_runs}
 use Rattle.cut_merge.proofs.node_merge.NodeMerge.add.Goals as goal
 
 pub note_keys-requires-clause-known : goal.note_keys-requires-clause-known
 note_keys-requires-clause-known c = λ key.
-    subst (λ (v : NodeMergeValue). list_any (λ other. eqb key other) v.keys ≡ node_merge_has_key key v.runs)
+    subst (λ (v : NodeMergeValue). list_any (λ other. eqb key other) v.keys ≡ has_key key v.runs)
     (sym c.self.view_is) (c.requires.known key)
-    ∙ ap (node_merge_has_key key) (sym c.deref.ensures.value)
+    ∙ ap (has_key key) (sym c.deref.ensures.value)
 
 pub invariant_of-self-2 : goal.invariant_of-self-2
 invariant_of-self-2 c =
@@ -23,19 +23,19 @@ invariant_of-self-2 c =
     let new = c.note_keys.new.bounds in
     let runs = c.self.inside.runs.items in
     let run = c.in_ok-run.run' in
-    let missing : new.missing ≡ min greatest_high_bound (old.missing + missing_run_high table) =
+    let missing : new.missing ≡ min greatest_bound (old.missing + missing_high table) =
     c.note_keys.ensures.same ∙ c.add_missing.ensures.missing
-    ∙ ap (λ (high : ℕ). min greatest_high_bound (old.missing + high)) (c.missing.ensures ∙ c.in_ok-run.ensures.missing) in
-    let noted : (key : ℕ) → min greatest_high_bound (high_bound_cell old key + counted_in_high_bound table (table_entry key table.entries))
-    ≤ high_bound_cell new key =
+    ∙ ap (λ (high : ℕ). min greatest_bound (old.missing + high)) (c.missing.ensures ∙ c.in_ok-run.ensures.missing) in
+    let noted : (key : ℕ) → min greatest_bound (bound_cell old key + counted_in table (table_entry key table.entries))
+    ≤ bound_cell new key =
     λ key.
     subst (λ (cells : List ℕ).
-    min greatest_high_bound (slice_index cells (high_bound_home key) + counted_in_high_bound table (table_entry key table.entries)) ≤ high_bound_cell new key)
+    min greatest_bound (slice_index cells (bound_home key) + counted_in table (table_entry key table.entries)) ≤ bound_cell new key)
     c.add_missing.ensures.cells
     (subst (λ (entries : List Entry).
-    min greatest_high_bound (high_bound_cell c.add_missing.new.self key + counted_in_high_bound table (table_entry key entries)) ≤ high_bound_cell new key)
+    min greatest_bound (bound_cell c.add_missing.new.self key + counted_in table (table_entry key entries)) ≤ bound_cell new key)
     (take_all (length table.entries) table.entries (omega arith))
     (c.in_ok-note_keys.ensures.bounds.noted key)) in
-    subst (λ (rs : List RunValue). AreHighBoundsOfRuns rs new) (sym c.in_ok-push.ensures.items)
+    subst (λ (rs : List RunValue). AreBoundsOf rs new) (sym c.in_ok-push.ensures.items)
     (high_bounds_with_more_runs runs run table old new c.self.invariant c.in_ok-run.ensures
     (λ key. (c.requires.bounded key).above_missing) missing noted)

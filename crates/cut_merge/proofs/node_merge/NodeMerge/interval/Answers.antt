@@ -2,7 +2,7 @@ use Rattle.std.proofs.Common.{◌≡◌, ◌+◌, ◌<◌, ◌^◌, ℕ, List, s
 use Rattle.std.proofs.lemmas.List.Sums.{sum_by_more, sum_by-take-le}
 use Rattle.cut_merge.specs.Run.{RunValue, run_interval}
 use Rattle.cut_merge.specs.NodeMerge.{NodeMergeValue}
-use Rattle.cut_merge.specs.Merged.{merged_interval_for_key}
+use Rattle.cut_merge.specs.Merged.{interval_for_key}
 use Rattle.cut_merge.proofs.node_merge.NodeMerge.interval.Goals as goal
 
 pub overflow_add-high : goal.overflow_add-high
@@ -14,7 +14,7 @@ overflow_add-high c =
     let run = c.run-item.result in
     let whole : sum_by high runs < 2 ^ 64 =
     subst (λ (rs : List RunValue). sum_by high rs < 2 ^ 64) (sym c.deref-run-items.ensures.value)
-    (subst (λ (v : NodeMergeValue). (merged_interval_for_key v key).high < 2 ^ 64) (sym c.self.view_is) c.requires.high) in
+    (subst (λ (v : NodeMergeValue). (interval_for_key v key).high < 2 ^ 64) (sym c.self.view_is) c.requires.high) in
     let same : runs ≡ c.args.self.now.runs =
     c.deref-run-items.ensures.value ∙ ap (λ (v : NodeMergeValue). v.runs) c.self.view_is in
     let here : high (get_or runs at run) ≡ high run = ap high (sym c.run-item.is) in

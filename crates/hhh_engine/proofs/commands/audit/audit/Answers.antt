@@ -1,6 +1,6 @@
 use Rattle.std.proofs.Common.{subst}
 use Rattle.std.specs.Io.KnownBytes.{Appends}
-use Rattle.outside_io.specs.{AppendsBeginning}
+use Rattle.outside_io.specs.{AppendsPart}
 use Rattle.hhh_engine.specs.Inputs.{inputs}
 use Rattle.hhh_engine.proofs.AuditEndLemmas.{audit_ends_broken_off, audit_ends_without_inputs, audit_ends_as_written}
 use Rattle.hhh_engine.proofs.ReadOrderLemmas.{read_order_of_made_audit}
@@ -30,7 +30,7 @@ returns-clause-ends g c = λ store.
     audit_ends_broken_off c.args.settings.now _ given _ _ c.args.sink.now c.write_all.new.sink _ _ _ _ c.in-Ok.audited c.in-Ok-audit_session.answer
     (c.in-Ok.ensures.audited store) c.in-Ok-audit_session.ensures c.in-Ok.ensures.capture_at_end
     c.in-Ok.ensures.text_at_end (c.in-Ok.ensures.told (λ is. cc is))
-    (subst (AppendsBeginning (g.K.Sink.taken c.args.sink.now) (g.K.Sink.taken c.write_all.new.sink)) c.deref.ensures.value
+    (subst (AppendsPart (g.K.Sink.taken c.args.sink.now) (g.K.Sink.taken c.write_all.new.sink)) c.deref.ensures.value
     c.in-Err-write_all.ensures.beginning) c.in-Err-write_all.ensures.cause.failed
 
 pub returns-in-Ok-write_all-clause-order : goal.returns-in-Ok-write_all-clause-order

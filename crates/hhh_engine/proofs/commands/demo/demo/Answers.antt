@@ -1,6 +1,6 @@
 use Rattle.std.proofs.Common.{refl, subst}
 use Rattle.std.specs.Io.KnownBytes.{Appends}
-use Rattle.outside_io.specs.{AppendsBeginning}
+use Rattle.outside_io.specs.{AppendsPart}
 use Rattle.hhh_engine.proofs.commands.demo.demo.Goals as goal
 
 pub returns-in-Ok-write_all-clause-ends : goal.returns-in-Ok-write_all-clause-ends
@@ -20,7 +20,7 @@ returns-in-Ok-write_all-clause-ends g c = λ capture faults. (
 pub returns-clause-ends : goal.returns-clause-ends
 returns-clause-ends g c = λ capture faults.
     let begun =
-    subst (AppendsBeginning (g.K.Sink.taken c.args.sink.now) (g.K.Sink.taken c.write_all.new.sink))
+    subst (AppendsPart (g.K.Sink.taken c.args.sink.now) (g.K.Sink.taken c.write_all.new.sink))
     c.deref.ensures.value c.in-Err-write_all.ensures.beginning in (
       tt,
       record {

@@ -1,5 +1,5 @@
 use Rattle.std.proofs.Common.{ap}
-use Rattle.hhh_engine.specs.Ending.{ending_source_faults}
+use Rattle.hhh_engine.specs.Ending.{faults_of_source}
 use Rattle.hhh_engine.proofs.CaptureReportLemmas.{capture_report_tells_disk_fault, capture_report_ends}
 use Rattle.hhh_engine.proofs.commands.report.report.Goals as goal
 
@@ -7,7 +7,7 @@ pub returns-clause-ends : goal.returns-clause-ends
 returns-clause-ends g c = λ other.
     capture_report_ends g.K.Sink g.D.Disk c.args.settings.now _ (g.S.Source.left c.args.capture.now) _ _ _ _ _ _ _
     c.in-Ok.fed.dealt c.in-Ok.fed.tail.items c.report_dealt.result c.in-Ok.ensures.dealt c.in-Ok.ensures.at_end
-    (ap (λ count. ending_source_faults count other) (c.in-Ok.ensures.told (λ no. cc no))) c.report_dealt.ensures.ends
+    (ap (λ count. faults_of_source count other) (c.in-Ok.ensures.told (λ no. cc no))) c.report_dealt.ensures.ends
 
 pub returns-clause-told : goal.returns-clause-told
 returns-clause-told g c =

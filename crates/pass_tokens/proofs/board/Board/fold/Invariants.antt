@@ -1,8 +1,8 @@
 use Rattle.position_words.specs.{view}
-use Rattle.pass_tokens.specs.Board.{IsPassOfBoard}
-use Rattle.pass_tokens.specs.Fold.{WaitsToFold}
+use Rattle.pass_tokens.specs.Board.{IsPassOf}
+use Rattle.pass_tokens.specs.TryFold.{WaitsToFold}
 use Rattle.pass_tokens.proofs.board.Board.fold.Given as goal
 
 -- all takes so far lost
 abbrev pub invariant-loop : goal.invariant-loop
-invariant-loop g l = IsPassOfBoard l.self l.pass × WaitsToFold l.shard (view l.initial.pass) (view l.pass)
+invariant-loop g l = IsPassOf l.self l.pass × WaitsToFold l.shard (view l.initial.pass) (view l.pass)

@@ -1,7 +1,7 @@
 use Rattle.std.proofs.Common.{subst}
 use Rattle.shard_state.specs.{CutValue}
 use Rattle.position_words.specs.{view}
-use Rattle.pass_tokens.specs.Read.{ReadsAtLast}
+use Rattle.pass_tokens.specs.TryRead.{ReadsAtLast}
 use Rattle.pass_tokens.proofs.WaitLemmas.{wait_ends_with_read}
 use Rattle.pass_tokens.proofs.board.Board.read.Goals as goal
 

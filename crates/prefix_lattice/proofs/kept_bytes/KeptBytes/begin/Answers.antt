@@ -1,12 +1,12 @@
 use Rattle.std.proofs.Common.{eqb, ap, sym, ◌∙◌, arith}
 use Rattle.prefix_lattice.specs.Address.{address_bytes}
-use Rattle.prefix_lattice.specs.KeptBytes.{kept_bytes_begin_with}
-use Rattle.prefix_lattice.proofs.AddressLemmas.{kept_bytes_begin_with-masked_address}
+use Rattle.prefix_lattice.specs.KeptBytes.{begins_with}
+use Rattle.prefix_lattice.proofs.AddressLemmas.{begins_with-masked_address}
 use Rattle.prefix_lattice.proofs.kept_bytes.KeptBytes.begin.Goals as goal
 
 pub returns : goal.returns
 returns c =
     ap (λ m. eqb m c.self.inside.address) c.masked.ensures
-    ∙ sym (kept_bytes_begin_with-masked_address c.self.inside.bytes c.args.address c.self.inside.address c.self.invariant.0
+    ∙ sym (begins_with-masked_address c.self.inside.bytes c.args.address c.self.inside.address c.self.invariant.0
     (omega arith) c.self.invariant.1 c.self.invariant.2)
-    ∙ ap (kept_bytes_begin_with (address_bytes c.args.address)) c.self.view_is
+    ∙ ap (begins_with (address_bytes c.args.address)) c.self.view_is

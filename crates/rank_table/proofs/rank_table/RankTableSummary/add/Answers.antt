@@ -1,6 +1,6 @@
 use Rattle.std.proofs.Common.{◌≡◌, ◌+◌, ◌^◌, ◌<◌, ◌≤◌, refl, sym, ap, ◌∙◌, subst, arith}
-use Rattle.space_saving.specs.{TableAdd, TableValue, table_after_step, table_total}
-use Rattle.rank_table.specs.SlotOrder.{entries_in_slot_order}
+use Rattle.space_saving.specs.{TableAdd, TableValue, after_step, table_total}
+use Rattle.rank_table.specs.SlotOrder.{ordered_entries}
 use Rattle.rank_table.proofs.RankTableLemmas.{IsRankTable-add}
 use Rattle.rank_table.proofs.rank_table.RankTableSummary.add.Goals as goal
 
@@ -9,7 +9,7 @@ invariant_of-self c =
     let add : TableAdd = record { key = c.args.key; weight = c.from-weight.result } in
     let some : 1 ≤ c.self.inside.capacity = omega (arith, c.self.invariant.least) in
     let weighs : 1 ≤ c.from-weight.result = omega (arith, c.from-weight.ensures, c.requires.weighs) in
-    let fits : table_total (entries_in_slot_order c.self.inside.ranked.slots) + c.from-weight.result < 2 ^ 56 =
+    let fits : table_total (ordered_entries c.self.inside.ranked.slots) + c.from-weight.result < 2 ^ 56 =
     subst (λ (t : TableValue). table_total t.entries + c.from-weight.result < 2 ^ 56) (sym c.self.view_is)
     (omega (arith, c.from-weight.ensures, c.requires.room)) in
     IsRankTable-add c.self.inside.capacity c.self.inside.clock c.self.inside.total c.from-weight.result c.self.inside.index c.add_weight.new.index
@@ -18,17 +18,17 @@ invariant_of-self c =
     (λ entries table. c.steps_leave_a_table.ensures.table c.self.inside.capacity entries add some weighs table)
     (λ entries. c.steps_leave_a_table.ensures.total c.self.inside.capacity entries add some)
     c.add_weight.ensures.capacity c.add_weight.ensures.together c.add_weight.ensures.slots
-    (subst (λ n. entries_in_slot_order c.add_weight.new.ranked.slots ≡ table_after_step n
-    (entries_in_slot_order c.self.inside.ranked.slots) add) c.self.invariant.together.as_many c.add_weight.ensures.stepped)
+    (subst (λ n. ordered_entries c.add_weight.new.ranked.slots ≡ after_step n
+    (ordered_entries c.self.inside.ranked.slots) add) c.self.invariant.together.as_many c.add_weight.ensures.stepped)
 
 pub returns-clause-grew : goal.returns-clause-grew
 returns-clause-grew c =
     let add : TableAdd = record { key = c.args.key; weight = c.from-weight.result } in
     let some : 1 ≤ c.self.inside.capacity = omega (arith, c.self.invariant.least) in
-    let stepped = subst (λ n. entries_in_slot_order c.add_weight.new.ranked.slots ≡ table_after_step n
-    (entries_in_slot_order c.self.inside.ranked.slots) add) c.self.invariant.together.as_many c.add_weight.ensures.stepped in
-    let grew = ap table_total stepped ∙ c.steps_leave_a_table.ensures.total c.self.inside.capacity (entries_in_slot_order c.self.inside.ranked.slots) add
+    let stepped = subst (λ n. ordered_entries c.add_weight.new.ranked.slots ≡ after_step n
+    (ordered_entries c.self.inside.ranked.slots) add) c.self.invariant.together.as_many c.add_weight.ensures.stepped in
+    let grew = ap table_total stepped ∙ c.steps_leave_a_table.ensures.total c.self.inside.capacity (ordered_entries c.self.inside.ranked.slots) add
     some in
-    let same : table_total (entries_in_slot_order c.self.inside.ranked.slots) ≡ table_total c.args.self.now.entries = ap
+    let same : table_total (ordered_entries c.self.inside.ranked.slots) ≡ table_total c.args.self.now.entries = ap
     (λ (t : TableValue). table_total t.entries) c.self.view_is in
     omega (arith, grew, same, c.from-weight.ensures)

@@ -3,7 +3,7 @@ use Rattle.std.proofs.lemmas.Option.{slice_get-map}
 use Rattle.std.specs.Option.{option_map}
 use Rattle.space_saving.specs.{TableValue}
 use Rattle.rank_table.specs.declared.slot.Slot.{Slot}
-use Rattle.rank_table.specs.SlotOrder.{slots_in_rank_order, AreOrderedSlots}
+use Rattle.rank_table.specs.SlotOrder.{in_rank_order, AreOrdered}
 use Rattle.rank_table.proofs.RankedSlotLemmas.{ranked_slot_entry}
 use Rattle.rank_table.proofs.RankTableLemmas.{rank_table_length_as_seen, rank_table_times_are_small}
 use Rattle.rank_table.proofs.rank_table.RankTableSummary.entry.Goals as goal
@@ -19,12 +19,12 @@ slot_at-requires-clause-within c =
 
 pub slot_at-requires-clause-slots : goal.slot_at-requires-clause-slots
 slot_at-requires-clause-slots c =
-    subst (AreOrderedSlots (2 ^ 64)) (sym c.slots.ensures.slots)
+    subst (AreOrdered (2 ^ 64)) (sym c.slots.ensures.slots)
     (rank_table_times_are_small c.self.inside.capacity c.self.inside.clock c.self.inside.total c.self.inside.index c.self.inside.ranked c.self.invariant)
 
 pub returns : goal.returns
 returns c =
     ap (λ (t : TableValue). slice_get t.entries c.args.place) (sym c.self.view_is)
-    ∙ slice_get-map ranked_slot_entry (slots_in_rank_order c.self.inside.ranked.slots) c.args.place
-    ∙ ap (λ (l : List Slot). option_map ranked_slot_entry (slice_get (slots_in_rank_order l) c.args.place)) (sym c.slots.ensures.slots)
+    ∙ slice_get-map ranked_slot_entry (in_rank_order c.self.inside.ranked.slots) c.args.place
+    ∙ ap (λ (l : List Slot). option_map ranked_slot_entry (slice_get (in_rank_order l) c.args.place)) (sym c.slots.ensures.slots)
     ∙ ap (option_map ranked_slot_entry) c.slot_at.ensures

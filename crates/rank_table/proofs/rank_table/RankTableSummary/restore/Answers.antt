@@ -1,10 +1,10 @@
 use Rattle.std.proofs.Common.{sym, ap, ◌∙◌, subst}
 use Rattle.key_index.specs.{IndexedKeys}
 use Rattle.space_saving.specs.{TableValue, AreTableEntries}
-use Rattle.rank_table.specs.SlotOrder.{entries_in_slot_order}
-use Rattle.rank_table.specs.Slots.{Slots}
+use Rattle.rank_table.specs.SlotOrder.{ordered_entries}
+use Rattle.rank_table.specs.Slot.{Slots}
 use Rattle.rank_table.specs.RankTable.{IsRankTable}
-use Rattle.rank_table.proofs.NumberedEntryLemmas.{entries_in_slot_order-numbered}
+use Rattle.rank_table.proofs.NumberedEntryLemmas.{ordered_entries-numbered}
 use Rattle.rank_table.proofs.RankTableLemmas.{IsRankTable-loaded}
 use Rattle.rank_table.proofs.rank_table.RankTableSummary.restore.Goals as goal
 
@@ -23,7 +23,7 @@ invariant_of-result c =
 pub returns : goal.returns
 returns c =
     let entries = c.args.flat.now.entries in
-    let same = ap (λ (r : Slots). entries_in_slot_order r.slots) c.load.ensures.ranked
-    ∙ entries_in_slot_order-numbered entries c.total-total.ensures.kept.is_table.ascending in
-    ap (λ n. let t : TableValue = record { capacity = n; entries = entries_in_slot_order c.load.new.ranked.slots } in t) c.capacity-capacity.ensures.capacity
+    let same = ap (λ (r : Slots). ordered_entries r.slots) c.load.ensures.ranked
+    ∙ ordered_entries-numbered entries c.total-total.ensures.kept.is_table.ascending in
+    ap (λ n. let t : TableValue = record { capacity = n; entries = ordered_entries c.load.new.ranked.slots } in t) c.capacity-capacity.ensures.capacity
     ∙ ap (λ l. let t : TableValue = record { capacity = c.args.flat.now.capacity; entries = l } in t) same

@@ -1,9 +1,9 @@
 use Rattle.std.proofs.Common.{◌≡◌, ◌<◌, ◌≤◌, ℕ, List, length, get_or, sym, ap, subst, ◌∙◌}
 use Rattle.std.specs.List.{range_with_len}
 use Rattle.rank_table.specs.declared.slot.Slot.{Slot}
-use Rattle.rank_table.specs.Slots.{Slots}
-use Rattle.rank_table.specs.RankWords.{rank_word, IsExactRankWord}
-use Rattle.rank_table.specs.Ranks.{AreRankLeaves, AreRanked}
+use Rattle.rank_table.specs.Slot.{Slots}
+use Rattle.rank_table.specs.Words.{rank_word, IsExactWord}
+use Rattle.rank_table.specs.Ranks.{AreLeaves, AreRanked}
 use Rattle.rank_table.proofs.LeafLemmas.{exact_leaf_is_least, leaf_restarts_at_least_count}
 use Rattle.rank_table.proofs.ranked_slots.RankedSlots.least.Goals as goal
 
@@ -11,12 +11,12 @@ pub returns-then-is_exact-clause-least : goal.returns-then-is_exact-clause-least
 returns-then-is_exact-clause-least c =
     let items = c.self.inside.slots.items in
     let same = c.deref.ensures.value in
-    let leaves = subst (λ (l : List Slot). AreRankLeaves (length l) c.self.inside.base c.winner-place.new.tree l) same c.winner-place.ensures.leaves in
+    let leaves = subst (λ (l : List Slot). AreLeaves (length l) c.self.inside.base c.winner-place.new.tree l) same c.winner-place.ensures.leaves in
     let within = subst (λ (l : List Slot). c.winner-place.result < length l) same c.winner-place.ensures.within in
     let least = subst (λ (l : List Slot). (place : ℕ) (d : Slot) → place < length l
     → rank_word c.self.inside.base (get_or l c.winner-place.result d) c.winner-place.result ≤ rank_word c.self.inside.base
     (get_or l place d) place) same c.winner-place.ensures.least in
-    let exact : IsExactRankWord c.self.inside.base c.index.result.now = c.is_exact.ensures.0 c.if-is_exact.true in
+    let exact : IsExactWord c.self.inside.base c.index.result.now = c.is_exact.ensures.0 c.if-is_exact.true in
     rw (← c.self.view_is) (exact_leaf_is_least (length items) c.self.inside.base c.winner-place.new.tree items c.winner-place.result c.index.result.now
     leaves within c.index.ensures exact least)
 
@@ -24,7 +24,7 @@ pub invariant_of-self-then-least-self-ge-MOST_EXCESS : goal.invariant_of-self-th
 invariant_of-self-then-least-self-ge-MOST_EXCESS c =
     let items = c.self.inside.slots.items in
     let full : length items ≡ c.self.inside.capacity = subst (λ (r : Slots). length r.slots ≡ r.capacity) (sym c.self.view_is) c.requires in
-    let leaves = subst (λ (l : List Slot). AreRankLeaves
+    let leaves = subst (λ (l : List Slot). AreLeaves
     (length l) c.self.inside.base c.winner-place.new.tree l) c.deref.ensures.value c.winner-place.ensures.leaves in
     let restarted : c.restart.new.self ≡ range_with_len 0 c.self.inside.capacity = c.restart.ensures ∙ ap (range_with_len 0) (leaves.shape ∙ full) in
     let within = subst (λ (l : List Slot). c.least_of-place.result < length l) c.deref-2.ensures.value c.least_of-place.ensures.least.within in

@@ -1,7 +1,7 @@
 use Rattle.std.proofs.Common.{◌≡◌, ◌<◌, length, set, sym, ap, subst, ◌∙◌}
-use Rattle.rank_table.specs.Slots.{Slots}
-use Rattle.rank_table.specs.RankWords.{rank_word}
-use Rattle.rank_table.specs.Ranks.{AreRankLeaves}
+use Rattle.rank_table.specs.Slot.{Slots}
+use Rattle.rank_table.specs.Words.{rank_word}
+use Rattle.rank_table.specs.Ranks.{AreLeaves}
 use Rattle.rank_table.proofs.LeafLemmas.{leaf_is_mended_to_word}
 use Rattle.rank_table.proofs.ranked_slots.RankedSlots.mend.Goals as goal
 
@@ -17,7 +17,7 @@ invariant_of-self c =
     record {
       some = c.self.invariant.some;
       has_room = c.self.invariant.has_room;
-      are_leaves = subst (λ leaves. AreRankLeaves c.self.inside.capacity base leaves items) (sym after)
+      are_leaves = subst (λ leaves. AreLeaves c.self.inside.capacity base leaves items) (sym after)
           (leaf_is_mended_to_word c.self.inside.capacity base tree items place slot c.self.invariant.are_leaves within c.index.ensures);
       unbased = c.self.invariant.unbased;
     }

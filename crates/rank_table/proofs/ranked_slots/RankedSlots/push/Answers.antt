@@ -1,6 +1,6 @@
 use Rattle.std.proofs.Common.{◌≡◌, ◌<◌, ◌++◌, ◌∷◌, [], List, length, sym, subst, arith}
 use Rattle.rank_table.specs.declared.slot.Slot.{Slot}
-use Rattle.rank_table.specs.Slots.{Slots}
+use Rattle.rank_table.specs.Slot.{Slots}
 use Rattle.rank_table.specs.Ranks.{AreRanked}
 use Rattle.rank_table.proofs.LeafLemmas.{leaf_stays_after_push}
 use Rattle.rank_table.proofs.ranked_slots.RankedSlots.push.Goals as goal

@@ -1,5 +1,5 @@
 use Rattle.std.proofs.Common.{◌<◌, ◌≤◌, length, get_or, length-set, sym, subst, arith}
-use Rattle.rank_table.specs.Slots.{Slots}
+use Rattle.rank_table.specs.Slot.{Slots}
 use Rattle.rank_table.proofs.LeafLemmas.{leaf_stays_below_raised_slot}
 use Rattle.rank_table.proofs.ranked_slots.RankedSlots.raise.Goals as goal
 

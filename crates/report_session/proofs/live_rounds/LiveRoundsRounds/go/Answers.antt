@@ -1,11 +1,11 @@
 use Rattle.std.proofs.Common.{◌∙◌, ◌≤◌, length, refl, sym, ap₂, subst, arith}
 use Rattle.std.specs.Prelude.{is_some}
-use Rattle.hhh_report.specs.{threshold_million}
+use Rattle.hhh_report.specs.{million}
 use Rattle.hhh_output.specs.{IsWideShare}
 use Rattle.shard_state.specs.{HasCoreShape, core_capacity}
 use Rattle.pass_tokens.specs.{view}
-use Rattle.report_session.specs.Rounds.{WritesRounds}
-use Rattle.report_session.specs.Saves.{SavesBreakOff, SavesInTurn}
+use Rattle.report_session.specs.LiveRounds.{WritesRounds}
+use Rattle.report_session.specs.Saving.{SavesBreakOff, SavesInTurn}
 use Rattle.report_session.proofs.RoundLemmas.{all_rounds_were_made, one_round_broke_off, round_saver_stays_or_none}
 use Rattle.report_session.proofs.RoundLemmas.{writes_no_round, writes_more_rounds}
 use Rattle.report_session.proofs.SaveLemmas.{no_save, save_needs_saver, broken_saves_follow, saves_follow}
@@ -42,7 +42,7 @@ make_round-made-requires-clause-some g c =
 
 pub make_round-made-requires-clause-most : goal.make_round-made-requires-clause-most
 make_round-made-requires-clause-most g c =
-    subst (λ phi. phi ≤ threshold_million) (sym c.loop-round.invariant.same_share) c.requires.ready.2
+    subst (λ phi. phi ≤ million) (sym c.loop-round.invariant.same_share) c.requires.ready.2
 
 pub make_round-made-requires-clause-wide : goal.make_round-made-requires-clause-wide
 make_round-made-requires-clause-wide g c =

@@ -1,6 +1,6 @@
 use Rattle.std.proofs.Common.{◌≡◌, position, drop, take, refl, sym, ap, ◌∙◌, eqb, subst, IfSome, IfNone}
-use Rattle.report_text.specs.SessionText.{IsSessionLine, session_line_words}
-use Rattle.report_text.specs.Stages.{stage_words_in}
+use Rattle.report_text.specs.Session.{IsSessionLine, line_words}
+use Rattle.report_text.specs.Stages.{words_in}
 use Rattle.report_text.specs.declared.session_line.SessionLine.{SessionLine}
 use Rattle.report_text.proofs.ByteCutLemmas.{byte_cut_at_first, no_byte_cut}
 use Rattle.report_text.proofs.CursorLemmas.{cursor_finds_no_end, cursor_finds_bad_line, cursor_reads_next_line}
@@ -16,7 +16,7 @@ returns-in_default-clause-fault c = λ stage is_open stands.
 pub returns-in_default-2-clause-fault : goal.returns-in_default-2-clause-fault
 returns-in_default-2-clause-fault c = λ stage is_open stands.
     let text = c.split_at-2.result.0.now in
-    let refused = subst (λ o. IfNone o ((line : SessionLine) → IsSessionLine line → stage_words_in text ≡ session_line_words line → ⊥))
+    let refused = subst (λ o. IfNone o ((line : SessionLine) → IsSessionLine line → words_in text ≡ line_words line → ⊥))
     c.in_default-2.is c.in_ok-line.ensures.refused in
     let text_is : text ≡ take c.in-Some.len (drop c.args.self.now.at c.args.self.now.text.now) =
     c.split_at-2.ensures.front ∙ ap (take c.in-Some.len) c.split_at.ensures.back in
@@ -24,16 +24,16 @@ returns-in_default-2-clause-fault c = λ stage is_open stands.
     c.args.self.now c.in-Some.len stage stands
     (byte_cut_at_first 10 c.in-Some.len (drop c.args.self.now.at c.args.self.now.text.now)
     (ap (position (λ b. eqb b 10)) (sym c.split_at.ensures.back) ∙ sym c.in-Some.ensures))
-    (λ line is same. refused line is (ap stage_words_in text_is ∙ same))
+    (λ line is same. refused line is (ap words_in text_is ∙ same))
 
 pub returns-clause-read : goal.returns-clause-read
 returns-clause-read c =
     let text = c.split_at-2.result.0.now in
-    let read = subst (λ o. IfSome o (λ line. IsSessionLine line × (stage_words_in text ≡ session_line_words line)))
+    let read = subst (λ o. IfSome o (λ line. IsSessionLine line × (words_in text ≡ line_words line)))
     c.in-Some-2.is c.in_ok-line.ensures.read in
     let text_is : text ≡ take c.in-Some.len (drop c.args.self.now.at c.args.self.now.text.now) =
     c.split_at-2.ensures.front ∙ ap (take c.in-Some.len) c.split_at.ensures.back in
     cursor_reads_next_line c.args.self.now _ c.in-Some.len c.in-Some-2.line refl refl refl
     (byte_cut_at_first 10 c.in-Some.len (drop c.args.self.now.at c.args.self.now.text.now)
     (ap (position (λ b. eqb b 10)) (sym c.split_at.ensures.back) ∙ sym c.in-Some.ensures))
-    read.0 (ap stage_words_in (sym text_is) ∙ read.1)
+    read.0 (ap words_in (sym text_is) ∙ read.1)

@@ -1,5 +1,5 @@
 use Rattle.std.proofs.Common.{length, ap, ◌∙◌, arith}
-use Rattle.shard_state.specs.ShardCore.{changed_in_core}
+use Rattle.shard_state.specs.ShardCore.{changed_in}
 use Rattle.shard_state.specs.ShardState.{folded_shard}
 use Rattle.shard_state.proofs.ShardCoreLemmas.{shard_core_fold_is_change, IsCore-fold_of_shard}
 use Rattle.shard_state.proofs.shard_core.Core.fold.Goals as goal
@@ -14,4 +14,4 @@ pub returns : goal.returns
 returns c =
     shard_core_fold_is_change c.self.inside.states.items c.args.shard c.args.block c.index_mut.result.now c.fold_block.new.self
     (omega (arith, ap length c.self.view_is)) c.index_mut.ensures.value c.fold_block.ensures.state
-    ∙ ap (changed_in_core (folded_shard c.args.block) c.args.shard) c.self.view_is
+    ∙ ap (changed_in (folded_shard c.args.block) c.args.shard) c.self.view_is

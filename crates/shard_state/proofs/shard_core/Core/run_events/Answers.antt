@@ -1,6 +1,6 @@
 use Rattle.std.proofs.Common.{◌≡◌, length, slice_get, All, ap, sym, ◌∙◌, subst}
-use Rattle.shard_state.specs.ShardCore.{CoreValue, HasCoreShape, core_capacity, snapshot_in_core}
-use Rattle.shard_state.proofs.EventRunLemmas.{latest_core_snapshot-after_event_run, event_run_reads_never_fall}
+use Rattle.shard_state.specs.ShardCore.{CoreValue, HasCoreShape, core_capacity, snapshot_in}
+use Rattle.shard_state.proofs.EventRunLemmas.{latest_snapshot-after_event_run, event_run_reads_never_fall}
 use Rattle.shard_state.proofs.EventRunLemmas.{event_run_tells_last_read, event_run_cut_stands, event_run_keeps_shapes}
 use Rattle.shard_state.proofs.EventRunLemmas.{event_run_keeps_shards, event_run_keeps_callers, event_run_keeps_capacity}
 use Rattle.shard_state.proofs.EventRunLemmas.{event_run_shard_within}
@@ -9,8 +9,8 @@ use Rattle.shard_state.proofs.shard_core.Core.run_events.Goals as goal
 pub returns-clause-latest : goal.returns-clause-latest
 returns-clause-latest c = λ caller shard state before is holds.
     let start : CoreValue = record { shards = c.args.self.now; cuts = c.args.cuts.now.items } in
-    ap (snapshot_in_core caller shard) c.run_in_order.ensures.cuts
-    ∙ latest_core_snapshot-after_event_run c.args.events.now start caller shard state before is
+    ap (snapshot_in caller shard) c.run_in_order.ensures.cuts
+    ∙ latest_snapshot-after_event_run c.args.events.now start caller shard state before is
     (event_run_shard_within start shard state c.keeps.ensures.kept is) holds
 
 pub returns-clause-last_reads : goal.returns-clause-last_reads

@@ -1,5 +1,5 @@
 use Rattle.std.proofs.Common.{◌≡◌, length, All, ap, sym, ◌∙◌, subst}
-use Rattle.shard_state.specs.ShardCore.{CoreValue, HasCoreShape, CoreShardMovedOn, core_capacity}
+use Rattle.shard_state.specs.ShardCore.{CoreValue, HasCoreShape, ShardMovedOn, core_capacity}
 use Rattle.shard_state.proofs.EventLemmas.{shapes_after_event, shards_as_many_after_event, callers_after_event}
 use Rattle.shard_state.proofs.EventLemmas.{capacity_after_event, event_moves_shard_on}
 use Rattle.shard_state.proofs.EventRunLemmas.{event_run_shard_within}
@@ -8,7 +8,7 @@ use Rattle.shard_state.proofs.shard_core.Core.step.Goals as goal
 pub returns-clause-moved_on : goal.returns-clause-moved_on
 returns-clause-moved_on c = λ shard state is.
     let start : CoreValue = record { shards = c.args.self.now; cuts = c.args.cuts.now.items } in
-    subst (λ shards. CoreShardMovedOn shards shard state) (sym c.act.ensures.shards)
+    subst (λ shards. ShardMovedOn shards shard state) (sym c.act.ensures.shards)
     (event_moves_shard_on start c.args.event shard state is (event_run_shard_within start shard state c.keeps.ensures.kept is))
 
 pub returns-clause-shards_stay : goal.returns-clause-shards_stay

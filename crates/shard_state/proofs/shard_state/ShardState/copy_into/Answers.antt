@@ -1,8 +1,8 @@
 use Rattle.std.proofs.Common.{◌≡◌, refl, ap, sym, ◌∙◌, subst}
 use Rattle.std.proofs.lemmas.List.Elements.{All-same, All-map}
 use Rattle.space_saving.specs.{TableValue}
-use Rattle.shard_state.specs.Snapshot.{IsSnapshot, tables_of_snapshot, snapshot_copied_from}
-use Rattle.shard_state.specs.ShardState.{ShardValue, snapshot_of_shard}
+use Rattle.shard_state.specs.Snapshot.{IsSnapshot, tables_of, copied_from}
+use Rattle.shard_state.specs.ShardState.{ShardValue, snapshot_of}
 use Rattle.shard_state.proofs.SnapshotPartLemmas.{snapshot_part_with_entries}
 use Rattle.shard_state.proofs.ShardStateLemmas.{shard_state_copy_is_same}
 use Rattle.shard_state.proofs.shard_state.ShardState.copy_into.Goals as goal
@@ -15,17 +15,17 @@ pub copy_from-requires-clause-alike : goal.copy_from-requires-clause-alike
 copy_from-requires-clause-alike c =
     let shard : ShardValue = record { list = c.self.inside.list; base = c.self.inside.base; position = c.self.inside.position } in
     All-same (λ (t : TableValue). t.capacity ≡ c.args.into.now.capacity) c.deref.result.now
-    (tables_of_snapshot (snapshot_of_shard shard)) (c.deref.ensures.value ∙ c.self.invariant.1)
+    (tables_of (snapshot_of shard)) (c.deref.ensures.value ∙ c.self.invariant.1)
     (All-map (λ (t : TableValue). t.capacity ≡ c.args.into.now.capacity) (snapshot_part_with_entries shard.base.capacity)
-    (snapshot_of_shard shard).tables (λ _ _ _. sym (same_capacity c)))
+    (snapshot_of shard).tables (λ _ _ _. sym (same_capacity c)))
 
 -- what is copied is the snapshot of the shard
-copied : (c : goal.After-deref) → snapshot_copied_from c.args.into.now.capacity c.self.inside.position c.deref.result.now
-    ≡ snapshot_of_shard (record { list = c.self.inside.list; base = c.self.inside.base; position = c.self.inside.position })
+copied : (c : goal.After-deref) → copied_from c.args.into.now.capacity c.self.inside.position c.deref.result.now
+    ≡ snapshot_of (record { list = c.self.inside.list; base = c.self.inside.base; position = c.self.inside.position })
 copied c =
     let shard : ShardValue = record { list = c.self.inside.list; base = c.self.inside.base; position = c.self.inside.position } in
     let positions : c.self.inside.position ≡ shard.position = refl in
-    shard_state_copy_is_same (snapshot_of_shard shard) c.args.into.now.capacity c.self.inside.position c.deref.result.now
+    shard_state_copy_is_same (snapshot_of shard) c.args.into.now.capacity c.self.inside.position c.deref.result.now
     (c.deref.ensures.value ∙ c.self.invariant.1) (same_capacity c) positions
 
 pub copy_from-requires-clause-snapshot : goal.copy_from-requires-clause-snapshot
@@ -37,6 +37,6 @@ returns c =
     let positions : c.self.inside.position ≡ shard.position = refl in
     let capacities : c.args.into.now.capacity ≡ shard.base.capacity = c.requires ∙ ap (λ (s : ShardValue). s.base.capacity) (sym c.self.view_is) in
     c.copy_from.ensures
-    ∙ shard_state_copy_is_same (snapshot_of_shard shard) c.args.into.now.capacity c.self.inside.position c.deref.result.now
+    ∙ shard_state_copy_is_same (snapshot_of shard) c.args.into.now.capacity c.self.inside.position c.deref.result.now
     (c.deref.ensures.value ∙ c.self.invariant.1) capacities positions
-    ∙ ap snapshot_of_shard c.self.view_is
+    ∙ ap snapshot_of c.self.view_is

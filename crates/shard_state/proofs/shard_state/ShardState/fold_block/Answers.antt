@@ -4,8 +4,8 @@ use Rattle.std.proofs.lemmas.List.{take_at}
 use Rattle.std.proofs.lemmas.List.Elements.{All-same}
 use Rattle.prefix_lattice.specs.{RecordValue, total_weight}
 use Rattle.space_saving.specs.{TableValue, table_total}
-use Rattle.shard_state.specs.Snapshot.{fold_snapshot_from, snapshot_tables_after, tables_of_snapshot}
-use Rattle.shard_state.specs.ShardState.{ShardValue, snapshot_of_shard}
+use Rattle.shard_state.specs.Snapshot.{fold_from, tables_after, tables_of}
+use Rattle.shard_state.specs.ShardState.{ShardValue, snapshot_of}
 use Rattle.shard_state.proofs.TableFoldLemmas.{TableFoldKeeps}
 use Rattle.shard_state.proofs.ShardStateLemmas.{ShardStateFoldedOn, shard_state_folds_on, shard_state_has_room}
 use Rattle.shard_state.proofs.ShardStateLemmas.{shard_state_folded_tables}
@@ -22,7 +22,7 @@ count_in_tables-requires-clause-room c =
     λ list t.
     table_total t.entries + total_weight (take (to - inside.position) (drop inside.position list)) < 2 ^ 56 in
     subst (λ list. All (HasRoom list) c.deref_mut.result.now) (sym c.as_slice.ensures.value)
-    (All-same (HasRoom inside.list) c.deref_mut.result.now (tables_of_snapshot (snapshot_of_shard shard)) (c.deref_mut.ensures.value ∙ c.self.invariant.1)
+    (All-same (HasRoom inside.list) c.deref_mut.result.now (tables_of (snapshot_of shard)) (c.deref_mut.ensures.value ∙ c.self.invariant.1)
     (shard_state_has_room shard to c.self.invariant.0 later within))
 
 pub invariant_of-self : goal.invariant_of-self
@@ -38,10 +38,10 @@ invariant_of-self c =
       key = c.keys_are_of_their_node.ensures.of_record_key;
     } in
     let on : ShardStateFoldedOn shard to = shard_state_folds_on shard to keep c.self.invariant.0 later within in
-    let counted : c.count_in_tables.new.tables ≡ snapshot_tables_after 0 inside.tables.items (slice_range inside.list inside.position to) =
+    let counted : c.count_in_tables.new.tables ≡ tables_after 0 inside.tables.items (slice_range inside.list inside.position to) =
     c.count_in_tables.ensures
-    ∙ ap (λ ts. snapshot_tables_after 0 ts (take (to - inside.position) (drop inside.position c.as_slice.result.now))) c.deref_mut.ensures.value
-    ∙ ap (λ list. snapshot_tables_after 0 inside.tables.items (take (to - inside.position) (drop inside.position list))) c.as_slice.ensures.value in
+    ∙ ap (λ ts. tables_after 0 ts (take (to - inside.position) (drop inside.position c.as_slice.result.now))) c.deref_mut.ensures.value
+    ∙ ap (λ list. tables_after 0 inside.tables.items (take (to - inside.position) (drop inside.position list))) c.as_slice.ensures.value in
     let many : length c.count_in_tables.new.tables ≡ inside.tables.len = cc in (
       on.is_shard,
       take_at c.count_in_tables.new.tables (drop (length c.count_in_tables.new.tables) inside.tables.items) inside.tables.len many
@@ -61,8 +61,8 @@ returns-clause-tables c =
       key = c.keys_are_of_their_node.ensures.of_record_key;
     } in
     let on : ShardStateFoldedOn shard to = shard_state_folds_on shard to keep c.self.invariant.0 later within in
-    subst (λ (v : ShardValue). fold_snapshot_from 0 inside.base.capacity inside.base.tables (slice_range inside.list inside.base.position to)
-    ≡ fold_snapshot_from 0 v.base.capacity (snapshot_of_shard v).tables (slice_range v.list inside.position to)) c.self.view_is on.tables
+    subst (λ (v : ShardValue). fold_from 0 inside.base.capacity inside.base.tables (slice_range inside.list inside.base.position to)
+    ≡ fold_from 0 v.base.capacity (snapshot_of v).tables (slice_range v.list inside.position to)) c.self.view_is on.tables
 
 pub returns-clause-kept : goal.returns-clause-kept
 returns-clause-kept c =

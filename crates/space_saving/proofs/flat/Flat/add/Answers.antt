@@ -1,5 +1,5 @@
 use Rattle.std.proofs.Common.{◌≡◌, ◌+◌, ◌^◌, ◌<◌, ap, sym, subst, ◌∙◌, arith}
-use Rattle.space_saving.specs.Table.{TableValue, table_total}
+use Rattle.space_saving.specs.Summary.{TableValue, table_total}
 use Rattle.space_saving.proofs.TableStepLemmas.{IsKept-table_step, table_total-table_step}
 use Rattle.space_saving.proofs.flat.Flat.add.Goals as goal
 

@@ -1,7 +1,7 @@
 use Rattle.std.proofs.Common.{◌<◌, length, refl, sym, subst}
 use Rattle.std.proofs.lemmas.Option.{slice_get_read}
-use Rattle.space_saving.specs.Table.{TableValue}
-use Rattle.space_saving.proofs.IntervalLemmas.{TableRisesFrom-interval_least}
+use Rattle.space_saving.specs.Summary.{TableValue}
+use Rattle.space_saving.proofs.IntervalLemmas.{RisesFrom-interval_least}
 use Rattle.space_saving.proofs.TableEntryLemmas.{table_entry_stands_apart, table_entry_rises_from_least}
 use Rattle.space_saving.proofs.TableEntryLemmas.{table_entry_within_total}
 use Rattle.space_saving.proofs.flat.Flat.entry.Goals as goal
@@ -23,7 +23,7 @@ returns-clause-least c =
     let at = slice_get_read es (length es) c.args.place c.index.result.now refl within c.index.ensures in
     rw (← c.self.view_is)
     (table_entry_rises_from_least _ es c.args.place c.index.result.now
-    (TableRisesFrom-interval_least es c.self.invariant.are_entries.is_table.ascending) at)
+    (RisesFrom-interval_least es c.self.invariant.are_entries.is_table.ascending) at)
 
 pub returns-clause-within_total : goal.returns-clause-within_total
 returns-clause-within_total c =

@@ -1,5 +1,5 @@
 use Rattle.std.proofs.Common.{◌≤◌, ◌-◌, ◌*◌, arith, subst}
-use Rattle.space_saving.specs.Table.{TableValue, table_total}
+use Rattle.space_saving.specs.Summary.{TableValue, table_total}
 use Rattle.space_saving.proofs.IntervalWidthLemmas.{interval_width_by_head}
 use Rattle.space_saving.proofs.flat.Flat.interval.Goals as goal
 

@@ -1,7 +1,7 @@
 use Rattle.std.proofs.Common.{arith, refl}
-use Rattle.slot_disk.specs.{layout_number_at}
+use Rattle.slot_disk.specs.{number_at}
 use Rattle.store_tests.proofs.tests.of_slot_disk.put_both.Goals as goal
 
 pub put-requires-clause-body : goal.put-requires-clause-body
-unfolding layout_number_at
+unfolding number_at
 put-requires-clause-body g c = record { least = omega arith; most = omega arith; says = refl }

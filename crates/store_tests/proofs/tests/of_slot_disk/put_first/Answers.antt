@@ -1,11 +1,11 @@
 use Rattle.std.proofs.Common.{◌∙◌, sym, ap, arith, refl}
 use Rattle.std.specs.Prelude.{is_some}
-use Rattle.slot_disk.specs.{layout_number_at}
+use Rattle.slot_disk.specs.{number_at}
 use Rattle.store_tests.proofs.FirstPutLemmas.{first_put_finds_some, second_slot_is_ready_after_first_put}
 use Rattle.store_tests.proofs.tests.of_slot_disk.put_first.Goals as goal
 
 pub put-requires-clause-body : goal.put-requires-clause-body
-unfolding layout_number_at
+unfolding number_at
 put-requires-clause-body g c = record { least = omega arith; most = omega arith; says = refl }
 
 pub returns-clause-ready : goal.returns-clause-ready

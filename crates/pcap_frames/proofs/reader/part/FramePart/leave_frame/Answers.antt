@@ -1,8 +1,8 @@
 use Rattle.std.proofs.Common.{◌≡◌, None, sym, ap, ◌∙◌, arith}
-use Rattle.pcap_frames.specs.Frame.{frame_bytes_needed, frame_fault}
+use Rattle.pcap_frames.specs.Frame.{bytes_needed, frame_fault}
 use Rattle.pcap_frames.proofs.ReaderStepLemmas.{reader_step_to_frame_fault, reader_step_in_frame}
-use Rattle.pcap_frames.proofs.ReaderStepLemmas.{reader_step_ends_frame, frame_bytes_needed-empty_reader_step}
-use Rattle.pcap_frames.proofs.ReaderStepLemmas.{frame_bytes_needed-reader_step_bound, reader_step_at_right_frame}
+use Rattle.pcap_frames.proofs.ReaderStepLemmas.{reader_step_ends_frame, bytes_needed-empty_reader_step}
+use Rattle.pcap_frames.proofs.ReaderStepLemmas.{bytes_needed-reader_step_bound, reader_step_at_right_frame}
 use Rattle.pcap_frames.proofs.ReaderStepLemmas.{reader_step_held_frame_fits}
 use Rattle.pcap_frames.proofs.reader.part.FramePart.leave_frame.Goals as goal
 
@@ -14,17 +14,17 @@ returns-in-Some-clause-advances c = λ kept front came is size.
 
 pub returns-then-came-size-clause-sound : goal.returns-then-came-size-clause-sound
 returns-then-came-size-clause-sound c =
-    let size : c.needed-size.result ≡ frame_bytes_needed c.args.self.now.order c.args.self.now.kept.first =
-    c.needed-size.ensures ∙ ap (frame_bytes_needed c.args.self.now.order) c.first-bytes.ensures.bytes in
+    let size : c.needed-size.result ≡ bytes_needed c.args.self.now.order c.args.self.now.kept.first =
+    c.needed-size.ensures ∙ ap (bytes_needed c.args.self.now.order) c.first-bytes.ensures.bytes in
     let bound =
-    frame_bytes_needed-reader_step_bound c.args.self.now.order c.args.self.now.count c.args.self.now.place c.first-bytes.result.now
+    bytes_needed-reader_step_bound c.args.self.now.order c.args.self.now.count c.args.self.now.place c.first-bytes.result.now
     (sym c.frame_fault.ensures ∙ c.in_default.is) in
     record { count = c.requires.count; place = c.requires.place; cut = omega arith; bound = omega arith }
 
 pub returns-then-came-size-clause-advances : goal.returns-then-came-size-clause-advances
 returns-then-came-size-clause-advances c = λ kept front came is total.
-    let size : c.needed-size.result ≡ frame_bytes_needed c.args.self.now.order c.args.self.now.kept.first =
-    c.needed-size.ensures ∙ ap (frame_bytes_needed c.args.self.now.order) c.first-bytes.ensures.bytes in
+    let size : c.needed-size.result ≡ bytes_needed c.args.self.now.order c.args.self.now.kept.first =
+    c.needed-size.ensures ∙ ap (bytes_needed c.args.self.now.order) c.first-bytes.ensures.bytes in
     reader_step_in_frame _ front _ _ is total
     (ap (frame_fault c.args.self.now.order c.args.self.now.count c.args.self.now.place)
     (sym c.first-bytes.ensures.bytes) ∙ sym c.frame_fault.ensures ∙ c.in_default.is)
@@ -43,14 +43,14 @@ invariant_of-held c =
 pub returns-clause-sound : goal.returns-clause-sound
 returns-clause-sound c =
     let empty = c.replace-kept.ensures.after ∙ c.new.ensures in
-    let size : c.needed-size.result ≡ frame_bytes_needed c.args.self.now.order c.first-bytes.result.now = c.needed-size.ensures in
-    let none = frame_bytes_needed-empty_reader_step c.args.self.now.order c.replace-kept.new.dest.first (ap (λ k. k.first) empty) in
+    let size : c.needed-size.result ≡ bytes_needed c.args.self.now.order c.first-bytes.result.now = c.needed-size.ensures in
+    let none = bytes_needed-empty_reader_step c.args.self.now.order c.replace-kept.new.dest.first (ap (λ k. k.first) empty) in
     let came : c.replace-kept.new.dest.came ≡ 0 = ap (λ k. k.came) empty in
     let shown : frame_fault c.args.self.now.order c.args.self.now.count c.args.self.now.place
     c.first-bytes.result.now ≡ None =
     sym c.frame_fault.ensures ∙ c.in_default.is in
     let bound =
-    frame_bytes_needed-reader_step_bound c.args.self.now.order c.args.self.now.count c.args.self.now.place c.first-bytes.result.now
+    bytes_needed-reader_step_bound c.args.self.now.order c.args.self.now.count c.args.self.now.place c.first-bytes.result.now
     shown in
     let fits =
     reader_step_held_frame_fits c.args.self.now.order c.args.self.now.count c.args.self.now.place c.args.self.now.kept.came
@@ -62,8 +62,8 @@ returns-clause-sound c =
 
 pub returns-clause-advances : goal.returns-clause-advances
 returns-clause-advances c = λ kept front came is total.
-    let size : c.needed-size.result ≡ frame_bytes_needed c.args.self.now.order c.args.self.now.kept.first =
-    c.needed-size.ensures ∙ ap (frame_bytes_needed c.args.self.now.order) c.first-bytes.ensures.bytes in
+    let size : c.needed-size.result ≡ bytes_needed c.args.self.now.order c.args.self.now.kept.first =
+    c.needed-size.ensures ∙ ap (bytes_needed c.args.self.now.order) c.first-bytes.ensures.bytes in
     rw (c.replace-kept.ensures.after, c.new.ensures, c.replace-kept.ensures.value) (
     reader_step_ends_frame _ front _ _ _ is total
     (ap (frame_fault c.args.self.now.order c.args.self.now.count c.args.self.now.place)

@@ -1,8 +1,8 @@
 use Rattle.std.proofs.Common.{◌≡◌, length, sym, ap, ◌∙◌, arith}
-use Rattle.pcap_frames.specs.Header.{header_fault, header_magic_order}
+use Rattle.pcap_frames.specs.Header.{header_fault, order_of_magic}
 use Rattle.pcap_frames.proofs.FileHeaderLemmas.{file_header_has_magic}
 use Rattle.pcap_frames.proofs.ReaderStepLemmas.{reader_step_to_header_fault, reader_step_ends_header}
-use Rattle.pcap_frames.proofs.ReaderStepLemmas.{frame_bytes_needed-empty_reader_step}
+use Rattle.pcap_frames.proofs.ReaderStepLemmas.{bytes_needed-empty_reader_step}
 use Rattle.pcap_frames.proofs.reader.part.FramePart.leave_header.Goals as goal
 
 pub returns-in-Some-clause-advances : goal.returns-in-Some-clause-advances
@@ -18,7 +18,7 @@ unreachable-requires c =
 pub returns-clause-sound : goal.returns-clause-sound
 returns-clause-sound c =
     let none =
-    frame_bytes_needed-empty_reader_step c.in-Some-magic_order.order c.new-self.result.first (ap (λ k. k.first) c.new-self.ensures) in
+    bytes_needed-empty_reader_step c.in-Some-magic_order.order c.new-self.result.first (ap (λ k. k.first) c.new-self.ensures) in
     let came : c.new-self.result.came ≡ 0 = ap (λ k. k.came) c.new-self.ensures in
     record { count = omega arith; place = omega arith; cut = omega arith; bound = omega arith }
 
@@ -26,4 +26,4 @@ pub returns-clause-advances : goal.returns-clause-advances
 returns-clause-advances c = λ kept front is size. rw c.new-self.ensures (
     reader_step_ends_header kept front _ c.in-Some-magic_order.order is (omega (arith, ap length c.first-header.ensures.bytes))
     (ap header_fault (sym c.first-header.ensures.bytes) ∙ sym c.header_fault.ensures ∙ c.in_default.is)
-    (ap header_magic_order (sym c.first-header.ensures.bytes) ∙ sym c.magic_order.ensures ∙ c.in-Some-magic_order.is))
+    (ap order_of_magic (sym c.first-header.ensures.bytes) ∙ sym c.magic_order.ensures ∙ c.in-Some-magic_order.is))

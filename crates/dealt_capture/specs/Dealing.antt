@@ -1,0 +1,29 @@
+-- The records of a capture, dealt to shards.
+use Rattle.std.specs.Prelude.{ℕ, ◌≡◌, List}
+use Rattle.prefix_lattice.specs.{RecordValue}
+use Rattle.deal_rules.specs.{IsDealing}
+use Rattle.deal_rules.specs.declared.deal_kind.DealKind.{DealKind}
+use Rattle.pcap_frames.specs.{FrameValue}
+use Rattle.frame_records.specs.{FileHasFrames, AreRecordsOf}
+use Rattle.frame_records.specs.declared.records.Records.{Records}
+use Rattle.command_words.specs.declared.settings.Settings.{Settings}
+
+-- the file is a capture of some frames
+abbrev pub IsCaptureFile : List ℕ → Type 0
+IsCaptureFile file = (frames : List FrameValue) × FileHasFrames file frames
+
+-- what the function of each kind of dealing may answer for the index of a record, the record and the number of shards
+abbrev pub DealingRules : Type 1
+DealingRules = DealKind → ℕ → RecordValue → ℕ → ℕ → Type 0
+
+-- the rules that follow a formula for each kind of dealing, which gives each record one shard number
+abbrev pub rules_by : (DealKind → ℕ → RecordValue → ℕ → ℕ) → DealingRules
+rules_by formula kind place rec shards number = number ≡ formula kind place rec shards
+
+-- the records of a capture, weighed and dealt to the shards as the settings ask
+pub record AreDealtRecords (settings : Settings) (rules : DealingRules) (file : List ℕ) (records : Records)
+    (lists : List (List RecordValue)) : Type 0 where
+  pub frames : List FrameValue
+  pub capture : FileHasFrames file frames
+  pub are_records : AreRecordsOf settings.weigh frames records
+  pub dealt : IsDealing settings.deal (rules settings.deal) settings.shards records.list lists
