@@ -7,7 +7,7 @@ ghost use Rattle.hhh_output.specs.{IsWideShare};
 ghost use Rattle.pass_tokens.specs.{IsPassOf, view};
 ghost use Rattle.gate_workers.specs.Calling.{Calls, IsCutAtCall, IsReportAtCall, ReadsOnce, cut_at};
 
-use crate::Gate;
+use crate::{Gate, Turn};
 use hhh_output::report_of;
 use hhh_report::{Report, Reported, Reports};
 use pass_tokens::{Board, Pass};
@@ -68,7 +68,12 @@ pub(crate) fn report_in_rounds<R: Wait, G: Gate>(
 {
     let mut reports = Reports::new(alloc);
     for round in 0..rounds {
-        let report = report_once(rt, alloc, board, pass, caller, round, phi, cut, gate)?;
+        let turn = Turn {
+            gate,
+            caller,
+            round,
+        };
+        let report = report_once(rt, alloc, board, pass, cut, phi, &turn)?;
         reports.push(Reported {
             report,
             saved: None,
@@ -85,11 +90,9 @@ pub fn report_once<R: Wait, G: Gate>(
     alloc: Global,
     board: &Board,
     pass: &mut Pass,
-    caller: u32,
-    round: u32,
-    phi: u32,
     cut: &mut Cut,
-    gate: &G,
+    phi: u32,
+    turn: &Turn<'_, G>,
 ) -> Result<Report, AllocError>
     requires pass { IsPassOf board.now pass.old }
     requires shape { HasCoreShape (length board.now.opening) (core_capacity board.now.opening) cut.old }
@@ -105,9 +108,9 @@ pub fn report_once<R: Wait, G: Gate>(
     ensures shape { HasCoreShape (length board.now.opening) (core_capacity board.now.opening) cut.new }
     ensures pass { IsPassOf board.now pass.new }
 {
-    gate.before_read(caller, round);
+    turn.gate.before_read(turn.caller, turn.round);
     board.read_cut(rt, pass, cut);
-    gate.after_read(caller, round);
+    turn.gate.after_read(turn.caller, turn.round);
     let report = report_at(alloc, board, cut, phi)?;
     Ok(report)
 }

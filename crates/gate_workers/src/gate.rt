@@ -16,6 +16,16 @@ pub trait Gate {
     fn after_read(&self, caller: u32, round: u32);
 }
 
+/// Which caller reads, in which of its rounds, and the gate that is told before and after.
+pub struct Turn<'a, G: Gate> {
+    /// What is called before and after the read.
+    pub gate: &'a G,
+    /// The number of the caller.
+    pub caller: u32,
+    /// The number of the round, from 0.
+    pub round: u32,
+}
+
 /// The gate that holds nobody.
 #[derive(Clone, Copy, Debug, Drop)]
 pub struct OpenGate;

@@ -14,7 +14,7 @@ mod workers;
 
 pub use calling::{call_reports, report_once};
 pub use feeding::feed_all;
-pub use gate::{Gate, OpenGate};
+pub use gate::{Gate, OpenGate, Turn};
 pub use gathered::{Called, Gathered};
 pub use laws::{calls_follow_calls, reported_cuts_represent};
 pub use plan::ThreadPlan;

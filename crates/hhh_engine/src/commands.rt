@@ -7,3 +7,18 @@ mod made_source;
 pub(crate) mod make;
 pub(crate) mod report;
 pub(crate) mod weigh;
+
+use deal_rules::Dealers;
+use gate_workers::Gate;
+use std::alloc::Global;
+use std::marker::Sync;
+use std::sync::Wait;
+use std::thread::Threads;
+
+/// What a command is run by: what starts threads, the gate that is told of their steps, and the dealers of records.
+pub(crate) struct Runner<'a, R: Threads + Wait + Sync, G: Gate + Sync> {
+    pub(crate) rt: &'a R,
+    pub(crate) alloc: Global,
+    pub(crate) gate: &'a G,
+    pub(crate) dealers: &'a Dealers,
+}

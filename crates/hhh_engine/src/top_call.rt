@@ -14,6 +14,7 @@ ghost use Rattle.report_session.specs.{saves_settings};
 ghost use Rattle.run_status.specs.declared.status.Status.TheVariants.{BadCapture, DiskFault};
 
 use crate::Status;
+use crate::commands::Runner;
 use crate::commands::audit::audit;
 use crate::commands::demo::demo;
 use crate::commands::format::format;
@@ -81,29 +82,30 @@ pub fn run<R: Threads + Wait + Sync, S: Source, T: Source, K: Sink, D: Disk, G: 
         Ok(command) => command,
         Err(refusal) => return Status::from(refusal),
     };
-    answer(
-        rt, alloc, &command, capture, text, sink, disk, gate, dealers,
-    )
+    let runner = Runner {
+        rt,
+        alloc,
+        gate,
+        dealers,
+    };
+    answer(&runner, &command, capture, text, sink, disk)
 }
 
 // Runs the command.
 fn answer<R: Threads + Wait + Sync, S: Source, T: Source, K: Sink, D: Disk, G: Gate + Sync>(
-    rt: &R,
-    alloc: Global,
+    runner: &Runner<'_, R, G>,
     command: &Command,
     capture: &mut S,
     text: &mut T,
     sink: &mut K,
     disk: &mut D,
-    gate: &G,
-    dealers: &Dealers,
 ) -> Status
     requires { IsLimitedCommand command.now }
     ensures ends { CommandEnds S.Source T.Source K.Sink D.Disk (streams capture.old text.old sink.old disk.old)
-        (streams capture.new text.new sink.new disk.new) (λ kind. ⟦<Dealer as Deals>⟧.may_answer (dealer_of kind dealers.now))
+        (streams capture.new text.new sink.new disk.new) (λ kind. ⟦<Dealer as Deals>⟧.may_answer (dealer_of kind runner.now.dealers.now))
         command.now result }
     ensures order { CommandInOrder S.Source T.Source K.Sink D.Disk (streams capture.old text.old sink.old disk.old)
-        (streams capture.new text.new sink.new disk.new) (λ kind. ⟦<Dealer as Deals>⟧.may_answer (dealer_of kind dealers.now))
+        (streams capture.new text.new sink.new disk.new) (λ kind. ⟦<Dealer as Deals>⟧.may_answer (dealer_of kind runner.now.dealers.now))
         command.now result }
     ensures told { (result ≡ DiskFault → ⊥) → D.faults disk.new ≡ D.faults disk.old }
     ensures unused { (UsesStore command.now → ⊥) → disk.new ≡ disk.old }
@@ -113,18 +115,17 @@ fn answer<R: Threads + Wait + Sync, S: Source, T: Source, K: Sink, D: Disk, G: G
     ensures formats { (settings : Settings) → command.now ≡ Format settings
         → FormatEnds D.Disk (saves_settings settings) sink.old sink.new disk.old disk.new result }
 {
+    let alloc = runner.alloc;
     match command {
         Command::Weigh { prefix, settings } => weigh(alloc, prefix, settings, capture, sink),
-        Command::Report(settings) => {
-            report(rt, alloc, settings, capture, sink, disk, gate, dealers)
-        }
+        Command::Report(settings) => report(runner, settings, capture, sink, disk),
         Command::Format(settings) => format(settings, sink, disk),
-        Command::Audit(settings) => audit(alloc, settings, capture, text, sink, dealers),
+        Command::Audit(settings) => audit(alloc, settings, capture, text, sink, runner.dealers),
         Command::Make { seed, frames } => make(*seed, *frames, sink),
         Command::Demo {
             seed,
             frames,
             settings,
-        } => demo(rt, alloc, *seed, *frames, settings, sink, gate, dealers),
+        } => demo(runner, *seed, *frames, settings, sink),
     }
 }

@@ -11,7 +11,7 @@ ghost use Rattle.report_session.specs.Saving.{CanMakeSaves, SavesBreakOff, Saves
 use crate::saving::{save_cut, saved_line};
 use crate::writing::write;
 use checkpoint::{Saver, stores_open_to_one};
-use gate_workers::{Gate, Rounds, calls_follow_calls, report_once};
+use gate_workers::{Gate, Rounds, Turn, calls_follow_calls, report_once};
 use outside_io::Sink;
 use pass_tokens::{Board, Pass};
 use report_text::print;
@@ -88,21 +88,7 @@ impl<K: Sink, D: Disk, G: Gate> Rounds for LiveRounds<'_, K, D, G> {
         calls_follow_calls();
         stores_open_to_one();
         for round in 0..self.rounds {
-            let made = make_round(
-                rt,
-                alloc,
-                board,
-                pass,
-                self.sink,
-                self.disk,
-                self.saver,
-                self.cut,
-                self.callers,
-                round,
-                self.phi,
-                self.gate,
-            );
-            if let Err(status) = made {
+            if let Err(status) = self.make_round(rt, alloc, board, pass, round) {
                 self.stop = Some(status);
                 return;
             }
@@ -110,51 +96,67 @@ impl<K: Sink, D: Disk, G: Gate> Rounds for LiveRounds<'_, K, D, G> {
     }
 }
 
-// Makes one round: reads a cut of the board's shape, writes the report on it, and saves it, if there is a saver.
-fn make_round<R: Wait, K: Sink, D: Disk, G: Gate>(
-    rt: &R,
-    alloc: Global,
-    board: &Board,
-    pass: &mut Pass,
-    sink: &mut K,
-    disk: &mut D,
-    saver: &mut Option<Saver>,
-    cut: &mut Cut,
-    caller: u32,
-    round: u32,
-    phi: u32,
-    gate: &G,
-) -> Result<(), Status>
-    requires pass { IsPassOf board.now pass.old }
-    requires shape { HasCoreShape (length board.now.opening) (core_capacity board.now.opening) cut.old }
-    requires some { 1 ≤ phi }
-    requires most { phi ≤ million }
-    requires wide { IsWideShare phi (core_capacity board.now.opening) }
-    requires can_save { IfSome saver.old (CanMakeSaves (D.reads disk.old) (D.image_now disk.old) board.now.opening (view pass.old) 1) }
-    ensures whole { OnOk result (WritesRounds board.now.opening phi (is_some saver.old) 1 (view pass.old) (view pass.new)
-        (SavesInTurn D.Disk saver.old saver.new disk.old disk.new) (K.taken sink.old) (K.taken sink.new)) }
-    ensures fits { OnOk result (IfSome saver.new (SavesFitBoard board.now.opening (view pass.new))) }
-    ensures faults { OnOk result ((K.faults sink.new ≡ K.faults sink.old) × (D.faults disk.new ≡ D.faults disk.old)) }
-    ensures broken { IfErr result (BreaksRound board.now.opening phi (is_some saver.old) (view pass.old) (view pass.new)
-        (SavesBreakOff D.Disk saver.old saver.new disk.old disk.new) (K.taken sink.old) (K.taken sink.new)
-        (record { sink = K.faults sink.old; disk = D.faults disk.old }) (record { sink = K.faults sink.new; disk = D.faults disk.new })) }
-    ensures unused { saver.old ≡ None → (saver.new ≡ None) × (disk.new ≡ disk.old) }
-    ensures shape { HasCoreShape (length board.now.opening) (core_capacity board.now.opening) cut.new }
-    ensures pass { IsPassOf board.now pass.new }
-{
-    let _shards = board.shards();
-    let report = report_once(rt, alloc, board, pass, caller, round, phi, cut, gate)?;
-    let mut text = Vec::new(alloc);
-    print(&report, &mut text)?;
-    let line = saved_line(alloc, saver.is_some(), &report.positions)?;
-    if let Err(status) = write(sink, &text) {
-        return Err(status);
-    }
-    if let Err(status) = save_cut(alloc, saver, disk, cut) {
-        return Err(status);
-    }
-    match write(sink, &line) {
-        Ok(()) => Ok(()),
-        Err(status) => Err(status),
+impl<K: Sink, D: Disk, G: Gate> LiveRounds<'_, K, D, G> {
+    // Makes one round: reads a cut of the board's shape, writes the report on it, and saves it, if there is a saver.
+    fn make_round<R: Wait>(
+        &mut self,
+        rt: &R,
+        alloc: Global,
+        board: &Board,
+        pass: &mut Pass,
+        round: u32,
+    ) -> Result<(), Status>
+        requires pass { IsPassOf board.now pass.old }
+        requires shape { HasCoreShape (length board.now.opening) (core_capacity board.now.opening) self.old.cut.now }
+        requires some { 1 ≤ self.old.phi }
+        requires most { self.old.phi ≤ million }
+        requires wide { IsWideShare self.old.phi (core_capacity board.now.opening) }
+        requires can_save { IfSome self.old.saver.now (CanMakeSaves (D.reads self.old.disk.now) (D.image_now self.old.disk.now)
+            board.now.opening (view pass.old) 1) }
+        ensures whole { OnOk result (WritesRounds board.now.opening self.old.phi (is_some self.old.saver.now) 1
+            (view pass.old) (view pass.new)
+            (SavesInTurn D.Disk self.old.saver.now self.new.saver.now self.old.disk.now self.new.disk.now)
+            (K.taken self.old.sink.now) (K.taken self.new.sink.now)) }
+        ensures fits { OnOk result (IfSome self.new.saver.now (SavesFitBoard board.now.opening (view pass.new))) }
+        ensures faults { OnOk result ((K.faults self.new.sink.now ≡ K.faults self.old.sink.now)
+            × (D.faults self.new.disk.now ≡ D.faults self.old.disk.now)) }
+        ensures broken { IfErr result (BreaksRound board.now.opening self.old.phi (is_some self.old.saver.now)
+            (view pass.old) (view pass.new)
+            (SavesBreakOff D.Disk self.old.saver.now self.new.saver.now self.old.disk.now self.new.disk.now)
+            (K.taken self.old.sink.now) (K.taken self.new.sink.now)
+            (record { sink = K.faults self.old.sink.now; disk = D.faults self.old.disk.now })
+            (record { sink = K.faults self.new.sink.now; disk = D.faults self.new.disk.now })) }
+        ensures unused { self.old.saver.now ≡ None → (self.new.saver.now ≡ None) × (self.new.disk.now ≡ self.old.disk.now) }
+        ensures shape { HasCoreShape (length board.now.opening) (core_capacity board.now.opening) self.new.cut.now }
+        ensures pass { IsPassOf board.now pass.new }
+        ensures same_sink { self.new.sink.ghost_name ≡ self.old.sink.ghost_name }
+        ensures same_disk { self.new.disk.ghost_name ≡ self.old.disk.ghost_name }
+        ensures same_saver { self.new.saver.ghost_name ≡ self.old.saver.ghost_name }
+        ensures same_cut { self.new.cut.ghost_name ≡ self.old.cut.ghost_name }
+        ensures same_share { self.new.phi ≡ self.old.phi }
+        ensures same_rounds { self.new.rounds ≡ self.old.rounds }
+        ensures same_callers { self.new.callers ≡ self.old.callers }
+        ensures same_stop { self.new.stop ≡ self.old.stop }
+    {
+        let _shards = board.shards();
+        let turn = Turn {
+            gate: self.gate,
+            caller: self.callers,
+            round,
+        };
+        let report = report_once(rt, alloc, board, pass, self.cut, self.phi, &turn)?;
+        let mut text = Vec::new(alloc);
+        print(&report, &mut text)?;
+        let line = saved_line(alloc, self.saver.is_some(), &report.positions)?;
+        if let Err(status) = write(self.sink, &text) {
+            return Err(status);
+        }
+        if let Err(status) = save_cut(alloc, self.saver, self.disk, self.cut) {
+            return Err(status);
+        }
+        match write(self.sink, &line) {
+            Ok(()) => Ok(()),
+            Err(status) => Err(status),
+        }
     }
 }

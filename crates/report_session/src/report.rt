@@ -6,6 +6,7 @@ ghost use Rattle.report_session.specs.DealtFeed.{FeedEnds};
 ghost use Rattle.report_session.specs.Saving.{IsAsBefore, AreKeptOnDisk};
 
 use crate::base::open_base;
+use crate::feed::Setup;
 use crate::session::{openings_stand, write_session};
 use command_words::Settings;
 use deal_rules::Dealt;
@@ -52,7 +53,13 @@ pub fn report_dealt<R: Threads + Wait + Sync, K: Sink, D: Disk, G: Gate + Sync>(
         Err(status) => return status,
     };
     openings_stand(&dealt, &base.cut, settings.capacity);
-    match write_session(rt, alloc, dealt, base, &tail, settings, sink, disk, gate) {
+    let setup = Setup {
+        rt,
+        alloc,
+        gate,
+        settings,
+    };
+    match write_session(&setup, dealt, base, &tail, sink, disk) {
         Ok(()) => Status::Done,
         Err(status) => status,
     }

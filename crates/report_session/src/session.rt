@@ -24,13 +24,13 @@ ghost use Rattle.report_session.specs.DealtFeed.{StartsBefore, other_reports};
 ghost use Rattle.report_session.specs.Saving.{CanMakeSaves, Saves, SavesInPart, SavesInTurn};
 
 use crate::base::Base;
-use crate::feed::{Fed, feed};
+use crate::feed::{Fed, Setup, feed};
 use crate::saving::{save_cut, saved_line};
 use crate::writing::write;
 use checkpoint::{Saver, stores_open_to_one};
 use command_words::Settings;
 use deal_rules::Dealt;
-use gate_workers::{Called, Gate, Gathered, OpenGate, report_once};
+use gate_workers::{Called, Gate, Gathered, OpenGate, Turn, report_once};
 use hhh_report::{Positions, Reports};
 use outside_io::Sink;
 use pass_tokens::{Board, Pass};
@@ -68,27 +68,24 @@ pub(crate) struct Rest {
 /// With a saver it saves each cut that the calling thread reports on. On an error the sink or the disk failed, or memory ran
 /// out; threads that had begun have then counted all records.
 pub(crate) fn write_session<R: Threads + Wait + Sync, K: Sink, D: Disk, G: Gate + Sync>(
-    rt: &R,
-    alloc: Global,
+    setup: &Setup<'_, R, G>,
     dealt: Dealt,
     base: Base,
     tail: &[u8],
-    settings: &Settings,
     sink: &mut K,
     disk: &mut D,
-    gate: &G,
 ) -> Result<(), Status>
-    requires limited { AreLimited settings.now }
-    requires wide { AreWide settings.now }
-    requires shards { length dealt ≡ settings.now.shards }
-    requires base { IsFeedBase settings.now dealt (D.reads disk.old) base }
+    requires limited { AreLimited setup.now.settings.now }
+    requires wide { AreWide setup.now.settings.now }
+    requires shards { length dealt ≡ setup.now.settings.now.shards }
+    requires base { IsFeedBase setup.now.settings.now dealt (D.reads disk.old) base }
     requires stands { IfSome base.saver (DiskMatches (D.reads disk.old) (D.image_now disk.old)) }
     requires tail { 0 < length tail.now }
-    ensures whole { OnOk result (WritesAnswer (IsOverShards (session_opening settings.now.capacity dealt base.cut) settings.now
+    ensures whole { OnOk result (WritesAnswer (IsOverShards (session_opening setup.now.settings.now.capacity dealt base.cut) setup.now.settings.now
         (λ cuts. Saves D.Disk base.saver cuts disk.old disk.new) tail.now) (K.taken sink.old) (K.taken sink.new)) }
     ensures faults { OnOk result ((K.faults sink.new ≡ K.faults sink.old) × (D.faults disk.new ≡ D.faults disk.old)) }
     ensures part { OnErr result (((sink.new ≡ sink.old) × (disk.new ≡ disk.old))
-        ⊎ WritesAnswer (BeginsSession (session_opening settings.now.capacity dealt base.cut) settings.now
+        ⊎ WritesAnswer (BeginsSession (session_opening setup.now.settings.now.capacity dealt base.cut) setup.now.settings.now
         (SavesInPart D.Disk base.saver disk.old disk.new) tail.now) (K.taken sink.old) (K.taken sink.new)) }
     ensures fault { IfErr result (IsFeedFault (record { sink = K.faults sink.old; disk = D.faults disk.old })
         (record { sink = K.faults sink.new; disk = D.faults disk.new })) }
@@ -99,12 +96,10 @@ pub(crate) fn write_session<R: Threads + Wait + Sync, K: Sink, D: Disk, G: Gate 
         positions,
         saver,
     } = base;
-    openings_stand(&dealt, &cut, settings.capacity);
-    let line = opened_line(alloc, &positions)?;
-    let opened = open(alloc, dealt, cut, settings.capacity)?;
-    write_feed(
-        rt, alloc, opened, saver, &line, tail, settings, sink, disk, gate,
-    )
+    openings_stand(&dealt, &cut, setup.settings.capacity);
+    let line = opened_line(setup.alloc, &positions)?;
+    let opened = open(setup.alloc, dealt, cut, setup.settings.capacity)?;
+    write_feed(setup, opened, saver, &line, tail, sink, disk)
 }
 
 /// Puts the shards of dealt lists on a board, from the base on.
@@ -204,31 +199,28 @@ fn opened_line(alloc: Global, positions: &Positions) -> Result<Vec<u8>, AllocErr
 
 // Writes the session of shards on a board: its first line, the calling thread's rounds while workers feed, and the rest.
 fn write_feed<R: Threads + Wait + Sync, K: Sink, D: Disk, G: Gate + Sync>(
-    rt: &R,
-    alloc: Global,
+    setup: &Setup<'_, R, G>,
     opened: Opened,
     saver: Option<Saver>,
     line: &[u8],
     tail: &[u8],
-    settings: &Settings,
     sink: &mut K,
     disk: &mut D,
-    gate: &G,
 ) -> Result<(), Status>
-    requires limited { AreLimited settings.now }
-    requires wide { AreWide settings.now }
+    requires limited { AreLimited setup.now.settings.now }
+    requires wide { AreWide setup.now.settings.now }
     requires opened { IsFeedOpening opened.board.opening opened }
-    requires alike { core_capacity opened.board.opening ≡ settings.now.capacity }
+    requires alike { core_capacity opened.board.opening ≡ setup.now.settings.now.capacity }
     requires starts { StartsBefore opened.board.opening }
     requires line { line.now ≡ mark_text OpenedMark (session_start opened.board.opening) }
     requires tail { 0 < length tail.now }
-    requires used { is_some saver ≡ settings.now.store }
+    requires used { is_some saver ≡ setup.now.settings.now.store }
     requires can_save { IfSome saver (CanMakeSaves (D.reads disk.old) (D.image_now disk.old) opened.board.opening
-        (first_view opened.board.opening) (settings.now.rounds + 1)) }
-    ensures whole { OnOk result (WritesAnswer (IsOverShards opened.board.opening settings.now
+        (first_view opened.board.opening) (setup.now.settings.now.rounds + 1)) }
+    ensures whole { OnOk result (WritesAnswer (IsOverShards opened.board.opening setup.now.settings.now
         (λ cuts. Saves D.Disk saver cuts disk.old disk.new) tail.now) (K.taken sink.old) (K.taken sink.new)) }
     ensures faults { OnOk result ((K.faults sink.new ≡ K.faults sink.old) × (D.faults disk.new ≡ D.faults disk.old)) }
-    ensures part { OnErr result (WritesAnswer (BeginsSession opened.board.opening settings.now
+    ensures part { OnErr result (WritesAnswer (BeginsSession opened.board.opening setup.now.settings.now
         (SavesInPart D.Disk saver disk.old disk.new) tail.now) (K.taken sink.old) (K.taken sink.new)) }
     ensures fault { IfErr result (IsFeedFault (record { sink = K.faults sink.old; disk = D.faults disk.old })
         (record { sink = K.faults sink.new; disk = D.faults disk.new })) }
@@ -240,14 +232,12 @@ fn write_feed<R: Threads + Wait + Sync, K: Sink, D: Disk, G: Gate + Sync>(
     if let Err(status) = write(sink, line) {
         return Err(status);
     }
-    let fed = match feed(
-        rt, alloc, &board, pass, cut, settings, sink, disk, &mut saver, gate,
-    ) {
+    let fed = match feed(setup, &board, pass, cut, sink, disk, &mut saver) {
         Ok(fed) => fed,
         Err(status) => return Err(status),
     };
-    let rest = rest_of_session(rt, alloc, &board, fed, tail, settings)?;
-    match write_rest(alloc, &rest, &mut saver, sink, disk) {
+    let rest = rest_of_session(setup.rt, setup.alloc, &board, fed, tail, setup.settings)?;
+    match write_rest(setup.alloc, &rest, &mut saver, sink, disk) {
         Ok(()) => Ok(()),
         Err(status) => Err(status),
     }
@@ -306,17 +296,12 @@ fn rest_of_session<R: Wait>(
     let Fed { gathered, mut cut } = fed;
     let Gathered { mut pass, called } = gathered;
     let _shards = board.shards();
-    let last = report_once(
-        rt,
-        alloc,
-        board,
-        &mut pass,
-        0,
-        0,
-        settings.phi,
-        &mut cut,
-        &OpenGate,
-    )?;
+    let turn = Turn {
+        gate: &OpenGate,
+        caller: 0,
+        round: 0,
+    };
+    let last = report_once(rt, alloc, board, &mut pass, &mut cut, settings.phi, &turn)?;
     let mut front = reports_text(alloc, board, settings, &called)?;
     print(&last, &mut front)?;
     let mut back = saved_line(alloc, settings.store, &last.positions)?;

@@ -12,7 +12,7 @@ use crate::feed::plan_of;
 use crate::session::{Opened, open, openings_stand};
 use command_words::Settings;
 use deal_rules::Dealt;
-use gate_workers::{Gate, Gathered, OpenGate, Rounds, report_once, run_threads};
+use gate_workers::{Gate, Gathered, OpenGate, Rounds, Turn, report_once, run_threads};
 use hhh_report::Report;
 use pass_tokens::{Board, Pass};
 use std::alloc::{AllocError, Global};
@@ -58,17 +58,12 @@ fn report_opened<R: Threads + Wait + Sync, G: Gate + Sync>(
     let mut cut = cut;
     let gathered = count_all(rt, alloc, &board, pass, settings, gate)?;
     let mut pass = gathered.pass;
-    let report = report_once(
-        rt,
-        alloc,
-        &board,
-        &mut pass,
-        0,
-        0,
-        settings.phi,
-        &mut cut,
-        &OpenGate,
-    )?;
+    let turn = Turn {
+        gate: &OpenGate,
+        caller: 0,
+        round: 0,
+    };
+    let report = report_once(rt, alloc, &board, &mut pass, &mut cut, settings.phi, &turn)?;
     Ok(report)
 }
 

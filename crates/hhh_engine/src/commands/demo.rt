@@ -17,10 +17,11 @@ ghost use Rattle.hhh_engine.specs.Ending.{course, Ends, SourceFaults};
 ghost use Rattle.hhh_engine.specs.Reading.{HasNoText};
 ghost use Rattle.run_status.specs.declared.status.Status.TheVariants.{BadCapture, ReadFault};
 
+use crate::commands::Runner;
 use crate::commands::made_source::MadeSource;
 use crate::laws::made_captures_are_captures;
 use crate::{Settings, Status};
-use deal_rules::{Dealer, Dealers, Deals, Dealt};
+use deal_rules::{Dealer, Deals, Dealt};
 use dealt_capture::deal_records;
 use exact_audit::{Verdict, audit};
 use frame_records::{Records, Weigh, files_are_read_or_refused, read_records};
@@ -37,25 +38,22 @@ use traffic_maker::make_bytes;
 
 /// Makes a capture in memory, counts its records, reports on all of them, audits that report, and writes a summary.
 pub(crate) fn demo<R: Threads + Wait + Sync, K: Sink, G: Gate + Sync>(
-    rt: &R,
-    alloc: Global,
+    runner: &Runner<'_, R, G>,
     seed: u64,
     frames: u32,
     settings: &Settings,
     sink: &mut K,
-    gate: &G,
-    dealers: &Dealers,
 ) -> Status
     requires frames { (1 ≤ frames) × (frames ≤ most_frames) }
     requires limited { AreLimited settings.now }
     requires wide { AreWide settings.now }
     ensures ends { (capture : Option (List ℕ)) (faults : SourceFaults) → Ends
-        (made_task (IsDemoText settings.now (λ kind. ⟦<Dealer as Deals>⟧.may_answer (dealer_of kind dealers.now)) seed frames))
+        (made_task (IsDemoText settings.now (λ kind. ⟦<Dealer as Deals>⟧.may_answer (dealer_of kind runner.now.dealers.now)) seed frames))
         (course K.Sink capture faults faults sink.old sink.new) result }
     ensures no_capture { (fault : CaptureFault) → result ≡ BadCapture fault → ⊥ }
     ensures no_read_fault { result ≡ ReadFault → ⊥ }
 {
-    let text = match demo_text(rt, alloc, seed, frames, settings, gate, dealers) {
+    let text = match demo_text(runner, seed, frames, settings) {
         Ok(text) => text,
         Err(_) => return Status::OutOfMemory,
     };
@@ -67,24 +65,23 @@ pub(crate) fn demo<R: Threads + Wait + Sync, K: Sink, G: Gate + Sync>(
 
 // The summary of a capture that is made, counted, reported and audited.
 fn demo_text<R: Threads + Wait + Sync, G: Gate + Sync>(
-    rt: &R,
-    alloc: Global,
+    runner: &Runner<'_, R, G>,
     seed: u64,
     frames: u32,
     settings: &Settings,
-    gate: &G,
-    dealers: &Dealers,
 ) -> Result<Vec<u8>, AllocError>
     requires frames { (1 ≤ frames) × (frames ≤ most_frames) }
     requires limited { AreLimited settings.now }
     requires wide { AreWide settings.now }
-    ensures { IfOk result (λ text. IsDemoText settings.now (λ kind. ⟦<Dealer as Deals>⟧.may_answer (dealer_of kind dealers.now)) seed frames text.items) }
+    ensures { IfOk result (λ text. IsDemoText settings.now
+        (λ kind. ⟦<Dealer as Deals>⟧.may_answer (dealer_of kind runner.now.dealers.now)) seed frames text.items) }
 {
+    let alloc = runner.alloc;
     let records = made_records(alloc, seed, frames, settings.weigh)?;
-    let dealt = deal_records(alloc, &records.list, settings, dealers)?;
+    let dealt = deal_records(alloc, &records.list, settings, runner.dealers)?;
     // What is audited is a copy, so that the audit shares nothing with the shards.
     let plain = dealt.copy(alloc)?;
-    let report = report_all(rt, alloc, dealt, settings, gate)?;
+    let report = report_all(runner.rt, alloc, dealt, settings, runner.gate)?;
     match verdict_on(alloc, &plain, &report, settings)? {
         Verdict::Good => summary(alloc, seed, frames, records.list.len() as u64, &report),
         _ => unreachable!(),

@@ -10,6 +10,7 @@ ghost use Rattle.hhh_engine.specs.Reading.{HasNoText};
 ghost use Rattle.report_session.specs.{IsFeedCapture};
 ghost use Rattle.run_status.specs.declared.status.Status.TheVariants.{DiskFault};
 
+use crate::commands::Runner;
 use crate::{Settings, Status};
 use deal_rules::{Dealer, Dealers, Deals};
 use dealt_capture::deal_records;
@@ -27,30 +28,35 @@ use std::thread::Threads;
 /// Reads a capture to its end, opens the store, if the settings ask for one, counts the records while reports are made, and
 /// writes the session.
 pub(crate) fn report<R: Threads + Wait + Sync, S: Source, K: Sink, D: Disk, G: Gate + Sync>(
-    rt: &R,
-    alloc: Global,
+    runner: &Runner<'_, R, G>,
     settings: &Settings,
     capture: &mut S,
     sink: &mut K,
     disk: &mut D,
-    gate: &G,
-    dealers: &Dealers,
 ) -> Status
     requires limited { AreLimited settings.now }
     requires wide { AreWide settings.now }
     ensures ends { (other : ℕ) → Ends
-        (report_task D.Disk settings.now (λ kind. ⟦<Dealer as Deals>⟧.may_answer (dealer_of kind dealers.now))
+        (report_task D.Disk settings.now (λ kind. ⟦<Dealer as Deals>⟧.may_answer (dealer_of kind runner.now.dealers.now))
         (S.left capture.old) (S.left capture.new) disk.old disk.new)
         (course K.Sink (S.left capture.old) (faults_of_source (S.faults capture.old) other) (faults_of_source (S.faults capture.new) other)
         sink.old sink.new) result }
     ensures told { (result ≡ DiskFault → ⊥) → D.faults disk.new ≡ D.faults disk.old }
     ensures unused { settings.now.store ≡ false → disk.new ≡ disk.old }
 {
-    let fed = match read_dealt(alloc, settings, capture, dealers) {
+    let fed = match read_dealt(runner.alloc, settings, capture, runner.dealers) {
         Ok(fed) => fed,
         Err(status) => return status,
     };
-    report_dealt(rt, alloc, fed, settings, sink, disk, gate)
+    report_dealt(
+        runner.rt,
+        runner.alloc,
+        fed,
+        settings,
+        sink,
+        disk,
+        runner.gate,
+    )
 }
 
 // Reads a capture to its end, and deals its records as the settings specify.

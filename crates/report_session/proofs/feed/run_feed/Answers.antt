@@ -13,7 +13,7 @@ use Rattle.report_session.proofs.feed.run_feed.Goals as goal
 
 pub returns-in-Some-clause-part : goal.returns-in-Some-clause-part
 returns-in-Some-clause-part g c =
-    session_threads_leave_rounds _ _ c.args.board.now.opening c.args.settings.now _ (view c.args.pass) _ _ _ _ _ _ _ c.requires.view
+    session_threads_leave_rounds _ _ c.args.board.now.opening c.args.setup.now.settings.now _ (view c.args.pass) _ _ _ _ _ _ _ c.requires.view
     c.requires.alike
     (λ before now does. ended_rounds_say_less _ _ _ before now _ _ _ _ _ _ _ _ _
     (session_thread_ended_as_set _ _ _ _ _ before now _ _ _ _ _ _ _ _ _ c.requires.share c.requires.count c.requires.used does.5)
@@ -33,7 +33,7 @@ returns-in-Some-clause-part g c =
 pub returns-in_err-gathered-clause-part : goal.returns-in_err-gathered-clause-part
 returns-in_err-gathered-clause-part g c =
     session_thread_on_err c.from_residual.result _
-    (session_threads_leave_rounds _ _ c.args.board.now.opening c.args.settings.now _ (view c.args.pass) _ _ _ _ _ _ _ c.requires.view
+    (session_threads_leave_rounds _ _ c.args.board.now.opening c.args.setup.now.settings.now _ (view c.args.pass) _ _ _ _ _ _ _ c.requires.view
     c.requires.alike
     (λ before now does. ended_rounds_say_less _ _ _ before now _ _ _ _ _ _ _ _ _
     (session_thread_ended_as_set _ _ _ _ _ before now _ _ _ _ _ _ _ _ _ c.requires.share c.requires.count c.requires.used does.5)
@@ -59,7 +59,7 @@ returns-clause-ran g c =
 pub returns-clause-fed : goal.returns-clause-fed
 returns-clause-fed g c =
     let plan = c.plan_of.ensures in
-    let whole = session_threads_gathered_all _ c.args.board.now.opening c.args.settings.now _ (view c.args.pass)
+    let whole = session_threads_gathered_all _ c.args.board.now.opening c.args.setup.now.settings.now _ (view c.args.pass)
     c.in_ok-gathered.gathered _ _ _ c.requires.view c.requires.alike
     (ap (λ (plan : ThreadPlan). plan.phi) plan) (ap (λ (plan : ThreadPlan). plan.rounds) plan)
     (ap (λ (plan : ThreadPlan). plan.callers) plan)

@@ -14,12 +14,12 @@ use Rattle.report_session.proofs.session.write_feed.Goals as goal
 
 pub feed-requires-clause-can_save : goal.feed-requires-clause-can_save
 feed-requires-clause-can_save g c = λ lifetimes outlive.
-    last_save_after_fewer_saves _ _ c.args.opened.board.opening _ _ c.args.settings.now.rounds c.args.saver c.requires.opened.view
+    last_save_after_fewer_saves _ _ c.args.opened.board.opening _ _ c.args.setup.now.settings.now.rounds c.args.saver c.requires.opened.view
     c.requires.can_save
 
 pub returns-in-Err-clause-part : goal.returns-in-Err-clause-part
 returns-in-Err-clause-part g c =
-    session_text_breaks_in_line c.args.opened.board.opening c.args.settings.now _ c.args.tail.now c.args.line.now _ _ c.requires.line
+    session_text_breaks_in_line c.args.opened.board.opening c.args.setup.now.settings.now _ c.args.tail.now c.args.line.now _ _ c.requires.line
     c.in-Err.ensures.beginning
     (no_save_into_untouched_disk g.D.Disk c.args.saver c.args.disk.now
     c.args.disk.now g.met.D.Disk.only_now
@@ -30,7 +30,7 @@ returns-in-Err-clause-fault g c = feed_fault_of_sink _ _ _ _ _ c.in-Err.status c
 
 pub returns-in-Err-feed-clause-part : goal.returns-in-Err-feed-clause-part
 returns-in-Err-feed-clause-part g c =
-    session_text_breaks_in_rounds c.args.opened.board.opening c.args.settings.now _ c.args.tail.now c.args.line.now _ _ _
+    session_text_breaks_in_rounds c.args.opened.board.opening c.args.setup.now.settings.now _ c.args.tail.now c.args.line.now _ _ _
     c.requires.line c.in_default.ensures.whole c.in-Err-feed.ensures.part
 
 pub returns-in-Err-feed-clause-fault : goal.returns-in-Err-feed-clause-fault
@@ -42,9 +42,9 @@ returns-in-Err-feed-clause-fault g c =
 pub returns-in_err-rest-clause-part : goal.returns-in_err-rest-clause-part
 returns-in_err-rest-clause-part g c =
     session_thread_on_err c.from_residual.result _
-    (session_text_breaks_in_rounds c.args.opened.board.opening c.args.settings.now _ c.args.tail.now c.args.line.now _ _ _
+    (session_text_breaks_in_rounds c.args.opened.board.opening c.args.setup.now.settings.now _ c.args.tail.now c.args.line.now _ _ _
     c.requires.line c.in_default.ensures.whole
-    (session_text_of_fed_rounds c.args.opened.board c.args.settings.now _
+    (session_text_of_fed_rounds c.args.opened.board c.args.setup.now.settings.now _
     (SavesInPart g.D.Disk c.args.saver c.args.disk.now
     c.feed.new.disk) _ _ c.in-Ok.fed
     (λ cuts saves. part_of_saves g.D.Disk _ _ _ cuts saves.saves) c.in-Ok.ensures.fed))
@@ -52,7 +52,7 @@ returns-in_err-rest-clause-part g c =
 pub write_rest-requires : goal.write_rest-requires
 write_rest-requires g c =
     last_save_is_possible g.D.Disk c.args.opened.board
-    c.args.settings.now c.in-Ok.fed.gathered.called.items c.args.tail.now c.in_ok-rest.rest
+    c.args.setup.now.settings.now c.in-Ok.fed.gathered.called.items c.args.tail.now c.in_ok-rest.rest
     c.in-Ok.ensures.fed.gathered.rounds c.args.saver c.feed.new.saver c.args.disk.now c.feed.new.disk c.requires.can_save
     c.requires.used c.requires.starts c.in-Ok.ensures.fed.gathered.are_rounds c.in-Ok.ensures.fed.gathered.kept
     c.in_ok-rest.ensures.rest c.in_ok-rest.ensures.shape
@@ -60,7 +60,7 @@ write_rest-requires g c =
 pub returns-in-Ok-write_rest-clause-whole : goal.returns-in-Ok-write_rest-clause-whole
 returns-in-Ok-write_rest-clause-whole g c =
     let board = c.args.opened.board in
-    let settings = c.args.settings.now in
+    let settings = c.args.setup.now.settings.now in
     let gathered = c.in-Ok.ensures.fed.gathered in
     let rest = c.in_ok-rest.rest in
     let end = c.in_ok-rest.ensures.rest in
@@ -83,7 +83,7 @@ returns-in-Ok-write_rest-clause-whole g c =
 pub returns-clause-part : goal.returns-clause-part
 returns-clause-part g c =
     let board = c.args.opened.board in
-    let settings = c.args.settings.now in
+    let settings = c.args.setup.now.settings.now in
     let gathered = c.in-Ok.ensures.fed.gathered in
     let rest = c.in_ok-rest.rest in
     let end = c.in_ok-rest.ensures.rest in

@@ -11,7 +11,7 @@ use Rattle.report_session.proofs.session.write_session.Goals as goal
 
 pub openings_stand-requires : goal.openings_stand-requires
 openings_stand-requires g c =
-    base_goes_on c.args.settings.now c.args.dealt c.args.base.cut c.requires.base.begins.fits
+    base_goes_on c.args.setup.now.settings.now c.args.dealt c.args.base.cut c.requires.base.begins.fits
 
 pub opened_line-requires : goal.opened_line-requires
 opened_line-requires g c =
@@ -19,7 +19,7 @@ opened_line-requires g c =
 
 pub open-requires-clause-fits : goal.open-requires-clause-fits
 open-requires-clause-fits g c =
-    base_goes_on c.args.settings.now c.args.dealt c.args.base.cut c.requires.base.begins.fits
+    base_goes_on c.args.setup.now.settings.now c.args.dealt c.args.base.cut c.requires.base.begins.fits
 
 pub write_feed-requires-clause-opened : goal.write_feed-requires-clause-opened
 write_feed-requires-clause-opened g c = λ lifetimes outlive.
@@ -41,7 +41,7 @@ write_feed-requires-clause-line g c = λ lifetimes outlive.
 pub write_feed-requires-clause-can_save : goal.write_feed-requires-clause-can_save
 write_feed-requires-clause-can_save g c = λ lifetimes outlive.
     let opening = c.in_ok-opened.ensures.opening in
-    base_saver_is_ready c.args.settings.now c.args.dealt _ _ c.in_ok-opened.opened.board.opening c.args.base.positions
+    base_saver_is_ready c.args.setup.now.settings.now c.args.dealt _ _ c.in_ok-opened.opened.board.opening c.args.base.positions
     c.args.base.saver c.requires.limited (ap length opening ∙ c.openings_stand.ensures.many ∙ c.requires.shards)
     (ap core_capacity opening ∙ c.openings_stand.ensures.alike) (c.requires.base.positions_are ∙ ap session_start (sym opening))
     c.requires.base.saver c.requires.stands
@@ -49,7 +49,7 @@ write_feed-requires-clause-can_save g c = λ lifetimes outlive.
 pub returns-clause-whole : goal.returns-clause-whole
 returns-clause-whole g c =
     session_thread_on_ok_implies c.write_feed.result _ _
-    (subst (λ shards. WritesAnswer (IsOverShards shards c.args.settings.now
+    (subst (λ shards. WritesAnswer (IsOverShards shards c.args.setup.now.settings.now
     (λ cuts. Saves g.D.Disk c.args.base.saver cuts
     c.args.disk.now c.write_feed.new.disk) c.args.tail.now) (g.K.Sink.taken c.args.sink.now)
     (g.K.Sink.taken c.write_feed.new.sink)) c.in_ok-opened.ensures.opening)
@@ -58,7 +58,7 @@ returns-clause-whole g c =
 pub returns-clause-part : goal.returns-clause-part
 returns-clause-part g c =
     session_thread_on_err_implies c.write_feed.result _ _
-    (λ part. inr (subst (λ shards. WritesAnswer (BeginsSession shards c.args.settings.now
+    (λ part. inr (subst (λ shards. WritesAnswer (BeginsSession shards c.args.setup.now.settings.now
     (SavesInPart g.D.Disk c.args.base.saver c.args.disk.now
     c.write_feed.new.disk) c.args.tail.now)
     (g.K.Sink.taken c.args.sink.now) (g.K.Sink.taken c.write_feed.new.sink)) c.in_ok-opened.ensures.opening part))

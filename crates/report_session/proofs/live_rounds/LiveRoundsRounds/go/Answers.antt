@@ -36,21 +36,21 @@ loop-round-init g c = record {
       (seen_positions_saver_stands _ _ c.args.board.now.opening _ _ c.args.self.now.saver.now c.requires.ready.5));
 }
 
-pub make_round-made-requires-clause-some : goal.make_round-made-requires-clause-some
-make_round-made-requires-clause-some g c =
+pub make_round-requires-clause-some : goal.make_round-requires-clause-some
+make_round-requires-clause-some g c =
     subst (λ phi. 1 ≤ phi) (sym c.loop-round.invariant.same_share) c.requires.ready.1
 
-pub make_round-made-requires-clause-most : goal.make_round-made-requires-clause-most
-make_round-made-requires-clause-most g c =
+pub make_round-requires-clause-most : goal.make_round-requires-clause-most
+make_round-requires-clause-most g c =
     subst (λ phi. phi ≤ million) (sym c.loop-round.invariant.same_share) c.requires.ready.2
 
-pub make_round-made-requires-clause-wide : goal.make_round-made-requires-clause-wide
-make_round-made-requires-clause-wide g c =
+pub make_round-requires-clause-wide : goal.make_round-requires-clause-wide
+make_round-requires-clause-wide g c =
     subst (λ phi. IsWideShare phi (core_capacity c.args.board.now.opening)) (sym c.loop-round.invariant.same_share)
     c.requires.ready.3
 
-pub make_round-made-requires-clause-can_save : goal.make_round-made-requires-clause-can_save
-make_round-made-requires-clause-can_save g c =
+pub make_round-requires-clause-can_save : goal.make_round-requires-clause-can_save
+make_round-requires-clause-can_save g c =
     let far = c.loop-round.invariant in
     seen_positions_allow_more_saves g.D.Disk c.args.board.now.opening
     (view c.loop-round.pass) c.args.self.now.saver.now c.loop-round.self.saver.now far.written.reports
@@ -62,33 +62,33 @@ pub returns-in-Err-clause-does : goal.returns-in-Err-clause-does
 returns-in-Err-clause-does g c =
     let far = c.loop-round.invariant in
     let opening = c.requires.pass.seat.opening in (
-      far.same_sink,
-      far.same_disk,
-      far.same_saver,
-      far.same_cut,
-      subst (λ shards. HasCoreShape (length shards) (core_capacity shards) c.make_round-made.new.cut) (sym opening)
+      c.make_round.ensures.same_sink ∙ far.same_sink,
+      c.make_round.ensures.same_disk ∙ far.same_disk,
+      c.make_round.ensures.same_saver ∙ far.same_saver,
+      c.make_round.ensures.same_cut ∙ far.same_cut,
+      subst (λ shards. HasCoreShape (length shards) (core_capacity shards) c.make_round.new.self.cut.now) (sym opening)
           c.in-Err.ensures.shape,
       one_round_broke_off _ _ _ _ _ _ _ _ _ _ _
           (SavesInTurn g.D.Disk c.args.self.now.saver.now
           c.loop-round.self.saver.now c.args.self.now.disk.now c.loop-round.self.disk.now)
           (SavesBreakOff g.D.Disk
-          c.loop-round.self.saver.now c.make_round-made.new.saver c.loop-round.self.disk.now c.make_round-made.new.disk)
+          c.loop-round.self.saver.now c.make_round.new.self.saver.now c.loop-round.self.disk.now c.make_round.new.self.disk.now)
           (SavesBreakOff g.D.Disk c.args.self.now.saver.now
-          c.make_round-made.new.saver c.args.self.now.disk.now c.make_round-made.new.disk) _ _ _ _ _ _ c.in-Err.status opening far.same_share
+          c.make_round.new.self.saver.now c.args.self.now.disk.now c.make_round.new.self.disk.now) _ _ _ _ _ _ c.in-Err.status opening far.same_share
           (round_saver_stays_or_none c.args.self.now.saver.now c.loop-round.self.saver.now _ far.written.kept.saver)
           (ap₂ (λ s d. record { sink = s; disk = d }) far.sink_faults far.disk_faults) c.loop-round-test.true
           (λ cuts saved unfinished first second.
-          broken_saves_follow c.stores_open_to_one.ensures g.D.Disk c.args.self.now.saver.now c.loop-round.self.saver.now c.make_round-made.new.saver cuts saved
-          unfinished c.args.self.now.disk.now c.loop-round.self.disk.now c.make_round-made.new.disk
+          broken_saves_follow c.stores_open_to_one.ensures g.D.Disk c.args.self.now.saver.now c.loop-round.self.saver.now
+          c.make_round.new.self.saver.now cuts saved unfinished c.args.self.now.disk.now c.loop-round.self.disk.now c.make_round.new.self.disk.now
           (seen_positions_allowed_settings _ _ c.args.board.now.opening _ _ c.args.self.now.saver.now c.requires.ready.5)
           g.met.D.Disk.reading_is_image first second)
           far.written c.in-Err.ensures.broken,
       λ none.
           let done = save_needs_saver g.D.Disk _ _ _ _ _ far.written.kept none in
           let round = c.in-Err.ensures.unused done.0 in (round.0, round.1 ∙ done.1),
-      far.same_share,
-      far.same_rounds,
-      far.same_callers,
+      c.make_round.ensures.same_share ∙ far.same_share,
+      c.make_round.ensures.same_rounds ∙ far.same_rounds,
+      c.make_round.ensures.same_callers ∙ far.same_callers,
     )
 
 pub loop-round-preserved : goal.loop-round-preserved
@@ -96,50 +96,50 @@ loop-round-preserved g c =
     let far = c.loop-round.invariant in
     let opening = c.args.board.now.opening in
     let made = c.in_default.ensures.whole in record {
-      pass = c.make_round-made.ensures.pass;
-      shape = c.make_round-made.ensures.shape;
-      same_sink = far.same_sink;
-      same_disk = far.same_disk;
-      same_saver = far.same_saver;
-      same_cut = far.same_cut;
-      same_share = far.same_share;
-      same_rounds = far.same_rounds;
-      same_callers = far.same_callers;
-      unstopped = far.unstopped;
+      pass = c.make_round.ensures.pass;
+      shape = c.make_round.ensures.shape;
+      same_sink = c.make_round.ensures.same_sink ∙ far.same_sink;
+      same_disk = c.make_round.ensures.same_disk ∙ far.same_disk;
+      same_saver = c.make_round.ensures.same_saver ∙ far.same_saver;
+      same_cut = c.make_round.ensures.same_cut ∙ far.same_cut;
+      same_share = c.make_round.ensures.same_share ∙ far.same_share;
+      same_rounds = c.make_round.ensures.same_rounds ∙ far.same_rounds;
+      same_callers = c.make_round.ensures.same_callers ∙ far.same_callers;
+      unstopped = c.make_round.ensures.same_stop ∙ far.unstopped;
       sink_faults = c.in_default.ensures.faults.0 ∙ far.sink_faults;
       disk_faults = c.in_default.ensures.faults.1 ∙ far.disk_faults;
       fits = c.in_default.ensures.fits;
       written =
           writes_more_rounds opening c.args.self.now.phi c.loop-round.round 1 (view c.args.pass.now) (view c.loop-round.pass)
-          (view c.make_round-made.new.pass) (is_some c.args.self.now.saver.now)
+          (view c.make_round.new.pass) (is_some c.args.self.now.saver.now)
           (SavesInTurn g.D.Disk c.args.self.now.saver.now
           c.loop-round.self.saver.now c.args.self.now.disk.now c.loop-round.self.disk.now)
           (SavesInTurn g.D.Disk
-          c.loop-round.self.saver.now c.make_round-made.new.saver c.loop-round.self.disk.now c.make_round-made.new.disk)
+          c.loop-round.self.saver.now c.make_round.new.self.saver.now c.loop-round.self.disk.now c.make_round.new.self.disk.now)
           (SavesInTurn g.D.Disk c.args.self.now.saver.now
-          c.make_round-made.new.saver c.args.self.now.disk.now c.make_round-made.new.disk)
+          c.make_round.new.self.saver.now c.args.self.now.disk.now c.make_round.new.self.disk.now)
           (g.K.Sink.taken c.args.self.now.sink.now) (g.K.Sink.taken c.loop-round.self.sink.now)
-          (g.K.Sink.taken c.make_round-made.new.sink)
+          (g.K.Sink.taken c.make_round.new.self.sink.now)
           (λ phi rounds more middle now reports later.
           c.calls_follow_calls.ensures.more opening phi rounds more (view c.args.pass.now) middle now reports later
           c.requires.pass.seat.trails)
           (λ cuts later first second.
-          saves_follow c.stores_open_to_one.ensures g.D.Disk c.args.self.now.saver.now c.loop-round.self.saver.now c.make_round-made.new.saver cuts later
-          c.args.self.now.disk.now c.loop-round.self.disk.now c.make_round-made.new.disk
+          saves_follow c.stores_open_to_one.ensures g.D.Disk c.args.self.now.saver.now c.loop-round.self.saver.now c.make_round.new.self.saver.now cuts later
+          c.args.self.now.disk.now c.loop-round.self.disk.now c.make_round.new.self.disk.now
           (seen_positions_allowed_settings _ _ opening _ _ c.args.self.now.saver.now c.requires.ready.5) g.met.D.Disk.reading_is_image first
           second)
           far.written
           (subst (λ store. WritesRounds opening c.args.self.now.phi store 1
-          (view c.loop-round.pass) (view c.make_round-made.new.pass)
+          (view c.loop-round.pass) (view c.make_round.new.pass)
           (SavesInTurn g.D.Disk
-          c.loop-round.self.saver.now c.make_round-made.new.saver c.loop-round.self.disk.now c.make_round-made.new.disk)
-          (g.K.Sink.taken c.loop-round.self.sink.now) (g.K.Sink.taken c.make_round-made.new.sink))
+          c.loop-round.self.saver.now c.make_round.new.self.saver.now c.loop-round.self.disk.now c.make_round.new.self.disk.now)
+          (g.K.Sink.taken c.loop-round.self.sink.now) (g.K.Sink.taken c.make_round.new.self.sink.now))
           (round_saver_stays_or_none c.args.self.now.saver.now c.loop-round.self.saver.now _ far.written.kept.saver)
           (subst (λ phi. WritesRounds opening phi (is_some c.loop-round.self.saver.now) 1 (view c.loop-round.pass)
-          (view c.make_round-made.new.pass)
+          (view c.make_round.new.pass)
           (SavesInTurn g.D.Disk
-          c.loop-round.self.saver.now c.make_round-made.new.saver c.loop-round.self.disk.now c.make_round-made.new.disk)
-          (g.K.Sink.taken c.loop-round.self.sink.now) (g.K.Sink.taken c.make_round-made.new.sink)) far.same_share made));
+          c.loop-round.self.saver.now c.make_round.new.self.saver.now c.loop-round.self.disk.now c.make_round.new.self.disk.now)
+          (g.K.Sink.taken c.loop-round.self.sink.now) (g.K.Sink.taken c.make_round.new.self.sink.now)) far.same_share made));
     }
 
 pub returns-clause-does : goal.returns-clause-does

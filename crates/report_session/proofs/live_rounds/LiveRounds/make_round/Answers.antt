@@ -12,11 +12,11 @@ use Rattle.report_session.proofs.SaveLemmas.{no_saver_no_save, no_save_broke_off
 use Rattle.report_session.proofs.SaveLemmas.{whole_saves_broke_off}
 use Rattle.report_session.proofs.SeenPositionLemmas.{seen_positions_can_be_saved, seen_positions_fit_next_saver}
 use Rattle.report_session.proofs.SeenPositionLemmas.{seen_positions_saver_stands}
-use Rattle.report_session.proofs.live_rounds.make_round.Goals as goal
+use Rattle.report_session.proofs.live_rounds.LiveRounds.make_round.Goals as goal
 
 pub print-requires-clause-positions : goal.print-requires-clause-positions
 print-requires-clause-positions g c =
-    round_report_has_positions c.args.board.now.opening c.args.phi c.in_ok-report.report c.shards-shards.ensures.kept
+    round_report_has_positions c.args.board.now.opening c.args.self.now.phi c.in_ok-report.report c.shards-shards.ensures.kept
     (round_makes_report _ _ _ _ c.in_ok-report.report c.in_ok-report.ensures.calls)
 
 pub print-requires-clause-threshold : goal.print-requires-clause-threshold
@@ -25,26 +25,26 @@ print-requires-clause-threshold g c =
 
 pub saved_line-requires : goal.saved_line-requires
 saved_line-requires g c =
-    round_report_has_positions c.args.board.now.opening c.args.phi c.in_ok-report.report c.shards-shards.ensures.kept
+    round_report_has_positions c.args.board.now.opening c.args.self.now.phi c.in_ok-report.report c.shards-shards.ensures.kept
     (round_makes_report _ _ _ _ c.in_ok-report.report c.in_ok-report.ensures.calls)
 
 pub save_cut-requires : goal.save_cut-requires
 save_cut-requires g c =
-    seen_positions_can_be_saved _ _ c.args.board.now.opening c.args.phi _ _ c.in_ok-report.report c.args.saver.now _
+    seen_positions_can_be_saved _ _ c.args.board.now.opening c.args.self.now.phi _ _ c.in_ok-report.report c.args.self.now.saver.now _
     c.in_ok-report.ensures.cut c.requires.pass.seat.trails c.in_ok-report.ensures.calls c.requires.can_save
 
 pub returns-in-Err-clause-broken : goal.returns-in-Err-clause-broken
 returns-in-Err-clause-broken g c =
     let report = c.in_ok-report.report in
     let text = c.deref.ensures.value ∙ c.in_ok-print.ensures.ok ∙ ap (λ bytes. bytes ++ report_text report) c.new-text.ensures.items in
-    round_broken_by_sink _ _ _ _ (is_some c.args.saver.now) _ _ _ _ _ _ _ _ c.in-Err.status c.in-Err.ensures.fault refl refl
+    round_broken_by_sink _ _ _ _ (is_some c.args.self.now.saver.now) _ _ _ _ _ _ _ _ c.in-Err.status c.in-Err.ensures.fault refl refl
     (inl (record {
       report = report;
       reports = record { calls = c.in_ok-report.ensures.calls; sound = c.in_ok-report.ensures.sound };
       written = subst (AppendsPart _ _) text c.in-Err.ensures.beginning;
-      kept = no_save_broke_off g.D.Disk c.args.saver.now
-          c.args.saver.now c.args.disk.now c.args.disk.now g.met.D.Disk.only_now
-          (seen_positions_saver_stands _ _ c.args.board.now.opening _ _ c.args.saver.now c.requires.can_save) refl refl;
+      kept = no_save_broke_off g.D.Disk c.args.self.now.saver.now
+          c.args.self.now.saver.now c.args.self.now.disk.now c.args.self.now.disk.now g.met.D.Disk.only_now
+          (seen_positions_saver_stands _ _ c.args.board.now.opening _ _ c.args.self.now.saver.now c.requires.can_save) refl refl;
     }))
 
 pub returns-in-Err-save_cut-clause-broken : goal.returns-in-Err-save_cut-clause-broken
@@ -52,7 +52,7 @@ returns-in-Err-save_cut-clause-broken g c =
     let report = c.in_ok-report.report in
     let text = c.deref.ensures.value ∙ c.in_ok-print.ensures.ok ∙ ap (λ bytes. bytes ++ report_text report) c.new-text.ensures.items in
     let written = subst (Appends _ _) text c.in_default.ensures.whole in
-    round_broken_at_saving _ _ _ _ (is_some c.args.saver.now) _ _ _ _ _ _ _ c.in-Err-save_cut.status c.in-Err-save_cut.ensures.used
+    round_broken_at_saving _ _ _ _ (is_some c.args.self.now.saver.now) _ _ _ _ _ _ _ c.in-Err-save_cut.status c.in-Err-save_cut.ensures.used
     c.in-Err-save_cut.ensures.fault c.in_default.ensures.faults
     (λ is. record {
       report = report;
@@ -61,7 +61,7 @@ returns-in-Err-save_cut-clause-broken g c =
       kept = record {
         saver = c.in-Err-save_cut.ensures.saver_goes is;
         saves = subst (λ cut. SavesInPart g.D.Disk
-            c.args.saver.now c.args.disk.now c.save_cut.new.disk [] (cut ∷ [])) c.in_ok-report.ensures.cut
+            c.args.self.now.saver.now c.args.self.now.disk.now c.save_cut.new.disk [] (cut ∷ [])) c.in_ok-report.ensures.cut
             c.in-Err-save_cut.ensures.in_part;
       };
     })
@@ -69,9 +69,9 @@ returns-in-Err-save_cut-clause-broken g c =
       report = report;
       reports = record { calls = c.in_ok-report.ensures.calls; sound = c.in_ok-report.ensures.sound };
       written = written;
-      kept = no_save_broke_off g.D.Disk c.args.saver.now
-          c.save_cut.new.saver c.args.disk.now c.save_cut.new.disk g.met.D.Disk.only_now
-          (seen_positions_saver_stands _ _ c.args.board.now.opening _ _ c.args.saver.now c.requires.can_save)
+      kept = no_save_broke_off g.D.Disk c.args.self.now.saver.now
+          c.save_cut.new.saver c.args.self.now.disk.now c.save_cut.new.disk g.met.D.Disk.only_now
+          (seen_positions_saver_stands _ _ c.args.board.now.opening _ _ c.args.self.now.saver.now c.requires.can_save)
           (c.in-Err-save_cut.ensures.saver_stays is) (c.in-Err-save_cut.ensures.ran_out is);
     })
 
@@ -80,7 +80,7 @@ returns-clause-broken g c =
     let report = c.in_ok-report.report in
     let text = c.deref.ensures.value ∙ c.in_ok-print.ensures.ok ∙ ap (λ bytes. bytes ++ report_text report) c.new-text.ensures.items in
     let line = c.deref-2.ensures.value ∙ c.in_ok-line.ensures ∙ ap (λ store. save_line store report.positions) c.is_some.ensures in
-    round_broken_by_sink _ _ _ _ (is_some c.args.saver.now) _ _ _ _ _ _ _ _ c.in-Err-write.status c.in-Err-write.ensures.fault
+    round_broken_by_sink _ _ _ _ (is_some c.args.self.now.saver.now) _ _ _ _ _ _ _ _ c.in-Err-write.status c.in-Err-write.ensures.fault
     c.in_default.ensures.faults c.in_default-save_cut.ensures.no_fault
     (inr (record {
       report = report;
@@ -88,11 +88,11 @@ returns-clause-broken g c =
       between = _;
       whole = subst (Appends _ _) text c.in_default.ensures.whole;
       written = subst (AppendsPart _ _) line c.in-Err-write.ensures.beginning;
-      kept = whole_saves_broke_off g.D.Disk c.args.saver.now
-          c.save_cut.new.saver c.args.disk.now c.save_cut.new.disk _
-          (save_of_reported_cut (is_some c.args.saver.now) _ report _ (SavesInTurn g.D.Disk c.args.saver.now c.save_cut.new.saver
-          c.args.disk.now c.save_cut.new.disk)
-          c.in_ok-report.ensures.cut (no_saver_no_save g.D.Disk c.args.saver.now _ _ _ _)
+      kept = whole_saves_broke_off g.D.Disk c.args.self.now.saver.now
+          c.save_cut.new.saver c.args.self.now.disk.now c.save_cut.new.disk _
+          (save_of_reported_cut (is_some c.args.self.now.saver.now) _ report _ (SavesInTurn g.D.Disk c.args.self.now.saver.now c.save_cut.new.saver
+          c.args.self.now.disk.now c.save_cut.new.disk)
+          c.in_ok-report.ensures.cut (no_saver_no_save g.D.Disk c.args.self.now.saver.now _ _ _ _)
           c.in_default-save_cut.ensures.saved);
     }))
 
@@ -101,38 +101,39 @@ returns-in-Ok-clause-whole g c =
     let report = c.in_ok-report.report in
     let text = c.deref.ensures.value ∙ c.in_ok-print.ensures.ok ∙ ap (λ bytes. bytes ++ report_text report) c.new-text.ensures.items in
     let line = c.deref-2.ensures.value ∙ c.in_ok-line.ensures ∙ ap (λ store. save_line store report.positions) c.is_some.ensures in
-    writes_one_round _ _ _ _ (is_some c.args.saver.now) _ _ _ report c.in_ok-report.ensures.calls c.in_ok-report.ensures.sound
-    (Appends-trans _ _ _ (report_text report) (save_line (is_some c.args.saver.now) report.positions)
+    writes_one_round _ _ _ _ (is_some c.args.self.now.saver.now) _ _ _ report c.in_ok-report.ensures.calls c.in_ok-report.ensures.sound
+    (Appends-trans _ _ _ (report_text report) (save_line (is_some c.args.self.now.saver.now) report.positions)
     (subst (Appends _ _) text c.in_default.ensures.whole) (subst (Appends _ _) line c.in-Ok.ensures.whole))
-    (save_of_reported_cut (is_some c.args.saver.now) _ report _ (SavesInTurn g.D.Disk c.args.saver.now c.save_cut.new.saver c.args.disk.now c.save_cut.new.disk)
-    c.in_ok-report.ensures.cut (no_saver_no_save g.D.Disk c.args.saver.now _ _ _ _) c.in_default-save_cut.ensures.saved)
+    (save_of_reported_cut (is_some c.args.self.now.saver.now) _ report _
+    (SavesInTurn g.D.Disk c.args.self.now.saver.now c.save_cut.new.saver c.args.self.now.disk.now c.save_cut.new.disk)
+    c.in_ok-report.ensures.cut (no_saver_no_save g.D.Disk c.args.self.now.saver.now _ _ _ _) c.in_default-save_cut.ensures.saved)
 
 pub returns-in-Ok-clause-fits : goal.returns-in-Ok-clause-fits
 returns-in-Ok-clause-fits g c =
-    seen_positions_fit_next_saver _ _ c.args.board.now.opening c.args.phi _ _ c.in_ok-report.report c.args.saver.now _ _
+    seen_positions_fit_next_saver _ _ c.args.board.now.opening c.args.self.now.phi _ _ c.in_ok-report.report c.args.self.now.saver.now _ _
     c.in_ok-report.ensures.cut c.requires.pass.seat.trails c.in_ok-report.ensures.calls c.requires.can_save
     c.in_default-save_cut.ensures.saved.saver
 
 pub returns-in_err-report-clause-broken : goal.returns-in_err-report-clause-broken
 returns-in_err-report-clause-broken g c =
-    round_broken_by_memory c.from_residual.result c.args.board.now.opening c.args.phi _ _ (is_some c.args.saver.now) _ _ _
+    round_broken_by_memory c.from_residual.result c.args.board.now.opening c.args.self.now.phi _ _ (is_some c.args.self.now.saver.now) _ _ _
     c.from_residual.ensures.1 c.report_once.ensures.reads
-    (no_save_broke_off g.D.Disk c.args.saver.now c.args.saver.now
-    c.args.disk.now c.args.disk.now g.met.D.Disk.only_now
-    (seen_positions_saver_stands _ _ c.args.board.now.opening _ _ c.args.saver.now c.requires.can_save) refl refl)
+    (no_save_broke_off g.D.Disk c.args.self.now.saver.now c.args.self.now.saver.now
+    c.args.self.now.disk.now c.args.self.now.disk.now g.met.D.Disk.only_now
+    (seen_positions_saver_stands _ _ c.args.board.now.opening _ _ c.args.self.now.saver.now c.requires.can_save) refl refl)
 
 pub returns-in_err-print-clause-broken : goal.returns-in_err-print-clause-broken
 returns-in_err-print-clause-broken g c =
-    round_broken_by_memory c.from_residual-in_err-print.result c.args.board.now.opening c.args.phi _ _ (is_some c.args.saver.now) _ _ _
+    round_broken_by_memory c.from_residual-in_err-print.result c.args.board.now.opening c.args.self.now.phi _ _ (is_some c.args.self.now.saver.now) _ _ _
     c.from_residual-in_err-print.ensures.1 c.report_once.ensures.reads
-    (no_save_broke_off g.D.Disk c.args.saver.now c.args.saver.now
-    c.args.disk.now c.args.disk.now g.met.D.Disk.only_now
-    (seen_positions_saver_stands _ _ c.args.board.now.opening _ _ c.args.saver.now c.requires.can_save) refl refl)
+    (no_save_broke_off g.D.Disk c.args.self.now.saver.now c.args.self.now.saver.now
+    c.args.self.now.disk.now c.args.self.now.disk.now g.met.D.Disk.only_now
+    (seen_positions_saver_stands _ _ c.args.board.now.opening _ _ c.args.self.now.saver.now c.requires.can_save) refl refl)
 
 pub returns-in_err-line-clause-broken : goal.returns-in_err-line-clause-broken
 returns-in_err-line-clause-broken g c =
-    round_broken_by_memory c.from_residual-in_err-line.result c.args.board.now.opening c.args.phi _ _ (is_some c.args.saver.now) _ _ _
+    round_broken_by_memory c.from_residual-in_err-line.result c.args.board.now.opening c.args.self.now.phi _ _ (is_some c.args.self.now.saver.now) _ _ _
     c.from_residual-in_err-line.ensures.1 c.report_once.ensures.reads
-    (no_save_broke_off g.D.Disk c.args.saver.now c.args.saver.now
-    c.args.disk.now c.args.disk.now g.met.D.Disk.only_now
-    (seen_positions_saver_stands _ _ c.args.board.now.opening _ _ c.args.saver.now c.requires.can_save) refl refl)
+    (no_save_broke_off g.D.Disk c.args.self.now.saver.now c.args.self.now.saver.now
+    c.args.self.now.disk.now c.args.self.now.disk.now g.met.D.Disk.only_now
+    (seen_positions_saver_stands _ _ c.args.board.now.opening _ _ c.args.self.now.saver.now c.requires.can_save) refl refl)
