@@ -64,7 +64,7 @@ fn hash_record(hasher: &mut Sha256, rec: &Record)
 }
 
 // Hashes a number in 4 bytes, high byte first.
-#[tactic(auto, unfolding(crate::specs::NumberBytes::number_bytes))]
+#[tactic(auto, unfolding(crate::specs::Numbers::number_bytes))]
 fn hash_number(hasher: &mut Sha256, number: u32)
     ensures { (text : List ℕ) → Holds256 hasher.old text → Holds256 hasher.new (text ++ number_bytes 4 number) }
 {

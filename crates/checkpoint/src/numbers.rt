@@ -8,7 +8,7 @@ use byteorder::{BigEndian, ByteOrder};
 use std::alloc::AllocError;
 
 /// Appends a number in 8 bytes.
-#[tactic(auto, unfolding(crate::specs::NumberBytes::number_bytes))]
+#[tactic(auto, unfolding(crate::specs::Numbers::number_bytes))]
 pub(crate) fn push_number(out: &mut Vec<u8>, number: u64) -> Result<(), AllocError>
     ensures { OnOk result (out.new.items ≡ out.old.items ++ number_bytes 8 number) }
 {
@@ -18,7 +18,7 @@ pub(crate) fn push_number(out: &mut Vec<u8>, number: u64) -> Result<(), AllocErr
 }
 
 /// Appends a number in 4 bytes.
-#[tactic(auto, unfolding(crate::specs::NumberBytes::number_bytes))]
+#[tactic(auto, unfolding(crate::specs::Numbers::number_bytes))]
 pub(crate) fn push_count(out: &mut Vec<u8>, count: u32) -> Result<(), AllocError>
     ensures { OnOk result (out.new.items ≡ out.old.items ++ number_bytes 4 count) }
 {

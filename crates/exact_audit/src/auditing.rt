@@ -13,6 +13,7 @@ use crate::counted::{are_within, count_before, total_before};
 use crate::findings::{Findings, find};
 use crate::line_codes::LineCodes;
 use crate::line_tests::{Measures, bad_interval, low_line, not_justified, too_wide};
+use crate::seed::Seed;
 use deal_rules::Dealt;
 use hhh_report::{Line, Report, threshold};
 use std::alloc::{AllocError, Global};
@@ -23,8 +24,8 @@ use std::alloc::{AllocError, Global};
 /// The audit knows no table, merge or bound. It sums the plain records before the report's positions, node by node: one
 /// pass to find how far the lines that cover each record reach, then one pass for each of the 25 nodes. Its memory is
 /// that of these records and of the keys of one node. A line that its own conditioned weight doesn't justify costs an
-/// additional search for its closest lines. The keys of a node are found by hashes with a fixed seed, so traffic made
-/// for this purpose can make a pass slow, but can't change the verdict.
+/// additional search for its closest lines. Keys are looked up by hashes whose seed is the digest of the records and the
+/// lines, so that no traffic can be made for which look-ups are slow.
 ///
 /// The capacity is 2 to 4,096 and `phi` 1 to 1,000,000. The only error is that memory runs out.
 pub fn audit(
@@ -52,9 +53,10 @@ pub fn audit(
         return Ok(Verdict::BadThreshold);
     }
     let lines = report.lines.as_slice();
-    let codes = LineCodes::of(alloc, lines)?;
+    let seed = Seed::of(dealt, lines);
+    let codes = LineCodes::of(alloc, lines, seed)?;
     let counted = count_before(alloc, dealt, &report.positions, &codes)?;
-    let findings = find(alloc, &counted, lines, &codes, report.threshold)?;
+    let findings = find(alloc, &counted, lines, &codes, report.threshold, seed)?;
     verdict_of(alloc, lines, &findings, capacity, report.threshold, total)
 }
 

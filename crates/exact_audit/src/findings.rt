@@ -10,9 +10,9 @@ ghost use Rattle.exact_audit.specs.Findings.{AreFindings, AreSumsBefore};
 use crate::counted::Counted;
 use crate::left_out::{LeftOut, first_left_out};
 use crate::line_codes::LineCodes;
-use crate::node_sums::{Sums, sums_at};
+use crate::node_sums::{KeySums, Sums, sums_at};
+use crate::seed::Seed;
 use hhh_report::Line;
-use indexmap::IndexMap;
 use prefix_lattice::Node;
 use std::alloc::{AllocError, Global};
 
@@ -24,13 +24,14 @@ pub(crate) struct Findings {
 }
 
 /// What counted records show of lines, and of the prefixes that no line has. It costs one pass over the records for each
-/// of the 25 nodes, and the memory of the keys of one node.
+/// of the 25 nodes, and the memory of the keys of one node, which are looked up by a seed.
 pub(crate) fn find(
     alloc: Global,
     counted: &[Counted],
     lines: &[Line],
     codes: &LineCodes,
     threshold: u64,
+    seed: Seed,
 ) -> Result<Findings, AllocError>
     requires codes { AreLineCodes (prefixes_of_lines lines.now) codes.now.codes.keys }
     requires light { total_weight (records_in counted.now) < total_limit }
@@ -43,7 +44,7 @@ pub(crate) fn find(
     let mut left_out = None;
     for index in 0..25 {
         let node = Node::from_index(index).unwrap();
-        let sums = sums_at(alloc, counted, node)?;
+        let sums = sums_at(alloc, counted, node, seed)?;
         note_lines(&mut line_sums, lines, node, &sums);
         left_out = first_left_out(codes, node, threshold, &sums, left_out);
     }
@@ -54,7 +55,7 @@ pub(crate) fn find(
 }
 
 // Notes the sums of the lines of a node.
-fn note_lines(line_sums: &mut Vec<Sums>, lines: &[Line], node: Node, sums: &IndexMap<u64, Sums>)
+fn note_lines(line_sums: &mut Vec<Sums>, lines: &[Line], node: Node, sums: &KeySums)
     requires { length line_sums.old.items ≡ length lines.now }
     ensures as_many { length line_sums.new.items ≡ length lines.now }
     ensures sums { (records : List RecordValue) → AreNodeSums node (prefixes_of_lines lines.now) records sums.now

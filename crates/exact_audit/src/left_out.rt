@@ -8,8 +8,7 @@ ghost use Rattle.exact_audit.specs.NodeSums.{AreNodeSums, HasSumKeys};
 ghost use Rattle.exact_audit.specs.Findings.{IsFirstBefore, first_with};
 
 use crate::line_codes::LineCodes;
-use crate::node_sums::Sums;
-use indexmap::IndexMap;
+use crate::node_sums::KeySums;
 use prefix_lattice::{Node, Prefix, keys_are_of_their_node, report_order_is_total};
 use std::cmp::Ordering;
 
@@ -26,7 +25,7 @@ pub(crate) fn first_left_out(
     lines: &LineCodes,
     node: Node,
     threshold: u64,
-    sums: &IndexMap<u64, Sums>,
+    sums: &KeySums,
     found: Option<LeftOut>,
 ) -> Option<LeftOut>
     requires node { IsNode node }

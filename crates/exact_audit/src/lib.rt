@@ -11,6 +11,7 @@ mod left_out;
 mod line_codes;
 mod line_tests;
 mod node_sums;
+mod seed;
 mod verdict;
 
 pub use auditing::audit;

@@ -6,6 +6,7 @@ ghost use Rattle.prefix_lattice.specs.{IsPrefix, prefix_key, prefix_code};
 ghost use Rattle.hhh_report.specs.{prefixes_of_lines};
 ghost use Rattle.exact_audit.specs.LineCodes.{AreLineCodes};
 
+use crate::seed::Seed;
 use hhh_report::Line;
 use indexmap::IndexSet;
 use prefix_lattice::Prefix;
@@ -14,15 +15,15 @@ use std::alloc::{AllocError, Global};
 /// The codes of the prefixes of all lines.
 #[derive(Drop)]
 pub(crate) struct LineCodes {
-    codes: IndexSet<u128>,
+    codes: IndexSet<u128, Seed>,
 }
 
 impl LineCodes {
-    /// The codes of these lines.
-    pub(crate) fn of(alloc: Global, lines: &[Line]) -> Result<LineCodes, AllocError>
+    /// The codes of these lines, which are looked up by a seed.
+    pub(crate) fn of(alloc: Global, lines: &[Line], seed: Seed) -> Result<LineCodes, AllocError>
         ensures { IfOk result (λ found. AreLineCodes (prefixes_of_lines lines.now) found.codes.keys) }
     {
-        let mut codes = IndexSet::new(alloc);
+        let mut codes = IndexSet::with_hasher(alloc, seed);
         for line in lines {
             codes.insert(code_of(&line.prefix))?;
         }

@@ -8,6 +8,7 @@ ghost use Rattle.exact_audit.specs.NodeSums.{AreCountedIn, AreNodeSums, HasSumKe
 ghost use Rattle.exact_audit.specs.NodeSums.{sums_for};
 
 use crate::counted::Counted;
+use crate::seed::Seed;
 use indexmap::IndexMap;
 use prefix_lattice::{Node, Prefix, Record, keys_are_of_their_node, keys_tell_covering};
 use std::alloc::{AllocError, Global};
@@ -24,13 +25,17 @@ impl Sums {
     pub(crate) const NONE: Sums = Sums { weight: 0, left: 0 };
 }
 
-/// The sums of each prefix of a node that covers a counted record, by its key, in the order in which the keys came.
-/// It costs one pass over the records.
+/// The sums of the prefixes of a node by their keys, in the order in which the keys came.
+pub(crate) type KeySums = IndexMap<u64, Sums, Seed>;
+
+/// The sums of each prefix of a node that covers a counted record. The keys are looked up by a seed. It costs one pass
+/// over the records.
 pub(crate) fn sums_at(
     alloc: Global,
     counted: &[Counted],
     node: Node,
-) -> Result<IndexMap<u64, Sums>, AllocError>
+    seed: Seed,
+) -> Result<KeySums, AllocError>
     requires node { IsNode node }
     requires light { total_weight (records_in counted.now) < total_limit }
     ensures keys { IfOk result (HasSumKeys node) }
@@ -39,7 +44,7 @@ pub(crate) fn sums_at(
 {
     keys_tell_covering();
     keys_are_of_their_node();
-    let mut sums = IndexMap::new(alloc);
+    let mut sums = IndexMap::with_hasher(alloc, seed);
     for one in counted {
         let key = Prefix::of(&one.rec, node).key();
         add(&mut sums, key, &one.rec, one.depths.explained(node))?;
@@ -48,12 +53,7 @@ pub(crate) fn sums_at(
 }
 
 // Adds the weight of a record to the sum of a key, and to its conditioned weight unless the record is explained.
-fn add(
-    sums: &mut IndexMap<u64, Sums>,
-    key: u64,
-    rec: &Record,
-    explained: bool,
-) -> Result<(), AllocError>
+fn add(sums: &mut KeySums, key: u64, rec: &Record, explained: bool) -> Result<(), AllocError>
     requires weight { (sums_for sums.old key).weight + rec.now.weight < 2 ^ 64 }
     requires left { (sums_for sums.old key).left + rec.now.weight < 2 ^ 64 }
     ensures keys { OnOk result ((other : ℕ) → is_some (get nat_eq sums.new other)

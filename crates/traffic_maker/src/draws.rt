@@ -23,7 +23,7 @@ impl Draws {
     }
 
     /// The next number.
-    #[tactic(auto, unfolding(crate::specs::Draw::next_state))]
+    #[tactic(auto, unfolding(crate::specs::Draws::next_state))]
     pub(crate) fn draw(&mut self) -> u32
         ensures state { self.new.state ≡ next_state self.old.state }
         ensures value { result ≡ draw_from self.new.state }

@@ -24,7 +24,7 @@ pub(crate) fn next_frame(draws: &mut Draws, index: u32) -> [u8; 50]
 }
 
 // The frame at this index between two addresses.
-#[tactic(auto, unfolding(crate::specs::MadeFrame::frame_bytes))]
+#[tactic(auto, unfolding(crate::specs::Frame::frame_bytes))]
 fn frame(index: u32, source: &[u8; 4], dest: &[u8; 4]) -> [u8; 50]
     ensures { result ≡ frame_bytes index source.now dest.now }
 {
