@@ -4,6 +4,7 @@
 mod command;
 mod command_word;
 mod form_names;
+mod laws;
 mod opt;
 mod parsing;
 mod path_texts;
@@ -14,6 +15,7 @@ mod values;
 mod words_kind;
 
 pub use command::Command;
+pub use laws::arguments_ask_for_one_command;
 pub use opt::Opt;
 pub use path_texts::{PathTexts, paths};
 pub use reading::read_words;

@@ -17,6 +17,7 @@ pub trait Gate {
 }
 
 /// Which caller reads, in which of its rounds, and the gate that is told before and after.
+#[derive(Drop)]
 pub struct Turn<'a, G: Gate> {
     /// What is called before and after the read.
     pub gate: &'a G,

@@ -10,7 +10,7 @@ use Rattle.report_session.specs.{FeedWritesPart, RoundFaults, saves_settings, Be
 use Rattle.report_session.specs.{IsSession, IsSessionInPart, SessionKeeping, IsOverShards, session_opening}
 use Rattle.hhh_engine.specs.Ending.{Ends, IsRefusedStore, EndsRefusing, SourceFaults}
 use Rattle.report_session.specs.{IsFeedCapture}
-use Rattle.dealt_capture.specs.{IsCaptureFile, DealingRules}
+use Rattle.dealt_capture.specs.{AreDealtRecords, IsCaptureFile, DealingRules}
 use Rattle.run_status.specs.declared.status.Status.{Status}
 use Rattle.run_status.specs.declared.status.Status.TheVariants.{Done, BadWords, BadCapture, ReadFault, WriteFault}
 use Rattle.run_status.specs.declared.status.Status.TheVariants.{DiskFault, NotFormatted, Damaged, OtherSettings}
@@ -30,80 +30,75 @@ capture_report_if_known (Some file) P Q follows has = follows file has
 
 -- the whole session over a capture
 capture_report_writes_session : (settings : Settings) (rules : DealingRules) (keeping : SessionKeeping) (left store : Option (List ℕ))
-    (lists : List (List RecordValue)) (tail : List ℕ) (old new : Option (List ℕ))
-    → IfSome left (λ file. IsFeedCapture settings rules file lists tail)
+    (lists : List (List RecordValue)) (tail : List ℕ) (old new : Option (List ℕ)) → IsFeedCapture settings rules left lists tail
     → FeedWrites settings lists tail keeping store old new
-    → WritesAnswer (λ text. IfSome left (λ file. IsSession settings rules keeping store file text)) old new
-capture_report_writes_session settings rules keeping left store lists tail old new dealt writes = record {
+    → WritesAnswer (IsSession settings rules keeping store left) old new
+capture_report_writes_session settings rules keeping left store lists tail old new capture writes = record {
   text = writes.writes.text;
-  is_text = capture_report_if_known left (λ file. IsFeedCapture settings rules file lists tail)
-      (λ file. IsSession settings rules keeping store file writes.writes.text)
-      (λ file capture. record {
-        records = capture.records;
-        lists = lists;
-        dealt = capture.dealt;
-        base = writes.base;
-        begins = writes.begins;
-        represents = writes.represents;
-        spelled =
-            subst (λ t. IsOverShards (session_opening settings.capacity lists writes.base) settings
-            (λ cuts. settings.store ≡ true → keeping (saves_settings settings) lists cuts []) t writes.writes.text)
-            capture.is_tail writes.writes.is_text;
-      }) dealt;
+  is_text = record {
+    records = capture.records;
+    lists = lists;
+    dealt = capture.dealt;
+    as_many = capture.as_many;
+    base = writes.base;
+    begins = writes.begins;
+    represents = writes.represents;
+    spelled =
+        subst (λ t. IsOverShards (session_opening settings.capacity lists writes.base) settings
+        (λ cuts. settings.store ≡ true → keeping (saves_settings settings) lists cuts []) t writes.writes.text)
+        capture.is_tail writes.writes.is_text;
+  };
   written = writes.writes.written;
 }
 
 -- the session in part
 capture_report_writes_in_part : (settings : Settings) (rules : DealingRules) (keeping : SessionKeeping) (left store : Option (List ℕ))
-    (lists : List (List RecordValue)) (tail : List ℕ) (old new : Option (List ℕ))
-    → IfSome left (λ file. IsFeedCapture settings rules file lists tail)
+    (lists : List (List RecordValue)) (tail : List ℕ) (old new : Option (List ℕ)) → IsFeedCapture settings rules left lists tail
     → FeedWritesPart settings lists tail keeping store old new
-    → WritesAnswer (λ front. IfSome left (λ file. IsSessionInPart settings rules keeping store file front)) old new
-capture_report_writes_in_part settings rules keeping left store lists tail old new dealt writes = record {
+    → WritesAnswer (IsSessionInPart settings rules keeping store left) old new
+capture_report_writes_in_part settings rules keeping left store lists tail old new capture writes = record {
   text = writes.writes.text;
-  is_text = capture_report_if_known left (λ file. IsFeedCapture settings rules file lists tail)
-      (λ file. IsSessionInPart settings rules keeping store file writes.writes.text)
-      (λ file capture. record {
-        records = capture.records;
-        lists = lists;
-        dealt = capture.dealt;
-        base = writes.base;
-        begins = writes.begins;
-        represents = writes.represents;
-        begun =
-            subst (λ t. BeginsSession (session_opening settings.capacity lists writes.base) settings
-            (λ saved unfinished. settings.store ≡ true → keeping (saves_settings settings) lists saved unfinished) t
-            writes.writes.text) capture.is_tail writes.writes.is_text;
-      }) dealt;
+  is_text = record {
+    records = capture.records;
+    lists = lists;
+    dealt = capture.dealt;
+    as_many = capture.as_many;
+    base = writes.base;
+    begins = writes.begins;
+    represents = writes.represents;
+    begun =
+        subst (λ t. BeginsSession (session_opening settings.capacity lists writes.base) settings
+        (λ saved unfinished. settings.store ≡ true → keeping (saves_settings settings) lists saved unfinished) t
+        writes.writes.text) capture.is_tail writes.writes.is_text;
+  };
   written = writes.writes.written;
 }
 
 -- the store is refused over the dealt lists of a capture
 capture_report_refuses_store : (settings : Settings) (rules : DealingRules) (left store : Option (List ℕ)) (AsBefore : Type 0)
     (lists : List (List RecordValue)) (tail : List ℕ) (fault : OpenFault)
-    → IfSome left (λ file. IsFeedCapture settings rules file lists tail)
+    → IsFeedCapture settings rules left lists tail
     → FeedRefuses settings lists store AsBefore fault
     → EndsRefusing settings rules left store AsBefore fault
-capture_report_refuses_store settings rules left store AsBefore lists tail fault dealt refuses = (
+capture_report_refuses_store settings rules left store AsBefore lists tail fault capture refuses = (
   refuses.used,
   refuses.as_before,
-  capture_report_if_known left (λ file. IsFeedCapture settings rules file lists tail)
+  capture_report_if_known left (λ file. AreDealtRecords settings rules file capture.records lists)
       (λ file. IsRefusedStore settings rules store file fault)
-      (λ file capture. record {
+      (λ file dealt. record {
         records = capture.records;
         lists = lists;
-        dealt = capture.dealt;
+        dealt = dealt;
         refused = refuses.refused;
-      }) dealt,
+      }) capture.dealt,
 )
 
 -- nothing was written, or a part of the text was
 capture_report_nothing_or_part : (settings : Settings) (rules : DealingRules) (keeping : SessionKeeping) (left store : Option (List ℕ))
     (lists : List (List RecordValue)) (tail : List ℕ) (ReadToEnd Nothing : Type 0) (old new : Option (List ℕ))
-    → IfSome left (λ file. IsFeedCapture settings rules file lists tail) → ReadToEnd
+    → IsFeedCapture settings rules left lists tail → ReadToEnd
     → Nothing ⊎ FeedWritesPart settings lists tail keeping store old new
-    → Nothing
-    ⊎ (ReadToEnd × WritesAnswer (λ front. IfSome left (λ file. IsSessionInPart settings rules keeping store file front)) old new)
+    → Nothing ⊎ (ReadToEnd × WritesAnswer (IsSessionInPart settings rules keeping store left) old new)
 capture_report_nothing_or_part settings rules keeping left store lists tail ReadToEnd Nothing old new dealt read =
     ⊎_elim (λ nothing. inl nothing)
     (λ part. inr (read, capture_report_writes_in_part settings rules keeping left store lists tail old new dealt part))
@@ -112,7 +107,7 @@ capture_report_nothing_or_part settings rules keeping left store lists tail Read
 pub capture_report_ends : {K D : Type 0} (k : SinkOf K) (d : DiskOf D) (settings : Settings) (rules : DealingRules)
     (left left_now : Option (List ℕ)) (before now : SourceFaults) (sink written : K) (old new : D)
     (lists : List (List RecordValue)) (tail : List ℕ) (status : Status)
-    → IfSome left (λ file. IsFeedCapture settings rules file lists tail) → IsAtEnd left_now → now ≡ before
+    → IsFeedCapture settings rules left lists tail → IsAtEnd left_now → now ≡ before
     → FeedEnds k d settings lists tail sink written old new status
     → Ends (report_task d settings rules left left_now old new) (course k left before now sink written) status
 capture_report_ends k d settings rules left left_now before now sink written old new lists tail Done dealt read same ends = (
@@ -130,8 +125,8 @@ capture_report_ends k d settings rules left left_now before now sink written old
 )
 capture_report_ends k d settings rules left left_now before now sink written old new lists tail DiskFault dealt read same ends = (
   read,
-  capture_report_if_known left (λ file. IsFeedCapture settings rules file lists tail) IsCaptureFile
-      (λ file capture. (capture.dealt.frames, capture.dealt.capture)) dealt,
+  capture_report_if_known left (λ file. AreDealtRecords settings rules file dealt.records lists) IsCaptureFile
+      (λ file are. (are.frames, are.capture)) dealt.dealt,
   ⊎_elim (λ none. inl none)
       (λ part. inr (capture_report_writes_in_part settings rules (AreKeptOnDisk d old new) left (d.reads old) lists tail
       (k.taken sink) (k.taken written) dealt part)) ends.0,

@@ -8,6 +8,7 @@ pub mod AuditFindingLemmas
 pub mod AuditEndLemmas
 pub mod SoundSessionLemmas
 pub mod RunEndLemmas
+pub mod StorePromiseLemmas
 pub mod WiderRulesLemmas
 pub mod DemoTextLemmas
 pub mod OwnSessionLemmas

@@ -32,8 +32,8 @@ use Rattle.hhh_engine.specs.Inputs.{InputBytes, WereAccepted, WereRead}
 use Rattle.dealt_capture.specs.{IsCaptureFile, AreDealtRecords, DealingRules}
 use Rattle.hhh_engine.specs.Commands.{CommandEnds}
 use Rattle.hhh_engine.specs.TopCall.{RefusesStore, Streams, faults_after, faults_before, run_inputs, run_keeping}
-use Rattle.report_session.specs.{IsAsBefore, saves_settings, GoesOnFrom, IsSession}
-use Rattle.report_session.specs.{IsSessionInPart, SessionKeeping, saves_settings-allowed}
+use Rattle.report_session.specs.{IsAsBefore, saves_settings, GoesOnFrom}
+use Rattle.report_session.specs.{SessionKeeping, saves_settings-allowed}
 use Rattle.command_words.specs.declared.words_kind.WordsRefusal.{WordsRefusal}
 use Rattle.command_words.specs.declared.words_kind.WordsRefusal.TheVariants as words
 use Rattle.run_status.specs.{status_of_opening, status_of_words}
@@ -66,8 +66,8 @@ status_tells_capture rules keeping (Weigh prefix settings) given file text reads
     let is = status_of_known_file given.capture file (λ f. IsWeightText prefix settings.weigh f text) known answer in
     (is.frames, is.capture)
 status_tells_capture rules keeping (Report settings) given file text reads known answer =
-    let is = status_of_known_file given.capture file (λ f. IsSession settings rules keeping given.store f text) known answer in
-    (is.dealt.frames, is.dealt.capture)
+    let is = status_of_known_file given.capture file (λ f. AreDealtRecords settings rules f answer.records answer.lists) known answer.dealt in
+    (is.frames, is.capture)
 status_tells_capture rules keeping (Format settings) given file text reads known answer = absurd reads
 status_tells_capture rules keeping (Audit settings) given file text reads known answer =
     (status_of_known_file given.capture file (λ f. IsCaptureFile f × IfSome given.text (λ session. IsSoundAudit settings rules f session text))
@@ -83,8 +83,8 @@ status_tells_capture_in_part rules keeping (Weigh prefix settings) given file fr
     let is = status_of_known_file given.capture file (λ f. IsWeighInPart prefix settings.weigh f front) known answer in
     (is.is_text.frames, is.is_text.capture)
 status_tells_capture_in_part rules keeping (Report settings) given file front reads known answer =
-    let is = status_of_known_file given.capture file (λ f. IsSessionInPart settings rules keeping given.store f front) known answer in
-    (is.dealt.frames, is.dealt.capture)
+    let is = status_of_known_file given.capture file (λ f. AreDealtRecords settings rules f answer.records answer.lists) known answer.dealt in
+    (is.frames, is.capture)
 status_tells_capture_in_part rules keeping (Format settings) given file front reads known answer = absurd reads
 status_tells_capture_in_part rules keeping (Audit settings) given file front reads known answer =
     (status_of_known_file given.capture file
@@ -444,9 +444,9 @@ module _ {S T K D : Type 0} (s : SourceOf S) (t : SourceOf T) (k : SinkOf K) (d 
       ⊎ ((status ≡ ReadFault) ⊎ ((status ≡ DiskFault) ⊎ (status ≡ OutOfMemory)))
   status_is_store_refusal never_both decided settings Done file image frames fault limited used known
       capture is_store shown refused ends =
-      let is = status_of_known_file given.capture file (λ f. IsSession settings rules keeping given.store f ends.1.text) known ends.1.is_text in
+      let is = ends.1.is_text in
       absurd (status_never_of_begun_session decided rules settings given.store file image fault is.records is.lists is.base limited used is_store
-      shown refused is.dealt is.begins)
+      shown refused (status_of_known_file given.capture file (λ f. AreDealtRecords settings rules f is.records is.lists) known is.dealt) is.begins)
   status_is_store_refusal never_both decided settings (BadWords kind) file image frames fault limited used known
       capture is_store shown refused ends =
       absurd ends
@@ -458,9 +458,9 @@ module _ {S T K D : Type 0} (s : SourceOf S) (t : SourceOf T) (k : SinkOf K) (d 
       inr (inl refl)
   status_is_store_refusal never_both decided settings WriteFault file image frames fault limited used known
       capture is_store shown refused ends =
-      let is = status_of_known_file given.capture file (λ f. IsSessionInPart settings rules keeping given.store f ends.1.text) known ends.1.is_text in
+      let is = ends.1.is_text in
       absurd (status_never_of_begun_session decided rules settings given.store file image fault is.records is.lists is.base limited used is_store
-      shown refused is.dealt is.begins)
+      shown refused (status_of_known_file given.capture file (λ f. AreDealtRecords settings rules f is.records is.lists) known is.dealt) is.begins)
   status_is_store_refusal never_both decided settings DiskFault file image frames fault limited used known
       capture is_store shown refused ends =
       inr (inr (inl refl))

@@ -58,30 +58,36 @@ wider_rules_allow_records narrow wide settings file records lists widen dealt = 
       (widen settings.deal) dealt.dealt;
 }
 
-wider_rules_allow_session : (narrow wide : DealingRules) (keeping : SessionKeeping) (settings : Settings) (store : Option (List ℕ))
-    (file text : List ℕ)
+wider_rules_allow_session : (narrow wide : DealingRules) (keeping : SessionKeeping) (settings : Settings)
+    (store file : Option (List ℕ)) (text : List ℕ)
     → ((kind : DealKind) (place : ℕ) (rec : RecordValue) (shards number : ℕ) → narrow kind place rec shards number
     → wide kind place rec shards number)
     → IsSession settings narrow keeping store file text → IsSession settings wide keeping store file text
 wider_rules_allow_session narrow wide keeping settings store file text widen session = record {
   records = session.records;
   lists = session.lists;
-  dealt = wider_rules_allow_records narrow wide settings file session.records session.lists widen session.dealt;
+  dealt = capture_report_if_known file (λ bytes. AreDealtRecords settings narrow bytes session.records session.lists)
+      (λ bytes. AreDealtRecords settings wide bytes session.records session.lists)
+      (λ bytes. wider_rules_allow_records narrow wide settings bytes session.records session.lists widen) session.dealt;
+  as_many = session.as_many;
   base = session.base;
   begins = session.begins;
   represents = session.represents;
   spelled = session.spelled;
 }
 
-wider_rules_allow_partial_session : (narrow wide : DealingRules) (keeping : SessionKeeping) (settings : Settings) (store : Option (List ℕ))
-    (file front : List ℕ)
+wider_rules_allow_partial_session : (narrow wide : DealingRules) (keeping : SessionKeeping) (settings : Settings)
+    (store file : Option (List ℕ)) (front : List ℕ)
     → ((kind : DealKind) (place : ℕ) (rec : RecordValue) (shards number : ℕ) → narrow kind place rec shards number
     → wide kind place rec shards number)
     → IsSessionInPart settings narrow keeping store file front → IsSessionInPart settings wide keeping store file front
 wider_rules_allow_partial_session narrow wide keeping settings store file front widen session = record {
   records = session.records;
   lists = session.lists;
-  dealt = wider_rules_allow_records narrow wide settings file session.records session.lists widen session.dealt;
+  dealt = capture_report_if_known file (λ bytes. AreDealtRecords settings narrow bytes session.records session.lists)
+      (λ bytes. AreDealtRecords settings wide bytes session.records session.lists)
+      (λ bytes. wider_rules_allow_records narrow wide settings bytes session.records session.lists widen) session.dealt;
+  as_many = session.as_many;
   base = session.base;
   begins = session.begins;
   represents = session.represents;
@@ -156,9 +162,7 @@ wider_rules_allow_answer_text : (narrow wide : DealingRules) (keeping : SessionK
     → IsAnswer narrow keeping command read text → IsAnswer wide keeping command read text
 wider_rules_allow_answer_text narrow wide keeping (Weigh prefix settings) read text widen answer = answer
 wider_rules_allow_answer_text narrow wide keeping (Report settings) read text widen answer =
-    capture_report_if_known read.capture (λ file. IsSession settings narrow keeping read.store file text)
-    (λ file. IsSession settings wide keeping read.store file text)
-    (λ file session. wider_rules_allow_session narrow wide keeping settings read.store file text widen session) answer
+    wider_rules_allow_session narrow wide keeping settings read.store read.capture text widen answer
 wider_rules_allow_answer_text narrow wide keeping (Format settings) read text widen answer = answer
 wider_rules_allow_answer_text narrow wide keeping (Audit settings) read text widen answer =
     audit_end_inputs_imply_more read (λ file session. IsSoundAudit settings narrow file session text)
@@ -174,9 +178,7 @@ wider_rules_allow_answer_part : (narrow wide : DealingRules) (keeping : SessionK
     → IsAnswerInPart narrow keeping command read front → IsAnswerInPart wide keeping command read front
 wider_rules_allow_answer_part narrow wide keeping (Weigh prefix settings) read front widen answer = answer
 wider_rules_allow_answer_part narrow wide keeping (Report settings) read front widen answer =
-    capture_report_if_known read.capture (λ file. IsSessionInPart settings narrow keeping read.store file front)
-    (λ file. IsSessionInPart settings wide keeping read.store file front)
-    (λ file session. wider_rules_allow_partial_session narrow wide keeping settings read.store file front widen session) answer
+    wider_rules_allow_partial_session narrow wide keeping settings read.store read.capture front widen answer
 wider_rules_allow_answer_part narrow wide keeping (Format settings) read front widen answer = answer
 wider_rules_allow_answer_part narrow wide keeping (Audit settings) read front widen answer =
     audit_end_inputs_imply_more read (λ file session. IsUnfinished (IsAuditText settings narrow file session) front)

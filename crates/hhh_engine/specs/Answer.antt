@@ -23,8 +23,7 @@ formatted_answer = codes "formatted\n"
 abbrev pub IsAnswer : DealingRules → SessionKeeping → Command → InputBytes → List ℕ → Type 0
 IsAnswer rules keeping (Weigh prefix settings) read text =
     IfSome read.capture (λ file. IsWeightText prefix settings.weigh file text)
-IsAnswer rules keeping (Report settings) read text =
-    IfSome read.capture (λ file. IsSession settings rules keeping read.store file text)
+IsAnswer rules keeping (Report settings) read text = IsSession settings rules keeping read.store read.capture text
 IsAnswer rules keeping (Format settings) read text = text ≡ formatted_answer
 IsAnswer rules keeping (Audit settings) read text =
     HoldsOfAudit read (λ file session. IsSoundAudit settings rules file session text)
@@ -46,8 +45,7 @@ IsWeighInPart prefix weigh file front = IsUnfinished (IsWeightText prefix weigh 
 abbrev pub IsAnswerInPart : DealingRules → SessionKeeping → Command → InputBytes → List ℕ → Type 0
 IsAnswerInPart rules keeping (Weigh prefix settings) read front =
     IfSome read.capture (λ file. IsWeighInPart prefix settings.weigh file front)
-IsAnswerInPart rules keeping (Report settings) read front =
-    IfSome read.capture (λ file. IsSessionInPart settings rules keeping read.store file front)
+IsAnswerInPart rules keeping (Report settings) read front = IsSessionInPart settings rules keeping read.store read.capture front
 IsAnswerInPart rules keeping (Format settings) read front = IsUnfinished (λ text. text ≡ formatted_answer) front
 IsAnswerInPart rules keeping (Audit settings) read front =
     HoldsOfAudit read (λ file session. IsUnfinished (IsAuditText settings rules file session) front)

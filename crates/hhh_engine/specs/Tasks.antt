@@ -41,8 +41,8 @@ weigh_task prefix settings left left_now =
 -- that of `report`, over such a capture, and the disk of a store
 abbrev pub report_task : {D : Type 0} → DiskOf D → Settings → DealingRules → (left left_now : Option (List ℕ)) → (old new : D) → Task
 report_task d settings rules left left_now old new = record {
-  is_text = λ text. IfSome left (λ file. IsSession settings rules (AreKeptOnDisk d old new) (d.reads old) file text);
-  is_part = λ front. IfSome left (λ file. IsSessionInPart settings rules (AreKeptOnDisk d old new) (d.reads old) file front);
+  is_text = IsSession settings rules (AreKeptOnDisk d old new) (d.reads old) left;
+  is_part = IsSessionInPart settings rules (AreKeptOnDisk d old new) (d.reads old) left;
   read = IsAtEnd left_now;
   accepted = IfSome left IsCaptureFile;
   disk_failed = FaultRose (d.faults old) (d.faults new);

@@ -16,6 +16,7 @@ use std::sync::Wait;
 use std::thread::Threads;
 
 /// What a command is run by: what starts threads, the gate that is told of their steps, and the dealers of records.
+#[derive(Drop)]
 pub(crate) struct Runner<'a, R: Threads + Wait + Sync, G: Gate + Sync> {
     pub(crate) rt: &'a R,
     pub(crate) alloc: Global,

@@ -1,11 +1,12 @@
 //! Laws of what commands write, each the contract of a function that does nothing.
 
-ghost use Rattle.std.specs.Prelude.{◌≡◌, ℕ, ◌+◌, ◌*◌, ◌≤◌, List, length, All, Option, IfSome};
+ghost use Rattle.std.specs.Prelude.{◌≡◌, ℕ, ◌+◌, ◌*◌, ◌≤◌, true, List, length, All, Option, Some, IfSome};
 ghost use Rattle.prefix_lattice.specs.{RecordValue};
 ghost use Rattle.deal_rules.specs.{dealer_of};
 ghost use Rattle.deal_rules.specs.declared.deal_kind.DealKind.{DealKind};
 ghost use Rattle.session_audit.specs.{IsSoundAudit, sound_audit};
 ghost use Rattle.hhh_engine.specs.Demo.{IsDemoText};
+ghost use Rattle.hhh_engine.specs.StorePromise.{KeepsItsStore};
 ghost use Rattle.hhh_engine.specs.TopCall.{RunEnds, Streams};
 ghost use Rattle.run_status.specs.declared.status.Status.{Status};
 ghost use Rattle.pcap_frames.specs.{FrameValue};
@@ -14,7 +15,8 @@ ghost use Rattle.traffic_maker.specs.{made_capture, most_frames};
 ghost use Rattle.exact_audit.specs.{IsVerdict};
 ghost use Rattle.exact_audit.specs.declared.verdict.Verdict.{Verdict};
 ghost use Rattle.exact_audit.specs.declared.verdict.Verdict.TheVariants.{Good};
-ghost use Rattle.command_words.specs.{AreLimited};
+ghost use Rattle.command_words.specs.{AreLimited, AskForCommand};
+ghost use Rattle.command_words.specs.declared.command.Command.TheVariants.{Report};
 ghost use Rattle.command_words.specs.declared.settings.Settings.{Settings};
 ghost use Rattle.report_text.specs.{IsSessionText, longest_session};
 ghost use Rattle.report_text.specs.declared.session.Session.{Session};
@@ -22,11 +24,14 @@ ghost use Rattle.shard_state.specs.{CutRepresents};
 ghost use Rattle.report_session.specs.{IsSession, reports_in, AreKeptOnDisk};
 ghost use Rattle.dealt_capture.specs.{rules_by};
 
+use command_words::arguments_ask_for_one_command;
 use deal_rules::{Dealer, Dealers, Deals};
 use dealt_capture::captures_are_dealt_in_one_way;
 use exact_audit::a_report_has_one_verdict;
 use outside_io::{Sink, Source};
-use report_session::{own_reports_are_sound, sessions_read_back, whole_reports_are_one};
+use report_session::{
+    own_reports_are_sound, sessions_keep_their_store, sessions_read_back, whole_reports_are_one,
+};
 use slot_disk::Disk;
 
 /// If each dealer answers by a formula, one for each kind of dealing, then a run that ended under what the dealers may
@@ -43,7 +48,7 @@ pub fn runs_follow_formulas<S: Source, T: Source, K: Sink, D: Disk>(dealers: &De
 /// An audit of a session's reports over the dealt records finds each of them good, for the capacity and the share of the
 /// session, also where the session went on from a saved cut, if the tables of this were those of its records.
 pub fn own_reports_are_good<D: Disk>()
-    ensures { (formula : DealKind → ℕ → RecordValue → ℕ → ℕ) (before now : D) (settings : Settings) (store : Option (List ℕ)) (file text : List ℕ)
+    ensures { (formula : DealKind → ℕ → RecordValue → ℕ → ℕ) (before now : D) (settings : Settings) (store file : Option (List ℕ)) (text : List ℕ)
         (is : IsSession settings (rules_by formula) (AreKeptOnDisk D.Disk before now) store file text)
         (verdict : Verdict) → IfSome is.base (λ cut. CutRepresents cut is.lists)
         → All (λ reported. IsVerdict is.lists settings.capacity settings.phi reported.report verdict → verdict ≡ Good) (reports_in is.spelled.reports) }
@@ -59,10 +64,10 @@ pub fn own_reports_are_good<D: Disk>()
 /// to be those of its records.
 pub fn own_sessions_are_audited_good<D: Disk>()
     ensures is_text { (formula : DealKind → ℕ → RecordValue → ℕ → ℕ) (before now : D) (settings : Settings) (store : Option (List ℕ)) (file text : List ℕ)
-        (is : IsSession settings (rules_by formula) (AreKeptOnDisk D.Disk before now) store file text)
+        (is : IsSession settings (rules_by formula) (AreKeptOnDisk D.Disk before now) store (Some file) text)
         → AreLimited settings → IfSome is.base (λ cut. CutRepresents cut is.lists) → (known : Session) × IsSessionText text known }
     ensures good { (formula : DealKind → ℕ → RecordValue → ℕ → ℕ) (before now : D) (settings other : Settings) (store : Option (List ℕ)) (file text : List ℕ)
-        (is : IsSession settings (rules_by formula) (AreKeptOnDisk D.Disk before now) store file text)
+        (is : IsSession settings (rules_by formula) (AreKeptOnDisk D.Disk before now) store (Some file) text)
         → AreLimited settings → settings.shards ≡ other.shards → settings.capacity ≡ other.capacity → settings.phi ≡ other.phi
         → settings.deal ≡ other.deal → settings.weigh ≡ other.weigh → length text ≤ longest_session
         → IfSome is.base (λ cut. CutRepresents cut is.lists)
@@ -89,4 +94,17 @@ pub fn demos_have_one_text()
 {
     captures_are_dealt_in_one_way();
     whole_reports_are_one();
+}
+
+/// Whatever the status of a run of `report` with a store, whose bytes were known as it began: the store is kept, by the bytes
+/// that were written. What a crash now leaves of it opens to no earlier positions than the last line `saved` shows, or than
+/// the line `opened` where there is none, and its sequence counts these lines, exactly so where the run is Done.
+pub fn runs_keep_their_store<S: Source, T: Source, K: Sink, D: Disk>(dealers: &Dealers)
+    ensures { (old new : Streams S T K D) (words : List (List ℕ)) (status : Status) (settings : Settings) (store : List ℕ)
+        → AskForCommand words (Report settings) → settings.store ≡ true → D.reads old.disk ≡ Some store
+        → RunEnds S.Source T.Source K.Sink D.Disk old new words (λ kind. ⟦<Dealer as Deals>⟧.may_answer (dealer_of kind dealers.now)) status
+        → KeepsItsStore K.Sink D.Disk old new settings store status }
+{
+    arguments_ask_for_one_command();
+    sessions_keep_their_store::<D>(dealers);
 }

@@ -28,7 +28,6 @@ use Rattle.report_session.proofs.SavedStoreLemmas.{SavedStoreCutsRepresent, save
 use Rattle.report_session.proofs.SavedStoreLemmas.{saved_store_cuts_represent}
 use Rattle.report_session.proofs.OpeningShardLemmas.{new_opening_shards_are_shards, resumed_opening_shards_are_shards}
 use Rattle.report_session.proofs.OwnReportLemmas.{own_report_lists_of_opening}
-use Rattle.report_session.proofs.ReadBackSessionLemmas.{own_session_lists_match_shards}
 use Rattle.report_session.proofs.ShownSessionLemmas.{shown_session_front_of_all}
 use Rattle.report_session.proofs.SessionTextLemmas.{session_text_whatever_was_saved, session_text_begins_saying_less}
 
@@ -127,7 +126,7 @@ belonging_session_kept_cuts store opening lists reports used all =
 -- a whole session
 pub belonging_session_completed : OpenToOne → SavedStoreCutsRepresent → {D : Type 0} (d : DiskOf D)
     → ((disk : D) (bytes : List ℕ) → d.reads disk ≡ Some bytes → d.image_now disk bytes) → (rules : DealingRules)
-    (settings : Settings) (old new : D) (store file text : List ℕ)
+    (settings : Settings) (old new : D) (store : List ℕ) (file : Option (List ℕ)) (text : List ℕ)
     (is : IsSession settings rules (AreKeptOnDisk d old new) (d.reads old) file text)
     → AreLimited settings → settings.store ≡ true → d.reads old ≡ Some store
     → ((image : List ℕ) → d.image_now old image → StoreBelongs (saves_settings settings) is.lists image)
@@ -135,8 +134,7 @@ pub belonging_session_completed : OpenToOne → SavedStoreCutsRepresent → {D :
 belonging_session_completed one represent d read_is_image rules settings old new store file text is limited
     used known belonged =
     let opening : List ShardValue = session_opening settings.capacity is.lists is.base in
-    let many : length is.lists ≡ settings.shards =
-    own_session_lists_match_shards settings.deal (rules settings.deal) settings.shards is.records.list is.lists is.dealt.dealt in
+    let many : length is.lists ≡ settings.shards = is.as_many in
     let reports : List Reported = caller_reports is.spelled.reports in
     belonging_session_keeps_belonging one d read_is_image settings is.lists is.base
     (saved_cuts settings.store opening reports) [] old new limited used is.begins
@@ -148,7 +146,7 @@ belonging_session_completed one represent d read_is_image rules settings old new
 -- a session that broke off
 pub belonging_session_broken_off : OpenToOne → SavedStoreCutsRepresent → {D : Type 0} (d : DiskOf D)
     → ((disk : D) (bytes : List ℕ) → d.reads disk ≡ Some bytes → d.image_now disk bytes) → (rules : DealingRules)
-    (settings : Settings) (old new : D) (store file front : List ℕ)
+    (settings : Settings) (old new : D) (store : List ℕ) (file : Option (List ℕ)) (front : List ℕ)
     (is : IsSessionInPart settings rules (AreKeptOnDisk d old new) (d.reads old) file front)
     → AreLimited settings → settings.store ≡ true → d.reads old ≡ Some store
     → ((image : List ℕ) → d.image_now old image → StoreBelongs (saves_settings settings) is.lists image)
@@ -158,8 +156,7 @@ belonging_session_broken_off one represent d read_is_image rules settings old ne
     let lists : List (List RecordValue) = is.lists in
     let base : Option CutValue = is.base in
     let opening : List ShardValue = session_opening settings.capacity lists base in
-    let many : length lists ≡ settings.shards =
-    own_session_lists_match_shards settings.deal (rules settings.deal) settings.shards is.records.list lists is.dealt.dealt in
+    let many : length lists ≡ settings.shards = is.as_many in
     let Stand : List CutValue → Type 0 = All (λ cut. CutRepresents cut lists) in
     let Standing : Type 0 = IfSome base (λ cut. CutRepresents cut lists) in
     let Kept : SessionSaving = λ saved unfinished. settings.store ≡ true

@@ -311,8 +311,8 @@ two_rounds_ended_in_the_first = first_round_broke_off
 
 -- ---- the feed
 
-pub dealt_capture : IsFeedCapture settings in_turn header lists (tail_text records)
-dealt_capture = record { records = records; dealt = dealt_from_the_header; is_tail = refl }
+pub dealt_capture : IsFeedCapture settings in_turn (Some header) lists (tail_text records)
+dealt_capture = record { records = records; dealt = dealt_from_the_header; as_many = refl; is_tail = refl }
 
 pub two_shards_start_before_their_ends : StartsBefore two_shards
 two_shards_start_before_their_ends = new_opening_shards_before_ends 512 two_lists
@@ -371,7 +371,10 @@ abbrev pass_of : SeatValue → SeatValue
 pass_of seat = record seat { me = (first, []) }
 
 abbrev opened : SeatValue → Opened
-opened seat = record { board = board_of seat; pass = pass_of seat; cut = cut_at opening (0 ∷ 0 ∷ 0 ∷ 0 ∷ []) }
+opened seat = record {
+  board = board_of seat;
+  reader = record { pass = pass_of seat; cut = cut_at opening (0 ∷ 0 ∷ 0 ∷ 0 ∷ []) };
+}
 
 pub opened_shards : (seat : SeatValue) → IsFeedOpening opening (opened seat)
 opened_shards seat = record {
@@ -383,7 +386,7 @@ opened_shards seat = record {
 
 -- a cut of no shard isn't one of four
 pub opened_with_another_cut : (seat : SeatValue)
-    → IsFeedOpening opening (record (opened seat) { cut = cut_at [] [] }) → ⊥
+    → IsFeedOpening opening (record (opened seat) { reader = record { pass = pass_of seat; cut = cut_at [] [] } }) → ⊥
 opened_with_another_cut seat is = cc is.shape.as_many
 
 -- lists without records are at their ends
@@ -418,7 +421,7 @@ gathered_without_a_caller seat gathered nobody is = omega (arith, is.as_many, ap
 
 pub fed_without_a_round : (seat : SeatValue) (fed : Fed) → fed.gathered.called.items ≡ []
     → IsFeedResult (board_of seat) settings none_saved (Some []) (Some [])
-    (record { gathered = record fed.gathered { pass = pass_of seat }; cut = (opened seat).cut })
+    (record { gathered = record fed.gathered { pass = pass_of seat }; cut = (opened seat).reader.cut })
 fed_without_a_round seat fed nobody = record {
   gathered = gathered_without_a_round seat fed.gathered nobody;
   shape = record { as_many = refl; alike = refl };

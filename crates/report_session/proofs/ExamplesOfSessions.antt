@@ -1,5 +1,5 @@
 -- Worked examples of the session over a capture without frames, and of its parts.
-use Rattle.std.proofs.Common.{◌≡◌, ◌%◌, ◌≤◌, ℕ, List, [], ◌∷◌, ◌++◌, None, inl, inr, refl, sym, ap, codes}
+use Rattle.std.proofs.Common.{◌≡◌, ◌%◌, ◌≤◌, ℕ, List, [], ◌∷◌, ◌++◌, None, Some, inl, inr, refl, sym, ap, codes}
 use Rattle.std.specs.Prelude.{⊤, Option, slice_index}
 use Rattle.std.proofs.Common.{arith, All, subst, lit<, zero, suc, true, false, get_or}
 use Rattle.std.specs.Fmt.{digits}
@@ -390,11 +390,12 @@ tables_of_no_records = All-replicate (λ shard. SnapshotRepresents shard.base sh
 pub new_shards_represent : BaseRepresents lists None (session_opening 512 lists None)
 new_shards_represent none = tables_of_no_records
 
-pub session_over_the_header : IsSession settings in_turn keeps_nothing None header text
+pub session_over_the_header : IsSession settings in_turn keeps_nothing None (Some header) text
 session_over_the_header = record {
   records = records;
   lists = lists;
   dealt = dealt_from_the_header;
+  as_many = refl;
   base = None;
   begins = begins_anew None;
   represents = new_shards_represent;
@@ -500,12 +501,13 @@ pub most_bytes_of_the_session : BeginsSession opening settings saves_nothing (ta
 most_bytes_of_the_session = inr (inr broken_off_in_the_last_lines)
 
 pub session_in_part : (keeping : SessionKeeping) (store : Option (List ℕ))
-    → IsSessionInPart settings in_turn keeping store header (codes "opened 0 0 0")
+    → IsSessionInPart settings in_turn keeping store (Some header) (codes "opened 0 0 0")
 unfolding digits
 session_in_part keeping store = record {
   records = records;
   lists = lists;
   dealt = dealt_from_the_header;
+  as_many = refl;
   base = None;
   begins = begins_anew store;
   represents = new_shards_represent;

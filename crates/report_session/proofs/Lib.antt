@@ -12,6 +12,7 @@ pub mod LastReportLemmas
 pub mod SavedStoreLemmas
 pub mod OwnReportLemmas
 pub mod ReopenedStoreLemmas
+pub mod KeptStoreLemmas
 pub mod BelongingSessionLemmas
 pub mod BoundedReportLemmas
 pub mod ShownSessionLemmas

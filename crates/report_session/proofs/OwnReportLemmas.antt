@@ -51,8 +51,8 @@ own_caller_reports_are_shown opening settings count (reports ∷ callers) are =
     (All-tail (AreOfCaller opening settings count) reports callers are))
 
 -- the reports of a session are shown
-pub own_reports_are_shown : (settings : Settings) (rules : DealingRules) (keeping : SessionKeeping) (store : Option (List ℕ))
-    (file text : List ℕ) (is : IsSession settings rules keeping store file text)
+pub own_reports_are_shown : (settings : Settings) (rules : DealingRules) (keeping : SessionKeeping) (store file : Option (List ℕ))
+    (text : List ℕ) (is : IsSession settings rules keeping store file text)
     → All (IsShownInSession (session_opening settings.capacity is.lists is.base) settings) (reports_in is.spelled.reports)
 own_reports_are_shown settings rules keeping store file text is =
     let opening = session_opening settings.capacity is.lists is.base in
@@ -62,8 +62,8 @@ own_reports_are_shown settings rules keeping store file text is =
     (own_caller_reports_are_shown opening settings settings.rounds reports.callers is.spelled.are_reports.callers)
 
 -- so they are sound, if the saved cut that it went on from represents the lists
-pub own_reports_are_sound : (settings : Settings) (rules : DealingRules) (keeping : SessionKeeping) (store : Option (List ℕ))
-    (file text : List ℕ) (is : IsSession settings rules keeping store file text)
+pub own_reports_are_sound : (settings : Settings) (rules : DealingRules) (keeping : SessionKeeping) (store file : Option (List ℕ))
+    (text : List ℕ) (is : IsSession settings rules keeping store file text)
     → IfSome is.base (λ cut. CutRepresents cut is.lists)
     → All (IsOwnReportSound settings is.lists) (reports_in is.spelled.reports)
 own_reports_are_sound settings rules keeping store file text is represents =

@@ -1,14 +1,11 @@
 -- The session that `report` writes, as its text is read.
-use Rattle.std.proofs.Common.{◌≡◌, ◌∙◌, ◌+◌, ◌*◌, ◌^◌, ◌<◌, ◌≤◌, ℕ, Bool, false, List, [], ◌∷◌, ◌++◌, Option, IfSome}
-use Rattle.std.proofs.Common.{inl, inr, All, length, map, get_or, count_by, sym, ap, subst, arith}
+use Rattle.std.proofs.Common.{◌≡◌, ◌∙◌, ◌+◌, ◌*◌, ◌^◌, ◌<◌, ◌≤◌, ℕ, Bool, false, List, [], ◌∷◌, ◌++◌, Option, Some, IfSome}
+use Rattle.std.proofs.Common.{inl, inr, All, length, map, get_or, count_by, sym, subst, arith}
 use Rattle.std.specs.List.{flat_map}
 use Rattle.std.proofs.lemmas.List.{length-append, length-map}
 use Rattle.std.proofs.lemmas.List.Elements.{All-from_get_or, All-get_or, All-map}
-use Rattle.std.proofs.lemmas.List.FromFn.{length-range_with_len}
 use Rattle.std.proofs.lemmas.List.Sums.{count_by-le-length}
-use Rattle.prefix_lattice.specs.{RecordValue, record_limit}
-use Rattle.deal_rules.specs.{IsDealing}
-use Rattle.deal_rules.specs.declared.deal_kind.DealKind.{DealKind}
+use Rattle.prefix_lattice.specs.{record_limit}
 use Rattle.shard_state.specs.{CutRepresents, ShardValue}
 use Rattle.pcap_frames.specs.{FrameValue, frame_count_limit}
 use Rattle.frame_records.specs.{AreRecordsOf}
@@ -88,13 +85,6 @@ own_session_is_showable settings opened reports records frames positions many fe
       bad_header = own_session_count_is_bounded _ frames records.bad_header few are.bad_header;
     }
 
--- as many lists as shards
-pub own_session_lists_match_shards : (kind : DealKind) (may_answer : ℕ → RecordValue → ℕ → ℕ → Type 0) (shards : ℕ)
-    (records : List RecordValue) (lists : List (List RecordValue)) → IsDealing kind may_answer shards records lists
-    → length lists ≡ shards
-own_session_lists_match_shards kind may_answer shards records lists dealing =
-    ap length dealing.dealt.parted ∙ length-map _ _ ∙ length-range_with_len 0 shards
-
 -- the positions at which shards start, where their lists are small
 own_session_starts_are_positions : (opening : List ShardValue) (settings : Settings) → AreLimited settings
     → length opening ≡ settings.shards
@@ -116,7 +106,7 @@ own_session_starts_are_positions opening settings limited many before small =
 
 -- the session that `report` writes is one, if the saved cut that it went on from represents the lists
 pub own_session_is_valid : PrintsOwnSession → (settings : Settings) (rules : DealingRules) (keeping : SessionKeeping) (store : Option (List ℕ))
-    (file text : List ℕ) (is : IsSession settings rules keeping store file text) → AreLimited settings
+    (file text : List ℕ) (is : IsSession settings rules keeping store (Some file) text) → AreLimited settings
     → IfSome is.base (λ cut. CutRepresents cut is.lists)
     → IsSessionText text (shown_session settings.store (session_start (session_opening settings.capacity is.lists is.base))
     is.spelled.reports is.records)
@@ -125,8 +115,7 @@ own_session_is_valid prints settings rules keeping store file text is limited re
     let reports = is.spelled.reports in
     let known = shown_session settings.store (session_start opening) reports is.records in
     let goes_on = base_goes_on settings is.lists is.base is.begins.fits in
-    let many_lists = own_session_lists_match_shards settings.deal (rules settings.deal) settings.shards is.records.list is.lists
-    is.dealt.dealt in
+    let many_lists = is.as_many in
     let many : length opening ≡ settings.shards =
     opening_shards_count settings.capacity is.lists is.base goes_on ∙ many_lists in
     let last : IsShownInSession opening settings reports.last =
@@ -135,8 +124,8 @@ own_session_is_valid prints settings rules keeping store file text is limited re
     let small_lists : All IsBoundedReportList is.lists =
     subst (λ lists. All IsBoundedReportList lists) (own_report_lists_of_opening settings is.lists store is.base is.begins)
     (All-map IsBoundedReportList (λ (shard : ShardValue). shard.list) opening small) in
-    let shown = own_reports_are_shown settings rules keeping store file text is in
-    let sound = own_reports_are_sound settings rules keeping store file text is represents in
+    let shown = own_reports_are_shown settings rules keeping store (Some file) text is in
+    let sound = own_reports_are_sound settings rules keeping store (Some file) text is represents in
     let starts = own_session_starts_are_positions opening settings limited many
     (opening_shards_before_ends settings.capacity is.lists is.base goes_on) small in
     record {
@@ -149,7 +138,7 @@ own_session_is_valid prints settings rules keeping store file text is limited re
 
 -- all its reports are sound: as many as each caller made rounds, with the calling thread, and the last
 pub own_session_reads_back : PrintsOwnSession → (settings : Settings) (rules : DealingRules) (keeping : SessionKeeping)
-    (store : Option (List ℕ)) (file text : List ℕ) (is : IsSession settings rules keeping store file text)
+    (store : Option (List ℕ)) (file text : List ℕ) (is : IsSession settings rules keeping store (Some file) text)
     → AreLimited settings → IfSome is.base (λ cut. CutRepresents cut is.lists)
     → (known : Session) × IsSessionText text known × All (IsOwnReportSound settings is.lists) known.reports
     × (length known.reports ≡ (settings.callers + 1) * settings.rounds + 1)
@@ -159,6 +148,6 @@ own_session_reads_back prints settings rules keeping store file text is limited 
       shown_session settings.store (session_start opening) reports is.records,
       own_session_is_valid prints settings rules keeping store file text is limited represents,
       shown_session_keeps_property (IsOwnReportSound settings is.lists) settings.store reports (λ store reported sound. sound)
-          (own_reports_are_sound settings rules keeping store file text is represents),
+          (own_reports_are_sound settings rules keeping store (Some file) text is represents),
       shown_session_report_count opening settings settings.store reports is.spelled.are_reports,
     )

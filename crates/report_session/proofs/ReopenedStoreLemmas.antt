@@ -25,17 +25,16 @@ use Rattle.report_session.specs.Session.{saved_cuts, session_start}
 use Rattle.dealt_capture.specs.{DealingRules}
 use Rattle.report_session.proofs.BaseLemmas.{base_starts}
 use Rattle.report_session.proofs.LastReportLemmas.{last_report_is_among_all}
-use Rattle.report_session.proofs.ReadBackSessionLemmas.{own_session_lists_match_shards}
 use Rattle.report_session.proofs.SessionTextLemmas.{session_text_begins_saying_less, spelled_session_text_says_less}
 use Rattle.report_session.proofs.SeenPositionLemmas.{seen_positions_of_cut, seen_positions_are_not_past}
 use Rattle.report_session.proofs.SeenPositionLemmas.{seen_positions_not_past_self}
 use Rattle.slot_disk.specs.declared.disk.Disk.{Ghosts as DiskOf}
 
 -- from these positions on, those of these reports never fall, and each report has one for each shard
-record RisesInReopenedStore (shards : ℕ) (positions : List ℕ) (reports : List Reported) : Type 0 where
-  many : length positions ≡ shards
-  each : All (λ reported. length reported.report.positions ≡ shards) reports
-  never_fall : (shard : ℕ) → shard < shards → IsNonDecreasing
+pub record RisesInReopenedStore (shards : ℕ) (positions : List ℕ) (reports : List Reported) : Type 0 where
+  pub many : length positions ≡ shards
+  pub each : All (λ reported. length reported.report.positions ≡ shards) reports
+  pub never_fall : (shard : ℕ) → shard < shards → IsNonDecreasing
       (slice_index positions shard ∷ map (λ reported. slice_index reported.report.positions shard) reports)
 
 -- the reports after the next one
@@ -49,7 +48,7 @@ reopened_store_rises_on shards positions next later rises = record {
 }
 
 -- the report after these isn't before the last of them
-reopened_store_next_not_before : (shards : ℕ) (positions : List ℕ) (reports : List Reported) (next : Reported)
+pub reopened_store_next_not_before : (shards : ℕ) (positions : List ℕ) (reports : List Reported) (next : Reported)
     → RisesInReopenedStore shards positions (reports ++ next ∷ [])
     → AreNotPast (last_positions positions reports) next.report.positions
 reopened_store_next_not_before shards positions [] next rises =
@@ -62,7 +61,7 @@ reopened_store_next_not_before shards positions (first ∷ reports) next rises =
     reopened_store_next_not_before shards first.report.positions reports next (reopened_store_rises_on shards positions first (reports ++ next ∷ []) rises)
 
 -- the sequence of the last save counts the saves
-reopened_store_sequence : (opened : Option SavedValue) (sequence : ℕ) (digest : List ℕ) (cuts : List CutValue)
+pub reopened_store_sequence : (opened : Option SavedValue) (sequence : ℕ) (digest : List ℕ) (cuts : List CutValue)
     → store_sequence opened ≡ sequence
     → store_sequence (last_of_saves opened (saves_after sequence digest cuts)) ≡ sequence + length cuts
 reopened_store_sequence opened sequence digest [] same = omega (arith, same)
@@ -74,7 +73,7 @@ reopened_store_sequence opened sequence digest (cut ∷ later) same =
     omega (arith, counted)
 
 -- the positions of the last save are those of the last report that was saved
-reopened_store_positions : (settings : StoreSettings) (opening : List ShardValue) (digest positions : List ℕ)
+pub reopened_store_positions : (settings : StoreSettings) (opening : List ShardValue) (digest positions : List ℕ)
     (opened : Option SavedValue) (sequence : ℕ) (reports more : List Reported) → store_positions settings opened ≡ positions
     → All (λ reported. length reported.report.positions ≡ length opening) (reports ++ more)
     → store_positions settings (last_of_saves opened (saves_after sequence digest (saved_cuts true opening reports)))
@@ -95,7 +94,7 @@ reopened_store_base_positions settings None = refl
 reopened_store_base_positions settings (Some saved) = refl
 
 -- the positions at which the shards start are those that the store opened to
-reopened_store_start_positions : OpenToOne → (settings : Settings) (lists : List (List RecordValue)) (store : List ℕ)
+pub reopened_store_start_positions : OpenToOne → (settings : Settings) (lists : List (List RecordValue)) (store : List ℕ)
     (base : Option CutValue) (opened : Option SavedValue) → AreLimited settings → length lists ≡ settings.shards
     → IfSome base (IsOpeningBase (saves_settings settings) lists) → OpensToBase (saves_settings settings) lists store base
     → StoreOpensTo (saves_settings settings) store opened
@@ -215,13 +214,15 @@ reopened_store_of_session one d settings lists base count rounds next old new li
     (subst (λ b. Kept (saved_cuts b opening rounds ++ []) (saved_cuts b opening (next ∷ []))) used (kept used)))))
 
 -- a whole session
-pub reopened_store_after_completion : {D : Type 0} (d : DiskOf D) (rules : DealingRules) (settings : Settings) (old new : D) (file text : List ℕ)
+pub reopened_store_after_completion : {D : Type 0} (d : DiskOf D) (rules : DealingRules) (settings : Settings) (old new : D)
+    (file : Option (List ℕ)) (text : List ℕ)
     → IsSession settings rules (AreKeptOnDisk d old new) (d.reads old) file text
     → IsSession settings rules (AreReopened d old new) (d.reads old) file text
 reopened_store_after_completion d rules settings old new file text session = record {
   records = session.records;
   lists = session.lists;
   dealt = session.dealt;
+  as_many = session.as_many;
   base = session.base;
   begins = session.begins;
   represents = session.represents;
@@ -236,15 +237,14 @@ reopened_store_after_completion d rules settings old new file text session = rec
 
 -- a session that broke off
 pub reopened_store_after_breaking_off : OpenToOne → {D : Type 0} (d : DiskOf D) (rules : DealingRules) (settings : Settings) (old new : D)
-    (file front : List ℕ) → AreLimited settings
+    (file : Option (List ℕ)) (front : List ℕ) → AreLimited settings
     → IsSessionInPart settings rules (AreKeptOnDisk d old new) (d.reads old) file front
     → IsSessionInPart settings rules (AreReopened d old new) (d.reads old) file front
 reopened_store_after_breaking_off one d rules settings old new file front limited session =
     let lists : List (List RecordValue) = session.lists in
     let base : Option CutValue = session.base in
     let opening : List ShardValue = session_opening settings.capacity lists base in
-    let many : length lists ≡ settings.shards =
-    own_session_lists_match_shards settings.deal (rules settings.deal) settings.shards session.records.list lists session.dealt.dealt in
+    let many : length lists ≡ settings.shards = session.as_many in
     let Kept : SessionSaving = λ saved unfinished. settings.store ≡ true
     → AreKeptOnDisk d old new (saves_settings settings) lists saved unfinished in
     let Less : SessionSaving = λ saved unfinished. settings.store ≡ true
@@ -256,6 +256,7 @@ reopened_store_after_breaking_off one d rules settings old new file front limite
       records = session.records;
       lists = lists;
       dealt = session.dealt;
+      as_many = session.as_many;
       base = base;
       begins = session.begins;
       represents = session.represents;

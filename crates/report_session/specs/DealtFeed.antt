@@ -41,11 +41,12 @@ use Rattle.outside_io.specs.declared.sink.Sink.{Ghosts as SinkOf}
 use Rattle.slot_disk.specs.declared.disk.Disk.{Ghosts as DiskOf}
 use Rattle.report_session.specs.Saving.{IsAsBefore, AreKeptOnDisk}
 
--- the dealt lists of a capture, and the last lines of the session over them
-pub record IsFeedCapture (settings : Settings) (rules : DealingRules) (file : List ℕ) (lists : List (List RecordValue))
+-- the dealt lists of a capture, as many as shards, and the last lines of the session over them
+pub record IsFeedCapture (settings : Settings) (rules : DealingRules) (file : Option (List ℕ)) (lists : List (List RecordValue))
     (tail : List ℕ) : Type 0 where
   pub records : Records
-  pub dealt : AreDealtRecords settings rules file records lists
+  pub dealt : IfSome file (λ bytes. AreDealtRecords settings rules bytes records lists)
+  pub as_many : length lists ≡ settings.shards
   pub is_tail : tail ≡ tail_text records
 
 -- a saver of the store that the settings ask for, over dealt lists, from these positions on
@@ -152,9 +153,9 @@ module _ {K D : Type 0} (k : SinkOf K) (d : DiskOf D) (settings : Settings) (lis
 -- shards on a board whose records are not counted further yet, its first pass, and a cut of its shape
 pub record IsFeedOpening (shards : List ShardValue) (opened : Opened) : Type 0 where
   pub opening : opened.board.opening ≡ shards
-  pub pass : IsPassOf opened.board opened.pass
-  pub view : view opened.pass ≡ first_view shards
-  pub shape : HasCoreShape (length shards) (core_capacity shards) opened.cut
+  pub pass : IsPassOf opened.board opened.reader.pass
+  pub view : view opened.reader.pass ≡ first_view shards
+  pub shape : HasCoreShape (length shards) (core_capacity shards) opened.reader.cut
 
 -- no shard starts past the end of its list
 abbrev pub StartsBefore : List ShardValue → Type 0

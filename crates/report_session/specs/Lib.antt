@@ -1,6 +1,7 @@
 pub mod Saving
 pub mod Session
 pub mod LiveRounds
+pub mod KeptStore
 pub mod DealtFeed
 -- the face: what contracts of other crates cite
 pub use Rattle.report_session.specs.Saving.{IsAsBefore, IsAsBefore-untouched, AreKeptOnDisk}
@@ -12,3 +13,4 @@ pub use Rattle.report_session.specs.LiveRounds.{RoundFaults}
 pub use Rattle.report_session.specs.DealtFeed.{IsFeedCapture}
 pub use Rattle.report_session.specs.DealtFeed.{FeedEnds, FeedRefuses, FeedWrites}
 pub use Rattle.report_session.specs.DealtFeed.{FeedWritesPart}
+pub use Rattle.report_session.specs.KeptStore.{StoreIsKept}

@@ -225,13 +225,14 @@ SessionKeeping = StoreSettings → List (List RecordValue) → SessionSaving
 abbrev pub BaseRepresents : List (List RecordValue) → Option CutValue → List ShardValue → Type 0
 BaseRepresents lists base opening = IfSome base (λ cut. CutRepresents cut lists) → BasesRepresent opening
 
--- the session over a capture: its records are dealt to the shards, counted from the base on and reported. With a store,
--- each cut of the calling thread is saved
-pub record IsSession (settings : Settings) (rules : DealingRules) (keeping : SessionKeeping) (store : Option (List ℕ))
-    (file text : List ℕ) : Type 0 where
+-- the session over a capture: its records, those of its bytes where these are known, are dealt to the shards, counted from
+-- the base on and reported. With a store, each cut of the calling thread is saved
+pub record IsSession (settings : Settings) (rules : DealingRules) (keeping : SessionKeeping) (store file : Option (List ℕ))
+    (text : List ℕ) : Type 0 where
   pub records : Records
   pub lists : List (List RecordValue)
-  pub dealt : AreDealtRecords settings rules file records lists
+  pub dealt : IfSome file (λ bytes. AreDealtRecords settings rules bytes records lists)
+  pub as_many : length lists ≡ settings.shards
   pub base : Option CutValue
   pub begins : GoesOnFrom settings lists store base
   pub represents : BaseRepresents lists base (session_opening settings.capacity lists base)
@@ -240,11 +241,12 @@ pub record IsSession (settings : Settings) (rules : DealingRules) (keeping : Ses
 
 -- the bytes that were written of a session over a capture that broke off. With a store, they say which cuts were saved, and
 -- which save is unfinished
-pub record IsSessionInPart (settings : Settings) (rules : DealingRules) (keeping : SessionKeeping) (store : Option (List ℕ))
-    (file front : List ℕ) : Type 0 where
+pub record IsSessionInPart (settings : Settings) (rules : DealingRules) (keeping : SessionKeeping) (store file : Option (List ℕ))
+    (front : List ℕ) : Type 0 where
   pub records : Records
   pub lists : List (List RecordValue)
-  pub dealt : AreDealtRecords settings rules file records lists
+  pub dealt : IfSome file (λ bytes. AreDealtRecords settings rules bytes records lists)
+  pub as_many : length lists ≡ settings.shards
   pub base : Option CutValue
   pub begins : GoesOnFrom settings lists store base
   pub represents : BaseRepresents lists base (session_opening settings.capacity lists base)

@@ -23,11 +23,19 @@ use std::sync::Wait;
 use std::thread::Threads;
 
 /// What a session is made with: what starts threads, the gate that is told of their steps, and the settings.
+#[derive(Drop)]
 pub(crate) struct Setup<'a, R: Threads + Wait + Sync, G: Gate + Sync> {
     pub(crate) rt: &'a R,
     pub(crate) alloc: Global,
     pub(crate) gate: &'a G,
     pub(crate) settings: &'a Settings,
+}
+
+/// What the calling thread reads with: its pass, and the cut that it reads into.
+#[derive(Drop)]
+pub(crate) struct Reader {
+    pub(crate) pass: Pass,
+    pub(crate) cut: Cut,
 }
 
 /// What is there after the threads fed the board to the ends.
@@ -42,23 +50,24 @@ pub(crate) struct Fed {
 /// Feeds the board to the ends by the plan of the settings, while the calling thread and the other callers make their
 /// rounds. With a saver the calling thread saves each of its cuts.
 pub(crate) fn feed<'a, R: Threads + Wait + Sync, K: Sink, D: Disk, G: Gate + Sync>(
-    setup: &Setup<'a, R, G>,
+    setup: &Setup<'_, R, G>,
     board: &Board,
-    pass: Pass,
-    cut: Cut,
+    reader: Reader,
     sink: &'a mut K,
     disk: &'a mut D,
     saver: &'a mut Option<Saver>,
+    gate: &'a G,
 ) -> Result<Fed, Status>
     requires limited { AreLimited setup.now.settings.now }
     requires wide { AreWide setup.now.settings.now }
-    requires pass { IsPassOf board.now pass }
-    requires view { view pass ≡ first_view board.now.opening }
-    requires shape { HasCoreShape (length board.now.opening) (core_capacity board.now.opening) cut }
+    requires pass { IsPassOf board.now reader.pass }
+    requires view { view reader.pass ≡ first_view board.now.opening }
+    requires shape { HasCoreShape (length board.now.opening) (core_capacity board.now.opening) reader.cut }
     requires alike { core_capacity board.now.opening ≡ setup.now.settings.now.capacity }
     requires used { is_some saver.old ≡ setup.now.settings.now.store }
-    requires can_save { IfSome saver.old (CanMakeSaves (D.reads disk.old) (D.image_now disk.old) board.now.opening (view pass) setup.now.settings.now.rounds) }
-    ensures ran { IfOk result (λ fed. RunsPlan board.now setup.now.settings.now (view pass) fed.gathered) }
+    requires can_save { IfSome saver.old (CanMakeSaves (D.reads disk.old) (D.image_now disk.old) board.now.opening (view reader.pass)
+        setup.now.settings.now.rounds) }
+    ensures ran { IfOk result (λ fed. RunsPlan board.now setup.now.settings.now (view reader.pass) fed.gathered) }
     ensures fed { IfOk result (IsFeedResult board.now setup.now.settings.now
         (SavesInTurn D.Disk saver.old saver.new disk.old disk.new) (K.taken sink.old) (K.taken sink.new)) }
     ensures faults { OnOk result ((K.faults sink.new ≡ K.faults sink.old) × (D.faults disk.new ≡ D.faults disk.old)) }
@@ -69,11 +78,11 @@ pub(crate) fn feed<'a, R: Threads + Wait + Sync, K: Sink, D: Disk, G: Gate + Syn
     ensures unused { saver.old ≡ None → (saver.new ≡ None) × (disk.new ≡ disk.old) }
 {
     let settings = setup.settings;
-    let mut cut = cut;
+    let Reader { pass, mut cut } = reader;
     let mut rounds = LiveRounds {
         sink,
         disk,
-        gate: setup.gate,
+        gate,
         saver,
         cut: &mut cut,
         callers: settings.callers,

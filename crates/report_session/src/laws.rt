@@ -1,8 +1,9 @@
 //! Laws of sessions and of the stores of their saves, each the contract of a function that does nothing.
 
-ghost use Rattle.std.specs.Prelude.{◌≡◌, ℕ, ◌+◌, ◌*◌, ◌++◌, true, List, length, All, Option, Some, None, IfSome};
+ghost use Rattle.std.specs.Prelude.{◌≡◌, ℕ, ◌+◌, ◌*◌, ◌++◌, true, false, List, [], length, All, Option, Some, None, IfSome};
 ghost use Rattle.std.specs.Prelude.{IsSomeAnd};
 ghost use Rattle.prefix_lattice.specs.{RecordValue};
+ghost use Rattle.deal_rules.specs.{dealer_of};
 ghost use Rattle.deal_rules.specs.declared.deal_kind.DealKind.{DealKind};
 ghost use Rattle.hhh_report.specs.declared.reports.Reported.{Reported};
 ghost use Rattle.command_words.specs.{AreLimited};
@@ -20,15 +21,17 @@ ghost use Rattle.report_session.specs.Session.{SessionReports, caller_reports, s
 ghost use Rattle.report_session.specs.Session.{new_shards, session_part, reports_in, saves_of};
 ghost use Rattle.report_session.specs.Session.{text_of_reports, session_start, IsWholeReport};
 ghost use Rattle.dealt_capture.specs.{rules_by};
-ghost use Rattle.report_session.specs.Saving.{BelongThroughout, OpensToSaves, AreKeptOnDisk};
+ghost use Rattle.report_session.specs.KeptStore.{StoreIsKept};
+ghost use Rattle.report_session.specs.Saving.{IsAsBefore, BelongThroughout, OpensToSaves, AreKeptOnDisk};
 ghost use Rattle.report_session.specs.Saving.{last_of_saves, AreReopened, saves_settings};
 ghost use Rattle.hhh_report.specs.{IsSameReport, IsSound};
 ghost use Rattle.hhh_report.specs.declared.report.Report.{Report};
 
 use checkpoint::stores_open_to_one;
+use deal_rules::{Dealer, Dealers, Deals};
 use gate_workers::reported_cuts_represent;
 use hhh_output::{a_cut_has_one_report, standing_cuts_have_one_report};
-use report_text::{printed_sessions_read_back, same_reports_have_one_text};
+use report_text::{printed_sessions_read_back, same_reports_have_one_text, texts_show_saves};
 use slot_disk::Disk;
 
 /// The text of the last report of a session depends on the dealt lists, the capacity and the share alone: whatever the
@@ -92,11 +95,11 @@ pub fn last_saves_are_at_the_ends()
 /// the saves, nor the position of any shard is smaller. If no save is unfinished, it opens to exactly that. The
 /// settings of a session that broke off have to be within their limits.
 pub fn sessions_lose_no_save<D: Disk>()
-    ensures whole { (formula : DealKind → ℕ → RecordValue → ℕ → ℕ) (before now : D) (settings : Settings) (file text : List ℕ)
+    ensures whole { (formula : DealKind → ℕ → RecordValue → ℕ → ℕ) (before now : D) (settings : Settings) (file : Option (List ℕ)) (text : List ℕ)
         → IsSession settings (rules_by formula) (AreKeptOnDisk D.Disk before now)
         (D.reads before) file text
         → IsSession settings (rules_by formula) (AreReopened D.Disk before now) (D.reads before) file text }
-    ensures in_part { (formula : DealKind → ℕ → RecordValue → ℕ → ℕ) (before now : D) (settings : Settings) (file front : List ℕ)
+    ensures in_part { (formula : DealKind → ℕ → RecordValue → ℕ → ℕ) (before now : D) (settings : Settings) (file : Option (List ℕ)) (front : List ℕ)
         → AreLimited settings
         → IsSessionInPart settings (rules_by formula)
         (AreKeptOnDisk D.Disk before now) (D.reads before) file front
@@ -113,14 +116,14 @@ pub fn sessions_lose_no_save<D: Disk>()
 pub fn stores_belong_throughout<D: Disk>()
     ensures formatted { (settings : StoreSettings) (lists : List (List RecordValue)) (image : List ℕ) → StoreOpensTo settings image None
         → StoreBelongs settings lists image }
-    ensures whole { (formula : DealKind → ℕ → RecordValue → ℕ → ℕ) (before now : D) (settings : Settings) (store file text : List ℕ)
-        (is : IsSession settings (rules_by formula)
+    ensures whole { (formula : DealKind → ℕ → RecordValue → ℕ → ℕ) (before now : D) (settings : Settings) (store : List ℕ)
+        (file : Option (List ℕ)) (text : List ℕ) (is : IsSession settings (rules_by formula)
         (AreKeptOnDisk D.Disk before now) (D.reads before) file text)
         → AreLimited settings → settings.store ≡ true → D.reads before ≡ Some store
         → ((image : List ℕ) → D.image_now before image → StoreBelongs (saves_settings settings) is.lists image)
         → BelongThroughout D.Disk (saves_settings settings) is.lists is.base before now }
-    ensures in_part { (formula : DealKind → ℕ → RecordValue → ℕ → ℕ) (before now : D) (settings : Settings) (store file front : List ℕ)
-        (is : IsSessionInPart settings (rules_by formula)
+    ensures in_part { (formula : DealKind → ℕ → RecordValue → ℕ → ℕ) (before now : D) (settings : Settings) (store : List ℕ)
+        (file : Option (List ℕ)) (front : List ℕ) (is : IsSessionInPart settings (rules_by formula)
         (AreKeptOnDisk D.Disk before now) (D.reads before) file front)
         → AreLimited settings → settings.store ≡ true → D.reads before ≡ Some store
         → ((image : List ℕ) → D.image_now before image → StoreBelongs (saves_settings settings) is.lists image)
@@ -142,7 +145,7 @@ pub fn whole_reports_are_one()
 /// Where each kind of dealing is a formula, the reports of a session are sound over the dealt records, also where it went on
 /// from a saved cut, if the tables of this were those of its records.
 pub fn own_reports_are_sound<D: Disk>()
-    ensures { (formula : DealKind → ℕ → RecordValue → ℕ → ℕ) (before now : D) (settings : Settings) (store : Option (List ℕ)) (file text : List ℕ)
+    ensures { (formula : DealKind → ℕ → RecordValue → ℕ → ℕ) (before now : D) (settings : Settings) (store file : Option (List ℕ)) (text : List ℕ)
         (is : IsSession settings (rules_by formula) (AreKeptOnDisk D.Disk before now) store file text)
         → IfSome is.base (λ cut. CutRepresents cut is.lists)
         → All (λ reported. IsSound reported.report is.lists settings.capacity settings.phi) (reports_in is.spelled.reports) }
@@ -153,10 +156,31 @@ pub fn own_reports_are_sound<D: Disk>()
 /// tables of this have to be those of its records.
 pub fn sessions_read_back<D: Disk>()
     ensures { (formula : DealKind → ℕ → RecordValue → ℕ → ℕ) (before now : D) (settings : Settings) (store : Option (List ℕ)) (file text : List ℕ)
-        (is : IsSession settings (rules_by formula) (AreKeptOnDisk D.Disk before now) store file text) → AreLimited settings
+        (is : IsSession settings (rules_by formula) (AreKeptOnDisk D.Disk before now) store (Some file) text) → AreLimited settings
         → IfSome is.base (λ cut. CutRepresents cut is.lists) → (known : Session) × IsSessionText text known
         × All (λ reported. IsSound reported.report is.lists settings.capacity settings.phi) known.reports
         × (length known.reports ≡ (settings.callers + 1) * settings.rounds + 1) }
 {
     printed_sessions_read_back();
+}
+
+/// A law of sessions with a store, whose bytes were known as `report` began: the store is kept, by the bytes that were written.
+/// Where the session is whole, its sequence counts the saves exactly. Where nothing was written and the disk is as before, the
+/// store is kept too. The settings have to be within their limits.
+pub fn sessions_keep_their_store<D: Disk>(dealers: &Dealers)
+    ensures whole { (old new : D) (settings : Settings) (store : List ℕ) (file : Option (List ℕ)) (text : List ℕ) → AreLimited settings
+        → settings.store ≡ true → D.reads old ≡ Some store
+        → IsSession settings (λ kind. ⟦<Dealer as Deals>⟧.may_answer (dealer_of kind dealers.now)) (AreKeptOnDisk D.Disk old new)
+        (D.reads old) file text
+        → StoreIsKept D.Disk (saves_settings settings) old new store text true }
+    ensures in_part { (old new : D) (settings : Settings) (store : List ℕ) (file : Option (List ℕ)) (front : List ℕ) → AreLimited settings
+        → settings.store ≡ true → D.reads old ≡ Some store
+        → IsSessionInPart settings (λ kind. ⟦<Dealer as Deals>⟧.may_answer (dealer_of kind dealers.now)) (AreKeptOnDisk D.Disk old new)
+        (D.reads old) file front
+        → StoreIsKept D.Disk (saves_settings settings) old new store front false }
+    ensures as_before { (old new : D) (settings : StoreSettings) (store : List ℕ) → IsAsBefore D.Disk old new
+        → StoreIsKept D.Disk settings old new store [] false }
+{
+    stores_open_to_one();
+    texts_show_saves();
 }

@@ -24,7 +24,7 @@ ghost use Rattle.report_session.specs.DealtFeed.{StartsBefore, other_reports};
 ghost use Rattle.report_session.specs.Saving.{CanMakeSaves, Saves, SavesInPart, SavesInTurn};
 
 use crate::base::Base;
-use crate::feed::{Fed, Setup, feed};
+use crate::feed::{Fed, Reader, Setup, feed};
 use crate::saving::{save_cut, saved_line};
 use crate::writing::write;
 use checkpoint::{Saver, stores_open_to_one};
@@ -33,7 +33,7 @@ use deal_rules::Dealt;
 use gate_workers::{Called, Gate, Gathered, OpenGate, Turn, report_once};
 use hhh_report::{Positions, Reports};
 use outside_io::Sink;
-use pass_tokens::{Board, Pass};
+use pass_tokens::Board;
 use report_text::{Mark, print, print_positions};
 use run_status::Status;
 use shard_state::{Cut, ShardState, shards_stand};
@@ -47,10 +47,7 @@ use std::thread::Threads;
 #[derive(Drop)]
 pub(crate) struct Opened {
     pub(crate) board: Board,
-    /// The pass of the calling thread.
-    pub(crate) pass: Pass,
-    /// What the calling thread reads into.
-    pub(crate) cut: Cut,
+    pub(crate) reader: Reader,
 }
 
 /// The rest of a session, once all records are counted.
@@ -119,7 +116,8 @@ pub(crate) fn open(
     let states = states_of(alloc, dealt, base, capacity)?;
     let (board, pass) = Board::start(alloc, states)?;
     let cut = Cut::with_room(alloc, shards, capacity)?;
-    Ok(Opened { board, pass, cut })
+    let reader = Reader { pass, cut };
+    Ok(Opened { board, reader })
 }
 
 /// Shards of dealt lists have the capacity asked for, and start before the ends of their lists. The tables of their base
@@ -226,13 +224,13 @@ fn write_feed<R: Threads + Wait + Sync, K: Sink, D: Disk, G: Gate + Sync>(
         (record { sink = K.faults sink.new; disk = D.faults disk.new })) }
     ensures unused { saver ≡ None → disk.new ≡ disk.old }
 {
-    let Opened { board, pass, cut } = opened;
+    let Opened { board, reader } = opened;
     let mut saver = saver;
     stores_open_to_one();
     if let Err(status) = write(sink, line) {
         return Err(status);
     }
-    let fed = match feed(setup, &board, pass, cut, sink, disk, &mut saver) {
+    let fed = match feed(setup, &board, reader, sink, disk, &mut saver, setup.gate) {
         Ok(fed) => fed,
         Err(status) => return Err(status),
     };

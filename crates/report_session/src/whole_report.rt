@@ -8,7 +8,7 @@ ghost use Rattle.command_words.specs.{AreLimited, AreWide};
 ghost use Rattle.report_session.specs.Session.{IsWholeReport, IsShownInSession, session_ends};
 ghost use Rattle.report_session.specs.DealtFeed.{RunsPlan, IsFeedOpening};
 
-use crate::feed::plan_of;
+use crate::feed::{Reader, plan_of};
 use crate::session::{Opened, open, openings_stand};
 use command_words::Settings;
 use deal_rules::Dealt;
@@ -54,8 +54,8 @@ fn report_opened<R: Threads + Wait + Sync, G: Gate + Sync>(
     ensures shown { IfOk result (λ report. IsShownInSession opened.board.opening settings.now (record { report = report; saved = None })) }
     ensures at_ends { IfOk result (λ report. report.positions ≡ session_ends opened.board.opening) }
 {
-    let Opened { board, pass, cut } = opened;
-    let mut cut = cut;
+    let Opened { board, reader } = opened;
+    let Reader { pass, mut cut } = reader;
     let gathered = count_all(rt, alloc, &board, pass, settings, gate)?;
     let mut pass = gathered.pass;
     let turn = Turn {

@@ -31,7 +31,7 @@ cursor_lines_and_rest : (cursor : LineCursor) (read : List SessionLine) → HasR
     → whole_lines cursor.text.now ≡ map words_text read ++ whole_lines (drop cursor.at cursor.text.now)
 cursor_lines_and_rest cursor read has =
     ap whole_lines (cursor_text_and_rest cursor read has)
-    ∙ whole_lines-lines read (drop cursor.at cursor.text.now) has.are_lines
+    ∙ whole_lines-lines read (drop cursor.at cursor.text.now)
 
 -- a byte after the last line of a session
 pub cursor_finds_more_bytes : (cursor : LineCursor) (session : Session) → HasReadLines cursor (session_lines session) → IsTextSession session
@@ -71,7 +71,7 @@ cursor_finds_bad_line laws cursor at stage stands cut refused =
     ∙ ap (λ l. map words_text stands.read ++ l)
     (ap whole_lines cut.joined ∙ whole_lines-line line (drop 1 (drop at rest)) cut.lacks))
     stands.leads
-    (λ on. refused on.line on.is_line (word_list_in_line_text on.line line on.is_line on.text_is)))
+    (λ on. refused on.line on.is_line (word_list_in_line_text on.line line on.text_is)))
 
 -- the line that was read last may not come next
 pub cursor_refuses_line : FirstLineLaws → (old new : LineCursor) (line : SessionLine) (stage : Stage) → HasReadToStage old stage
@@ -86,10 +86,10 @@ cursor_refuses_line laws old new line stage stands reads none =
     ∙ ap (λ l. l ++ rest) (reads.text ∙ ap (λ l. l ++ words_text line) stands.has_read.text) in
     let lines : whole_lines text ≡ map words_text read ++ words_text line ∷ whole_lines rest =
     ap whole_lines (spelled ∙ append_assoc (flat_map words_text read) (words_text line) rest)
-    ∙ whole_lines-lines read (words_text line ++ rest) stands.has_read.are_lines
+    ∙ whole_lines-lines read (words_text line ++ rest)
     ∙ ap (λ l. map words_text read ++ l)
     (ap (λ l. whole_lines (l ++ rest)) (sym (append-nil (words_text line)))
-    ∙ whole_lines-lines (line ∷ []) rest (reads.is_line, tt)) in
+    ∙ whole_lines-lines (line ∷ []) rest) in
     let number : new.lines ≡ length read + 1 = omega (arith, reads.count, stands.has_read.count) in
     subst (λ n. HasSessionFault text (BadLine n)) (sym number)
     (session_fault_bad_line laws text read stage (words_text line) (whole_lines rest) new.limit stands.has_read.are_lines lines stands.leads

@@ -26,8 +26,8 @@ pub first_lines_with_one_text : FirstLineLaws → (line other : SessionLine) →
     → words_text line ≡ words_text other → line ≡ other
 first_lines_with_one_text laws line other is other_is same =
     word_list_tells_line laws.texts line other is other_is
-    (sym (word_list_in_line_text line (join_with_byte 32 (line_words other)) is same)
-    ∙ word_list_in_line_text other (join_with_byte 32 (line_words other)) other_is refl)
+    (sym (word_list_in_line_text line (join_with_byte 32 (line_words other)) same)
+    ∙ word_list_in_line_text other (join_with_byte 32 (line_words other)) refl)
 
 -- lists of lines with the same texts are the same
 pub first_lines_told_by_texts : FirstLineLaws → (lines others : List SessionLine) → AllByRecursion IsSessionLine lines

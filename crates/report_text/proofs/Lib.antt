@@ -20,3 +20,4 @@ pub mod ReadReportLemmas
 pub mod ReadSessionLemmas
 pub mod Examples
 pub mod ExamplesOfSessions
+pub mod SavedLineLemmas

@@ -62,7 +62,7 @@ printed_session_reports (reported ∷ reports) =
     flat_map-append words_text (reported_lines reported) (flat_map reported_lines reports)
     ∙ ap₂ (λ front behind. front ++ behind) (printed_session_whole_report reported) (printed_session_reports reports)
 
-printed_session_counts : (a b c : List ℕ) → a ++ (b ++ (c ++ [])) ≡ (a ++ b) ++ c
+pub printed_session_counts : (a b c : List ℕ) → a ++ (b ++ (c ++ [])) ≡ (a ++ b) ++ c
 printed_session_counts a b c = simp (append_assoc, append-nil)
 
 -- a session is printed as its text
@@ -82,7 +82,7 @@ pub printed_session_has_its_lines : (session : Session) → IsTextSession sessio
     → whole_lines (session_text session) ≡ map words_text (session_lines session)
 printed_session_has_its_lines session is =
     ap whole_lines (sym (append-nil (session_text session)))
-    ∙ whole_lines-lines (session_lines session) [] (whole_session_lines session is)
+    ∙ whole_lines-lines (session_lines session) []
     ∙ append-nil (map words_text (session_lines session))
 
 -- sessions with one text say the same

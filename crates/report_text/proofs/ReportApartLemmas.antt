@@ -49,11 +49,11 @@ report_line_apart law line another rest other is another_is same =
     let behind : report_apart_line_tail line rest ≡ report_apart_line_tail another other =
     ap (drop 5) (sym (report_apart_line_opens line rest) ∙ same ∙ report_apart_line_opens another other) in
     let source = text_words_told_apart (side_text line.prefix.source) (side_text another.prefix.source) _ _
-    (side_is_text_word line.prefix.source is.is_prefix.source)
-    (side_is_text_word another.prefix.source another_is.is_prefix.source)
+    (side_is_text_word line.prefix.source)
+    (side_is_text_word another.prefix.source)
     (omega arith) (omega arith) behind in
     let dest = text_words_told_apart (side_text line.prefix.dest) (side_text another.prefix.dest) _ _
-    (side_is_text_word line.prefix.dest is.is_prefix.dest) (side_is_text_word another.prefix.dest another_is.is_prefix.dest)
+    (side_is_text_word line.prefix.dest) (side_is_text_word another.prefix.dest)
     (omega arith) (omega arith) (ap (drop 1) source.1) in
     let low =
     text_word_numbers_apart line.lo another.lo _ _ is.low another_is.low (omega arith) (omega arith) (ap (drop 1) dest.1) in

@@ -101,14 +101,13 @@ session_fault_unfinished laws text read stage limit all lines leads is_open =
         (whole_lines (follows.byte ∷ follows.others)) all leads is_open
         follows.is_session
         (sym lines ∙ ap whole_lines follows.spelled
-        ∙ whole_lines-lines (session_lines follows.session) (follows.byte ∷ follows.others)
-        (whole_session_lines follows.session follows.is_session))
+        ∙ whole_lines-lines (session_lines follows.session) (follows.byte ∷ follows.others))
 
     no_session : (session : Session) → IsSessionText text session → ⊥
     no_session session is =
         session_fault_open_lines laws read stage session [] all leads is_open is.is_session
         (sym lines ∙ ap whole_lines (is.spelled ∙ sym (append-nil (session_text session)))
-        ∙ whole_lines-lines (session_lines session) [] (whole_session_lines session is.is_session))
+        ∙ whole_lines-lines (session_lines session) [])
 
 -- a session and a byte after it
 pub session_fault_byte_follows : (text : List ℕ) (session : Session) (rest : List ℕ) → length text ≤ longest_session → IsTextSession session
@@ -155,7 +154,7 @@ IsSessionFaultAfter text before = IsWrongAfter text before ⊎ GoesOnAfter text 
 session_fault_all_lines : (session : Session) (text rest : List ℕ) → IsTextSession session → text ≡ session_text session ++ rest
     → whole_lines text ≡ map words_text (session_lines session) ++ whole_lines rest
 session_fault_all_lines session text rest is spelled =
-    ap whole_lines spelled ∙ whole_lines-lines (session_lines session) rest (whole_session_lines session is)
+    ap whole_lines spelled ∙ whole_lines-lines (session_lines session) rest
 
 -- where a line is wrong, no session begins with it and those before
 session_fault_line_is_wrong : FirstLineLaws → (text : List ℕ) (before : ℕ) → IsSessionFaultAfter text before → before < length (whole_lines text)

@@ -1,9 +1,12 @@
 -- Words and the bytes that end them.
 use Rattle.std.proofs.Common.{◌≡◌, ℕ, ◌+◌, ◌*◌, ◌/◌, ◌%◌, ◌^◌, ◌<◌, ◌≤◌, List, [], ◌∷◌, ◌++◌, length, get_or, drop}
-use Rattle.std.proofs.Common.{decimal, refl, sym, ap, ◌∙◌, arith, append_assoc}
+use Rattle.std.proofs.Common.{zero, suc, ◌==◌, Bool, true, false, decimal, refl, sym, subst, ap, ◌∙◌, arith, append_assoc}
+use Rattle.std.specs.Prelude.{if◌then◌else◌}
+use Rattle.std.specs.Fmt.{digit_glyph, digits, digits_onto}
 use Rattle.std.specs.List.{flat_map, AllByRecursion}
-use Rattle.std.proofs.lemmas.Fmt.{decimal_by_steps, decimal_injective}
-use Rattle.prefix_lattice.specs.{address_of, AreLeadingBytes, address_text, side_text}
+use Rattle.std.proofs.lemmas.Bool.{lt-ltb}
+use Rattle.std.proofs.lemmas.Fmt.{decimal_injective}
+use Rattle.prefix_lattice.specs.{address_of, address_text, side_text}
 use Rattle.report_text.proofs.TextPartLemmas.{spaced_text_part}
 
 -- each byte is 46 or more, as are the dot, the slash and the digits, but not the space and the line feed
@@ -41,10 +44,27 @@ IsTextWord-append : (word another : List ℕ) → IsTextWord word → IsTextWord
 IsTextWord-append [] another is another_is = another_is
 IsTextWord-append (byte ∷ word) another is another_is = (is.0, IsTextWord-append word another is.1 another_is)
 
+text_word_of_either : (b : Bool) (word another : List ℕ) → IsTextWord word → IsTextWord another
+    → IsTextWord (if b then word else another)
+text_word_of_either true word another is another_is = is
+text_word_of_either false word another is another_is = another_is
+
+text_word_digit : (digit : ℕ) → digit < 10 → 46 ≤ digit_glyph false digit
+text_word_digit digit below =
+    subst (λ b. 46 ≤ (if b then 48 + digit else 87 + digit)) (sym (lt-ltb digit 10 below)) (omega arith)
+
+text_word_digits : (count number : ℕ) (word : List ℕ) → IsTextWord word → IsTextWord (digits_onto count 10 false number word)
+text_word_digits zero number word is = is
+text_word_digits (suc count) number word is =
+    let longer : List ℕ = digit_glyph false (number % 10) ∷ word in
+    let more : IsTextWord longer = (text_word_digit (number % 10) (omega arith), is) in
+    text_word_of_either (number / 10 == 0) longer (digits_onto count 10 false (number / 10) longer) more
+    (text_word_digits count (number / 10) longer more)
+
 -- a number is a word
-pub decimal_is_text_word : (number : ℕ) → number < 2 ^ 64 → IsTextWord (decimal number)
-decimal_is_text_word number small = decimal_by_steps (λ n ds. IsTextWord ds) (λ n below. (omega arith, tt))
-    (λ n ds least is. IsTextWord-append ds ((48 + n % 10) ∷ []) is (omega arith, tt)) number small
+pub decimal_is_text_word : (number : ℕ) → IsTextWord (decimal number)
+unfolding digits
+decimal_is_text_word number = text_word_digits 64 number [] tt
 
 -- a number, and what follows it, are determined
 pub text_word_numbers_apart : (number another : ℕ) (rest other : List ℕ) → number < 2 ^ 64 → another < 2 ^ 64 → EndsTextWord rest
@@ -52,8 +72,8 @@ pub text_word_numbers_apart : (number another : ℕ) (rest other : List ℕ) →
     → decimal number ++ rest ≡ decimal another ++ other → (number ≡ another) × (rest ≡ other)
 text_word_numbers_apart number another rest other small another_small ends other_ends same =
     let both =
-    text_words_told_apart (decimal number) (decimal another) rest other (decimal_is_text_word number small)
-    (decimal_is_text_word another another_small) ends other_ends same in
+    text_words_told_apart (decimal number) (decimal another) rest other (decimal_is_text_word number)
+    (decimal_is_text_word another) ends other_ends same in
     (decimal_injective number another small another_small both.0, both.1)
 
 address_is_text_word : (address : ℕ) → IsTextWord (address_text address)
@@ -63,18 +83,17 @@ address_is_text_word address =
     let c = address / 256 % 256 in
     let d = address % 256 in
     let behind : (word : List ℕ) → IsTextWord word → IsTextWord (46 ∷ word) = λ word is. (omega arith, is) in
-    IsTextWord-append (decimal a) (46 ∷ (decimal b ++ 46 ∷ (decimal c ++ 46 ∷ decimal d))) (decimal_is_text_word a (omega arith))
+    IsTextWord-append (decimal a) (46 ∷ (decimal b ++ 46 ∷ (decimal c ++ 46 ∷ decimal d))) (decimal_is_text_word a)
     (behind _
-    (IsTextWord-append (decimal b) (46 ∷ (decimal c ++ 46 ∷ decimal d)) (decimal_is_text_word b (omega arith)) (behind _
-    (IsTextWord-append (decimal c) (46 ∷ decimal d) (decimal_is_text_word c (omega arith))
-    (behind _ (decimal_is_text_word d (omega arith)))))))
+    (IsTextWord-append (decimal b) (46 ∷ (decimal c ++ 46 ∷ decimal d)) (decimal_is_text_word b) (behind _
+    (IsTextWord-append (decimal c) (46 ∷ decimal d) (decimal_is_text_word c)
+    (behind _ (decimal_is_text_word d))))))
 
 -- a side of a prefix is a word
-pub side_is_text_word : (front : List ℕ) → AreLeadingBytes front → IsTextWord (side_text front)
-side_is_text_word front leading =
-    let few = leading.few in
+pub side_is_text_word : (front : List ℕ) → IsTextWord (side_text front)
+side_is_text_word front =
     IsTextWord-append (address_text (address_of front)) (47 ∷ decimal (8 * length front)) (address_is_text_word (address_of front))
-    (omega arith, decimal_is_text_word (8 * length front) (omega arith))
+    (omega arith, decimal_is_text_word (8 * length front))
 
 -- positions before a line feed end a word
 positions_end_text_word : (numbers rest : List ℕ) → EndsTextWord (flat_map spaced_text_part numbers ++ 10 ∷ rest)

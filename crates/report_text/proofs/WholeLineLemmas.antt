@@ -3,7 +3,7 @@ use Rattle.std.proofs.Common.{◌≡◌, ℕ, ◌≤◌, eqb, false, cond, List,
 use Rattle.std.proofs.Common.{refl, ap, ◌∙◌, arith, append_assoc}
 use Rattle.std.specs.List.{flat_map, join_with_byte, AllByRecursion}
 use Rattle.std.proofs.lemmas.Bool.{ne_eqb}
-use Rattle.report_text.specs.Session.{IsSessionLine, line_words, words_text, whole_lines}
+use Rattle.report_text.specs.Session.{line_words, words_text, whole_lines}
 use Rattle.report_text.specs.Session.{before_line}
 use Rattle.report_text.specs.declared.session_line.SessionLine.{SessionLine}
 use Rattle.report_text.proofs.TextWordLemmas.{IsTextWord}
@@ -45,17 +45,17 @@ HasNoWholeLine-join (word ∷ second ∷ words) all =
     (refl, HasNoWholeLine-join (second ∷ words) all.1)
 
 -- a line of a session has one line feed, at its end
-pub HasNoWholeLine-words : (line : SessionLine) → IsSessionLine line → HasNoWholeLine (join_with_byte 32 (line_words line))
-HasNoWholeLine-words line is = HasNoWholeLine-join (line_words line) (word_list_of_line line is)
+pub HasNoWholeLine-words : (line : SessionLine) → HasNoWholeLine (join_with_byte 32 (line_words line))
+HasNoWholeLine-words line = HasNoWholeLine-join (line_words line) (word_list_of_line line)
 
 whole_line_groups : (line end rest behind : List ℕ) → ((line ++ end) ++ rest) ++ behind ≡ line ++ (end ++ (rest ++ behind))
 whole_line_groups line end rest behind = simp append_assoc
 
 -- lines of a session are the first whole lines
-pub whole_lines-lines : (lines : List SessionLine) (rest : List ℕ) → AllByRecursion IsSessionLine lines
+pub whole_lines-lines : (lines : List SessionLine) (rest : List ℕ)
     → whole_lines (flat_map words_text lines ++ rest) ≡ map words_text lines ++ whole_lines rest
-whole_lines-lines [] rest all = refl
-whole_lines-lines (line ∷ lines) rest all =
+whole_lines-lines [] rest = refl
+whole_lines-lines (line ∷ lines) rest =
     ap whole_lines (whole_line_groups (join_with_byte 32 (line_words line)) (10 ∷ []) (flat_map words_text lines) rest)
-    ∙ whole_lines-line (join_with_byte 32 (line_words line)) (flat_map words_text lines ++ rest) (HasNoWholeLine-words line all.0)
-    ∙ ap (λ l. words_text line ∷ l) (whole_lines-lines lines rest all.1)
+    ∙ whole_lines-line (join_with_byte 32 (line_words line)) (flat_map words_text lines ++ rest) (HasNoWholeLine-words line)
+    ∙ ap (λ l. words_text line ∷ l) (whole_lines-lines lines rest)

@@ -45,9 +45,9 @@ pub word_list_joins_to_text : (text : List ℕ) → join_with_byte 32 (words_in 
 word_list_joins_to_text text = join_with_byte-slice_split 32 text
 
 -- numbers are words
-word_list_of_numbers : (numbers : List ℕ) → AllByRecursion (λ n. n < 2 ^ 64) numbers → AllByRecursion IsTextWord (map decimal numbers)
-word_list_of_numbers [] all = tt
-word_list_of_numbers (number ∷ numbers) all = (decimal_is_text_word number all.0, word_list_of_numbers numbers all.1)
+pub word_list_of_numbers : (numbers : List ℕ) → AllByRecursion IsTextWord (map decimal numbers)
+word_list_of_numbers [] = tt
+word_list_of_numbers (number ∷ numbers) = (decimal_is_text_word number, word_list_of_numbers numbers)
 
 -- positions are numbers of 64 bits
 word_list_small_numbers : (positions : List ℕ) → AllByRecursion (λ n. n ≤ 16777216) positions → AllByRecursion (λ n. n < 2 ^ 64) positions
@@ -58,40 +58,28 @@ pub word_list_small_positions : (positions : List ℕ) → ShowsPositions positi
 word_list_small_positions positions are =
     word_list_small_numbers positions (recursion_from_All (λ (n : ℕ). n ≤ 16777216) positions are.within)
 
-pub word_list_of_positions : (positions : List ℕ) → ShowsPositions positions → AllByRecursion IsTextWord (map decimal positions)
-word_list_of_positions positions are = word_list_of_numbers positions (word_list_small_positions positions are)
-
 -- the words of a line
-pub word_list_of_line : (line : SessionLine) → IsSessionLine line → AllByRecursion IsTextWord (line_words line)
-word_list_of_line (Opened positions) is = (search rules, word_list_of_positions positions is)
-word_list_of_line Report is = (search rules, tt)
-word_list_of_line (At positions) is = (search rules, word_list_of_positions positions is)
-word_list_of_line (Total total) is = (search rules, (decimal_is_text_word total is, tt))
-word_list_of_line (Threshold threshold) is = (search rules, (decimal_is_text_word threshold is.1, tt))
-word_list_of_line (Line line) is = (
+pub word_list_of_line : (line : SessionLine) → AllByRecursion IsTextWord (line_words line)
+word_list_of_line (Opened positions) = (search rules, word_list_of_numbers positions)
+word_list_of_line Report = (search rules, tt)
+word_list_of_line (At positions) = (search rules, word_list_of_numbers positions)
+word_list_of_line (Total total) = (search rules, (decimal_is_text_word total, tt))
+word_list_of_line (Threshold threshold) = (search rules, (decimal_is_text_word threshold, tt))
+word_list_of_line (Line line) = (
   search rules,
   (
-    side_is_text_word line.prefix.source is.showable.is_prefix.source,
-    (
-      side_is_text_word line.prefix.dest is.showable.is_prefix.dest,
-      (decimal_is_text_word line.lo is.showable.low, (decimal_is_text_word line.hi is.showable.high, tt)),
-    ),
+    side_is_text_word line.prefix.source,
+    (side_is_text_word line.prefix.dest, (decimal_is_text_word line.lo, (decimal_is_text_word line.hi, tt))),
   ),
 )
-word_list_of_line Done is = (search rules, tt)
-word_list_of_line (Saved positions) is = (search rules, word_list_of_positions positions is)
-word_list_of_line (Frames frames) is = (search rules, (decimal_is_text_word frames is, tt))
-word_list_of_line (Skipped skips) is = (
+word_list_of_line Done = (search rules, tt)
+word_list_of_line (Saved positions) = (search rules, word_list_of_numbers positions)
+word_list_of_line (Frames frames) = (search rules, (decimal_is_text_word frames, tt))
+word_list_of_line (Skipped skips) = (
   search rules,
-  (
-    decimal_is_text_word skips.not_ipv4 is.not_ipv4,
-    (
-      decimal_is_text_word skips.short is.short,
-      (decimal_is_text_word skips.bad_header is.bad_header, tt),
-    ),
-  ),
+  (decimal_is_text_word skips.not_ipv4, (decimal_is_text_word skips.short, (decimal_is_text_word skips.bad_header, tt))),
 )
-word_list_of_line End is = (search rules, tt)
+word_list_of_line End = (search rules, tt)
 
 -- the words in joined words, if there is at least one
 word_list_of_some_words : (words : List (List ℕ)) → 1 ≤ length words → AllByRecursion IsTextWord words
@@ -107,11 +95,11 @@ word_list_is_not_empty (Saved positions) = omega arith
 word_list_is_not_empty _ = omega arith
 
 -- the words in the text of a line are its words
-pub word_list_in_line_text : (line : SessionLine) (text : List ℕ) → IsSessionLine line → words_text line ≡ text ++ 10 ∷ []
+pub word_list_in_line_text : (line : SessionLine) (text : List ℕ) → words_text line ≡ text ++ 10 ∷ []
     → words_in text ≡ line_words line
-word_list_in_line_text line text is same =
+word_list_in_line_text line text same =
     ap words_in (sym (append_cancel_right (join_with_byte 32 (line_words line)) text (10 ∷ []) same))
-    ∙ word_list_of_some_words (line_words line) (word_list_is_not_empty line) (word_list_of_line line is)
+    ∙ word_list_of_some_words (line_words line) (word_list_is_not_empty line) (word_list_of_line line)
 
 -- a text that has the words of a line is its text, but for the line feed
 pub word_list_tells_line_text : (line : SessionLine) (text : List ℕ) → words_in text ≡ line_words line

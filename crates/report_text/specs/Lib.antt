@@ -1,5 +1,6 @@
 pub mod Printing
 pub mod Session
+pub mod SavedLines
 -- within the crate
 pub mod Stages
 pub mod LineReading
@@ -8,3 +9,5 @@ pub use Rattle.report_text.specs.Printing.{ShowsPositions, mark_text, report_tex
 pub use Rattle.report_text.specs.Session.{AreSameSessions, HasReadFault, HasSessionFault}
 pub use Rattle.report_text.specs.Session.{IsTextSession, IsSessionText}
 pub use Rattle.report_text.specs.Session.{longest_session, printed_text, session_text}
+pub use Rattle.report_text.specs.Session.{whole_lines}
+pub use Rattle.report_text.specs.SavedLines.{LinesShowSaves, ShowsSaves}

@@ -1,10 +1,14 @@
 //! Laws of texts. A caller that calls one has its contract available.
 
-ghost use Rattle.std.specs.Prelude.{◌≡◌, ◌≤◌, List, ℕ, length, map};
+ghost use Rattle.std.specs.Prelude.{◌≡◌, ◌≤◌, ◌<◌, List, ℕ, [], ◌∷◌, ◌++◌, length, map};
 ghost use Rattle.std.specs.List.{flat_map};
 ghost use Rattle.hhh_report.specs.{IsSameReport};
 ghost use Rattle.hhh_report.specs.declared.report.Report.{Report};
-ghost use Rattle.report_text.specs.Printing.{report_text, Shows};
+ghost use Rattle.frame_records.specs.declared.records.Records.{Records};
+ghost use Rattle.report_text.specs.Printing.{report_text, mark_text, tail_text, Shows};
+ghost use Rattle.report_text.specs.SavedLines.{ShowsSaves};
+ghost use Rattle.report_text.specs.declared.mark.Mark.{Mark};
+ghost use Rattle.report_text.specs.declared.mark.Mark.TheVariants.{Opened, Saved};
 ghost use Rattle.report_text.specs.Session.{AreSameSessions, HasSessionFault, IsTextSession, IsSessionText};
 ghost use Rattle.report_text.specs.Session.{longest_session};
 ghost use Rattle.report_text.specs.Session.{printed_text, report_lines, session_lines};
@@ -50,3 +54,19 @@ pub fn session_texts_have_one_reading()
     prefix_texts_read_back();
     report_order_is_total();
 }
+
+/// A law of texts: which cuts the whole lines of a text say were saved, from its parts. Reports, the first line of a session
+/// and its last ones show none, a line `saved` shows its positions, and a front of a text that shows none shows none. A
+/// line of positions is one whole line, and a strict front of it has none.
+pub fn texts_show_saves()
+    ensures report { (report : Report) (rest : List ℕ) (saves : List (List ℕ)) → ShowsSaves rest saves → ShowsSaves (report_text report ++ rest) saves }
+    ensures opened { (positions rest : List ℕ) (saves : List (List ℕ)) → ShowsSaves rest saves → ShowsSaves (mark_text Opened positions ++ rest) saves }
+    ensures saved { (positions rest : List ℕ) (saves : List (List ℕ)) → ShowsSaves rest saves
+        → ShowsSaves (mark_text Saved positions ++ rest) (positions ∷ saves) }
+    ensures line { (mark : Mark) (positions rest : List ℕ)
+        → whole_lines (mark_text mark positions ++ rest) ≡ mark_text mark positions ∷ whole_lines rest }
+    ensures tail { (records : Records) → ShowsSaves (tail_text records) [] }
+    ensures front { (front rest : List ℕ) → ShowsSaves (front ++ rest) [] → ShowsSaves front [] }
+    ensures unfinished { (mark : Mark) (positions front rest : List ℕ) → mark_text mark positions ≡ front ++ rest
+        → length front < length (mark_text mark positions) → whole_lines front ≡ [] }
+{}

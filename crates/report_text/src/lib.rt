@@ -15,7 +15,7 @@ mod word_cut;
 
 pub use laws::{
     printed_sessions_read_back, report_texts_are_apart, same_reports_have_one_text,
-    session_texts_have_one_reading,
+    session_texts_have_one_reading, texts_show_saves,
 };
 pub use mark::Mark;
 pub use printing::{print, print_positions, print_tail};

@@ -67,8 +67,8 @@ fn read_dealt<S: Source>(
     dealers: &Dealers,
 ) -> Result<DealtFeed, Status>
     requires limited { AreLimited settings.now }
-    ensures dealt { IfOk result (λ fed. IfSome (S.left capture.old) (λ file.
-        IsFeedCapture settings.now (λ kind. ⟦<Dealer as Deals>⟧.may_answer (dealer_of kind dealers.now)) file fed.dealt fed.tail.items)) }
+    ensures dealt { IfOk result (λ fed. IsFeedCapture settings.now (λ kind. ⟦<Dealer as Deals>⟧.may_answer (dealer_of kind dealers.now))
+        (S.left capture.old) fed.dealt fed.tail.items) }
     ensures shards { IfOk result (λ fed. length fed.dealt ≡ settings.now.shards) }
     ensures tail { IfOk result (λ fed. 0 < length fed.tail.items) }
     ensures at_end { OnOk result (IsAtEnd (S.left capture.new)) }

@@ -1,4 +1,4 @@
-use Rattle.std.proofs.Common.{decimal, sym, ap, ◌∙◌, arith}
+use Rattle.std.proofs.Common.{decimal, sym, ap, ◌∙◌}
 use Rattle.std.specs.List.{join_with_byte}
 use Rattle.report_text.specs.Stages.{words_in}
 use Rattle.report_text.proofs.TextWordLemmas.{decimal_is_text_word}
@@ -12,4 +12,4 @@ returns-in_default-clause-refused c = λ number small same.
 pub returns-clause-read : goal.returns-clause-read
 returns-clause-read c =
     ap words_in c.in-Some.ensures.some
-    ∙ word_list_of_word (decimal c.in-Some.number) (decimal_is_text_word c.in-Some.number (omega arith))
+    ∙ word_list_of_word (decimal c.in-Some.number) (decimal_is_text_word c.in-Some.number)
