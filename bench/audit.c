@@ -6,23 +6,10 @@
 // node in a hash table, and beside them what no line strictly below the node covers. It prints what `audit` prints, and
 // its status is 0 where all reports are sound, 11 where one isn't, and 12 where the text isn't read.
 #include "capture.h"
+#include "lines.h"
 #include <stdio.h>
 
-#define NODES 25
-#define MOST_SHARDS 16
 #define LONGEST_LINE 512
-
-struct line {
-    uint64_t key, low, high, weight, left;
-    unsigned node;
-};
-
-struct report {
-    uint64_t positions[MOST_SHARDS], total, threshold;
-    unsigned shards;
-    struct line *lines;
-    size_t count;
-};
 
 // A slot of a hash table. One with weight 0 is free.
 struct slot {
@@ -41,27 +28,8 @@ static size_t last_home;
 static uint32_t *counted, *covered;
 static size_t counted_count;
 
-// For each node those that keep no fewer bytes of either address, and itself isn't among them.
+// For each node those below it.
 static uint32_t below[NODES];
-
-static void *zeros(size_t number, size_t size) {
-    void *space = calloc(number ? number : 1, size);
-    if (!space)
-        exit(13);
-    return space;
-}
-
-static unsigned level_of(unsigned node) {
-    return node / 5 + node % 5;
-}
-
-static uint32_t kept(uint32_t address, unsigned bytes) {
-    return bytes ? address & 0xffffffff << (32 - 8 * bytes) : 0;
-}
-
-static uint64_t key_of(size_t i, unsigned node) {
-    return (uint64_t)kept(records[i].source, node / 5) << 32 | kept(records[i].destination, node % 5);
-}
 
 static struct slot *slot_of(uint64_t key) {
     size_t last = ((size_t)1 << bits) - 1, place = key * 0x9e3779b97f4a7c15 >> (64 - bits);
@@ -141,22 +109,6 @@ static void note_covered(const struct report *report) {
     }
 }
 
-// A prefix as it stands in a report.
-struct place {
-    uint64_t key;
-    unsigned node;
-};
-
-static int compare(struct place one, struct place other) {
-    if (level_of(one.node) != level_of(other.node))
-        return level_of(one.node) > level_of(other.node) ? -1 : 1;
-    if (one.key >> 32 != other.key >> 32)
-        return one.key >> 32 < other.key >> 32 ? -1 : 1;
-    if (one.node != other.node)
-        return one.node / 5 < other.node / 5 ? -1 : 1;
-    return one.key < other.key ? -1 : one.key > other.key;
-}
-
 // Sums each node, notes the sums of its lines, and finds the first prefix that is left out.
 static int sum_nodes(struct report *report, struct place *first, uint64_t *left) {
     int found = 0;
@@ -183,81 +135,6 @@ static int sum_nodes(struct report *report, struct place *first, uint64_t *left)
     return found;
 }
 
-static int begins(uint64_t key, unsigned node, uint64_t upper, unsigned above) {
-    return above / 5 <= node / 5 && above % 5 <= node % 5
-        && kept(key >> 32, above / 5) == upper >> 32 && kept((uint32_t)key, above % 5) == (uint32_t)upper;
-}
-
-static int under(const struct line *lower, const struct line *upper) {
-    return begins(lower->key, lower->node, upper->key, upper->node);
-}
-
-static int same(const struct line *one, const struct line *other) {
-    return one->key == other->key && one->node == other->node;
-}
-
-static int strictly_under(const struct line *lower, const struct line *upper) {
-    return under(lower, upper) && !same(lower, upper);
-}
-
-// The longer of two halves of a prefix, if it begins with the other. Answers whether it does.
-static int longer(uint32_t one, unsigned bytes, uint32_t other, unsigned other_bytes, uint32_t *half, unsigned *length) {
-    unsigned shared = bytes < other_bytes ? bytes : other_bytes;
-    *half = bytes < other_bytes ? other : one;
-    *length = bytes < other_bytes ? other_bytes : bytes;
-    return kept(one, shared) == kept(other, shared);
-}
-
-static int meet(const struct line *one, const struct line *other, struct line *lowest) {
-    uint32_t source, destination;
-    unsigned source_bytes, destination_bytes;
-    if (!longer(one->key >> 32, one->node / 5, other->key >> 32, other->node / 5, &source, &source_bytes)
-        || !longer(one->key, one->node % 5, other->key, other->node % 5, &destination, &destination_bytes))
-        return 0;
-    lowest->key = (uint64_t)source << 32 | destination;
-    lowest->node = 5 * source_bytes + destination_bytes;
-    return 1;
-}
-
-// The numbers of closest lines and of their kept pairs, added up.
-static uint64_t count_widths(const struct report *report, const struct line *line, int with_pairs) {
-    struct line *under_it = zeros(report->count, sizeof *under_it), *closest = zeros(report->count, sizeof *closest);
-    size_t number = 0, tops = 0;
-    uint64_t pairs = 0;
-    for (size_t i = 0; i < report->count; i++)
-        if (strictly_under(&report->lines[i], line))
-            under_it[number++] = report->lines[i];
-    for (size_t i = 0; i < number; i++) {
-        int top = 1;
-        for (size_t j = 0; top && j < number; j++)
-            top = !strictly_under(&under_it[i], &under_it[j]);
-        if (top)
-            closest[tops++] = under_it[i];
-    }
-    for (size_t i = 0; with_pairs && i < tops; i++)
-        for (size_t j = i + 1; j < tops; j++) {
-            struct line lowest;
-            int keeps = meet(&closest[i], &closest[j], &lowest);
-            for (size_t k = 0; keeps && k < tops; k++)
-                keeps = k == i || k == j || !under(&lowest, &closest[k]);
-            pairs += keeps;
-        }
-    free(under_it);
-    free(closest);
-    return tops + pairs;
-}
-
-static int allows(const struct report *report, uint64_t left, uint64_t widths, uint64_t capacity) {
-    return (unsigned __int128)capacity * left + (unsigned __int128)widths * report->total
-        >= (unsigned __int128)capacity * report->threshold;
-}
-
-static int is_justified(const struct report *report, const struct line *line, uint64_t capacity) {
-    return allows(report, line->left, 1, capacity)
-        || allows(report, line->left, 1 + count_widths(report, line, 0), capacity)
-        || allows(report, line->left, 1 + count_widths(report, line, 1), capacity);
-}
-
 static void print_side(uint32_t address, unsigned bytes) {
     printf(" %u.%u.%u.%u/%u", address >> 24, address >> 16 & 255, address >> 8 & 255, address & 255, 8 * bytes);
 }
@@ -281,8 +158,7 @@ static int test(struct report *report, size_t number, uint64_t capacity, uint64_
         total += records[counted[i]].weight;
     if (total != report->total)
         return printf("%sbad total\n", front), 0;
-    uint64_t threshold = ((unsigned __int128)total * share + 999999) / 1000000;
-    threshold += !threshold;
+    uint64_t threshold = threshold_of(total, share);
     if (threshold != report->threshold)
         return printf("%sbad threshold\n", front), 0;
     find_homes(report);
@@ -373,9 +249,7 @@ int main(int number, char **arguments) {
     if (!read_capture())
         return 3;
     for (unsigned node = 0; node < NODES; node++)
-        for (unsigned other = 0; other < NODES; other++)
-            if (other != node && other / 5 >= node / 5 && other % 5 >= node % 5)
-                below[node] |= 1u << other;
+        below[node] = nodes_below(node);
     counted = zeros(count, sizeof *counted);
     covered = zeros(count, sizeof *covered);
     size_t reports = 0;

@@ -7,7 +7,12 @@ from checks.promises import crate_page, promises
 from checks.repository import ALL_DEFINITIONS, ALL_WRONG_BODIES, CRATES, EDIT_FOLDERS, TOP, check, crates_below, edits, names, page_text, stands_on
 
 # The most lines that a page may have, and the most characters of a row of a table and of any line.
-MOST_LINES = {"README.md": 200, "docs/GUARANTEES.md": 400, **{crate_page(crate): 80 for crate in CRATES}}
+MOST_LINES = {
+    "README.md": 200,
+    "docs/GUARANTEES.md": 400,
+    "docs/MEMORY.md": 120,
+    **{crate_page(crate): 80 for crate in CRATES},
+}
 WIDEST_ROW = 200
 LONGEST_LINE = 300
 

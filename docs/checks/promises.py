@@ -7,6 +7,11 @@ from checks.repository import ALL_CLAUSES, ALL_DEFINITIONS, ALL_WRONG_BODIES, CR
 # The page of the whole program, whose promises may name clauses and wrong bodies of any crate.
 PROGRAM_PAGE = "docs/GUARANTEES.md"
 
+# The page whose table says, call by call, what stands where memory ran out; and what it says in place of clauses.
+MEMORY_PAGE = "docs/MEMORY.md"
+NOTHING_LENT = "takes nothing by `&mut`"
+OPEN = "no clause"
+
 
 def crate_page(crate):
     return f"crates/{crate}/README.md"
@@ -77,6 +82,39 @@ def check_places(page):
         check(found == file, f"{page}: {definition} isn't in specs/{file} of {crate}")
 
 
+def is_lent_to(crate, call):
+    """Whether a function of a crate with the name of this call takes something by `&mut`."""
+    head = rf"(?s)\bfn {call.split('::')[-1]}\b[^{{]*?\n\s*(?:requires|ensures)"
+    heads = [found for path in source_files(crate) for found in re.findall(head, path.read_text())]
+    return any(re.search(r"&(?:'\w+ )?mut\b", found) for found in heads)
+
+
+def memory_rows():
+    """Each call of the table in MEMORY.md, with its crate, which the last row before it that has a crate alone names, and
+    what its row says of clauses."""
+    crate = ""
+    for row in re.findall(r"(?m)^\|(.*)\|$", page_text(MEMORY_PAGE)):
+        calls, _, clauses = (cell.strip() for cell in row.split("|"))
+        if calls.startswith("**"):
+            crate = names(calls)[0]
+        else:
+            yield from ((crate, call, clauses) for call in names(calls))
+
+
+def check_memory():
+    """A clause in the table of MEMORY.md is on the call of its row, or is what a type defines, as `LiveRounds::does`."""
+    for crate, call, clauses in memory_rows():
+        known = ALL_CLAUSES.get(crate, {})
+        check(call in known, f"{MEMORY_PAGE} names the call {call} of {crate}, and there is none")
+        if clauses == NOTHING_LENT:
+            check(not is_lent_to(crate, call), f"{MEMORY_PAGE}: {call} of {crate} takes something by `&mut`")
+        elif clauses != OPEN:
+            check(names(clauses), f"{MEMORY_PAGE} names no clause of {call}, and doesn't say that there is none")
+            for clause in names(clauses):
+                is_there = clause in known.get(call, ()) or ("::" in clause and clause in known)
+                check(is_there, f"{MEMORY_PAGE} names the clause {clause} on {call} of {crate}, and there is none")
+
+
 def check_names(page, known):
     """A name in the form of the code's, `two_words` or `TwoWords`, occurs in the crates."""
     text = page_text(page)
@@ -85,6 +123,7 @@ def check_names(page, known):
 
 
 def check_promises(pages):
+    check_memory()
     by_program = check_page(PROGRAM_PAGE, CRATES)
     for crate in CRATES:
         named = by_program | check_page(crate_page(crate), [crate])

@@ -1,8 +1,6 @@
 //! What `audit` finds.
 
-use super::captures::{ONE, Packet, capture_of};
 use super::reports::ELEVEN;
-use super::{Ended, SOUND, run_over};
 use deal_rules::Dealers;
 use exact_audit::Verdict;
 use gate_workers::OpenGate;
@@ -17,6 +15,7 @@ use std::process::Abort;
 use std::sync::Wait;
 use std::test::Fail;
 use std::thread::Threads;
+use test_runs::{Ended, ONE, Packet, SOUND, capture_of, run_over};
 
 const AUDIT: [&str; 4] = ["audit", "--shards", "1", "--report=r"];
 

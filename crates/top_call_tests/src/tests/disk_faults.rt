@@ -1,8 +1,6 @@
 //! Reports whose disk fails, and what the next report goes on from.
 
-use super::captures::ONE;
 use super::gates::Turnstile;
-use super::stores::{FORMAT, REPORT, disk_with, run_gated_on, run_on};
 use deal_rules::Dealers;
 use hhh_engine::Status;
 use slot_disk::MemoryDisk;
@@ -12,6 +10,7 @@ use std::process::Abort;
 use std::sync::Wait;
 use std::test::Fail;
 use std::thread::Threads;
+use test_runs::{FORMAT, ONE, REPORT, disk_with, run_gated_on, run_on};
 
 const ROUND: [&str; 7] = [
     "report",

@@ -1,7 +1,5 @@
 //! Made traffic, and what `demo` says of it.
 
-use super::captures::HEADER;
-use super::{Outside, SOUND, run_over};
 use deal_rules::Dealers;
 use hhh_engine::Status;
 use std::alloc::Global;
@@ -10,6 +8,7 @@ use std::process::Abort;
 use std::sync::Wait;
 use std::test::Fail;
 use std::thread::Threads;
+use test_runs::{HEADER, Outside, SOUND, run_over};
 
 // The one frame that seed 7 makes first: from 10.0.3.40 to 20.166.26.127, 100 bytes on the wire.
 const FRAME: [u8; 50] = [

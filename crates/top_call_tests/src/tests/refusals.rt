@@ -1,7 +1,5 @@
 //! What is refused, and how it is reported.
 
-use super::captures::{ONE, capture_of};
-use super::{Outside, SOUND, run_over};
 use checkpoint::StoreSettings;
 use deal_rules::{DealKind, Dealers};
 use exact_audit::Verdict;
@@ -16,6 +14,7 @@ use std::process::Abort;
 use std::sync::Wait;
 use std::test::Fail;
 use std::thread::Threads;
+use test_runs::{ONE, Outside, SOUND, capture_of, run_over};
 
 // The arguments, what is wrong with them, and the line that reports it.
 type Case = (&'static [&'static str], WordsKind, &'static str);

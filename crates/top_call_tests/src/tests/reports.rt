@@ -1,7 +1,5 @@
 //! What `report` writes.
 
-use super::captures::{HEADER, ONE, Packet, capture_of, packet_bytes, push_frame};
-use super::{SOUND, run_over};
 use deal_rules::Dealers;
 use hhh_engine::Status;
 use std::alloc::{AllocError, Global};
@@ -10,6 +8,7 @@ use std::process::Abort;
 use std::sync::Wait;
 use std::test::Fail;
 use std::thread::Threads;
+use test_runs::{HEADER, ONE, Packet, SOUND, capture_of, packet_bytes, push_frame, run_over};
 
 // Packets from N.0.0.1 to (100 + N).0.0.1, N being 1 to 6.
 const X: Packet = (0x0100_0001, 0x6500_0001);

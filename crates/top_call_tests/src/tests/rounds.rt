@@ -1,9 +1,7 @@
 //! What `report` writes while workers feed.
 
-use super::captures::{ONE, capture_of};
 use super::gates::{Meeting, RollCall, Turnstile};
 use super::reports::ELEVEN;
-use super::{Outside, SOUND, run_gated, run_over};
 use deal_rules::Dealers;
 use hhh_engine::Status;
 use std::alloc::{AllocError, Global};
@@ -13,6 +11,7 @@ use std::str;
 use std::sync::Wait;
 use std::test::Fail;
 use std::thread::Threads;
+use test_runs::{ONE, Outside, SOUND, capture_of, run_gated, run_over};
 
 // The positions of all reports of a session, in their order.
 fn positions_in<'a>(alloc: Global, text: &'a [u8]) -> Result<Vec<&'a str>, AllocError> {

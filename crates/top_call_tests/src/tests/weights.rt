@@ -1,7 +1,5 @@
 //! What `weigh` writes.
 
-use super::captures::{HEADER, ONE, Packet, capture_of};
-use super::{SOUND, run_over};
 use deal_rules::Dealers;
 use gate_workers::OpenGate;
 use hhh_engine::{Status, run};
@@ -14,6 +12,7 @@ use std::process::Abort;
 use std::sync::Wait;
 use std::test::Fail;
 use std::thread::Threads;
+use test_runs::{HEADER, ONE, Packet, SOUND, capture_of, run_over};
 
 // The arguments, the packets, and what is written.
 type Case = (&'static [&'static str], &'static [Packet], &'static str);

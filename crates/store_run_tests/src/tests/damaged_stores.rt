@@ -1,65 +1,14 @@
-//! Captures and stores that are damaged on purpose, each refused for its first fault.
+//! Stores that are damaged on purpose, each refused.
 
-use super::captures::{ONE, capture_of};
-use super::stores::{FORMAT, REPORT, disk_with, run_on};
-use super::{SOUND, run_over};
 use deal_rules::Dealers;
 use hhh_engine::Status;
-use pcap_frames::{CaptureFault, FaultKind};
 use std::alloc::{AllocError, Global};
 use std::marker::Sync;
 use std::process::Abort;
 use std::sync::Wait;
 use std::test::Fail;
 use std::thread::Threads;
-
-// A capture of one packet has a header of 24 bytes, and a frame of 50.
-const HEADER_LENGTH: usize = 24;
-
-const WEIGH: [&str; 3] = ["weigh", "0.0.0.0/0", "0.0.0.0/0"];
-
-// Each front of a capture of one packet, up to the whole of it: a short header, no frame, a cut frame, or one.
-pub(crate) fn each_front_of_a_capture<R: Abort + Threads + Wait + Sync>(
-    rt: &R,
-    alloc: Global,
-    dealers: &Dealers,
-) -> Result<(), Fail> {
-    let whole = capture_of(alloc, &[ONE])?;
-    for length in 0..=whole.len() {
-        let mut front = whole.to_vec(alloc)?;
-        front.truncate(length);
-        let ended = run_over(rt, alloc, dealers, &WEIGH, front, SOUND)?;
-        let (status, text) = if length < HEADER_LENGTH {
-            (bad_capture(FaultKind::ShortHeader, length as u64), "")
-        } else if length == HEADER_LENGTH {
-            (Status::Done, "low 0\nhigh 0\ntotal 0\n")
-        } else if length < whole.len() {
-            (bad_capture(FaultKind::CutFrame, 24), "")
-        } else {
-            (Status::Done, "low 100\nhigh 100\ntotal 100\n")
-        };
-        assert_eq!(rt; ended.status, status, "of {length} bytes");
-        assert_eq!(rt; ended.text.as_slice(), text.as_bytes());
-    }
-    Ok(())
-}
-
-fn bad_capture(kind: FaultKind, place: u64) -> Status {
-    Status::BadCapture(CaptureFault { kind, place })
-}
-
-// A frame that claims more captured bytes than a frame may have, and as many as its field can say.
-pub(crate) fn a_frame_of_all_ones<R: Abort + Threads + Wait + Sync>(
-    rt: &R,
-    alloc: Global,
-    dealers: &Dealers,
-) -> Result<(), Fail> {
-    let bytes = patched(alloc, &capture_of(alloc, &[ONE])?, 32, &[0xff; 4])?;
-    let ended = run_over(rt, alloc, dealers, &WEIGH, bytes, SOUND)?;
-    assert_eq!(rt; ended.status, bad_capture(FaultKind::LongFrame, 24));
-    assert!(rt; ended.text.is_empty());
-    Ok(())
-}
+use test_runs::{FORMAT, ONE, REPORT, disk_with, run_on};
 
 // The bytes with others at a place, as far as they reach.
 fn patched(alloc: Global, bytes: &[u8], place: usize, patch: &[u8]) -> Result<Vec<u8>, AllocError> {

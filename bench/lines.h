@@ -1,0 +1,150 @@
+// Lines of a report, for the plain audits: which is under which, their order, and when one is justified. A line has its
+// two addresses in one key and the index of its node, 5 * s + d where s and d bytes are kept.
+#ifndef LINES_H
+#define LINES_H
+
+#include "records.h"
+
+#define NODES 25
+#define MOST_SHARDS 16
+
+struct line {
+    uint64_t key, low, high, weight, left;
+    unsigned node;
+};
+
+struct report {
+    uint64_t positions[MOST_SHARDS], total, threshold;
+    unsigned shards;
+    struct line *lines;
+    size_t count;
+};
+
+static inline void *zeros(size_t number, size_t size) {
+    void *space = calloc(number ? number : 1, size);
+    if (!space)
+        exit(13);
+    return space;
+}
+
+static inline unsigned level_of(unsigned node) {
+    return node / 5 + node % 5;
+}
+
+static inline uint32_t kept(uint32_t address, unsigned bytes) {
+    return bytes ? address & 0xffffffff << (32 - 8 * bytes) : 0;
+}
+
+// The key of a record at a node.
+static inline uint64_t key_of(size_t i, unsigned node) {
+    return (uint64_t)kept(records[i].source, node / 5) << 32 | kept(records[i].destination, node % 5);
+}
+
+// The nodes that keep no fewer bytes of either address, one bit each; the node itself isn't among them.
+static inline uint32_t nodes_below(unsigned node) {
+    uint32_t nodes = 0;
+    for (unsigned other = 0; other < NODES; other++)
+        if (other != node && other / 5 >= node / 5 && other % 5 >= node % 5)
+            nodes |= 1u << other;
+    return nodes;
+}
+
+// A prefix as it stands in a report.
+struct place {
+    uint64_t key;
+    unsigned node;
+};
+
+static inline int compare(struct place one, struct place other) {
+    if (level_of(one.node) != level_of(other.node))
+        return level_of(one.node) > level_of(other.node) ? -1 : 1;
+    if (one.key >> 32 != other.key >> 32)
+        return one.key >> 32 < other.key >> 32 ? -1 : 1;
+    if (one.node != other.node)
+        return one.node / 5 < other.node / 5 ? -1 : 1;
+    return one.key < other.key ? -1 : one.key > other.key;
+}
+
+static inline int begins(uint64_t key, unsigned node, uint64_t upper, unsigned above) {
+    return above / 5 <= node / 5 && above % 5 <= node % 5
+        && kept(key >> 32, above / 5) == upper >> 32 && kept((uint32_t)key, above % 5) == (uint32_t)upper;
+}
+
+static inline int under(const struct line *lower, const struct line *upper) {
+    return begins(lower->key, lower->node, upper->key, upper->node);
+}
+
+static inline int same(const struct line *one, const struct line *other) {
+    return one->key == other->key && one->node == other->node;
+}
+
+static inline int strictly_under(const struct line *lower, const struct line *upper) {
+    return under(lower, upper) && !same(lower, upper);
+}
+
+// The longer of two halves of a prefix, if it begins with the other. Answers whether it does.
+static inline int longer(
+    uint32_t one, unsigned bytes, uint32_t other, unsigned other_bytes, uint32_t *half, unsigned *length) {
+    unsigned shared = bytes < other_bytes ? bytes : other_bytes;
+    *half = bytes < other_bytes ? other : one;
+    *length = bytes < other_bytes ? other_bytes : bytes;
+    return kept(one, shared) == kept(other, shared);
+}
+
+static inline int meet(const struct line *one, const struct line *other, struct line *lowest) {
+    uint32_t source, destination;
+    unsigned source_bytes, destination_bytes;
+    if (!longer(one->key >> 32, one->node / 5, other->key >> 32, other->node / 5, &source, &source_bytes)
+        || !longer(one->key, one->node % 5, other->key, other->node % 5, &destination, &destination_bytes))
+        return 0;
+    lowest->key = (uint64_t)source << 32 | destination;
+    lowest->node = 5 * source_bytes + destination_bytes;
+    return 1;
+}
+
+// The numbers of closest lines and of their kept pairs, added up.
+static inline uint64_t count_widths(const struct report *report, const struct line *line, int with_pairs) {
+    struct line *under_it = zeros(report->count, sizeof *under_it), *closest = zeros(report->count, sizeof *closest);
+    size_t number = 0, tops = 0;
+    uint64_t pairs = 0;
+    for (size_t i = 0; i < report->count; i++)
+        if (strictly_under(&report->lines[i], line))
+            under_it[number++] = report->lines[i];
+    for (size_t i = 0; i < number; i++) {
+        int top = 1;
+        for (size_t j = 0; top && j < number; j++)
+            top = !strictly_under(&under_it[i], &under_it[j]);
+        if (top)
+            closest[tops++] = under_it[i];
+    }
+    for (size_t i = 0; with_pairs && i < tops; i++)
+        for (size_t j = i + 1; j < tops; j++) {
+            struct line lowest;
+            int keeps = meet(&closest[i], &closest[j], &lowest);
+            for (size_t k = 0; keeps && k < tops; k++)
+                keeps = k == i || k == j || !under(&lowest, &closest[k]);
+            pairs += keeps;
+        }
+    free(under_it);
+    free(closest);
+    return tops + pairs;
+}
+
+static inline int allows(const struct report *report, uint64_t left, uint64_t widths, uint64_t capacity) {
+    return (unsigned __int128)capacity * left + (unsigned __int128)widths * report->total
+        >= (unsigned __int128)capacity * report->threshold;
+}
+
+static inline int is_justified(const struct report *report, const struct line *line, uint64_t capacity) {
+    return allows(report, line->left, 1, capacity)
+        || allows(report, line->left, 1 + count_widths(report, line, 0), capacity)
+        || allows(report, line->left, 1 + count_widths(report, line, 1), capacity);
+}
+
+// The least weight, at least 1, that is at least this many parts per million of the total.
+static inline uint64_t threshold_of(uint64_t total, uint64_t share) {
+    uint64_t threshold = ((unsigned __int128)total * share + 999999) / 1000000;
+    return threshold + !threshold;
+}
+
+#endif

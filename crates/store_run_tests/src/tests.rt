@@ -1,0 +1,94 @@
+ghost use Rattle.std.specs.Prelude.{◌≡◌, ◌%◌};
+ghost use Rattle.deal_rules.specs.{IsAsked};
+
+mod damaged_stores;
+mod one_failing_call;
+mod stores;
+
+use deal_rules::{DealKind, Dealer, Dealers};
+use prefix_lattice::Record;
+use std::test::Fail;
+
+// The rule of `round`, for which alone these runs ask, and a rule of `free`: in turn.
+fn by_place(place: u64, rec: Record, shards: u32) -> u32
+    requires { IsAsked place rec shards }
+    ensures { result ≡ place % shards }
+{
+    (place % u64::from(shards)) as u32
+}
+
+// The rule of `source`: by the source address.
+fn by_source(place: u64, rec: Record, shards: u32) -> u32
+    requires { IsAsked place rec shards }
+    ensures { result ≡ rec.src % shards }
+{
+    rec.src % shards
+}
+
+#[test]
+fn goes_on_from_stores(rt: HostRuntime) -> Result<(), Fail> {
+    let alloc = rt.alloc();
+    let dealers = Dealers {
+        round: Dealer::new(DealKind::RoundRobin, Box::new(alloc, by_place)?),
+        source: Dealer::new(DealKind::BySource, Box::new(alloc, by_source)?),
+        free: Dealer::new(DealKind::Free, Box::new(alloc, by_place)?),
+    };
+    stores::saves_each_round(&rt, alloc, &dealers)?;
+    stores::formats(&rt, alloc, &dealers)?;
+    stores::refuses_stores(&rt, alloc, &dealers)?;
+    damaged_stores::damaged_stores(&rt, alloc, &dealers)?;
+    stores::tells_the_faults_of_the_disk(&rt, alloc, &dealers)
+}
+
+#[test]
+fn goes_on_after_one_failing_call(rt: HostRuntime) -> Result<(), Fail> {
+    let alloc = rt.alloc();
+    let dealers = Dealers {
+        round: Dealer::new(DealKind::RoundRobin, Box::new(alloc, by_place)?),
+        source: Dealer::new(DealKind::BySource, Box::new(alloc, by_source)?),
+        free: Dealer::new(DealKind::Free, Box::new(alloc, by_place)?),
+    };
+    one_failing_call::a_source_fails(&rt, alloc, &dealers)?;
+    one_failing_call::a_sink_fails(&rt, alloc, &dealers)?;
+    one_failing_call::a_disk_fails(&rt, alloc, &dealers)
+}
+
+// A run on a fresh store makes twenty calls of the disk: two to open it, and six for each of its three saves.
+#[test]
+fn goes_on_after_two_stops(rt: HostRuntime) -> Result<(), Fail> {
+    let alloc = rt.alloc();
+    let dealers = Dealers {
+        round: Dealer::new(DealKind::RoundRobin, Box::new(alloc, by_place)?),
+        source: Dealer::new(DealKind::BySource, Box::new(alloc, by_source)?),
+        free: Dealer::new(DealKind::Free, Box::new(alloc, by_place)?),
+    };
+    let stopped = one_failing_call::the_disk_stops_twice(&rt, alloc, &dealers, 0, 7)?;
+    assert_eq!(rt; stopped, 7);
+    Ok(())
+}
+
+#[test]
+fn goes_on_after_two_stops_in_a_round(rt: HostRuntime) -> Result<(), Fail> {
+    let alloc = rt.alloc();
+    let dealers = Dealers {
+        round: Dealer::new(DealKind::RoundRobin, Box::new(alloc, by_place)?),
+        source: Dealer::new(DealKind::BySource, Box::new(alloc, by_source)?),
+        free: Dealer::new(DealKind::Free, Box::new(alloc, by_place)?),
+    };
+    let stopped = one_failing_call::the_disk_stops_twice(&rt, alloc, &dealers, 7, 7)?;
+    assert_eq!(rt; stopped, 7);
+    Ok(())
+}
+
+#[test]
+fn goes_on_after_two_stops_at_the_end(rt: HostRuntime) -> Result<(), Fail> {
+    let alloc = rt.alloc();
+    let dealers = Dealers {
+        round: Dealer::new(DealKind::RoundRobin, Box::new(alloc, by_place)?),
+        source: Dealer::new(DealKind::BySource, Box::new(alloc, by_source)?),
+        free: Dealer::new(DealKind::Free, Box::new(alloc, by_place)?),
+    };
+    let stopped = one_failing_call::the_disk_stops_twice(&rt, alloc, &dealers, 14, 7)?;
+    assert_eq!(rt; stopped, 6);
+    Ok(())
+}
