@@ -10,7 +10,7 @@ use Rattle.checkpoint.specs.Saved.{SavedValue}
 use Rattle.checkpoint.specs.declared.settings.StoreSettings.{StoreSettings}
 use Rattle.checkpoint.specs.Header.{AreSettings}
 
--- the greatest sequence of a body
+-- the greatest sequence number of a body
 abbrev pub greatest_sequence : ℕ
 greatest_sequence = 2 ^ 62
 

@@ -1,4 +1,4 @@
--- The digest of dealt records, by which a store knows whose cuts it has.
+-- The digest of dealt records, which ties a store to the records whose cuts it has.
 use Rattle.std.specs.Prelude.{ℕ, List, ◌++◌, length}
 use Rattle.std.specs.List.{flat_map}
 use Rattle.sha2.specs.Sha256.{sha256}

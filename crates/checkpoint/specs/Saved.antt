@@ -4,7 +4,7 @@ use Rattle.shard_state.specs.{CutValue}
 use Rattle.checkpoint.specs.declared.saved.Saved.{Saved}
 use Rattle.checkpoint.specs.declared.newest.Newest.{Newest}
 
--- what a body spells: a sequence, the digest of the dealt records, and a cut
+-- what a body spells: its sequence number, the digest of the dealt records, and a cut
 pub record SavedValue : Type 0 where
   pub sequence : ℕ
   pub digest : List ℕ

@@ -12,7 +12,7 @@ use Rattle.checkpoint.specs.Saved.{SavedValue}
 use Rattle.checkpoint.specs.Body.{IsBody}
 use Rattle.checkpoint.specs.Digest.{lists_digest}
 
--- what a slot holds: nothing as its gate is closed, or what the body under its open gate spells
+-- what a slot holds: nothing where its gate is closed, else what the body under its open gate spells
 abbrev pub SlotHolds : StoreSettings → ℕ → List ℕ → Option SavedValue → Type 0
 SlotHolds settings slot image None = slot_content (span_of settings) slot image ≡ Closed
 SlotHolds settings slot image (Some saved) =
@@ -30,7 +30,7 @@ abbrev pub IsSoundStore : StoreSettings → List ℕ → Type 0
 IsSoundStore settings image =
     (first : Option SavedValue) × (second : Option SavedValue) × StoreHolds settings image first second
 
--- the newest of what two slots hold: that with the greater sequence, the first where they are equal
+-- the newer of what two slots hold: that with the greater sequence number, the first where these are equal
 abbrev pub newest_in : Option SavedValue → Option SavedValue → Option SavedValue
 newest_in None second = second
 newest_in (Some saved) None = Some saved
@@ -65,7 +65,7 @@ abbrev pub store_positions : StoreSettings → Option SavedValue → List ℕ
 store_positions settings None = replicate settings.shards 0
 store_positions settings (Some saved) = cut_positions saved.cut
 
--- the newest sequence of a store, 0 where no gate is open
+-- the newest sequence number of a store, 0 where no gate is open
 abbrev pub store_sequence : Option SavedValue → ℕ
 store_sequence None = 0
 store_sequence (Some saved) = saved.sequence

@@ -15,7 +15,7 @@ use Rattle.command_words.specs.Options.{capacity_limit, phi_limit, seed_limit, f
 use Rattle.command_words.specs.Settings.{SettingValues, settings_in, store_setting, SetsNumber}
 use Rattle.command_words.specs.Settings.{SetsWeigh, SetsDeal, SetsStore}
 use Rattle.command_words.specs.Settings.{weigh_word, deal_word}
-use Rattle.command_words.specs.Settings.{SetsAll, AreWide, AreLimited, GivesNumber}
+use Rattle.command_words.specs.Settings.{SetsAll, HaveWideShare, AreLimited, GivesNumber}
 use Rattle.command_words.specs.Settings.{GivesTraffic, AreForTraffic}
 use Rattle.command_words.specs.Options.{block_limit, workers_limit, callers_limit}
 use Rattle.command_words.specs.Options.{rounds_limit}
@@ -181,10 +181,10 @@ pub too_many_shards : AreLimited (record defaults { shards = 17 }) → ⊥
 too_many_shards limited = omega (arith, limited.few_shards)
 
 -- tables of 512 can't hide a prefix of a hundredth of the total; tables of 17 can hide one of 117,647 parts per million
-pub defaults_are_wide : AreWide defaults
+pub defaults_are_wide : HaveWideShare defaults
 defaults_are_wide = omega arith
 
-pub tables_too_small_for_a_share : AreWide (record defaults { phi = 117647; capacity = 17 }) → ⊥
+pub tables_too_small_for_a_share : HaveWideShare (record defaults { phi = 117647; capacity = 17 }) → ⊥
 tables_too_small_for_a_share wide = omega (arith, wide)
 
 -- what `--weigh=packets 10.0.0.0/8 --capture a.pcap 20.0.0.0/8` says

@@ -13,7 +13,7 @@ use Rattle.command_words.specs.FormNames.{form_of}
 use Rattle.command_words.specs.Options.{name_of}
 use Rattle.command_words.specs.Settings.{settings_in, store_setting, SetsNumber, SetsAll}
 use Rattle.command_words.specs.Settings.{GivesNumber, GivesTraffic}
-use Rattle.command_words.specs.Settings.{AreWide}
+use Rattle.command_words.specs.Settings.{HaveWideShare}
 use Rattle.command_words.specs.Given.{SetsGiven}
 use Rattle.command_words.specs.Matches.{AreMatchesOf, MatchWords, values_in, store_in}
 use Rattle.command_words.specs.PathTexts.{NamesPath}
@@ -130,7 +130,7 @@ pub matches_tell_narrow_settings : (words : List ArgumentText) (word : CommandWo
     (tells : MatchWords words word matches) (settings : Settings) (kind : WordsKind) → IsBounded word
     → AreGood (values_in matches)
     → SetsAll (values_in matches) (store_in matches) settings
-    → kind ≡ Bound → (AreWide settings → ⊥) → HasWordsFault words kind
+    → kind ≡ Bound → (HaveWideShare settings → ⊥) → HasWordsFault words kind
 matches_tell_narrow_settings words word matches tells settings kind bounded good set is narrow =
     subst (λ k. HasWordsFault words k) (sym is) record {
       command = word;
@@ -209,7 +209,7 @@ matches_tell_make words matches tells given sets = record {
 -- and those of `demo` ask for a demo of it
 pub matches_tell_demo : (words : List ArgumentText) (matches : ArgMatches) (tells : MatchWords words Demo matches)
     (given : Given) → SetsGiven (values_in matches) (store_in matches) given
-    → AreWide given.settings → AskToDemo words given.seed given.frames given.settings
+    → HaveWideShare given.settings → AskToDemo words given.seed given.frames given.settings
 matches_tell_demo words matches tells given sets wide = record {
   arguments = tells.arguments;
   are_words = tells.are_words;

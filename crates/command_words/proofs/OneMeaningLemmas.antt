@@ -9,7 +9,7 @@ use Rattle.command_words.specs.Arguments.{ArgumentText, Argument, SpellAll, AreW
 use Rattle.command_words.specs.FormNames.{word_of, form_of, AreWords}
 use Rattle.command_words.specs.Given.{SetsGiven}
 use Rattle.command_words.specs.Settings.{SettingValues, SetsAll}
-use Rattle.command_words.specs.Settings.{settings_in, store_setting, AreWide}
+use Rattle.command_words.specs.Settings.{settings_in, store_setting, HaveWideShare}
 use Rattle.command_words.specs.Command.{AskForCommand, HasSides, HasPositionals}
 use Rattle.command_words.specs.Values.{HasValueFault}
 use Rattle.command_words.specs.WordsRefusal.{HasBadValue, HasWordsFault}
@@ -173,8 +173,8 @@ weigh_has_one_meaning reading arguments outcome other (well source dest prefix r
 -- what a command whose share is bounded means, once its values are read
 abbrev IsBoundedMeaning : (Given → Command) → Result Given WordsKind → MeaningOfWords → Type 0
 IsBoundedMeaning asked (Ok given) outcome =
-    (AreWide given.settings × (outcome ≡ Ok (asked given)))
-    ⊎ ((AreWide given.settings → ⊥) × (outcome ≡ Err Bound))
+    (HaveWideShare given.settings × (outcome ≡ Ok (asked given)))
+    ⊎ ((HaveWideShare given.settings → ⊥) × (outcome ≡ Err Bound))
 IsBoundedMeaning asked (Err kind) outcome = outcome ≡ Err kind
 
 bounded_meaning_is_one : (asked : Given → Command) (read : Result Given WordsKind) (outcome other : MeaningOfWords)
@@ -385,18 +385,18 @@ bad_value_is_meaning words kind has =
 -- that its tables are too small for its share is what the arguments of a bounded command mean
 narrow_is_bounded_meaning : (word : CommandWord) (asked : Given → Command) (arguments : List Argument) (settings : Settings)
     → AreGood (settings_in word arguments) → SetsAll (settings_in word arguments) (store_setting arguments) settings
-    → (AreWide settings → ⊥) → BoundedHasMeaning word asked arguments (Err Bound)
+    → (HaveWideShare settings → ⊥) → BoundedHasMeaning word asked arguments (Err Bound)
 narrow_is_bounded_meaning word asked arguments settings good set narrow =
     let gives = given_by_good_values (settings_in word arguments) (store_setting arguments) settings good set in
     record {
       read = Ok gives.given;
       told = gives.gives;
-      comes_to = inr (subst (λ s. AreWide s → ⊥) (sym gives.same) narrow, refl);
+      comes_to = inr (subst (λ s. HaveWideShare s → ⊥) (sym gives.same) narrow, refl);
     }
 
 narrow_is_argument_meaning : (word : CommandWord) (arguments : List Argument) (settings : Settings) → IsBounded word
     → AreGood (settings_in word arguments) → SetsAll (settings_in word arguments) (store_setting arguments) settings
-    → (AreWide settings → ⊥) → ArgumentsHaveMeaning word arguments (Err Bound)
+    → (HaveWideShare settings → ⊥) → ArgumentsHaveMeaning word arguments (Err Bound)
 narrow_is_argument_meaning Weigh arguments settings bounded good set narrow = absurd bounded
 narrow_is_argument_meaning Report arguments settings bounded good set narrow =
     narrow_is_bounded_meaning Report report_command_meaning arguments settings good set narrow

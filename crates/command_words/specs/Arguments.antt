@@ -4,7 +4,7 @@ use Rattle.std.specs.Prelude.{None, if◌then◌else◌, map}
 use Rattle.std.specs.Str.{bytes_eq}
 use Rattle.std.specs.Borrow.{Bor}
 
--- a word, which is one string of the command line, or a part of a word, as its bytes
+-- the bytes of a word, which is one string of the command line, or of a part of a word
 abbrev pub ArgumentText : Type 0
 ArgumentText = List ℕ
 
@@ -48,7 +48,7 @@ pub record BeginWith (words : List ArgumentText) (argument : Argument) (others :
   pub parted : words ≡ front ++ others
   pub spelled : Spells front argument
 
--- the words spell the arguments, one after the other
+-- the words spell the arguments, one after another
 abbrev pub SpellAll : List ArgumentText → List Argument → Type 0
 SpellAll words [] = words ≡ []
 SpellAll words (argument ∷ arguments) =

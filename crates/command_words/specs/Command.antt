@@ -4,7 +4,7 @@ use Rattle.prefix_lattice.specs.{PrefixValue, SpellsPrefix}
 use Rattle.command_words.specs.Arguments.{ArgumentText, Argument, positionals_in}
 use Rattle.command_words.specs.FormNames.{AreWords}
 use Rattle.command_words.specs.Settings.{settings_in, store_setting, SetsAll, GivesTraffic}
-use Rattle.command_words.specs.Settings.{AreWide, AreLimited, AreForTraffic}
+use Rattle.command_words.specs.Settings.{HaveWideShare, AreLimited, AreForTraffic}
 use Rattle.command_words.specs.declared.command.Command.{Command}
 use Rattle.command_words.specs.declared.command_word.CommandWord.{CommandWord}
 use Rattle.command_words.specs.declared.command_word.CommandWord.TheVariants.{Weigh, Report, Format, Audit, Make, Demo}
@@ -30,7 +30,7 @@ pub record AskToReport (words : List ArgumentText) (settings : Settings) : Type 
   pub arguments : List Argument
   pub are_words : AreWords words Report arguments
   pub set : SetsAll (settings_in Report arguments) (store_setting arguments) settings
-  pub wide : AreWide settings
+  pub wide : HaveWideShare settings
 
 -- the command line asks for an empty store
 pub record AskToFormat (words : List ArgumentText) (settings : Settings) : Type 0 where
@@ -43,7 +43,7 @@ pub record AskToAudit (words : List ArgumentText) (settings : Settings) : Type 0
   pub arguments : List Argument
   pub are_words : AreWords words Audit arguments
   pub set : SetsAll (settings_in Audit arguments) (store_setting arguments) settings
-  pub wide : AreWide settings
+  pub wide : HaveWideShare settings
 
 -- the command line asks for made traffic
 pub record AskToMake (words : List ArgumentText) (seed frames : ℕ) : Type 0 where
@@ -57,7 +57,7 @@ pub record AskToDemo (words : List ArgumentText) (seed frames : ℕ) (settings :
   pub are_words : AreWords words Demo arguments
   pub made : GivesTraffic (settings_in Demo arguments) seed frames
   pub set : SetsAll (settings_in Demo arguments) (store_setting arguments) settings
-  pub wide : AreWide settings
+  pub wide : HaveWideShare settings
 
 -- which command the arguments of a command line ask for
 abbrev pub AskForCommand : List ArgumentText → Command → Type 0
@@ -72,11 +72,11 @@ AskForCommand words (command.Demo seed frames settings) = AskToDemo words seed f
 -- for their share
 abbrev pub IsLimitedCommand : Command → Type 0
 IsLimitedCommand (command.Weigh prefix settings) = AreLimited settings
-IsLimitedCommand (command.Report settings) = AreLimited settings × AreWide settings
+IsLimitedCommand (command.Report settings) = AreLimited settings × HaveWideShare settings
 IsLimitedCommand (command.Format settings) = AreLimited settings
-IsLimitedCommand (command.Audit settings) = AreLimited settings × AreWide settings
+IsLimitedCommand (command.Audit settings) = AreLimited settings × HaveWideShare settings
 IsLimitedCommand (command.Make seed frames) = AreForTraffic seed frames
-IsLimitedCommand (command.Demo seed frames settings) = AreForTraffic seed frames × AreLimited settings × AreWide settings
+IsLimitedCommand (command.Demo seed frames settings) = AreForTraffic seed frames × AreLimited settings × HaveWideShare settings
 
 -- the positionals of the command are good: those of `weigh` spell a prefix. Those that are numbers are checked with
 -- the values of options

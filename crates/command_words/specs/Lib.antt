@@ -12,7 +12,7 @@ pub mod Given
 pub mod Matches
 pub mod Parsing
 -- the face: what contracts of other crates cite
-pub use Rattle.command_words.specs.Settings.{AreLimited, AreWide}
+pub use Rattle.command_words.specs.Settings.{AreLimited, HaveWideShare}
 pub use Rattle.command_words.specs.Command.{AskForCommand, IsLimitedCommand}
 pub use Rattle.command_words.specs.WordsRefusal.{HasWordsFault}
 pub use Rattle.command_words.specs.PathTexts.{NamesPaths}

@@ -25,7 +25,7 @@ frames_limit = 1000000
 abbrev pub capacity_limit : ℕ
 capacity_limit = 4096
 
--- the greatest share, the whole, in parts per million
+-- the greatest share in parts per million, which is the whole
 abbrev pub phi_limit : ℕ
 phi_limit = 1000000
 
@@ -37,11 +37,11 @@ block_limit = 65536
 abbrev pub workers_limit : ℕ
 workers_limit = 16
 
--- the most threads that report besides the calling one
+-- the most threads besides the calling one that report
 abbrev pub callers_limit : ℕ
 callers_limit = 8
 
--- the most reports that each of them makes while records are folded
+-- the most reports that the calling thread and each of these make while records are folded
 abbrev pub rounds_limit : ℕ
 rounds_limit = 32
 

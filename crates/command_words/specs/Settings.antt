@@ -92,9 +92,10 @@ pub record AreForTraffic (seed frames : ℕ) : Type 0 where
   pub some_frames : 1 ≤ frames
   pub few_frames : frames ≤ frames_limit
 
--- tables of this capacity can't hide a prefix of this share: phi times capacity is at least 2,000,000
-abbrev pub AreWide : Settings → Type 0
-AreWide settings = 2 * phi_limit ≤ settings.phi * settings.capacity
+-- tables of this capacity can't hide a prefix of this share, which is at least twice the greatest width of an interval: phi
+-- times capacity is at least 2,000,000
+abbrev pub HaveWideShare : Settings → Type 0
+HaveWideShare settings = 2 * phi_limit ≤ settings.phi * settings.capacity
 
 -- each number of the settings is within its limits
 pub record AreLimited (settings : Settings) : Type 0 where

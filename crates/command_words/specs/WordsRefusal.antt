@@ -4,7 +4,7 @@ use Rattle.prefix_lattice.specs.{HasPrefixFault}
 use Rattle.prefix_lattice.specs.declared.prefix_fault.PrefixFault.{PrefixFault}
 use Rattle.command_words.specs.Arguments.{ArgumentText, Argument, AreWellFormed}
 use Rattle.command_words.specs.FormNames.{word_of, form_of, AreWords}
-use Rattle.command_words.specs.Settings.{settings_in, store_setting, SetsAll, AreWide}
+use Rattle.command_words.specs.Settings.{settings_in, store_setting, SetsAll, HaveWideShare}
 use Rattle.command_words.specs.declared.command_word.CommandWord.{CommandWord}
 use Rattle.command_words.specs.declared.command_word.CommandWord.TheVariants.{Weigh}
 use Rattle.command_words.specs.declared.settings.Settings.{Settings}
@@ -40,7 +40,7 @@ pub record HasNarrowTables (words : List ArgumentText) : Type 0 where
   pub good : AreGood (settings_in command arguments)
   pub settings : Settings
   pub set : SetsAll (settings_in command arguments) (store_setting arguments) settings
-  pub narrow : AreWide settings → ⊥
+  pub narrow : HaveWideShare settings → ⊥
 
 -- the first fault of the arguments: the command, then their form, then the prefix, then the values in the order
 -- of the options, then the bound on phi times the capacity

@@ -3,7 +3,7 @@
 ghost use Rattle.std.specs.Prelude.{◌≡◌, ◌⊎◌, List, Ok, Err, IfOk, IfErr};
 ghost use Rattle.command_words.specs.Arguments.{ArgumentText};
 ghost use Rattle.command_words.specs.Matches.{MatchWords};
-ghost use Rattle.command_words.specs.Settings.{AreWide};
+ghost use Rattle.command_words.specs.Settings.{HaveWideShare};
 ghost use Rattle.command_words.specs.Arguments.{argument_texts};
 ghost use Rattle.command_words.specs.Command.{AskForCommand, IsLimitedCommand};
 ghost use Rattle.command_words.specs.WordsRefusal.{HasWordsFault};
@@ -164,8 +164,8 @@ fn demo_command(matches: &ArgMatches<'_>) -> Result<Command, WordsKind>
 
 // The demo of what values give, if its tables are large enough for its share.
 fn demo_of(given: Given) -> Result<Command, WordsKind>
-    ensures ok { IfOk result (λ command. (command ≡ DemoOf given.seed given.frames given.settings) × AreWide given.settings) }
-    ensures err { IfErr result (λ kind. (kind ≡ Bound) × (AreWide given.settings → ⊥)) }
+    ensures ok { IfOk result (λ command. (command ≡ DemoOf given.seed given.frames given.settings) × HaveWideShare given.settings) }
+    ensures err { IfErr result (λ kind. (kind ≡ Bound) × (HaveWideShare given.settings → ⊥)) }
 {
     Ok(Command::Demo {
         seed: given.seed,

@@ -4,7 +4,7 @@ ghost use Rattle.std.specs.Prelude.{◌≡◌, ◌↔◌, IfOk, IfErr, IsTrue};
 ghost use Rattle.command_words.specs.Scanning.{text_at};
 ghost use Rattle.command_words.specs.Options.{kind_of, number, place_of};
 ghost use Rattle.command_words.specs.Settings.{SetsDeal, SetsNumber, SetsAll, SetsStore};
-ghost use Rattle.command_words.specs.Settings.{SetsWeigh, AreWide};
+ghost use Rattle.command_words.specs.Settings.{SetsWeigh, HaveWideShare};
 ghost use Rattle.command_words.specs.Matches.{store_in, values_in};
 ghost use Rattle.command_words.specs.Values.{AreGood, HasValueFault};
 ghost use Rattle.command_words.specs.Given.{AreGoodBefore, IsBadChoice, IsBadNumber};
@@ -176,8 +176,8 @@ fn running_of(matches: &ArgMatches<'_>) -> Result<Running, WordsKind>
 
 /// The settings themselves, if their tables are large enough for their share.
 pub(crate) fn bounded(settings: Settings) -> Result<Settings, WordsKind>
-    ensures ok { IfOk result (λ same. (same ≡ settings) × AreWide settings) }
-    ensures err { IfErr result (λ kind. (kind ≡ Bound) × (AreWide settings → ⊥)) }
+    ensures ok { IfOk result (λ same. (same ≡ settings) × HaveWideShare settings) }
+    ensures err { IfErr result (λ kind. (kind ≡ Bound) × (HaveWideShare settings → ⊥)) }
 {
     if !is_wide(&settings) {
         return Err(WordsKind::Bound);
@@ -187,7 +187,7 @@ pub(crate) fn bounded(settings: Settings) -> Result<Settings, WordsKind>
 
 // Whether tables of this capacity are large enough for the share `phi`.
 fn is_wide(settings: &Settings) -> bool
-    ensures { IsTrue result ↔ AreWide settings.now }
+    ensures { IsTrue result ↔ HaveWideShare settings.now }
 {
     u64::from(settings.phi) * u64::from(settings.capacity) >= LEAST_WIDTH
 }

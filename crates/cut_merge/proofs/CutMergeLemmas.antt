@@ -15,7 +15,7 @@ use Rattle.cut_merge.specs.NodeMerge.{NodeMergeValue}
 use Rattle.cut_merge.specs.Merged.{MergedValue, CanBeMerged, WithTable, NodeRepresents}
 use Rattle.cut_merge.specs.Merged.{nothing_merged, IsMerged}
 use Rattle.cut_merge.specs.Merged.{RepresentsCut, interval_for_key, merge_at}
-use Rattle.cut_merge.specs.KeyInterval.{tables_at, FitsTotal}
+use Rattle.cut_merge.specs.CutTables.{tables_at, FitsTotal}
 use Rattle.cut_merge.proofs.TableMergeLemmas.{TableMergeIsBounded, table_merge_count, table_merge_is_bounded}
 use Rattle.cut_merge.proofs.TableMergeLemmas.{table_merge_represents_more, interval_of_table_merge}
 use Rattle.cut_merge.proofs.CutTableLemmas.{CutTablesAreBounded, cut_tables_count_total}

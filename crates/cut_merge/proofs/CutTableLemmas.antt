@@ -7,7 +7,7 @@ use Rattle.space_saving.specs.declared.entry.Entry.{Entry}
 use Rattle.space_saving.specs.{TableValue, interval_in, interval_from, table_total, IsTable}
 use Rattle.shard_state.specs.{SnapshotValue, IsSnapshot, table_at, snapshot_total, CutValue, IsCut}
 use Rattle.shard_state.specs.{total_of_cut}
-use Rattle.cut_merge.specs.KeyInterval.{tables_at}
+use Rattle.cut_merge.specs.CutTables.{tables_at}
 use Rattle.cut_merge.specs.Merged.{CanBeMerged}
 use Rattle.cut_merge.proofs.TableMergeLemmas.{table_merge_count}
 

@@ -8,9 +8,9 @@ use Rattle.prefix_lattice.specs.{prefix_key}
 use Rattle.space_saving.specs.declared.entry.Entry.{Entry}
 use Rattle.space_saving.specs.{TableValue, TableInterval}
 use Rattle.shard_state.specs.{fold_from, SnapshotValue, CutValue, total_of_cut}
-use Rattle.cut_merge.specs.KeyInterval.{first_seen, interval_over, keys_of}
-use Rattle.cut_merge.specs.KeyInterval.{monitored_in}
-use Rattle.cut_merge.specs.KeyInterval.{tables_at, interval_in_cut, monitored_in_cut, FitsTotal}
+use Rattle.cut_merge.specs.CutTables.{first_seen, interval_over, keys_of}
+use Rattle.cut_merge.specs.CutTables.{monitored_in}
+use Rattle.cut_merge.specs.CutTables.{tables_at, interval_in_cut, monitored_in_cut, FitsTotal}
 use Rattle.cut_merge.specs.declared.key_interval.KeyInterval.{KeyInterval}
 use Rattle.cut_merge.specs.NodeMerge.{NodeMergeValue}
 use Rattle.cut_merge.specs.Merged.{MergedValue, nothing_merged, interval_for_key, merge_at, interval_for}

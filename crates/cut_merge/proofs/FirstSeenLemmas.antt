@@ -13,7 +13,7 @@ use Rattle.std.proofs.lemmas.Map.Views.{any-filter_same}
 use Rattle.std.specs.List.{list_any}
 use Rattle.prefix_lattice.proofs.ListLemmas.{Contains-list_head, Contains-list_tail, Contains-list_cons}
 use Rattle.prefix_lattice.proofs.ListLemmas.{Contains-empty_list}
-use Rattle.cut_merge.specs.KeyInterval.{first_seen}
+use Rattle.cut_merge.specs.CutTables.{first_seen}
 use Rattle.cut_merge.specs.Merged.{keys_seen}
 
 -- the keys that differ from a first one

@@ -17,8 +17,8 @@ use Rattle.shard_state.specs.{CutValue, IsCut}
 use Rattle.hhh_report.specs.{records_before}
 use Rattle.shard_state.specs.{cut_positions, total_of_cut, CutRepresents, HoldsNarrowly}
 use Rattle.shard_state.specs.{interval_of}
-use Rattle.cut_merge.specs.KeyInterval.{interval_over, keys_of}
-use Rattle.cut_merge.specs.KeyInterval.{tables_at, interval_in_cut, monitored_in_cut, FitsTotal}
+use Rattle.cut_merge.specs.CutTables.{interval_over, keys_of}
+use Rattle.cut_merge.specs.CutTables.{tables_at, interval_in_cut, monitored_in_cut, FitsTotal}
 use Rattle.prefix_lattice.proofs.ListLemmas.{Contains-list_head, Contains-list_tail}
 use Rattle.cut_merge.proofs.FirstSeenLemmas.{first_seen-contains}
 use Rattle.cut_merge.proofs.TableMergeLemmas.{TableMergeIsBounded, table_merge_is_bounded}

@@ -6,8 +6,8 @@ use Rattle.std.specs.List.{flat_map}
 use Rattle.prefix_lattice.specs.{NodeValue, IsNode, IsPrefixKey}
 use Rattle.space_saving.specs.declared.entry.Entry.{Entry}
 use Rattle.shard_state.specs.{SnapshotValue, IsSnapshot, table_at, CutValue, IsCut}
-use Rattle.cut_merge.specs.KeyInterval.{keys_of}
-use Rattle.cut_merge.specs.KeyInterval.{tables_at, monitored_in_cut}
+use Rattle.cut_merge.specs.CutTables.{keys_of}
+use Rattle.cut_merge.specs.CutTables.{tables_at, monitored_in_cut}
 use Rattle.cut_merge.proofs.FirstSeenLemmas.{first_seen-all, first_seen-length}
 
 -- the keys of all entries at a node, over shards and indices

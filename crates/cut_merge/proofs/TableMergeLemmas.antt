@@ -12,7 +12,7 @@ use Rattle.std.proofs.lemmas.Grind.{flat_map-append}
 use Rattle.space_saving.specs.declared.entry.Entry.{Entry}
 use Rattle.space_saving.specs.{TableValue, TableInterval, table_entry, interval_in, interval_from}
 use Rattle.space_saving.specs.{table_total}
-use Rattle.cut_merge.specs.KeyInterval.{first_seen, interval_over, keys_of}
+use Rattle.cut_merge.specs.CutTables.{first_seen, interval_over, keys_of}
 use Rattle.cut_merge.specs.Run.{RunValue, IsRunOf, interval_of_entry, interval_or_missing, run_interval}
 use Rattle.cut_merge.specs.Run.{is_monitored}
 use Rattle.cut_merge.specs.Run.{missing_high}

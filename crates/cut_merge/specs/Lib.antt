@@ -1,4 +1,4 @@
-pub mod KeyInterval
+pub mod CutTables
 pub mod Run
 pub mod NodeMerge
 pub mod HighBounds
@@ -7,5 +7,5 @@ pub mod Merged
 pub use Rattle.cut_merge.specs.Merged.{MergedValue, RepresentsCut, candidates_at, interval_for}
 pub use Rattle.cut_merge.specs.Merged.{nothing_merged}
 pub use Rattle.cut_merge.specs.NodeMerge.{NodeMergeValue}
-pub use Rattle.cut_merge.specs.KeyInterval.{TableInterval, FitsTotal, monitored_in_cut}
-pub use Rattle.cut_merge.specs.KeyInterval.{interval_in_cut, monitored_in}
+pub use Rattle.cut_merge.specs.CutTables.{TableInterval, FitsTotal, monitored_in_cut}
+pub use Rattle.cut_merge.specs.CutTables.{interval_in_cut, monitored_in}

@@ -9,8 +9,8 @@ use Rattle.space_saving.specs.{TableInterval, TableValue, interval_in, table_tot
 use Rattle.shard_state.specs.{CutValue, total_of_cut}
 use Rattle.cut_merge.specs.Run.{RunValue, run_interval, IsRunOf, missing_high}
 use Rattle.cut_merge.specs.NodeMerge.{NodeMergeValue}
-use Rattle.cut_merge.specs.KeyInterval.{interval_in_cut, monitored_in_cut, FitsTotal}
-use Rattle.cut_merge.specs.KeyInterval.{keys_of, monitored_in}
+use Rattle.cut_merge.specs.CutTables.{interval_in_cut, monitored_in_cut, FitsTotal}
+use Rattle.cut_merge.specs.CutTables.{keys_of, monitored_in}
 
 -- the capacity of the tables, the weight that they counted together, and the merged tables of each of the 25 nodes,
 -- in the order of the nodes' indexes

@@ -6,8 +6,8 @@ ghost use Rattle.prefix_lattice.specs.{prefix_key, prefix_weight, total_weight, 
 ghost use Rattle.hhh_report.specs.{records_before};
 ghost use Rattle.shard_state.specs.{CutValue, IsCut, cut_positions, total_of_cut, CutRepresents};
 ghost use Rattle.shard_state.specs.{HoldsNarrowly};
-ghost use Rattle.cut_merge.specs.KeyInterval.{tables_at, interval_in_cut, monitored_in_cut};
-ghost use Rattle.cut_merge.specs.KeyInterval.{FitsTotal};
+ghost use Rattle.cut_merge.specs.CutTables.{tables_at, interval_in_cut, monitored_in_cut};
+ghost use Rattle.cut_merge.specs.CutTables.{FitsTotal};
 ghost use Rattle.cut_merge.specs.Merged.{CanBeMerged};
 
 use shard_state::snapshots_hold_weights;

@@ -5,8 +5,8 @@ ghost use Rattle.prefix_lattice.specs.{IsNode, total_limit};
 ghost use Rattle.shard_state.specs.{CutValue, total_of_cut};
 ghost use Rattle.cut_merge.specs.Merged.{NodeRepresents, merge_at, interval_for};
 ghost use Rattle.cut_merge.specs.Merged.{candidates_at, RepresentsCut, interval_for_key};
-ghost use Rattle.cut_merge.specs.KeyInterval.{tables_at, interval_in_cut, monitored_in_cut};
-ghost use Rattle.cut_merge.specs.KeyInterval.{FitsTotal};
+ghost use Rattle.cut_merge.specs.CutTables.{tables_at, interval_in_cut, monitored_in_cut};
+ghost use Rattle.cut_merge.specs.CutTables.{FitsTotal};
 
 use crate::laws::tables_are_bounded;
 use crate::node_merge::NodeMerge;

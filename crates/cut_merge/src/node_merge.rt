@@ -8,7 +8,7 @@ ghost use Rattle.cut_merge.specs.Merged.{interval_for_key};
 ghost use Rattle.cut_merge.specs.NodeMerge.{has_key};
 ghost use Rattle.cut_merge.specs.Run.{IsRunOf, missing_high};
 ghost use Rattle.cut_merge.specs.HighBounds.{bound_cell, NoteEntries};
-ghost use Rattle.cut_merge.specs.KeyInterval.{keys_of};
+ghost use Rattle.cut_merge.specs.CutTables.{keys_of};
 
 use crate::high_bounds::HighBounds;
 use crate::run::Run;

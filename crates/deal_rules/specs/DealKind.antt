@@ -20,7 +20,7 @@ pub record IsNumberBy (kind : DealKind) (place : ℕ) (rec : RecordValue) (shard
   pub round : kind ≡ RoundRobin → number ≡ place % shards
   pub source : kind ≡ BySource → number ≡ rec.src % shards
 
--- a shard that a dealing may give a record: it follows the formula of the kind, and the stored function may return it
+-- a shard that a dealing may give a record: it follows the formula of the kind, and the dealer's function may return it
 pub record MayDeal (kind : DealKind) (may_answer : ℕ → RecordValue → ℕ → ℕ → Type 0) (place : ℕ)
     (rec : RecordValue) (shards number : ℕ) : Type 0 where
   pub below : number < shards

@@ -12,7 +12,7 @@ use Rattle.command_words.specs.declared.settings.Settings.{Settings}
 abbrev pub IsCaptureFile : List ℕ → Type 0
 IsCaptureFile file = (frames : List FrameValue) × FileHasFrames file frames
 
--- what the function of each kind of dealing may answer for the index of a record, the record and the number of shards
+-- what the dealer of each kind may answer when asked about the index of a record, the record, and the number of shards
 abbrev pub DealingRules : Type 1
 DealingRules = DealKind → ℕ → RecordValue → ℕ → ℕ → Type 0
 

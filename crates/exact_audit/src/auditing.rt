@@ -1,21 +1,19 @@
 //! The audit of a report.
 
-ghost use Rattle.std.specs.Prelude.{◌≡◌, ◌≤◌, ◌<◌, ◌↔◌, List, length, IfOk};
-ghost use Rattle.prefix_lattice.specs.{RecordValue, total_weight, total_limit};
-ghost use Rattle.hhh_report.specs.{million, AreReportLines, IsSound};
+ghost use Rattle.std.specs.Prelude.{◌≡◌, ◌≤◌, ◌↔◌, IfOk};
+ghost use Rattle.hhh_report.specs.{million, IsSound};
 ghost use Rattle.exact_audit.specs.declared.verdict.Verdict.TheVariants.{Good};
 ghost use Rattle.exact_audit.specs.LineTests.{least_audited, most_audited};
-ghost use Rattle.exact_audit.specs.Verdict.{IsLineVerdict, IsVerdict};
-ghost use Rattle.exact_audit.specs.Findings.{AreFindings};
+ghost use Rattle.exact_audit.specs.Verdict.{IsVerdict};
 
 use crate::Verdict;
 use crate::counted::{are_within, count_before, total_before};
-use crate::findings::{Findings, find};
+use crate::findings::find;
 use crate::line_codes::LineCodes;
-use crate::line_tests::{Measures, bad_interval, low_line, not_justified, too_wide};
 use crate::seed::Seed;
+use crate::verdict::verdict_of;
 use deal_rules::Dealt;
-use hhh_report::{Line, Report, threshold};
+use hhh_report::{Report, threshold};
 use std::alloc::{AllocError, Global};
 
 /// Audits a report over dealt records: whether it is sound for tables of this capacity and this share `phi`, in parts
@@ -58,45 +56,4 @@ pub fn audit(
     let counted = count_before(alloc, dealt, &report.positions, &codes)?;
     let findings = find(alloc, &counted, lines, &codes, report.threshold, seed)?;
     verdict_of(alloc, lines, &findings, capacity, report.threshold, total)
-}
-
-// The verdict on a report whose positions, total and threshold are right, from what was found of its lines and of the
-// prefixes that no line has.
-fn verdict_of(
-    alloc: Global,
-    lines: &[Line],
-    findings: &Findings,
-    capacity: u32,
-    threshold: u64,
-    total: u64,
-) -> Result<Verdict, AllocError>
-    requires lines { AreReportLines lines.now }
-    requires as_many { length findings.now.sums.items ≡ length lines.now }
-    requires capacity { capacity ≤ most_audited }
-    requires total { total < total_limit }
-    ensures { IfOk result (λ verdict. (records : List RecordValue) → AreFindings lines.now records threshold findings.now
-        → total_weight records ≡ total
-        → IsLineVerdict (record { capacity = capacity; threshold = threshold; total = total }) records lines.now verdict) }
-{
-    if let Some(line) = bad_interval(lines, &findings.sums) {
-        return Ok(Verdict::BadInterval(line));
-    }
-    if let Some(line) = too_wide(lines, capacity, total) {
-        return Ok(Verdict::TooWide(line));
-    }
-    if let Some(line) = low_line(lines, threshold) {
-        return Ok(Verdict::LowLine(line));
-    }
-    let by = Measures {
-        capacity,
-        threshold,
-        total,
-    };
-    if let Some(line) = not_justified(alloc, lines, &findings.sums, &by)? {
-        return Ok(Verdict::NotJustified(line));
-    }
-    Ok(match findings.left_out {
-        Some(left_out) => Verdict::LeftOut(left_out.prefix, left_out.weight),
-        None => Verdict::Good,
-    })
 }

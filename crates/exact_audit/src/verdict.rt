@@ -1,6 +1,17 @@
 //! What an audit finds.
 
+ghost use Rattle.std.specs.Prelude.{◌≡◌, ◌≤◌, ◌<◌, List, length, IfOk};
+ghost use Rattle.prefix_lattice.specs.{RecordValue, total_weight, total_limit};
+ghost use Rattle.hhh_report.specs.{AreReportLines};
+ghost use Rattle.exact_audit.specs.LineTests.{most_audited};
+ghost use Rattle.exact_audit.specs.Verdict.{IsLineVerdict};
+ghost use Rattle.exact_audit.specs.Findings.{AreFindings};
+
+use crate::findings::Findings;
+use crate::line_tests::{Measures, bad_interval, low_line, not_justified, too_wide};
+use hhh_report::Line;
 use prefix_lattice::Prefix;
+use std::alloc::{AllocError, Global};
 
 /// Whether a report is sound over the records that it counts, and if not, the first test that fails. Lines are numbered
 /// from 1. A test is made over all lines before the next one.
@@ -26,4 +37,45 @@ pub enum Verdict {
     /// No line has this prefix, and its conditioned weight, given with it, reaches the threshold. It is the first such
     /// prefix in the order of a report.
     LeftOut(Prefix, u64),
+}
+
+// The verdict on a report whose positions, total and threshold are right, from what was found of its lines and of the
+// prefixes that no line has.
+pub(crate) fn verdict_of(
+    alloc: Global,
+    lines: &[Line],
+    findings: &Findings,
+    capacity: u32,
+    threshold: u64,
+    total: u64,
+) -> Result<Verdict, AllocError>
+    requires lines { AreReportLines lines.now }
+    requires as_many { length findings.now.sums.items ≡ length lines.now }
+    requires capacity { capacity ≤ most_audited }
+    requires total { total < total_limit }
+    ensures { IfOk result (λ verdict. (records : List RecordValue) → AreFindings lines.now records threshold findings.now
+        → total_weight records ≡ total
+        → IsLineVerdict (record { capacity = capacity; threshold = threshold; total = total }) records lines.now verdict) }
+{
+    if let Some(line) = bad_interval(lines, &findings.sums) {
+        return Ok(Verdict::BadInterval(line));
+    }
+    if let Some(line) = too_wide(lines, capacity, total) {
+        return Ok(Verdict::TooWide(line));
+    }
+    if let Some(line) = low_line(lines, threshold) {
+        return Ok(Verdict::LowLine(line));
+    }
+    let by = Measures {
+        capacity,
+        threshold,
+        total,
+    };
+    if let Some(line) = not_justified(alloc, lines, &findings.sums, &by)? {
+        return Ok(Verdict::NotJustified(line));
+    }
+    Ok(match findings.left_out {
+        Some(left_out) => Verdict::LeftOut(left_out.prefix, left_out.weight),
+        None => Verdict::Good,
+    })
 }

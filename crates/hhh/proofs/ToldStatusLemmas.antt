@@ -3,8 +3,7 @@ use Rattle.std.proofs.Common.{◌≡◌, ℕ, List, [], ◌++◌, Option, Result
 use Rattle.std.proofs.Common.{append-nil, take, drop, subst, take-append-drop}
 use Rattle.std.specs.Io.KnownBytes.{Appends}
 use Rattle.std.proofs.KnownBytes.{Appends-nil, Appends-trans}
-use Rattle.outside_io.specs.{FailsByCount, FaultRose, IsBeginning}
-use Rattle.hhh.specs.ToldStatus.{AppendsFront}
+use Rattle.outside_io.specs.{AppendsFront, FailsByCount, FaultRose, IsBeginning}
 
 -- a front of the line was appended, and this rest is still to be written
 pub record IsToldInPart (old new : Option (List ℕ)) (line rest : List ℕ) : Type 0 where

@@ -1,16 +1,9 @@
 -- What the program leaves on standard error of how a command ended.
 use Rattle.std.specs.Prelude.{ℕ, ◌≡◌, List, [], Option}
-use Rattle.std.specs.Io.KnownBytes.{Appends}
-use Rattle.outside_io.specs.{IsBeginning}
+use Rattle.outside_io.specs.{AppendsFront}
 use Rattle.hhh_engine.specs.{status_line}
 use Rattle.run_status.specs.declared.status.Status.{Status}
 use Rattle.run_status.specs.declared.status.Status.TheVariants.{Done}
-
--- the known contents of a stream grew by a beginning of the text: by nothing, a part or all of it
-pub record AppendsFront (old new : Option (List ℕ)) (text : List ℕ) : Type 0 where
-  pub front : List ℕ
-  pub is_beginning : IsBeginning front text
-  pub appended : Appends old new front
 
 -- of the line that reports a status a beginning was appended to a stream, and of Done nothing
 pub record TellsStatus (old new : Option (List ℕ)) (status : Status) : Type 0 where

@@ -2,8 +2,7 @@
 
 ghost use Rattle.std.specs.Prelude.{◌≡◌, ◌<◌, ◌≤◌, ℕ, List, length, take, None, IfOk, OnOk, OnErr};
 ghost use Rattle.std.specs.Io.KnownBytes.{Appends, WriteAppends};
-ghost use Rattle.outside_io.specs.{FailsByCount, IsBeginning, next_count};
-ghost use Rattle.hhh.specs.ToldStatus.{AppendsFront};
+ghost use Rattle.outside_io.specs.{AppendsFront, FailsByCount, IsBeginning, next_count};
 
 use outside_io::{Failed, Sink};
 use std::io::{ErrorKind, Write};

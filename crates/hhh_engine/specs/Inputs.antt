@@ -18,8 +18,8 @@ use Rattle.report_session.specs.{saves_settings}
 use Rattle.dealt_capture.specs.{AreDealtRecords, DealingRules}
 use Rattle.dealt_capture.specs.{IsCaptureFile}
 
--- the bytes of the inputs as a command began, where they are known: the capture, the text of a session, and the disk of
--- the store; and the remaining bytes of the first two
+-- the bytes of the inputs when a command began, where they are known: the capture, the text of a session, and the disk of
+-- the store; and the bytes of the first two that remain unread
 pub record InputBytes : Type 0 where
   pub capture : Option (List ℕ)
   pub capture_left : Option (List ℕ)
@@ -27,8 +27,8 @@ pub record InputBytes : Type 0 where
   pub text_left : Option (List ℕ)
   pub store : Option (List ℕ)
 
--- the inputs whose capture had these bytes, of which these remain, whose text had these, of which these remain, and
--- whose disk had these
+-- the inputs from their five parts: the bytes of the capture, those of them that remain, the same two of the text, and the
+-- bytes of the disk
 abbrev pub inputs : (capture capture_left text text_left store : Option (List ℕ)) → InputBytes
 inputs capture capture_left text text_left store = record {
   capture = capture;

@@ -47,9 +47,9 @@ pub record Streams (S T K D : Type 0) : Type 0 where
 abbrev pub streams : {S T K D : Type 0} → S → T → K → D → Streams S T K D
 streams capture text sink disk = record { capture = capture; text = text; sink = sink; disk = disk }
 
--- A run, whose streams were `old` as it began, and `new` as it ended. Of a source, `left` is what remains of its bytes; of a
--- sink, `taken` is what it took; of a disk, `reads` is what it holds, and `image_now` and `image_since` say what a crash may
--- leave of it, now or since some moment. What isn't known is None. `faults` counts the calls that failed.
+-- A run whose streams were `old` when it began, and `new` when it ended. Of a source, `left` is the bytes that remain; of a
+-- sink, `taken` is what it has taken; of a disk, `reads` is what it holds, and `image_now` and `image_since` say what a crash
+-- may leave of it, now or at any time since some moment. What isn't known is None. `faults` counts the calls that failed.
 module _ {S T K D : Type 0} (s : SourceOf S) (t : SourceOf T) (k : SinkOf K) (d : DiskOf D) (old new : Streams S T K D) where
   -- the bytes of its inputs
   abbrev pub run_inputs : InputBytes
@@ -62,7 +62,7 @@ module _ {S T K D : Type 0} (s : SourceOf S) (t : SourceOf T) (k : SinkOf K) (d 
   abbrev pub faults_after : SourceFaults
   faults_after = faults_of_source (s.faults new.capture) (t.faults new.text)
 
-  -- what it kept of the cuts that it saved
+  -- what its disk keeps of the cuts that it saved
   abbrev pub run_keeping : SessionKeeping
   run_keeping = AreKeptOnDisk d old.disk new.disk
 
@@ -123,7 +123,7 @@ module _ {S T K D : Type 0} (s : SourceOf S) (t : SourceOf T) (k : SinkOf K) (d 
         → t.left old.text ≡ Some bytes → HasSessionFault bytes fault
         → (status ≡ BadReport fault) ⊎ ((status ≡ ReadFault) ⊎ (status ≡ OutOfMemory))
 
-    -- by `rules`, which say to which shards the dealers may deal
+    -- under `rules`, which say to which shards the dealers may deal a record
     module _ (rules : DealingRules) where
       -- the text of the command was written, for its inputs, which were read to their ends
       abbrev pub WritesText : Type 0
@@ -212,8 +212,9 @@ module _ {S T K D : Type 0} (s : SourceOf S) (t : SourceOf T) (k : SinkOf K) (d 
       pub record RunEnds (status : Status) : Type 0 where
         -- the text of the command was written for its inputs, which were read to their ends. What a report says of weights holds
         -- for the records themselves, unless the run went on from a saved cut whose tables aren't those of its records. A crash
-        -- at any moment of a report with a store leaves what it could have left before, or a store that opens as before or to a
-        -- cut that was saved; a crash afterwards, one that opens to the last
+        -- at any moment of a report with a store leaves what it could have left when the run began, or a store that opens as
+        -- before or to one of the cuts that the run saves, whichever lines were written by then; a crash afterwards leaves one
+        -- that opens to the last of them
         pub done : status ≡ Done → WritesText
         -- the arguments are checked first, before anything is read
         pub bad_words : (kind : WordsKind) → status ≡ BadWords kind → RefusesWords kind
@@ -229,7 +230,7 @@ module _ {S T K D : Type 0} (s : SourceOf S) (t : SourceOf T) (k : SinkOf K) (d 
         pub audit_no : (report : ℕ) (verdict : Verdict) → status ≡ AuditNo report verdict → FindsUnsound report verdict
         pub finds_unsound : MustFindUnsound status
         pub finds_sound : MustFindSound status
-        -- a fault of a source, the sink or the disk is returned only where it had one in this run, and always then
+        -- a fault of a source, the sink or the disk is returned only where there was one in this run, and always then
         pub read_fault : status ≡ ReadFault → FailsToRead
         pub read_fault_reported : (status ≡ ReadFault → ⊥) → faults_after ≡ faults_before
         pub write_fault : status ≡ WriteFault → FailsToWrite
@@ -243,8 +244,8 @@ module _ {S T K D : Type 0} (s : SourceOf S) (t : SourceOf T) (k : SinkOf K) (d 
         pub unused_capture : CommandAvoids UsesCapture words → new.capture ≡ old.capture
         pub unused_text : CommandAvoids UsesSession words → new.text ≡ old.text
         pub unused_disk : CommandAvoids UsesStore words → new.disk ≡ old.disk
-        -- memory may run out at any time: then a part of the text was written, which may be empty; or nothing was, and the disk
-        -- is as before
+        -- memory may run out at any time: then nothing was written, and the disk is as before; or a part of the text was
+        -- written, which may be empty
         pub out_of_memory : status ≡ OutOfMemory → WritesNothing ⊎ WritesPart
         -- with arguments that ask for a command, inputs in their formats and no fault, the command is answered
         pub complete : MustAnswer status

@@ -42,9 +42,10 @@ use std::thread::Threads;
 ///
 /// `report` reads a capture to its end, deals its records to shards, and writes a session. While workers count the
 /// records in the tables of the shards, the calling thread writes its reports, and the other callers make theirs, which
-/// are written after the workers have ended, before a last report over all records. A report names the prefixes that
-/// carry heavy load which no more specific reported prefix explains, over the records before its positions. With a store
-/// it goes on from the newest saved cut, and saves each cut that the calling thread reports on, once the report is written.
+/// are written after the workers have ended, before a last report over all records. A report has a position for each
+/// shard, which is how many of its records are counted. Over these records it names the prefixes that carry heavy load
+/// which no more specific reported prefix explains. With a store `report` goes on from the newest saved cut, and saves
+/// each cut that the calling thread reports on, once the report is written.
 ///
 /// `format` makes an empty store on the disk, and writes one line.
 ///

@@ -8,7 +8,7 @@ use Rattle.hhh_report.specs.declared.line.Line.{Line}
 use Rattle.hhh_report.specs.declared.report.Report.{Report}
 use Rattle.hhh_report.specs.{prefixes_of_lines, IsThreshold, million}
 
--- some shard of the cut monitors the prefix at its node
+-- some shard of the cut monitors the prefix: its table at the prefix's node has an entry for it
 abbrev pub IsMonitored : CutValue → PrefixValue → Type 0
 IsMonitored cut prefix = Contains (monitored_in_cut cut (node_of_prefix prefix)) (prefix_key prefix)
 
@@ -35,7 +35,8 @@ pub record IsLineOf (cut : CutValue) (threshold : ℕ) (lines : List PrefixValue
   pub unexplained : IsUnexplained cut threshold lines line.prefix
 
 -- the report of a cut: its positions, its total, the threshold, and a line for exactly the prefixes
--- that are heavy, monitored, and not explained by the lines themselves
+-- that are heavy, monitored, and not explained by the lines themselves. By the invariant of the type `Report`, which is
+-- `AreReportLines`, the lines are in strict order, so none comes twice
 pub record IsReportOf (cut : CutValue) (phi : ℕ) (report : Report) : Type 0 where
   pub positions : report.positions ≡ cut_positions cut
   pub total : report.total ≡ total_of_cut cut

@@ -7,7 +7,7 @@ use Rattle.prefix_lattice.specs.{RecordValue}
 abbrev pub AreNotPast : List ℕ → List ℕ → Type 0
 AreNotPast earlier later = AllZip (λ one other. one ≤ other) earlier later
 
--- the records before positions: the first n records of each list, n being its position, one list after the other
+-- the records before positions: the first n records of each list, n being its position, one list after another
 abbrev pub records_before : List (List RecordValue) → List ℕ → List RecordValue
 records_before [] positions = []
 records_before (list ∷ lists) [] = []

@@ -17,12 +17,13 @@ AreWithinLists positions lists = AllZip (λ position list. position ≤ length l
 abbrev pub LineHoldsWeight : List RecordValue → Line → Type 0
 LineHoldsWeight records line = HoldsWeight line.lo line.hi (prefix_weight line.prefix records)
 
--- the interval of a line is no wider than the total over the capacity
+-- the interval of a line is no wider than the total divided by the capacity
 abbrev pub IsNarrowLine : ℕ → ℕ → Line → Type 0
 IsNarrowLine capacity total line = IsNarrow line.lo line.hi capacity total
 
--- the conditioned weight of a line is at least the threshold less the widths of the intervals that it was judged by:
--- its own, those of its closest lines and of the meets of their kept pairs, each at most the total over the capacity
+-- the conditioned weight of a line is at least the threshold less the total divided by the capacity, the greatest width,
+-- once for each interval by which the line was judged: its own, those of its closest lines, and those of the meets of their
+-- kept pairs. So it may be far below the threshold
 abbrev pub IsJustified : ℕ → ℕ → List PrefixValue → List RecordValue → Line → Type 0
 IsJustified capacity threshold lines records line =
     capacity * threshold ≤ capacity * conditioned_weight line.prefix lines records
@@ -32,7 +33,7 @@ IsJustified capacity threshold lines records line =
 abbrev pub IsHeavyLine : ℕ → Line → Type 0
 IsHeavyLine threshold line = threshold ≤ line.hi
 
--- each prefix that is no line has a conditioned weight below the threshold, over these prefixes of lines
+-- each prefix without a line has a conditioned weight below the threshold, given the prefixes of the lines
 abbrev pub AreComplete : ℕ → List PrefixValue → List RecordValue → Type 0
 AreComplete threshold lines records = (prefix : PrefixValue) → IsPrefix prefix → ¬ Contains lines prefix
     → conditioned_weight prefix lines records < threshold

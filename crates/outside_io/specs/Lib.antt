@@ -4,4 +4,4 @@ pub mod MemorySource
 pub mod Writing
 -- the face: what contracts of other crates cite
 pub use Rattle.outside_io.specs.Failed.{FailsByCount, FaultRose, next_count}
-pub use Rattle.outside_io.specs.Writing.{AppendsPart, IsBeginning}
+pub use Rattle.outside_io.specs.Writing.{AppendsFront, AppendsPart, IsBeginning}

@@ -17,7 +17,7 @@ use Rattle.pcap_frames.specs.CaptureFault.{ShowsInHeader, ShowsInFrames, ShowsFa
 use Rattle.pcap_frames.specs.Capture.{EndsInFrame, EndsInside}
 use Rattle.pcap_frames.specs.CaptureFault.{HasFaultAfter, HasCaptureFault}
 use Rattle.pcap_frames.proofs.CaptureFileLemmas.{capture_files_are_decided}
-use Rattle.pcap_frames.specs.Lengths.{header_length, record_length, frame_head_length, kept_length}
+use Rattle.pcap_frames.specs.Lengths.{header_length, packet_header_length, frame_head_length, kept_length}
 use Rattle.pcap_frames.specs.Lengths.{most_captured}
 use Rattle.pcap_frames.specs.Frame.{frame_count_limit}
 
@@ -45,7 +45,7 @@ pub length_of_the_file_header : length header ≡ header_length
 length_of_the_file_header = refl
 
 -- three captured bytes come after the header of their frame
-pub length_of_a_frame_header : length frame_bytes ≡ record_length + 3
+pub length_of_a_frame_header : length frame_bytes ≡ packet_header_length + 3
 length_of_a_frame_header = refl
 
 -- two hardware addresses, two tags, the type and an IPv4 header

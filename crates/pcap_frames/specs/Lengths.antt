@@ -5,9 +5,9 @@ use Rattle.std.specs.Prelude.{ℕ, ◌+◌}
 abbrev pub header_length : ℕ
 header_length = 24
 
--- the bytes of a frame header: two time stamp fields, captured length and length on the wire, four bytes each
-abbrev pub record_length : ℕ
-record_length = 16
+-- the bytes of the header before each packet: two time stamp fields, captured length and length on the wire, four bytes each
+abbrev pub packet_header_length : ℕ
+packet_header_length = 16
 
 -- the most captured bytes of a frame, which is libpcap's own limit
 abbrev pub most_captured : ℕ
@@ -20,4 +20,4 @@ frame_head_length = 42
 
 -- the bytes that are kept of a frame split between pieces: its header and its head
 abbrev pub kept_length : ℕ
-kept_length = record_length + frame_head_length
+kept_length = packet_header_length + frame_head_length

@@ -1,6 +1,6 @@
 -- The state of a reader, made from its parts.
 use Rattle.std.specs.Prelude.{⊤, ◌+◌, ◌*◌, ◌≤◌, ◌<◌}
-use Rattle.pcap_frames.specs.Lengths.{header_length, record_length, most_captured}
+use Rattle.pcap_frames.specs.Lengths.{header_length, packet_header_length, most_captured}
 use Rattle.pcap_frames.specs.Frame.{frame_count_limit, bytes_needed}
 use Rattle.pcap_frames.specs.declared.reader.part.FramePart.{FramePart}
 use Rattle.pcap_frames.specs.declared.reader.part.Stage.{Stage}
@@ -27,9 +27,9 @@ state_of_part LacksMemory part = state.LacksMemory
 -- the counts of a part after some frames stay within their limits, and its frame is not yet whole
 pub record IsPartWithin (part : FramePart) : Type 0 where
   pub count : part.count ≤ frame_count_limit
-  pub place : part.place ≤ header_length + (record_length + most_captured) * part.count
+  pub place : part.place ≤ header_length + (packet_header_length + most_captured) * part.count
   pub cut : part.kept.came < bytes_needed part.order part.kept.first
-  pub bound : bytes_needed part.order part.kept.first ≤ record_length + most_captured
+  pub bound : bytes_needed part.order part.kept.first ≤ packet_header_length + most_captured
 
 -- what always holds of the part in each stage
 abbrev pub IsPartInStage : Stage → FramePart → Type 0

@@ -1,6 +1,6 @@
 -- What one step of a reader does, which no public contract cites.
 use Rattle.std.specs.Prelude.{ℕ, ◌≡◌, ◌+◌, ◌<◌, ◌≤◌, Option, None, Some, List, [], ◌∷◌, ◌++◌, length}
-use Rattle.pcap_frames.specs.Lengths.{record_length, most_captured}
+use Rattle.pcap_frames.specs.Lengths.{packet_header_length, most_captured}
 use Rattle.pcap_frames.specs.declared.file_order.FileOrder.{FileOrder}
 use Rattle.pcap_frames.specs.declared.reader.held.HeldFrame.{HeldFrame}
 use Rattle.pcap_frames.specs.FileOrder.{number_in_order}
@@ -13,9 +13,9 @@ use Rattle.pcap_frames.specs.Visitor.{VisitorSees, RepresentSame}
 pub record SplitsFrame (order : FileOrder) (bytes rest : List ℕ) (frame : FrameValue) : Type 0 where
   pub front : List ℕ
   pub joined : bytes ≡ front ++ rest
-  pub header : record_length ≤ length front
+  pub header : packet_header_length ≤ length front
   pub limit : number_in_order order 4 8 front ≤ most_captured
-  pub whole : length front ≡ record_length + number_in_order order 4 8 front
+  pub whole : length front ≡ packet_header_length + number_in_order order 4 8 front
   pub frame_is : frame ≡ frame_at order front
 
 -- the reader took a front of the piece, at least one byte, which completes these frames; this rest remains

@@ -23,7 +23,7 @@ covers prefix rec = begins_with (address_bytes rec.src) prefix.source && begins_
 abbrev pub node_of_prefix : PrefixValue → NodeValue
 node_of_prefix prefix = record { source_bytes = length prefix.source; dest_bytes = length prefix.dest }
 
--- the prefix of a node that a record belongs to: the leading bytes of its addresses, as many as the node keeps
+-- the prefix at a node that covers a record: the leading bytes of the record's addresses, as many as the node keeps
 abbrev pub prefix_at : NodeValue → RecordValue → PrefixValue
 prefix_at node rec = record {
   source = take node.source_bytes (address_bytes rec.src);

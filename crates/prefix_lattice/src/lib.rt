@@ -7,10 +7,10 @@ mod laws;
 mod node;
 mod prefix;
 mod prefix_fault;
-mod prefix_text;
 mod prefixes;
 mod record;
 mod record_list;
+mod side_reading;
 mod side_writing;
 
 pub use decimal::number_of;

@@ -13,7 +13,7 @@ mod lattice;
 mod writing;
 
 use crate::kept_bytes::KeptBytes;
-use crate::prefix_text::parse_side;
+use crate::side_reading::parse_side;
 use crate::{Node, PrefixFault, Record, Side};
 use std::marker::Model;
 

@@ -16,7 +16,7 @@ use Rattle.recovery.specs.declared.opened.Opened.{Opened}
 use Rattle.recovery.specs.OpenFault.{begin_fault, body_fault, decode_fault}
 use Rattle.recovery.specs.Reopening.{HasHeader, IsDamaged, IsFirstDamaged, ContinuesList}
 use Rattle.recovery.specs.Reopening.{ContinuesLists, ContinuesFrom, RefusesOpening}
-use Rattle.recovery.specs.Reopening.{MatchesLists, OpensToBase, IsOpeningBase, CanGoOn}
+use Rattle.recovery.specs.Reopening.{MatchesLists, OpensToBase, IsBaseFor, CanGoOn}
 use Rattle.recovery.specs.Reopening.{base_positions, greatest_opened}
 use Rattle.recovery.specs.Reopening.{IsShown}
 use Rattle.recovery.specs.Found.{IsFrontFault, IsBodyFault, IsFoundFault}
@@ -127,7 +127,7 @@ module _ (any : StoreSettings) where
   pub base_is_at_its_positions : base_positions (settings 1) (Some cut) ≡ 0 ∷ []
   base_is_at_its_positions = refl
 
-  pub empty_cut_is_a_base : IsOpeningBase (settings 1) (list ∷ []) cut
+  pub empty_cut_is_a_base : IsBaseFor (settings 1) (list ∷ []) cut
   empty_cut_is_a_base = record { shape = record { as_many = refl; alike = refl }; continues = empty_cut_continues }
 
   pub save_with_another_digest_is_not_of_the_lists : ([] ≡ lists_digest (settings 1) (list ∷ []) → ⊥)

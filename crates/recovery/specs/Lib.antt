@@ -3,7 +3,7 @@ pub mod Reopening
 pub mod OpenFault
 pub mod Found
 -- the face: what contracts of other crates cite
-pub use Rattle.recovery.specs.Reopening.{CanGoOn, ContinuesList, ContinuesLists, IsOpeningBase}
+pub use Rattle.recovery.specs.Reopening.{CanGoOn, ContinuesList, ContinuesLists, IsBaseFor}
 pub use Rattle.recovery.specs.Reopening.{RefusesOpening, OpensToBase}
 pub use Rattle.recovery.specs.Reopening.{base_positions, greatest_opened}
 pub use Rattle.recovery.specs.Reopening.{BelongingOpen, IsShown, AreDecided}

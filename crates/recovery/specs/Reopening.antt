@@ -31,21 +31,21 @@ pub record IsFirstDamaged (settings : StoreSettings) (slot : ℕ) (image : List 
   pub damaged : IsDamaged settings slot image
   pub first : (earlier : ℕ) → earlier < slot → IsDamaged settings earlier image → ⊥
 
--- the greatest sequence that is opened, which leaves room for as many saves as one run makes
+-- the greatest sequence number that is opened, which leaves room for the saves of a run, at most 33
 abbrev pub greatest_opened : ℕ
 greatest_opened = greatest_sequence - 64
 
--- a snapshot may be continued from over a list: its position isn't past the end, and its total is the weight of the
--- records before it
+-- a run over a list may go on from a snapshot: its position isn't past the end, and its total is the weight of the
+-- records before that position
 pub record ContinuesList (snapshot : SnapshotValue) (list : List RecordValue) : Type 0 where
   pub within : snapshot.position ≤ length list
   pub counted : snapshot_total snapshot ≡ total_weight (take snapshot.position list)
 
--- a cut may be continued from over the lists of its shards
+-- a run over the lists of the shards may go on from a cut
 abbrev pub ContinuesLists : CutValue → List (List RecordValue) → Type 0
 ContinuesLists cut lists = AllZip ContinuesList cut.shards lists
 
--- what is saved may be continued from: its sequence isn't too late, and its cut continues over the lists
+-- a run over the lists may go on from what is saved: its sequence number isn't too great, and its cut allows it
 pub record ContinuesFrom (saved : SavedValue) (lists : List (List RecordValue)) : Type 0 where
   pub early : saved.sequence ≤ greatest_opened
   pub continues : ContinuesLists saved.cut lists
@@ -65,7 +65,7 @@ RefusesOpening settings lists image (OtherCapture stored asked) =
     × (asked ≡ lists_digest settings lists) × (stored ≢ asked)
 RefusesOpening settings lists image OutOfMemory = ⊤
 
--- what was saved has the digest of the lists, and may be continued from
+-- what was saved has the digest of the lists, and a run over them may go on from it
 pub record MatchesLists (settings : StoreSettings) (lists : List (List RecordValue)) (saved : SavedValue) : Type 0 where
   pub digest : saved.digest ≡ lists_digest settings lists
   pub continues : ContinuesFrom saved lists
@@ -81,15 +81,15 @@ abbrev pub base_positions : StoreSettings → Option CutValue → List ℕ
 base_positions settings None = replicate settings.shards 0
 base_positions settings (Some cut) = cut_positions cut
 
--- a cut of the settings' shape that may be continued from over the lists
-pub record IsOpeningBase (settings : StoreSettings) (lists : List (List RecordValue)) (cut : CutValue) : Type 0 where
+-- a cut of the settings' shape, from which a run over the lists may go on
+pub record IsBaseFor (settings : StoreSettings) (lists : List (List RecordValue)) (cut : CutValue) : Type 0 where
   pub shape : HasCoreShape settings.shards settings.capacity cut
   pub continues : ContinuesLists cut lists
 
 -- what was opened can be gone on with, whether or not the disk's bytes are known: the base may be continued from, and
 -- the saver saves under these settings and the digest of these lists, from the positions of the base on
 pub record CanGoOn (settings : StoreSettings) (lists : List (List RecordValue)) (opened : Opened) : Type 0 where
-  pub base : IfSome opened.base (IsOpeningBase settings lists)
+  pub base : IfSome opened.base (IsBaseFor settings lists)
   pub positions_are : opened.positions ≡ base_positions settings opened.base
   pub saver_positions : opened.saver.positions ≡ opened.positions
   pub saver_settings : opened.saver.settings ≡ settings

@@ -13,7 +13,7 @@ use Rattle.hhh_report.specs.{AreNotPast}
 use Rattle.shard_state.specs.{CutValue, ShardValue, core_capacity}
 use Rattle.pass_tokens.specs.{first_view}
 use Rattle.checkpoint.specs.{AreSettings, SaverState, DiskMatches}
-use Rattle.recovery.specs.{CanGoOn, IsOpeningBase, OpensToBase, base_positions, greatest_opened}
+use Rattle.recovery.specs.{CanGoOn, IsBaseFor, OpensToBase, base_positions, greatest_opened}
 use Rattle.command_words.specs.declared.settings.Settings.{Settings}
 use Rattle.report_session.specs.DealtFeed.{FeedGoesOn, HasNoBase, IsFeedBase, IsFeedSaver}
 use Rattle.report_session.specs.Saving.{saves_settings-allowed, CanMakeSaves, saves_settings}
@@ -27,13 +27,13 @@ use Rattle.report_session.proofs.SessionThreadLemmas.{first_session_thread_sees_
 
 -- shards may go on from the base
 pub base_goes_on : (settings : Settings) (lists : List (List RecordValue)) (base : Option CutValue)
-    → IfSome base (IsOpeningBase (saves_settings settings) lists) → IfSome base (FeedGoesOn settings.capacity lists)
+    → IfSome base (IsBaseFor (saves_settings settings) lists) → IfSome base (FeedGoesOn settings.capacity lists)
 base_goes_on settings lists None fits = tt
 base_goes_on settings lists (Some cut) fits = record { alike = fits.shape.alike; continues = fits.continues }
 
 -- the positions of the base are those at which the shards start
 pub base_starts : (settings : Settings) (lists : List (List RecordValue)) (base : Option CutValue)
-    → length lists ≡ settings.shards → IfSome base (IsOpeningBase (saves_settings settings) lists)
+    → length lists ≡ settings.shards → IfSome base (IsBaseFor (saves_settings settings) lists)
     → base_positions (saves_settings settings) base ≡ session_start (session_opening settings.capacity lists base)
 base_starts settings lists None many fits =
     ap (λ n. replicate n 0) (sym many) ∙ sym (opening_shards_start_at_zero settings.capacity lists)
@@ -73,7 +73,7 @@ pub opened_base : (settings : Settings) (lists : List (List RecordValue)) (store
 opened_base settings lists store opened base used many goes_on opens cut positions saver = record {
   begins = record {
     unused = λ unused. absurd (false≢true (sym unused ∙ used));
-    fits = subst (λ o. IfSome o (IsOpeningBase (saves_settings settings) lists)) (sym cut) goes_on.base;
+    fits = subst (λ o. IfSome o (IsBaseFor (saves_settings settings) lists)) (sym cut) goes_on.base;
     opens = λ is_used. subst (λ o. IfImageKnown store (λ image. OpensToBase (saves_settings settings) lists image o)) (sym cut)
         opens;
   };

@@ -19,7 +19,7 @@ use Rattle.report_session.specs.DealtFeed.{FeedGoesOn}
 use Rattle.report_session.specs.Saving.{BelongThroughout, AreKeptOnDisk, last_of_saves, saves_after}
 use Rattle.report_session.specs.Saving.{saves_settings, saves_settings-allowed}
 use Rattle.report_session.specs.Session.{AreOfCaller, GoesOnFrom, IsSession, IsSessionInPart}
-use Rattle.report_session.specs.Session.{IsShownInSession, BaseRepresents, SessionSaving}
+use Rattle.report_session.specs.Session.{IsShownInSession, GoesOnSoundly, SessionSaving}
 use Rattle.report_session.specs.Session.{caller_reports, session_opening, saved_cuts}
 use Rattle.dealt_capture.specs.{DealingRules}
 use Rattle.report_session.proofs.BaseLemmas.{base_goes_on}
@@ -102,7 +102,7 @@ belonging_session_keeps_belonging one d read_is_image settings lists base saved 
 belonging_session_cuts_represent : SavedStoreCutsRepresent → (settings : Settings) (lists : List (List RecordValue))
     (store : Option (List ℕ)) (base : Option CutValue) (reports : List Reported) → AreLimited settings
     → length lists ≡ settings.shards → GoesOnFrom settings lists store base
-    → BaseRepresents lists base (session_opening settings.capacity lists base)
+    → GoesOnSoundly lists base (session_opening settings.capacity lists base)
     → All (IsShownInSession (session_opening settings.capacity lists base) settings) reports
     → IfSome base (λ cut. CutRepresents cut lists)
     → All (λ cut. CutRepresents cut lists) (saved_cuts true (session_opening settings.capacity lists base) reports)

@@ -15,7 +15,7 @@ use Rattle.recovery.specs.declared.fault.OpenFault.{OpenFault}
 use Rattle.recovery.specs.declared.fault.OpenFault.TheVariants as opening
 use Rattle.command_words.specs.declared.settings.Settings.{Settings}
 use Rattle.report_session.specs.Session.{WritesAnswer, BeginsSession, GoesOnFrom, SessionKeeping}
-use Rattle.report_session.specs.Session.{BaseRepresents, SessionSaving, IsOverShards, session_opening}
+use Rattle.report_session.specs.Session.{GoesOnSoundly, SessionSaving, IsOverShards, session_opening}
 use Rattle.report_session.specs.DealtFeed.{FeedEnds, HasNoBase, IsFeedFault, IsFeedSaver}
 use Rattle.report_session.specs.DealtFeed.{FeedRefuses, FeedWrites, FeedWritesPart}
 use Rattle.report_session.specs.LiveRounds.{RoundFaults}
@@ -123,7 +123,7 @@ dealt_report_ends_without_base k d settings lists tail sink old new status same 
 -- bytes of a session, from the base on
 dealt_report_in_part : (settings : Settings) (lists : List (List RecordValue)) (tail : List ℕ) (keeping : SessionKeeping)
     (store : Option (List ℕ)) (base : Option CutValue) (Kept : SessionSaving) (old new : Option (List ℕ))
-    → GoesOnFrom settings lists store base → BaseRepresents lists base (session_opening settings.capacity lists base)
+    → GoesOnFrom settings lists store base → GoesOnSoundly lists base (session_opening settings.capacity lists base)
     → ((saved unfinished : List CutValue) → Kept saved unfinished → settings.store ≡ true
     → keeping (saves_settings settings) lists saved unfinished)
     → WritesAnswer (BeginsSession (session_opening settings.capacity lists base) settings Kept tail) old new
@@ -145,7 +145,7 @@ dealt_report_in_part settings lists tail keeping store base Kept old new begins 
 pub dealt_report_ends_broken_off : {K D : Type 0} (k : SinkOf K) (d : DiskOf D) (settings : Settings)
     (lists : List (List RecordValue)) (tail : List ℕ) (base : Option CutValue) (Kept : SessionSaving) (Same : Type 0)
     (sink written : K) (old new : D) (status : Status) → GoesOnFrom settings lists (d.reads old) base
-    → BaseRepresents lists base (session_opening settings.capacity lists base)
+    → GoesOnSoundly lists base (session_opening settings.capacity lists base)
     → ((saved unfinished : List CutValue) → Kept saved unfinished → settings.store ≡ true
     → AreKeptOnDisk d old new (saves_settings settings) lists saved unfinished)
     → (Same → IsAsBefore d old new × Kept [] [])
@@ -200,7 +200,7 @@ dealt_report_ends_broken_off k d settings lists tail base Kept Same sink written
 -- the session was written whole
 pub dealt_report_is_written : (settings : Settings) (lists : List (List RecordValue)) (tail : List ℕ) (keeping : SessionKeeping)
     (store : Option (List ℕ)) (base : Option CutValue) (Kept : List CutValue → Type 0) (old new : Option (List ℕ))
-    → GoesOnFrom settings lists store base → BaseRepresents lists base (session_opening settings.capacity lists base)
+    → GoesOnFrom settings lists store base → GoesOnSoundly lists base (session_opening settings.capacity lists base)
     → ((cuts : List CutValue) → Kept cuts → settings.store ≡ true → keeping (saves_settings settings) lists cuts [])
     → WritesAnswer (IsOverShards (session_opening settings.capacity lists base) settings Kept tail) old new
     → FeedWrites settings lists tail keeping store old new

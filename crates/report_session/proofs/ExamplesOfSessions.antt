@@ -33,7 +33,7 @@ use Rattle.report_session.specs.Session.{AreOfCaller, AreReports, BeginsSession}
 use Rattle.report_session.specs.Session.{BreaksOffInRounds, BreaksOffAround, BreaksOffLater}
 use Rattle.report_session.specs.Session.{GoesOnFrom, IsSession, IsSessionInPart, IsShownInSession}
 use Rattle.report_session.specs.Session.{IsStrictBeginning, SessionKeeping, rest_after_saves}
-use Rattle.report_session.specs.Session.{saved_cuts, NeverFall, BaseRepresents, SessionSaving}
+use Rattle.report_session.specs.Session.{saved_cuts, NeverFall, GoesOnSoundly, SessionSaving}
 use Rattle.report_session.specs.Session.{SessionReports, IsOverShards, caller_reports}
 use Rattle.report_session.specs.Session.{caller_parts, new_shards, session_opening, session_part}
 use Rattle.report_session.specs.Session.{session_parts, session_rest, save_line, text_of_reports}
@@ -387,7 +387,7 @@ nothing_represents = record {
 pub tables_of_no_records : BasesRepresent opening
 tables_of_no_records = All-replicate (λ shard. SnapshotRepresents shard.base shard.list) 4 shard nothing_represents
 
-pub new_shards_represent : BaseRepresents lists None (session_opening 512 lists None)
+pub new_shards_represent : GoesOnSoundly lists None (session_opening 512 lists None)
 new_shards_represent none = tables_of_no_records
 
 pub session_over_the_header : IsSession settings in_turn keeps_nothing None (Some header) text

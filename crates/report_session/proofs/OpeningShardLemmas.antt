@@ -18,7 +18,7 @@ use Rattle.shard_state.specs.{core_lists}
 use Rattle.report_text.specs.{ShowsPositions}
 use Rattle.recovery.specs.{ContinuesList}
 use Rattle.report_session.specs.DealtFeed.{FeedGoesOn, StartsBefore}
-use Rattle.report_session.specs.Session.{BaseRepresents, new_shards, session_opening}
+use Rattle.report_session.specs.Session.{GoesOnSoundly, new_shards, session_opening}
 use Rattle.report_session.specs.Session.{resumed_shards, session_start}
 
 -- of few records in all each list has few
@@ -184,7 +184,7 @@ opening_shards_before_ends capacity lists (Some cut) goes_on =
 
 pub opening_shards_represent : (capacity : ℕ) (lists : List (List RecordValue)) (base : Option CutValue)
     → ((capacity : ℕ) (list : List RecordValue) → SnapshotRepresents (empty_snapshot capacity) list)
-    → BaseRepresents lists base (session_opening capacity lists base)
+    → GoesOnSoundly lists base (session_opening capacity lists base)
 opening_shards_represent capacity lists None begins = λ of_lists. new_opening_shards_represent capacity lists begins
 opening_shards_represent capacity lists (Some cut) begins = λ of_lists. resumed_opening_shards_represent lists cut.shards of_lists.shards
 

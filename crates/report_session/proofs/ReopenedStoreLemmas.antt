@@ -14,7 +14,7 @@ use Rattle.checkpoint.specs.{StoreOpensTo, SavedValue, OpenToOne, lists_digest, 
 use Rattle.checkpoint.specs.{store_sequence}
 use Rattle.checkpoint.specs.declared.settings.StoreSettings.{StoreSettings}
 use Rattle.report_text.specs.{tail_text}
-use Rattle.recovery.specs.{IsOpeningBase, OpensToBase, base_positions}
+use Rattle.recovery.specs.{IsBaseFor, OpensToBase, base_positions}
 use Rattle.command_words.specs.{AreLimited}
 use Rattle.command_words.specs.declared.settings.Settings.{Settings}
 use Rattle.report_session.specs.Saving.{AreKeptOnDisk, last_of_saves, AreReopened, saves_after}
@@ -96,7 +96,7 @@ reopened_store_base_positions settings (Some saved) = refl
 -- the positions at which the shards start are those that the store opened to
 pub reopened_store_start_positions : OpenToOne → (settings : Settings) (lists : List (List RecordValue)) (store : List ℕ)
     (base : Option CutValue) (opened : Option SavedValue) → AreLimited settings → length lists ≡ settings.shards
-    → IfSome base (IsOpeningBase (saves_settings settings) lists) → OpensToBase (saves_settings settings) lists store base
+    → IfSome base (IsBaseFor (saves_settings settings) lists) → OpensToBase (saves_settings settings) lists store base
     → StoreOpensTo (saves_settings settings) store opened
     → store_positions (saves_settings settings) opened ≡ session_start (session_opening settings.capacity lists base)
 reopened_store_start_positions one settings lists store base opened limited many fits found opens =

@@ -22,7 +22,7 @@ use Rattle.command_words.specs.declared.settings.Settings.{Settings}
 use Rattle.report_session.specs.LiveRounds.{DiskFailed, RoundFaults, SinkFailed}
 use Rattle.report_session.specs.Saving.{saves_settings}
 use Rattle.report_session.specs.Session.{AreOfCaller, BeginsSession, BreaksOffInRounds}
-use Rattle.report_session.specs.Session.{GoesOnFrom, IsShownInSession, SessionKeeping, BaseRepresents}
+use Rattle.report_session.specs.Session.{GoesOnFrom, IsShownInSession, SessionKeeping, GoesOnSoundly}
 use Rattle.report_session.specs.Session.{SessionSaving, IsOverShards, caller_parts, session_ends}
 use Rattle.report_session.specs.Session.{session_opening, session_parts, saved_cuts, save_line}
 use Rattle.report_session.specs.Session.{session_start, WritesAnswer}
@@ -91,7 +91,7 @@ pub record FeedWrites (settings : Settings) (lists : List (List RecordValue)) (t
     (store old new : Option (List ℕ)) : Type 0 where
   pub base : Option CutValue
   pub begins : GoesOnFrom settings lists store base
-  pub represents : BaseRepresents lists base (session_opening settings.capacity lists base)
+  pub represents : GoesOnSoundly lists base (session_opening settings.capacity lists base)
   pub writes : WritesAnswer (IsOverShards (session_opening settings.capacity lists base) settings
       (λ cuts. settings.store ≡ true → keeping (saves_settings settings) lists cuts []) tail) old new
 
@@ -100,7 +100,7 @@ pub record FeedWritesPart (settings : Settings) (lists : List (List RecordValue)
     (keeping : SessionKeeping) (store old new : Option (List ℕ)) : Type 0 where
   pub base : Option CutValue
   pub begins : GoesOnFrom settings lists store base
-  pub represents : BaseRepresents lists base (session_opening settings.capacity lists base)
+  pub represents : GoesOnSoundly lists base (session_opening settings.capacity lists base)
   pub writes : WritesAnswer (BeginsSession (session_opening settings.capacity lists base) settings
       (λ saved unfinished. settings.store ≡ true → keeping (saves_settings settings) lists saved unfinished) tail) old new
 

@@ -26,7 +26,7 @@ saves_settings settings = record {
   deal = settings.deal;
 }
 
--- what these cuts are saved as, one after the other: under the sequences after this one, and with this digest
+-- what these cuts are saved as, one after another: under the sequence numbers after this one, and with this digest
 abbrev pub saves_after : ℕ → List ℕ → List CutValue → List SavedValue
 saves_after sequence digest [] = []
 saves_after sequence digest (cut ∷ later) =
@@ -43,9 +43,10 @@ OpensToSaves settings opened [] image = StoreOpensTo settings image opened
 OpensToSaves settings opened (saved ∷ later) image =
     StoreOpensTo settings image opened ⊎ OpensToSaves settings (Some saved) later image
 
--- saves of the cuts `saved`, and an unfinished one, if any: a crash at any moment leaves what was possible before (Earlier),
--- or a sound store that opens as before or to one of them; afterwards, to the last saved one, as before without any, or to
--- the unfinished one
+-- The cuts `saved` were saved, and one save may be unfinished. A crash at any moment of the run leaves what it could have left
+-- before the run (`Earlier`), or a sound store that opens as before or to one of these cuts; which one isn't tied to the lines
+-- written by then. A crash afterwards leaves a store that opens to the last saved cut, or as before if there is none, or to
+-- the cut whose save is unfinished
 pub record KeepsSaves {D : Type 0} (d : DiskOf D) (settings : StoreSettings) (digest : List ℕ) (Earlier : List ℕ → Type 0)
     (saved unfinished : List CutValue) (old new : D) (store : List ℕ) : Type 0 where
   pub opened : Option SavedValue
@@ -56,8 +57,8 @@ pub record KeepsSaves {D : Type 0} (d : DiskOf D) (settings : StoreSettings) (di
       → OpensToSaves settings (last_of_saves opened (saves_after (store_sequence opened) digest saved))
       (saves_after (store_sequence opened + length saved) digest unfinished) image
 
--- what a run keeps of the store on its disk, where its bytes are known, for the store's settings, the dealt lists, the cuts
--- that were saved of them, and one whose save is unfinished, if any
+-- what a run keeps of the store on its disk, where the bytes of the disk were known as it began; given the store's settings,
+-- the dealt lists, the cuts of them that were saved, and the one whose save is unfinished, if any
 abbrev pub AreKeptOnDisk : {D : Type 0} → DiskOf D → (old new : D) → StoreSettings → List (List RecordValue)
     → (saved unfinished : List CutValue) → Type 0
 AreKeptOnDisk d old new settings lists saved unfinished =

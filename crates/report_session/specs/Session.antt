@@ -1,4 +1,4 @@
--- The session that `report` writes: reports of the running feed, and a last one over all records of a capture.
+-- The session that `report` writes: reports made while records are counted, and a last one over all records of a capture.
 use Rattle.std.specs.Prelude.{ℕ, ◌≡◌, ◌+◌, ◌<◌, ◌≤◌, ◌⊎◌, Bool, true, false, List, [], ◌∷◌, ◌++◌, length, map, All}
 use Rattle.std.specs.Prelude.{Option, None, Some, IfSome, if◌then◌else◌, slice_index}
 use Rattle.std.specs.List.{flat_map}
@@ -15,7 +15,7 @@ use Rattle.frame_records.specs.declared.records.Records.{Records}
 use Rattle.slot_disk.specs.{IfImageKnown}
 use Rattle.checkpoint.specs.declared.settings.StoreSettings.{StoreSettings}
 use Rattle.checkpoint.specs.{SavedValue, lists_digest, store_sequence}
-use Rattle.recovery.specs.{IsOpeningBase, OpensToBase}
+use Rattle.recovery.specs.{IsBaseFor, OpensToBase}
 use Rattle.command_words.specs.declared.settings.Settings.{Settings}
 use Rattle.report_text.specs.{mark_text, report_text, tail_text}
 use Rattle.report_text.specs.declared.mark.Mark.TheVariants.{Opened, Saved}
@@ -23,7 +23,7 @@ use Rattle.report_session.specs.Saving.{saves_after, saves_settings}
 use Rattle.std.specs.Io.KnownBytes.{Appends}
 use Rattle.dealt_capture.specs.{DealingRules, AreDealtRecords}
 
--- new shards of dealt lists, none of whose records is counted: their tables, of this capacity, are empty
+-- new shards of dealt lists, none of whose records has been counted yet: their tables, of this capacity, are empty
 abbrev pub new_shards : ℕ → List (List RecordValue) → List ShardValue
 new_shards capacity lists = map (λ list. record { list = list; base = empty_snapshot capacity; position = 0 }) lists
 
@@ -52,22 +52,22 @@ session_ends opening = map (λ shard. length shard.list) opening
 pub record GoesOnFrom (settings : Settings) (lists : List (List RecordValue)) (store : Option (List ℕ))
     (base : Option CutValue) : Type 0 where
   pub unused : settings.store ≡ false → base ≡ None
-  pub fits : IfSome base (IsOpeningBase (saves_settings settings) lists)
+  pub fits : IfSome base (IsBaseFor (saves_settings settings) lists)
   pub opens : settings.store ≡ true → IfImageKnown store (λ image. OpensToBase (saves_settings settings) lists image base)
 
--- a report that a session shows: that of the tables at its own positions, and sound over the records themselves, where
--- the tables with which the shards began are those of their records
+-- a report that a session shows: it is that of the tables at its own positions; and it is sound over the records
+-- themselves, provided that the tables with which the shards began are those of their records
 pub record IsShownInSession (opening : List ShardValue) (settings : Settings) (reported : Reported) : Type 0 where
   pub is_report : IsReportAtCall opening settings.phi reported.report
   pub is_sound : BasesRepresent opening → IsSound reported.report (core_lists opening) settings.capacity settings.phi
 
--- from these positions on, the positions of one caller's reports never fall
+-- from these positions on, the positions of one caller's reports never fall. They may stay the same
 abbrev pub NeverFall : List ℕ → List Reported → Type 0
 NeverFall opened reports = (shard : ℕ) → shard < length opened
     → IsNonDecreasing
     (slice_index opened shard ∷ map (λ reported. slice_index reported.report.positions shard) reports)
 
--- this many reports of one caller: each is shown, and their positions never fall
+-- this many reports of one caller: each is one that the session shows, and their positions never fall
 pub record AreOfCaller (opening : List ShardValue) (settings : Settings) (count : ℕ) (reports : List Reported)
     : Type 0 where
   pub as_many : length reports ≡ count
@@ -89,7 +89,8 @@ abbrev pub reports_in : SessionReports → List Reported
 reports_in reports = caller_reports reports ++ flat_map (λ made. made) reports.callers
 
 -- the reports that the settings ask for: the calling thread makes its rounds and the last report, which counts all
--- records, and each other caller makes as many rounds
+-- records, and each other caller makes the same number of rounds. Where a round is made isn't said, only that its caller's
+-- positions never fall
 pub record AreReports (opening : List ShardValue) (settings : Settings) (reports : SessionReports)
     : Type 0 where
   pub calling : AreOfCaller opening settings (settings.rounds + 1) (caller_reports reports)
@@ -121,11 +122,11 @@ save_line store positions = if store then mark_text Saved positions else []
 abbrev pub session_part : Bool → Reported → List ℕ
 session_part store reported = report_text reported.report ++ save_line store reported.report.positions
 
--- one report after the other
+-- one report after another
 abbrev pub session_parts : Bool → List Reported → List ℕ
 session_parts store reports = flat_map (session_part store) reports
 
--- the reports of the other callers, one caller after the other: none of their cuts is saved
+-- the reports of the other callers, one caller after another: none of their cuts is saved
 abbrev pub caller_parts : List (List Reported) → List ℕ
 caller_parts callers = flat_map (session_parts false) callers
 
@@ -140,7 +141,7 @@ text_of_reports store opened reports tail =
     mark_text Opened opened
     ++ (session_parts store reports.rounds ++ session_rest store reports.callers reports.last tail)
 
--- the session over shards, which ends with the lines `tail`. Kept says what became of the cuts that were saved
+-- the session over shards, which ends with the lines `tail`. `Kept` says what became of the cuts that were saved
 pub record IsOverShards (opening : List ShardValue) (settings : Settings) (Kept : List CutValue → Type 0)
     (tail text : List ℕ) : Type 0 where
   pub reports : SessionReports
@@ -215,18 +216,18 @@ BeginsSession opening settings Kept tail front =
     × (front ≡ mark_text Opened (session_start opening) ++ more))
     ⊎ BreaksOffLater opening settings Kept tail front)
 
--- what a run does to the disk of its store: for the store's settings, the dealt lists, the cuts that were saved, and one
--- whose save is unfinished, if any
+-- what a run leaves on the disk of its store, given the store's settings, the dealt lists, the cuts that were saved, and
+-- the one whose save is unfinished, if any
 abbrev pub SessionKeeping : Type 1
 SessionKeeping = StoreSettings → List (List RecordValue) → SessionSaving
 
--- if the cut that a run goes on from represents the lists, or there is none, the bases of the shards represent theirs,
--- so that each report is sound
-abbrev pub BaseRepresents : List (List RecordValue) → Option CutValue → List ShardValue → Type 0
-BaseRepresents lists base opening = IfSome base (λ cut. CutRepresents cut lists) → BasesRepresent opening
+-- if there is no cut that a run goes on from, or it represents the lists, then the base of each shard represents its list,
+-- so each report is sound
+abbrev pub GoesOnSoundly : List (List RecordValue) → Option CutValue → List ShardValue → Type 0
+GoesOnSoundly lists base opening = IfSome base (λ cut. CutRepresents cut lists) → BasesRepresent opening
 
--- the session over a capture: its records, those of its bytes where these are known, are dealt to the shards, counted from
--- the base on and reported. With a store, each cut of the calling thread is saved
+-- the session over a capture: the records of the capture, which are those of its bytes where these are known, are dealt to
+-- the shards, counted from the base on, and reported. With a store, the cut of each report of the calling thread is saved
 pub record IsSession (settings : Settings) (rules : DealingRules) (keeping : SessionKeeping) (store file : Option (List ℕ))
     (text : List ℕ) : Type 0 where
   pub records : Records
@@ -235,7 +236,7 @@ pub record IsSession (settings : Settings) (rules : DealingRules) (keeping : Ses
   pub as_many : length lists ≡ settings.shards
   pub base : Option CutValue
   pub begins : GoesOnFrom settings lists store base
-  pub represents : BaseRepresents lists base (session_opening settings.capacity lists base)
+  pub represents : GoesOnSoundly lists base (session_opening settings.capacity lists base)
   pub spelled : IsOverShards (session_opening settings.capacity lists base) settings
       (λ cuts. settings.store ≡ true → keeping (saves_settings settings) lists cuts []) (tail_text records) text
 
@@ -249,7 +250,7 @@ pub record IsSessionInPart (settings : Settings) (rules : DealingRules) (keeping
   pub as_many : length lists ≡ settings.shards
   pub base : Option CutValue
   pub begins : GoesOnFrom settings lists store base
-  pub represents : BaseRepresents lists base (session_opening settings.capacity lists base)
+  pub represents : GoesOnSoundly lists base (session_opening settings.capacity lists base)
   pub begun : BeginsSession (session_opening settings.capacity lists base) settings
       (λ saved unfinished. settings.store ≡ true → keeping (saves_settings settings) lists saved unfinished) (tail_text records) front
 
@@ -259,7 +260,7 @@ pub record IsWholeReport (settings : Settings) (lists : List (List RecordValue))
   pub at_ends : report.positions ≡ session_ends (new_shards settings.capacity lists)
   pub is_sound : IsSound report lists settings.capacity settings.phi
 
--- bytes of this kind were appended to what the sink held
+-- a text of this kind was appended to what the sink had taken; where that isn't known, only that there is such a text
 pub record WritesAnswer (IsText : List ℕ → Type 0) (old new : Option (List ℕ)) : Type 0 where
   pub text : List ℕ
   pub is_text : IsText text

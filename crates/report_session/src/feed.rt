@@ -3,7 +3,7 @@
 ghost use Rattle.std.specs.Prelude.{◌≡◌, length, IfErr, IfOk, IfSome, None, OnErr, OnOk, is_some};
 ghost use Rattle.shard_state.specs.{HasCoreShape, core_capacity};
 ghost use Rattle.pass_tokens.specs.{IsPassOf, first_view, view};
-ghost use Rattle.command_words.specs.{AreLimited, AreWide};
+ghost use Rattle.command_words.specs.{AreLimited, HaveWideShare};
 ghost use Rattle.report_session.specs.DealtFeed.{IsFeedFault, IsFeedResult, IsGathered};
 ghost use Rattle.report_session.specs.DealtFeed.{FeedBreaksOff, RunsPlan, feed_plan};
 ghost use Rattle.report_session.specs.Saving.{CanMakeSaves, SavesInPart, SavesInTurn};
@@ -59,7 +59,7 @@ pub(crate) fn feed<'a, R: Threads + Wait + Sync, K: Sink, D: Disk, G: Gate + Syn
     gate: &'a G,
 ) -> Result<Fed, Status>
     requires limited { AreLimited setup.now.settings.now }
-    requires wide { AreWide setup.now.settings.now }
+    requires wide { HaveWideShare setup.now.settings.now }
     requires pass { IsPassOf board.now reader.pass }
     requires view { view reader.pass ≡ first_view board.now.opening }
     requires shape { HasCoreShape (length board.now.opening) (core_capacity board.now.opening) reader.cut }
@@ -103,7 +103,7 @@ fn run_feed<R: Threads + Wait + Sync, K: Sink, D: Disk, G: Gate + Sync>(
     rounds: &mut LiveRounds<'_, K, D, G>,
 ) -> Result<Gathered, Status>
     requires limited { AreLimited setup.now.settings.now }
-    requires wide { AreWide setup.now.settings.now }
+    requires wide { HaveWideShare setup.now.settings.now }
     requires pass { IsPassOf board.now pass }
     requires view { view pass ≡ first_view board.now.opening }
     requires alike { core_capacity board.now.opening ≡ setup.now.settings.now.capacity }

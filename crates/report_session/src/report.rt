@@ -1,7 +1,7 @@
 //! The session over the dealt records of a capture.
 
 ghost use Rattle.std.specs.Prelude.{◌≡◌, ◌<◌, false, length};
-ghost use Rattle.command_words.specs.{AreLimited, AreWide};
+ghost use Rattle.command_words.specs.{AreLimited, HaveWideShare};
 ghost use Rattle.report_session.specs.DealtFeed.{FeedEnds};
 ghost use Rattle.report_session.specs.Saving.{IsAsBefore, AreKeptOnDisk};
 
@@ -41,7 +41,7 @@ pub fn report_dealt<R: Threads + Wait + Sync, K: Sink, D: Disk, G: Gate + Sync>(
     gate: &G,
 ) -> Status
     requires limited { AreLimited settings.now }
-    requires wide { AreWide settings.now }
+    requires wide { HaveWideShare settings.now }
     requires shards { length fed.dealt ≡ settings.now.shards }
     requires tail { 0 < length fed.tail.items }
     ensures ends { FeedEnds K.Sink D.Disk settings.now fed.dealt fed.tail.items sink.old sink.new disk.old disk.new result }

@@ -13,9 +13,9 @@ ghost use Rattle.checkpoint.specs.{DiskMatches};
 ghost use Rattle.recovery.specs.{ContinuesList};
 ghost use Rattle.report_text.specs.{ShowsPositions, mark_text};
 ghost use Rattle.report_text.specs.declared.mark.Mark.TheVariants.{Opened as OpenedMark};
-ghost use Rattle.command_words.specs.{AreLimited, AreWide};
+ghost use Rattle.command_words.specs.{AreLimited, HaveWideShare};
 ghost use Rattle.report_session.specs.Session.{WritesAnswer, AreOfCaller, BeginsSession};
-ghost use Rattle.report_session.specs.Session.{BreaksOffAround, BaseRepresents, IsOverShards};
+ghost use Rattle.report_session.specs.Session.{BreaksOffAround, GoesOnSoundly, IsOverShards};
 ghost use Rattle.report_session.specs.Session.{caller_parts, session_opening, session_parts};
 ghost use Rattle.report_session.specs.Session.{resumed_shards, new_shards, session_start};
 ghost use Rattle.report_session.specs.DealtFeed.{CanSaveCut, FeedGoesOn, IsFeedBase};
@@ -73,7 +73,7 @@ pub(crate) fn write_session<R: Threads + Wait + Sync, K: Sink, D: Disk, G: Gate 
     disk: &mut D,
 ) -> Result<(), Status>
     requires limited { AreLimited setup.now.settings.now }
-    requires wide { AreWide setup.now.settings.now }
+    requires wide { HaveWideShare setup.now.settings.now }
     requires shards { length dealt ≡ setup.now.settings.now.shards }
     requires base { IsFeedBase setup.now.settings.now dealt (D.reads disk.old) base }
     requires stands { IfSome base.saver (DiskMatches (D.reads disk.old) (D.image_now disk.old)) }
@@ -129,7 +129,7 @@ pub(crate) fn openings_stand(dealt: &Dealt, base: &Option<Cut>, capacity: u32)
     ensures alike { core_capacity (session_opening capacity dealt.now base.now) ≡ capacity }
     ensures starts { StartsBefore (session_opening capacity dealt.now base.now) }
     ensures positions { ShowsPositions (session_start (session_opening capacity dealt.now base.now)) }
-    ensures represents { BaseRepresents dealt.now base.now (session_opening capacity dealt.now base.now) }
+    ensures represents { GoesOnSoundly dealt.now base.now (session_opening capacity dealt.now base.now) }
 {
     shards_stand();
     let _shards = dealt.shards();
@@ -206,7 +206,7 @@ fn write_feed<R: Threads + Wait + Sync, K: Sink, D: Disk, G: Gate + Sync>(
     disk: &mut D,
 ) -> Result<(), Status>
     requires limited { AreLimited setup.now.settings.now }
-    requires wide { AreWide setup.now.settings.now }
+    requires wide { HaveWideShare setup.now.settings.now }
     requires opened { IsFeedOpening opened.board.opening opened }
     requires alike { core_capacity opened.board.opening ≡ setup.now.settings.now.capacity }
     requires starts { StartsBefore opened.board.opening }
@@ -282,7 +282,7 @@ fn rest_of_session<R: Wait>(
     settings: &Settings,
 ) -> Result<Rest, AllocError>
     requires limited { AreLimited settings.now }
-    requires wide { AreWide settings.now }
+    requires wide { HaveWideShare settings.now }
     requires pass { IsPassOf board.now fed.gathered.pass }
     requires ends { HasSeenEnds board.now.opening (view fed.gathered.pass) }
     requires shape { HasCoreShape (length board.now.opening) (core_capacity board.now.opening) fed.cut }

@@ -4,7 +4,7 @@ ghost use Rattle.std.specs.Prelude.{◌≡◌, length, None, IfOk};
 ghost use Rattle.shard_state.specs.{core_capacity};
 ghost use Rattle.pass_tokens.specs.{IsPassOf, view};
 ghost use Rattle.gate_workers.specs.{HasSeenEnds};
-ghost use Rattle.command_words.specs.{AreLimited, AreWide};
+ghost use Rattle.command_words.specs.{AreLimited, HaveWideShare};
 ghost use Rattle.report_session.specs.Session.{IsWholeReport, IsShownInSession, session_ends};
 ghost use Rattle.report_session.specs.DealtFeed.{RunsPlan, IsFeedOpening};
 
@@ -29,7 +29,7 @@ pub fn report_all<R: Threads + Wait + Sync, G: Gate + Sync>(
     gate: &G,
 ) -> Result<Report, AllocError>
     requires limited { AreLimited settings.now }
-    requires wide { AreWide settings.now }
+    requires wide { HaveWideShare settings.now }
     requires shards { length dealt ≡ settings.now.shards }
     ensures { IfOk result (IsWholeReport settings.now dealt) }
 {
@@ -48,7 +48,7 @@ fn report_opened<R: Threads + Wait + Sync, G: Gate + Sync>(
     gate: &G,
 ) -> Result<Report, AllocError>
     requires limited { AreLimited settings.now }
-    requires wide { AreWide settings.now }
+    requires wide { HaveWideShare settings.now }
     requires opened { IsFeedOpening opened.board.opening opened }
     requires alike { core_capacity opened.board.opening ≡ settings.now.capacity }
     ensures shown { IfOk result (λ report. IsShownInSession opened.board.opening settings.now (record { report = report; saved = None })) }
@@ -77,7 +77,7 @@ fn count_all<R: Threads + Wait + Sync, G: Gate + Sync>(
     gate: &G,
 ) -> Result<Gathered, AllocError>
     requires limited { AreLimited settings.now }
-    requires wide { AreWide settings.now }
+    requires wide { HaveWideShare settings.now }
     requires pass { IsPassOf board.now pass }
     requires alike { core_capacity board.now.opening ≡ settings.now.capacity }
     ensures ran { IfOk result (RunsPlan board.now settings.now (view pass)) }

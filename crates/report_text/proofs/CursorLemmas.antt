@@ -7,7 +7,7 @@ use Rattle.report_text.specs.Session.{IsSessionLine, IsTextSession, words_text, 
 use Rattle.report_text.specs.Session.{session_lines, whole_lines}
 use Rattle.report_text.specs.Session.{HasSessionFault}
 use Rattle.report_text.specs.Stages.{Stage, IsStageBeforeEnd, FollowsStage, words_in}
-use Rattle.report_text.specs.LineReading.{HasReadLines, HasReadToStage, ReadsLine}
+use Rattle.report_text.specs.LineCursor.{HasReadLines, HasReadToStage, ReadsLine}
 use Rattle.report_text.specs.declared.line_cursor.LineCursor.{LineCursor}
 use Rattle.report_text.specs.declared.session.Session.{Session}
 use Rattle.report_text.specs.declared.session_line.SessionLine.{SessionLine}

@@ -14,7 +14,7 @@ pub mod SessionFaultLemmas
 pub mod PrintedSessionLemmas
 pub mod RefusedLineLemmas
 pub mod CursorLemmas
-pub mod LineReadingLemmas
+pub mod LineCursorLemmas
 pub mod ListedLineLemmas
 pub mod ReadReportLemmas
 pub mod ReadSessionLemmas

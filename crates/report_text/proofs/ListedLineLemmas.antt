@@ -14,12 +14,12 @@ use Rattle.hhh_report.specs.{AreReportLines, line_limit}
 use Rattle.hhh_report.specs.declared.line.Line.{Line as LineValue}
 use Rattle.report_text.specs.Session.{words_text, line_words}
 use Rattle.report_text.specs.Stages.{listing, done, ComesAfterLast}
-use Rattle.report_text.specs.LineReading.{ReadsLine, ReadsLines}
+use Rattle.report_text.specs.LineCursor.{ReadsLine, ReadsLines}
 use Rattle.report_text.specs.declared.line_cursor.LineCursor.{LineCursor}
 use Rattle.report_text.specs.declared.session_line.SessionLine.{SessionLine}
 use Rattle.report_text.specs.declared.session_line.SessionLine.TheVariants.{Line, Done}
 use Rattle.report_text.proofs.SessionPartLemmas.{PrecedesInSessionPart, IsOrderedSessionPart}
-use Rattle.report_text.proofs.LineReadingLemmas.{line_reading_one_more}
+use Rattle.report_text.proofs.LineCursorLemmas.{line_reading_one_more}
 
 -- reading a line moves a cursor by its bytes
 pub listed_line_takes_bytes : (old new : LineCursor) (line : SessionLine) → ReadsLine old new line

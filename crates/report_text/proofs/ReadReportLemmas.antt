@@ -10,11 +10,11 @@ use Rattle.report_text.specs.Session.{words_text, line_words, reported_lines}
 use Rattle.report_text.specs.Session.{saved_lines}
 use Rattle.report_text.specs.Stages.{Stage, opened, begun, done, line_after_report, after_report}
 use Rattle.report_text.specs.Stages.{body_lines}
-use Rattle.report_text.specs.LineReading.{ReadsLines}
+use Rattle.report_text.specs.LineCursor.{ReadsLines}
 use Rattle.report_text.specs.declared.line_cursor.LineCursor.{LineCursor}
 use Rattle.report_text.specs.declared.session_line.SessionLine.{SessionLine}
 use Rattle.report_text.specs.declared.session_line.SessionLine.TheVariants.{Report, At, Total, Threshold, Line, Done}
-use Rattle.report_text.proofs.LineReadingLemmas.{line_reading_goes_on}
+use Rattle.report_text.proofs.LineCursorLemmas.{line_reading_goes_on}
 
 -- reading lines moves a cursor by their bytes
 read_report_takes_bytes : (old new : LineCursor) (lines : List SessionLine) (stage last : Stage) → ReadsLines old new lines stage last

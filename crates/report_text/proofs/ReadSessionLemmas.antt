@@ -6,7 +6,7 @@ use Rattle.std.specs.Cmp.{IsTotalOrder}
 use Rattle.prefix_lattice.specs.{report_order}
 use Rattle.report_text.specs.Session.{IsTextSession, IsSessionText, words_text, session_lines}
 use Rattle.report_text.specs.Stages.{Stage, nothing, ended}
-use Rattle.report_text.specs.LineReading.{HasReadLines, ReadsLines}
+use Rattle.report_text.specs.LineCursor.{HasReadLines, ReadsLines}
 use Rattle.report_text.specs.declared.line_cursor.LineCursor.{LineCursor}
 use Rattle.report_text.specs.declared.session.Session.{Session}
 use Rattle.report_text.specs.declared.session_line.SessionLine.{SessionLine}

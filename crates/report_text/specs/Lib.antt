@@ -3,7 +3,7 @@ pub mod Session
 pub mod SavedLines
 -- within the crate
 pub mod Stages
-pub mod LineReading
+pub mod LineCursor
 -- the face: what contracts of other crates cite
 pub use Rattle.report_text.specs.Printing.{ShowsPositions, mark_text, report_text, tail_text}
 pub use Rattle.report_text.specs.Session.{AreSameSessions, HasReadFault, HasSessionFault}

@@ -39,7 +39,7 @@ line_length = 4 + 1 + longest_prefix_text + 2 * (1 + number_length) + 1
 abbrev pub line_text : Line → List ℕ
 line_text line = text_line (codes "line" ∷ prefix_text line.prefix ∷ decimal line.lo ∷ decimal line.hi ∷ [])
 
--- the lines of a report, one after the other
+-- the lines of a report, one after another
 abbrev pub lines_text : List Line → List ℕ
 lines_text lines = flat_map line_text lines
 

@@ -8,7 +8,7 @@ ghost use Rattle.report_text.specs.Session.{HasReadFault, IsSessionText, longest
 ghost use Rattle.report_text.specs.Session.{reported_lines, saved_lines, session_lines};
 ghost use Rattle.report_text.specs.Stages.{ComesAfterLast, line_after_report, after_report};
 ghost use Rattle.report_text.specs.Stages.{body_lines};
-ghost use Rattle.report_text.specs.LineReading.{ReadsLines, HasReadToStage};
+ghost use Rattle.report_text.specs.LineCursor.{ReadsLines, HasReadToStage};
 ghost use Rattle.report_text.specs.Stages.{nothing, opened, begun, listing, done, counted, ended};
 
 use crate::line_cursor::LineCursor;

@@ -19,11 +19,11 @@ cut_positions cut = map (λ snapshot. snapshot.position) cut.shards
 abbrev pub total_of_cut : CutValue → ℕ
 total_of_cut cut = sum_by snapshot_total cut.shards
 
--- the most snapshots of a cut, eight times as many as a command has shards
+-- the most snapshots of a cut, eight times as many as a command may have shards
 abbrev pub most_snapshots : ℕ
 most_snapshots = 128
 
--- what always holds of a cut: 1 to 128 snapshots, each of its capacity
+-- what always holds of a cut: an allowed capacity, and 1 to 128 snapshots, each of that capacity
 pub record IsCut (cut : CutValue) : Type 0 where
   pub least : least_capacity ≤ cut.capacity
   pub most : cut.capacity ≤ most_capacity

@@ -59,7 +59,8 @@ tables_of snapshot = map (λ entries. record { capacity = snapshot.capacity; ent
 abbrev pub snapshot_total : SnapshotValue → ℕ
 snapshot_total snapshot = table_total (slice_index_or snapshot.tables 0 [])
 
--- what always holds of a snapshot: 25 tables of one allowed capacity and one total, each with keys of its node
+-- what always holds of a snapshot: a position within the limit, and 25 tables of one allowed capacity and one total, each
+-- with keys of its node
 pub record IsSnapshot (snapshot : SnapshotValue) : Type 0 where
   pub least : least_capacity ≤ snapshot.capacity
   pub most : snapshot.capacity ≤ most_capacity
@@ -67,11 +68,11 @@ pub record IsSnapshot (snapshot : SnapshotValue) : Type 0 where
   pub shape : length snapshot.tables ≡ node_count
   pub tables : (node : NodeValue) → IsNode node → IsTableAt snapshot.capacity (snapshot_total snapshot) node (entries_at node snapshot)
 
--- 25 tables with no entry
+-- 25 tables without entries
 unfoldable pub no_entries : List (List Entry)
 no_entries = replicate node_count []
 
--- the snapshot of no record
+-- the snapshot of no records
 abbrev pub empty_snapshot : ℕ → SnapshotValue
 empty_snapshot capacity = record { capacity = capacity; position = 0; tables = no_entries }
 

@@ -8,7 +8,7 @@ pub record MomentsGoOn {D : Type 0} (moment : D → ℕ) (image_since : D → �
   pub earlier : (t : ℕ) (image : List ℕ) → t ≤ moment old → image_since new t image
       → image_since old t image ⊎ image_since new (moment old) image
 
--- A crash at any moment of a call leaves an image with P. Since an earlier moment no other image came.
+-- A crash at any moment of a call leaves an image with P. For a span that begins earlier, the call adds only images with P.
 pub record CrashLeaves {D : Type 0} (moment : D → ℕ) (image_since : D → ℕ → List ℕ → Type 0) (old new : D)
     (P : List ℕ → Type 0) : Type 0 where
   pub later : moment old ≤ moment new

@@ -3,7 +3,7 @@ use Rattle.std.specs.Prelude.{ℕ, zero, suc, ◌≡◌, ◌+◌, ◌<◌, ◌�
 use Rattle.std.specs.Prelude.{List, length, take, drop, slice_index, Option, None, Some}
 use Rattle.byteorder.specs.Endian.{big_from}
 
--- the bytes of the gates and the header, which begin the store
+-- how many bytes the gates and the header have, with which the store begins
 abbrev pub front_bytes : ℕ
 front_bytes = 64
 
@@ -11,7 +11,7 @@ front_bytes = 64
 abbrev pub header_bytes : ℕ
 header_bytes = 62
 
--- the gate of a slot is open: its byte, at the slot's number, is 1
+-- whether the gate of a slot is open: the byte at the slot's number is 1. It has nothing to do with the gate of threads
 abbrev pub is_gate_open : ℕ → List ℕ → Bool
 is_gate_open slot image = slice_index image slot == 1
 

@@ -35,7 +35,7 @@ replace_head [] add = []
 replace_head (head ∷ rest) add =
     put_into (record { key = add.key; count = head.count + add.weight; error = head.count }) rest
 
--- the entries after an add for a key that has no entry: the new entry takes free room, or replaces the head
+-- the entries after an add for a key that has no entry: the new entry takes a free place, or replaces the head
 abbrev pub enter_table : ℕ → List Entry → TableAdd → List Entry
 enter_table capacity entries add =
     if nat_lt (length entries) capacity
@@ -123,7 +123,7 @@ least_capacity = 2
 abbrev pub most_capacity : ℕ
 most_capacity = 4096
 
--- no table's total reaches this: it counts at most 2^24 adds, and each weighs less than 2^32
+-- no table's total reaches this: a table counts at most 2^24 adds, each of which weighs less than 2^32
 abbrev pub table_limit : ℕ
 table_limit = 2 ^ 56
 

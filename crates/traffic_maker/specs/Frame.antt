@@ -16,13 +16,13 @@ ip_length = 20
 abbrev pub captured_length : ℕ
 captured_length = ethernet_length + ip_length
 
--- how many bytes precede the captured ones in the file (libpcap's file format)
-abbrev pub record_length : ℕ
-record_length = 16
+-- how many bytes of a header precede the captured ones of a packet in the file (libpcap's file format)
+abbrev pub packet_header_length : ℕ
+packet_header_length = 16
 
 -- how many bytes each frame has in the file: its header there, and the captured bytes
 abbrev pub frame_length : ℕ
-frame_length = record_length + captured_length
+frame_length = packet_header_length + captured_length
 
 -- the length on the wire of the frame at an index: 100, 200, 300 and 400 bytes in turn
 abbrev pub wire_length : ℕ → ℕ

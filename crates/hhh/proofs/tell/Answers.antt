@@ -1,7 +1,7 @@
 use Rattle.std.proofs.Common.{[], ◌∙◌, refl, subst}
 use Rattle.std.specs.Io.KnownBytes.{Appends}
 use Rattle.std.proofs.KnownBytes.{Appends-nil}
-use Rattle.hhh.specs.ToldStatus.{AppendsFront}
+use Rattle.outside_io.specs.{AppendsFront}
 use Rattle.hhh.proofs.ToldStatusLemmas.{front_is_told, line_is_told}
 use Rattle.hhh.proofs.tell.Goals as goal
 

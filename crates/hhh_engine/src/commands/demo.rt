@@ -10,7 +10,7 @@ ghost use Rattle.traffic_maker.specs.{made_capture, most_frames};
 ghost use Rattle.hhh_report.specs.{IsSound};
 ghost use Rattle.exact_audit.specs.{IsVerdict};
 ghost use Rattle.exact_audit.specs.declared.verdict.Verdict.TheVariants.{Good};
-ghost use Rattle.command_words.specs.{AreLimited, AreWide};
+ghost use Rattle.command_words.specs.{AreLimited, HaveWideShare};
 ghost use Rattle.hhh_engine.specs.Demo.{IsDemoText, demo_text as text_of_demo};
 ghost use Rattle.hhh_engine.specs.Tasks.{made_task};
 ghost use Rattle.hhh_engine.specs.Ending.{course, Ends, SourceFaults};
@@ -46,7 +46,7 @@ pub(crate) fn demo<R: Threads + Wait + Sync, K: Sink, G: Gate + Sync>(
 ) -> Status
     requires frames { (1 ≤ frames) × (frames ≤ most_frames) }
     requires limited { AreLimited settings.now }
-    requires wide { AreWide settings.now }
+    requires wide { HaveWideShare settings.now }
     ensures ends { (capture : Option (List ℕ)) (faults : SourceFaults) → Ends
         (made_task (IsDemoText settings.now (λ kind. ⟦<Dealer as Deals>⟧.may_answer (dealer_of kind runner.now.dealers.now)) seed frames))
         (course K.Sink capture faults faults sink.old sink.new) result }
@@ -72,7 +72,7 @@ fn demo_text<R: Threads + Wait + Sync, G: Gate + Sync>(
 ) -> Result<Vec<u8>, AllocError>
     requires frames { (1 ≤ frames) × (frames ≤ most_frames) }
     requires limited { AreLimited settings.now }
-    requires wide { AreWide settings.now }
+    requires wide { HaveWideShare settings.now }
     ensures { IfOk result (λ text. IsDemoText settings.now
         (λ kind. ⟦<Dealer as Deals>⟧.may_answer (dealer_of kind runner.now.dealers.now)) seed frames text.items) }
 {

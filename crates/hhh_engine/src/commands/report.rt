@@ -3,7 +3,7 @@
 ghost use Rattle.std.specs.Prelude.{ℕ, ◌≡◌, ◌<◌, false, length, IfOk, IfErr, IfSome, OnOk, IsErrOf};
 ghost use Rattle.std.specs.Io.KnownBytes.{IsAtEnd};
 ghost use Rattle.deal_rules.specs.{dealer_of};
-ghost use Rattle.command_words.specs.{AreLimited, AreWide};
+ghost use Rattle.command_words.specs.{AreLimited, HaveWideShare};
 ghost use Rattle.hhh_engine.specs.Tasks.{report_task};
 ghost use Rattle.hhh_engine.specs.Ending.{course, Ends, faults_of_source};
 ghost use Rattle.hhh_engine.specs.Reading.{HasNoText};
@@ -35,7 +35,7 @@ pub(crate) fn report<R: Threads + Wait + Sync, S: Source, K: Sink, D: Disk, G: G
     disk: &mut D,
 ) -> Status
     requires limited { AreLimited settings.now }
-    requires wide { AreWide settings.now }
+    requires wide { HaveWideShare settings.now }
     ensures ends { (other : ℕ) → Ends
         (report_task D.Disk settings.now (λ kind. ⟦<Dealer as Deals>⟧.may_answer (dealer_of kind runner.now.dealers.now))
         (S.left capture.old) (S.left capture.new) disk.old disk.new)

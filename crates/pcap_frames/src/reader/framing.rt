@@ -5,7 +5,7 @@ ghost use Rattle.pcap_frames.specs.FileOrder.{number_in_order};
 ghost use Rattle.pcap_frames.specs.Frame.{frame_content};
 ghost use Rattle.pcap_frames.specs.Frame.{frame_at, bytes_needed, frame_fault, IsFrame};
 ghost use Rattle.pcap_frames.specs.Reader.{SplitsFrame};
-ghost use Rattle.pcap_frames.specs.Lengths.{record_length, frame_head_length, most_captured};
+ghost use Rattle.pcap_frames.specs.Lengths.{packet_header_length, frame_head_length, most_captured};
 
 use crate::file_order::FileOrder;
 use crate::header::fault_at;
@@ -18,9 +18,9 @@ pub(crate) const MOST_CAPTURED: u32 = 262_144;
 
 /// The frame whose header and head are at the front of the bytes.
 pub(crate) fn frame_at(order: FileOrder, bytes: &[u8]) -> Frame<'_>
-    requires header { record_length ≤ length bytes.now }
+    requires header { packet_header_length ≤ length bytes.now }
     requires limit { number_in_order order 4 8 bytes.now ≤ most_captured }
-    requires head { record_length + min frame_head_length (number_in_order order 4 8 bytes.now) ≤ length bytes.now }
+    requires head { packet_header_length + min frame_head_length (number_in_order order 4 8 bytes.now) ≤ length bytes.now }
     ensures content { frame_content result ≡ frame_at order bytes.now }
     ensures is_frame { IsFrame (frame_content result) }
 {
@@ -36,9 +36,9 @@ pub(crate) fn frame_at(order: FileOrder, bytes: &[u8]) -> Frame<'_>
 /// The first 42 of this many captured bytes after the frame header.
 #[tactic(auto, using(crate::proofs::FrameHeadLemmas::frame_head_of_front))]
 fn head_of(bytes: &[u8], captured: u32) -> &[u8]
-    requires header { record_length ≤ length bytes.now }
-    requires head { record_length + min frame_head_length captured ≤ length bytes.now }
-    ensures value { result.now ≡ take frame_head_length (take captured (drop record_length bytes.now)) }
+    requires header { packet_header_length ≤ length bytes.now }
+    requires head { packet_header_length + min frame_head_length captured ≤ length bytes.now }
+    ensures value { result.now ≡ take frame_head_length (take captured (drop packet_header_length bytes.now)) }
     ensures length { length result.now ≡ min frame_head_length captured }
     ensures bytes { (place : ℕ) → slice_index result.now place < 256 }
 {

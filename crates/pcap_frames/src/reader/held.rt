@@ -2,7 +2,7 @@
 
 ghost use Rattle.std.specs.Prelude.{◌≡◌, ◌+◌, ◌≤◌, length, min};
 ghost use Rattle.pcap_frames.specs.FileOrder.{number_in_order};
-ghost use Rattle.pcap_frames.specs.Lengths.{record_length, frame_head_length, most_captured};
+ghost use Rattle.pcap_frames.specs.Lengths.{packet_header_length, frame_head_length, most_captured};
 
 use crate::Frame;
 use crate::file_order::FileOrder;
@@ -14,9 +14,9 @@ use crate::reader::front::FrontBytes;
 pub(crate) struct HeldFrame {
     pub(crate) order: FileOrder,
     pub(crate) kept: FrontBytes,
-    pub ghost header: { record_length ≤ length kept.first },
+    pub ghost header: { packet_header_length ≤ length kept.first },
     pub ghost limit: { number_in_order order 4 8 kept.first ≤ most_captured },
-    pub ghost head: { record_length + min frame_head_length (number_in_order order 4 8 kept.first) ≤ length kept.first },
+    pub ghost head: { packet_header_length + min frame_head_length (number_in_order order 4 8 kept.first) ≤ length kept.first },
 }
 
 impl HeldFrame {

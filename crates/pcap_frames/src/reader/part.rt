@@ -8,7 +8,7 @@ ghost use Rattle.pcap_frames.specs.Reader.{StepTakes, frames_held};
 ghost use Rattle.pcap_frames.specs.FrameReader as state;
 ghost use Rattle.pcap_frames.specs.Part.{state_of_part, IsPartInStage, IsPartWithin};
 ghost use Rattle.pcap_frames.specs.Part.{place_of_part};
-ghost use Rattle.pcap_frames.specs.Lengths.{header_length, record_length, kept_length};
+ghost use Rattle.pcap_frames.specs.Lengths.{header_length, packet_header_length, kept_length};
 ghost use Rattle.pcap_frames.specs.Lengths.{most_captured};
 ghost use Rattle.pcap_frames.specs.Frame.{frame_count_limit};
 
@@ -160,7 +160,7 @@ impl FramePart {
     /// The stage after the bytes of a frame that arrived, and the frame once it is whole.
     fn leave_frame(&mut self) -> (Stage, Option<HeldFrame>)
         requires count { self.old.count ≤ frame_count_limit }
-        requires place { self.old.place ≤ header_length + (record_length + most_captured) * self.old.count }
+        requires place { self.old.place ≤ header_length + (packet_header_length + most_captured) * self.old.count }
         requires came { self.old.kept.came ≤ bytes_needed self.old.order self.old.kept.first }
         ensures sound { IsPartInStage result.0 self.new }
         ensures advances { (kept front : List ℕ) (came : ℕ) → self.old.kept.first ≡ take kept_length (kept ++ front)

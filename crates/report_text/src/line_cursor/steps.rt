@@ -4,7 +4,7 @@ ghost use Rattle.std.specs.Prelude.{◌≡◌, ◌≤◌, [], length, IfOk, IfEr
 ghost use Rattle.report_text.specs.Session.{HasReadFault, IsTextSession, longest_session};
 ghost use Rattle.report_text.specs.Session.{session_lines};
 ghost use Rattle.report_text.specs.Stages.{FollowsStage, IsStageBeforeEnd, Stage};
-ghost use Rattle.report_text.specs.LineReading.{HasReadLines, ReadsLine, HasReadToStage};
+ghost use Rattle.report_text.specs.LineCursor.{HasReadLines, ReadsLine, HasReadToStage};
 ghost use Rattle.report_text.specs.declared.line_cursor.LineCursor.{LineCursor as CursorValue};
 ghost use Rattle.report_text.specs.declared.session.Session.{Session as SessionValue};
 ghost use Rattle.report_text.specs.declared.session_line.SessionLine.{SessionLine as LineValue};

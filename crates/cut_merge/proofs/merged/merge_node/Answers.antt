@@ -1,7 +1,7 @@
 use Rattle.std.proofs.Common.{sym, take, subst}
 use Rattle.space_saving.specs.{TableValue}
 use Rattle.cut_merge.specs.Merged.{WithTable, CanBeMerged}
-use Rattle.cut_merge.specs.KeyInterval.{tables_at}
+use Rattle.cut_merge.specs.CutTables.{tables_at}
 use Rattle.cut_merge.proofs.CutMergeLemmas.{cut_merge_within_total, cut_merge_bounded_at_shard}
 use Rattle.cut_merge.proofs.CutMergeLemmas.{cut_merge_of_more_shards}
 use Rattle.cut_merge.proofs.TableMergeLemmas.{monitored_of_table_merge}

@@ -1,8 +1,8 @@
 use Rattle.std.proofs.Common.{refl, sym, ◌∙◌, subst, ◌∷◌, []}
 use Rattle.std.proofs.lemmas.Result.{err_from_is_err_and}
 use Rattle.report_text.specs.Stages.{done, saved, FollowsStage}
-use Rattle.report_text.proofs.LineReadingLemmas.{line_reading_stays, line_reading_of_one_line, line_reading_next_fault}
-use Rattle.report_text.proofs.LineReadingLemmas.{line_reading_refused}
+use Rattle.report_text.proofs.LineCursorLemmas.{line_reading_stays, line_reading_of_one_line, line_reading_next_fault}
+use Rattle.report_text.proofs.LineCursorLemmas.{line_reading_refused}
 use Rattle.report_text.proofs.RefusedLineLemmas.{line_refused_after_done, line_refused_after_saved}
 use Rattle.report_text.proofs.session_reading.read_after_report.Goals as goal
 

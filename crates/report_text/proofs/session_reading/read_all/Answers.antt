@@ -3,10 +3,10 @@ use Rattle.std.specs.List.{flat_map}
 use Rattle.std.proofs.lemmas.Result.{err_from_is_err_and}
 use Rattle.report_text.specs.Session.{reported_lines}
 use Rattle.report_text.specs.Stages.{nothing, opened, counted, skipped, ended}
-use Rattle.report_text.specs.LineReading.{ReadsLines}
+use Rattle.report_text.specs.LineCursor.{ReadsLines}
 use Rattle.report_text.specs.declared.session_line.SessionLine.TheVariants.{Opened, Frames, Skipped, End}
-use Rattle.report_text.proofs.LineReadingLemmas.{line_reading_stays, line_reading_goes_on, line_reading_known_line}
-use Rattle.report_text.proofs.LineReadingLemmas.{line_reading_reads_more, line_reading_next_fault, line_reading_refused}
+use Rattle.report_text.proofs.LineCursorLemmas.{line_reading_stays, line_reading_goes_on, line_reading_known_line}
+use Rattle.report_text.proofs.LineCursorLemmas.{line_reading_reads_more, line_reading_next_fault, line_reading_refused}
 use Rattle.report_text.proofs.RefusedLineLemmas.{line_refused_unless_opened, line_refused_unless_skips}
 use Rattle.report_text.proofs.RefusedLineLemmas.{line_refused_unless_end}
 use Rattle.report_text.proofs.ReadSessionLemmas.{read_session_line_groups}

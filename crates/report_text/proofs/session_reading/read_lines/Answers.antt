@@ -2,9 +2,9 @@ use Rattle.std.proofs.Common.{Some, None, map, length, sym, subst}
 use Rattle.std.proofs.lemmas.Bool.{iff_false}
 use Rattle.std.proofs.lemmas.Result.{err_from_is_err_and}
 use Rattle.report_text.specs.Stages.{listing, FollowsStage}
-use Rattle.report_text.specs.LineReading.{ReadsLine}
+use Rattle.report_text.specs.LineCursor.{ReadsLine}
 use Rattle.report_text.specs.declared.session_line.SessionLine.TheVariants.{Line}
-use Rattle.report_text.proofs.LineReadingLemmas.{line_reading_next_fault, line_reading_refused}
+use Rattle.report_text.proofs.LineCursorLemmas.{line_reading_next_fault, line_reading_refused}
 use Rattle.report_text.proofs.RefusedLineLemmas.{line_refused_in_listing}
 use Rattle.report_text.proofs.ListedLineLemmas.{AreListedLines, listed_line_leaves_fewer, listed_lines_one_more}
 use Rattle.report_text.proofs.ListedLineLemmas.{listed_lines_in_order, listed_lines_done}

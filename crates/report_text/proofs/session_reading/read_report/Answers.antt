@@ -2,9 +2,9 @@ use Rattle.std.proofs.Common.{None, [], ◌∷◌, ◌++◌, map, refl, sym, ◌
 use Rattle.std.proofs.lemmas.Result.{err_from_is_err_and}
 use Rattle.report_text.specs.Stages.{begun, placed, weighed, listing, done, FollowsStage}
 use Rattle.report_text.specs.declared.session_line.SessionLine.TheVariants.{At, Total, Threshold, Line, Done}
-use Rattle.report_text.proofs.LineReadingLemmas.{line_reading_stays, line_reading_goes_on, line_reading_known_line}
-use Rattle.report_text.proofs.LineReadingLemmas.{line_reading_later_fault, line_reading_next_fault}
-use Rattle.report_text.proofs.LineReadingLemmas.{line_reading_refused}
+use Rattle.report_text.proofs.LineCursorLemmas.{line_reading_stays, line_reading_goes_on, line_reading_known_line}
+use Rattle.report_text.proofs.LineCursorLemmas.{line_reading_later_fault, line_reading_next_fault}
+use Rattle.report_text.proofs.LineCursorLemmas.{line_reading_refused}
 use Rattle.report_text.proofs.RefusedLineLemmas.{line_refused_unless_at, line_refused_unless_total}
 use Rattle.report_text.proofs.RefusedLineLemmas.{line_refused_unless_threshold}
 use Rattle.report_text.proofs.session_reading.read_report.Goals as goal

@@ -3,10 +3,10 @@ use Rattle.std.specs.List.{flat_map}
 use Rattle.std.proofs.lemmas.Result.{err_from_is_err_and}
 use Rattle.report_text.specs.Session.{reported_lines, saved_lines}
 use Rattle.report_text.specs.Stages.{opened, begun, done, line_after_report, after_report, body_lines}
-use Rattle.report_text.specs.LineReading.{ReadsLines}
+use Rattle.report_text.specs.LineCursor.{ReadsLines}
 use Rattle.report_text.specs.declared.session_line.SessionLine.TheVariants.{Report}
-use Rattle.report_text.proofs.LineReadingLemmas.{line_reading_stays, line_reading_goes_on, line_reading_reads_more}
-use Rattle.report_text.proofs.LineReadingLemmas.{line_reading_refused}
+use Rattle.report_text.proofs.LineCursorLemmas.{line_reading_stays, line_reading_goes_on, line_reading_reads_more}
+use Rattle.report_text.proofs.LineCursorLemmas.{line_reading_refused}
 use Rattle.report_text.proofs.RefusedLineLemmas.{line_refused_unless_report}
 use Rattle.report_text.proofs.ReadReportLemmas.{read_report_leaves_fewer, one_more_read_report}
 use Rattle.report_text.proofs.session_reading.read_reports.Goals as goal

@@ -2,7 +2,7 @@ use Rattle.std.proofs.Common.{◌-◌, ◌++◌, [], ◌∷◌, length}
 use Rattle.std.specs.List.{flat_map}
 use Rattle.report_text.specs.Session.{reported_lines}
 use Rattle.report_text.specs.Stages.{opened, begun}
-use Rattle.report_text.specs.LineReading.{ReadsLines}
+use Rattle.report_text.specs.LineCursor.{ReadsLines}
 use Rattle.report_text.specs.declared.session_line.SessionLine.TheVariants.{Report}
 use Rattle.report_text.proofs.session_reading.read_reports.Given as goal
 

@@ -1,6 +1,6 @@
 use Rattle.std.proofs.Common.{◌++◌, ◌∷◌, drop, ap, sym, ◌∙◌}
 use Rattle.prefix_lattice.proofs.TextCutLemmas.{text_cut-joined}
-use Rattle.prefix_lattice.proofs.prefix_text.cut_at.Goals as goal
+use Rattle.prefix_lattice.proofs.side_reading.cut_at.Goals as goal
 
 pub returns-in-Some-clause-joined : goal.returns-in-Some-clause-joined
 returns-in-Some-clause-joined c =

@@ -1,7 +1,7 @@
 use Rattle.std.proofs.Common.{◌++◌, ◌∷◌, refl, ap, sym, ◌∙◌}
 use Rattle.prefix_lattice.specs.PrefixText.{before_slash}
 use Rattle.prefix_lattice.proofs.TextCutLemmas.{text_cut-same_behind}
-use Rattle.prefix_lattice.proofs.prefix_text.parse_side.Goals as goal
+use Rattle.prefix_lattice.proofs.side_reading.parse_side.Goals as goal
 
 pub returns-in_default-kept_by-clause-fault : goal.returns-in_default-kept_by-clause-fault
 returns-in_default-kept_by-clause-fault c =

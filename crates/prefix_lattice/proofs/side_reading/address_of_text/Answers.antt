@@ -2,7 +2,7 @@ use Rattle.std.proofs.Common.{◌/◌, ◌%◌, arith}
 use Rattle.prefix_lattice.proofs.TextCutLemmas.{text_cut-no_next_number}
 use Rattle.prefix_lattice.proofs.AddressTextLemmas.{address_text_after_first, address_text-first_number}
 use Rattle.prefix_lattice.proofs.AddressTextLemmas.{address_text-second_number, address_text-cut_into_numbers}
-use Rattle.prefix_lattice.proofs.prefix_text.address_of_text.Goals as goal
+use Rattle.prefix_lattice.proofs.side_reading.address_of_text.Goals as goal
 
 pub returns-in_default-clause-none : goal.returns-in_default-clause-none
 returns-in_default-clause-none c = λ address small same.

@@ -19,7 +19,7 @@ keys_of table = map (λ entry. entry.key) table.entries
 abbrev pub monitored_in : List TableValue → List ℕ
 monitored_in tables = first_seen (flat_map keys_of tables)
 
--- the merged interval of a key over some tables: their lows and highs, each added up
+-- the merged interval of a key over some tables: the sum of its lows, and the sum of its highs
 abbrev pub interval_over : List TableValue → ℕ → TableInterval
 interval_over tables key = record {
   low = sum_by (λ table. (interval_in table key).low) tables;
@@ -34,7 +34,7 @@ tables_at node cut = map (table_at node) cut.shards
 abbrev pub monitored_in_cut : CutValue → NodeValue → List ℕ
 monitored_in_cut cut node = monitored_in (tables_at node cut)
 
--- the merged interval of a prefix in a cut: the lows and the highs of its key over the shards, each added up
+-- the merged interval of a prefix in a cut: the sums of the lows and of the highs of its key over the shards
 abbrev pub interval_in_cut : CutValue → PrefixValue → TableInterval
 interval_in_cut cut prefix = interval_over (tables_at (node_of_prefix prefix) cut) (prefix_key prefix)
 

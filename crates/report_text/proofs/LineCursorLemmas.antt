@@ -5,7 +5,7 @@ use Rattle.std.specs.List.{flat_map, AllByRecursion}
 use Rattle.std.proofs.lemmas.List.Concat.{flat_map-append}
 use Rattle.report_text.specs.Session.{IsSessionLine, words_text, HasReadFault}
 use Rattle.report_text.specs.Stages.{Stage, nothing, IsStageBeforeEnd, FollowsStage}
-use Rattle.report_text.specs.LineReading.{HasReadToStage, ReadsLine, ReadsLines}
+use Rattle.report_text.specs.LineCursor.{HasReadToStage, ReadsLine, ReadsLines}
 use Rattle.report_text.specs.declared.line_cursor.LineCursor.{LineCursor}
 use Rattle.report_text.specs.declared.session_line.SessionLine.{SessionLine}
 use Rattle.report_text.specs.declared.session_fault.SessionFault.{SessionFault}

@@ -1,6 +1,6 @@
 use Rattle.std.proofs.Common.{◌≡◌, ◌*◌, arith}
 use Rattle.prefix_lattice.proofs.TextCutLemmas.{cut_text-tells_number}
-use Rattle.prefix_lattice.proofs.prefix_text.kept_by.Goals as goal
+use Rattle.prefix_lattice.proofs.side_reading.kept_by.Goals as goal
 
 pub returns-then-bits-gt32-clause-none : goal.returns-then-bits-gt32-clause-none
 returns-then-bits-gt32-clause-none c = λ bytes few same.

@@ -5,8 +5,8 @@ use Rattle.exact_audit.specs.LeftOut.{IsLeftOut}
 use Rattle.exact_audit.specs.Verdict.{IsLineVerdict}
 use Rattle.exact_audit.specs.Findings.{AreSumsOf, IsFirst}
 use Rattle.exact_audit.proofs.VerdictLemmas.{verdict_leaves_out_first, verdict_leaves_out_none}
-use Rattle.exact_audit.proofs.auditing.verdict_of.Goals as goal
-use Rattle.exact_audit.proofs.auditing.verdict_of.Goals.{in-Some-left_out, in-None}
+use Rattle.exact_audit.proofs.verdict.verdict_of.Goals as goal
+use Rattle.exact_audit.proofs.verdict.verdict_of.Goals.{in-Some-left_out, in-None}
 
 pub returns : goal.returns
 returns c = λ records are total.

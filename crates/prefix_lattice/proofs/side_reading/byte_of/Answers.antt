@@ -1,6 +1,6 @@
 use Rattle.std.proofs.Common.{◌≡◌, arith}
 use Rattle.prefix_lattice.proofs.TextCutLemmas.{cut_text-tells_number}
-use Rattle.prefix_lattice.proofs.prefix_text.byte_of.Goals as goal
+use Rattle.prefix_lattice.proofs.side_reading.byte_of.Goals as goal
 
 pub returns-else-number-lt256-clause-none : goal.returns-else-number-lt256-clause-none
 returns-else-number-lt256-clause-none c = λ byte small same.
