@@ -104,6 +104,7 @@ pub fn report_once<R: Wait, G: Gate>(
         (record { report = report; saved = None } ∷ [])) }
     ensures sound { IfOk result (λ report. BasesRepresent board.now.opening
         → IsSound report (core_lists board.now.opening) (core_capacity board.now.opening) phi) }
+    ensures read { IsCutAtCall board.now.opening (cut_positions cut.new) cut.new }
     ensures cut { IfOk result (λ report. cut.new ≡ cut_at board.now.opening report.positions) }
     ensures shape { HasCoreShape (length board.now.opening) (core_capacity board.now.opening) cut.new }
     ensures pass { IsPassOf board.now pass.new }

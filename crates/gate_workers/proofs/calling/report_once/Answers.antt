@@ -20,3 +20,13 @@ returns-clause-cut g c =
     (call_cut_at_its_positions c.args.board.now.opening (view c.args.pass.now) (view c.read_cut.new.pass) c.args.cut.now
     c.read_cut.new.cut c.read_cut.ensures.read c.requires.shape).is
     ∙ ap (cut_at c.args.board.now.opening) (sym c.in_ok-report.ensures.positions)
+
+pub returns-clause-read : goal.returns-clause-read
+returns-clause-read g c =
+    call_cut_at_its_positions c.args.board.now.opening (view c.args.pass.now) (view c.read_cut.new.pass) c.args.cut.now
+    c.read_cut.new.cut c.read_cut.ensures.read c.requires.shape
+
+pub returns-in_err-report-clause-read : goal.returns-in_err-report-clause-read
+returns-in_err-report-clause-read g c =
+    call_cut_at_its_positions c.args.board.now.opening (view c.args.pass.now) (view c.read_cut.new.pass) c.args.cut.now
+    c.read_cut.new.cut c.read_cut.ensures.read c.requires.shape

@@ -8,7 +8,7 @@ returns-in-Damaged c =
     appended_text_ends_in_number c.push_number.result _ c.args.line.now.items (codes "store damaged: slot ") c.from.result
     (status_text c.args.status.now)
     (ap status_text c.in-Damaged.is ∙ ap (λ n. codes "store damaged: slot " ++ decimal n) (sym c.from.ensures))
-    c.push_number.ensures
+    c.push_number.ensures.appended
 
 pub returns-in-OtherSettings : goal.returns-in-OtherSettings
 returns-in-OtherSettings c =

@@ -10,7 +10,7 @@ returns-in-MissingEnd c =
     appended_text_on_ok_implies c.push_number-in-MissingEnd.result _ _
     (λ all. all ∙ ap (λ line. line ++ text) c.in_ok-extend_from_slice.ensures.items)
     (appended_text_ends_in_number c.push_number-in-MissingEnd.result _ _ (codes "no end at line ") c.in-MissingEnd.number text
-    (ap session_text c.in-MissingEnd.is) c.push_number-in-MissingEnd.ensures)
+    (ap session_text c.in-MissingEnd.is) c.push_number-in-MissingEnd.ensures.appended)
 
 pub returns-in-TooLong : goal.returns-in-TooLong
 returns-in-TooLong c =
