@@ -13,6 +13,3 @@ pub use laws::{
     merged_intervals_are_narrow, merged_intervals_hold_weights, monitored_keys_are_few,
 };
 pub use merged::Merged;
-
-#[cfg(test)]
-mod tests;

@@ -20,6 +20,3 @@ pub use laws::{calls_follow_calls, reported_cuts_represent};
 pub use plan::ThreadPlan;
 pub use rounds::Rounds;
 pub use running::run_threads;
-
-#[cfg(test)]
-mod tests;

@@ -31,13 +31,17 @@ impl Write for Stuck {
 #[test]
 fn reads_a_stream_to_its_end(rt: HostRuntime) -> Result<(), Fail> {
     let mut source = StdSource::new(rt.alloc(), b"abcde".as_slice())?;
-    let mut into = [0; 3];
-    assert_eq!(rt; source.read(&mut into), Ok(3));
-    assert_eq!(rt; into, *b"abc");
-    assert_eq!(rt; source.read(&mut into), Ok(2));
-    assert_eq!(rt; into, *b"dec");
-    assert_eq!(rt; source.read(&mut into), Ok(0));
+    assert!(rt; gives_five_letters(&mut source));
     Ok(())
+}
+
+fn gives_five_letters<S: Source>(source: &mut S) -> bool {
+    let mut into = [0; 3];
+    source.read(&mut into) == Ok(3)
+        && into == *b"abc"
+        && source.read(&mut into) == Ok(2)
+        && into == *b"dec"
+        && source.read(&mut into) == Ok(0)
 }
 
 // A file that begins with these words on every Linux system.
@@ -46,12 +50,16 @@ fn reads_on_in_a_file(rt: HostRuntime) -> Result<(), Fail> {
     let alloc = rt.alloc();
     let version = LateFile::new(&rt, PathText::of(alloc, "/proc/version")?);
     let mut source = StdSource::new(alloc, NamedInput::File(version))?;
-    let mut into = [0; 5];
-    assert_eq!(rt; source.read(&mut into), Ok(5));
-    assert_eq!(rt; into, *b"Linux");
-    assert_eq!(rt; source.read(&mut into), Ok(5));
-    assert_eq!(rt; into, *b" vers");
+    assert!(rt; gives_two_words(&mut source));
     Ok(())
+}
+
+fn gives_two_words<S: Source>(source: &mut S) -> bool {
+    let mut into = [0; 5];
+    source.read(&mut into) == Ok(5)
+        && into == *b"Linux"
+        && source.read(&mut into) == Ok(5)
+        && into == *b" vers"
 }
 
 // Two files that every Linux system has, and one that none has.
@@ -59,38 +67,52 @@ fn reads_on_in_a_file(rt: HostRuntime) -> Result<(), Fail> {
 fn opens_a_file_at_the_first_read(rt: HostRuntime) -> Result<(), Fail> {
     let alloc = rt.alloc();
     let zeros = LateFile::new(&rt, PathText::of(alloc, "/dev/zero")?);
-    let mut source = StdSource::new(alloc, NamedInput::File(zeros))?;
-    let mut into = [1; 3];
-    assert_eq!(rt; source.read(&mut into), Ok(3));
-    assert_eq!(rt; into, [0; 3]);
-    assert_eq!(rt; source.read(&mut into), Ok(3));
+    assert!(rt; gives_zeros(&mut StdSource::new(alloc, NamedInput::File(zeros))?));
     let empty = LateFile::new(&rt, PathText::of(alloc, "/dev/null")?);
-    assert_eq!(rt;
-        StdSource::new(alloc, NamedInput::File(empty))?.read(&mut into),
-        Ok(0)
-    );
-    let missing = LateFile::new(&rt, PathText::of(alloc, "/no such file")?);
-    let mut source = StdSource::new(alloc, NamedInput::File(missing))?;
-    assert_eq!(rt; source.read(&mut into), Err(Failed));
-    assert_eq!(rt; source.read(&mut into), Err(Failed));
-    assert_eq!(rt;
-        StdSource::new(alloc, NamedInput::Nothing)?.read(&mut into),
-        Ok(0)
-    );
+    assert!(rt; gives_nothing(&mut StdSource::new(alloc, NamedInput::File(empty))?));
     Ok(())
 }
 
 #[test]
-fn writes_to_a_stream_until_it_takes_nothing(rt: HostRuntime) -> Result<(), Fail> {
-    let mut room = [0; 4];
-    let mut sink = StdSink::new(room.as_mut_slice());
-    assert_eq!(rt; sink.write(b"abc"), Ok(3));
-    assert_eq!(rt; sink.write(b""), Ok(0));
-    assert_eq!(rt; sink.write(b"de"), Ok(1));
-    assert_eq!(rt; sink.write(b"e"), Err(Failed));
-    let mut stuck = StdSink::new(Stuck);
-    assert_eq!(rt; stuck.write(b"abc"), Err(Failed));
+fn a_missing_file_fails_at_each_read(rt: HostRuntime) -> Result<(), Fail> {
+    let alloc = rt.alloc();
+    let missing = LateFile::new(&rt, PathText::of(alloc, "/no such file")?);
+    assert!(rt; fails_twice(&mut StdSource::new(alloc, NamedInput::File(missing))?));
     Ok(())
+}
+
+#[test]
+fn no_input_gives_nothing(rt: HostRuntime) -> Result<(), Fail> {
+    let mut source = StdSource::new(rt.alloc(), NamedInput::Nothing)?;
+    assert!(rt; gives_nothing(&mut source));
+    Ok(())
+}
+
+fn gives_zeros<S: Source>(source: &mut S) -> bool {
+    let mut into = [1; 3];
+    source.read(&mut into) == Ok(3) && into == [0; 3] && source.read(&mut into) == Ok(3)
+}
+
+fn gives_nothing<S: Source>(source: &mut S) -> bool {
+    source.read(&mut [1; 3]) == Ok(0)
+}
+
+fn fails_twice<S: Source>(source: &mut S) -> bool {
+    source.read(&mut [1; 3]) == Err(Failed) && source.read(&mut [1; 3]) == Err(Failed)
+}
+
+#[test]
+fn writes_to_a_stream_until_it_takes_nothing(rt: HostRuntime) {
+    let mut room = [0; 4];
+    assert!(rt; takes_four_bytes(&mut StdSink::new(room.as_mut_slice())));
+    assert!(rt; StdSink::new(Stuck).write(b"abc") == Err(Failed));
+}
+
+fn takes_four_bytes<K: Sink>(sink: &mut K) -> bool {
+    sink.write(b"abc") == Ok(3)
+        && sink.write(b"") == Ok(0)
+        && sink.write(b"de") == Ok(1)
+        && sink.write(b"e") == Err(Failed)
 }
 
 // A stream whose first call fails. Each later call takes or gives as many bytes as the stream had calls.
@@ -130,13 +152,18 @@ impl Read for FailsOnce {
 // The call after the fault is the second one that the stream had.
 #[test]
 fn a_fault_of_a_stream_is_reported_after_one_call(rt: HostRuntime) -> Result<(), Fail> {
-    let mut sink = StdSink::new(FailsOnce { calls: 0 });
-    assert_eq!(rt; sink.write(b"abcde"), Err(Failed));
-    assert_eq!(rt; sink.write(b"abcde"), Ok(2));
+    assert!(rt; takes_two_bytes_later(&mut StdSink::new(FailsOnce { calls: 0 })));
     let mut source = StdSource::new(rt.alloc(), FailsOnce { calls: 0 })?;
-    assert_eq!(rt; source.read(&mut [0; 5]), Err(Failed));
-    assert_eq!(rt; source.read(&mut [0; 5]), Ok(2));
+    assert!(rt; gives_two_bytes_later(&mut source));
     Ok(())
+}
+
+fn takes_two_bytes_later<K: Sink>(sink: &mut K) -> bool {
+    sink.write(b"abcde") == Err(Failed) && sink.write(b"abcde") == Ok(2)
+}
+
+fn gives_two_bytes_later<S: Source>(source: &mut S) -> bool {
+    source.read(&mut [0; 5]) == Err(Failed) && source.read(&mut [0; 5]) == Ok(2)
 }
 
 // A file of four bytes that takes and gives one byte a call. Each second call is interrupted by a signal.
@@ -190,16 +217,22 @@ fn reads_and_writes_on_after_short_and_interrupted_calls(rt: HostRuntime) -> Res
         bytes: Cell::new(*b"abcd"),
         interrupted: Cell::new(false),
     };
+    assert!(rt; reads_on(&file)?);
+    assert!(rt; writes_on(&file)?);
+    Ok(())
+}
+
+fn reads_on(file: &ByteByByte) -> IoResult<bool> {
     let mut buffer = [0; 2];
     let mut into = [9; 3];
-    assert_eq!(rt; read_on(&file, &mut buffer, 0, &mut into)?, 3);
-    assert_eq!(rt; into, *b"abc");
-    assert_eq!(rt; read_on(&file, &mut buffer, 2, &mut into)?, 2);
-    assert_eq!(rt; into, *b"cdc");
-    assert_eq!(rt; write_on(&file, 1, b"xyz")?, 3);
-    assert_eq!(rt; file.bytes.get(), *b"axyz");
-    assert!(rt; write_on(&file, 3, b"xy").is_err());
-    Ok(())
+    let whole = read_on(file, &mut buffer, 0, &mut into)? == 3 && into == *b"abc";
+    let rest = read_on(file, &mut buffer, 2, &mut into)? == 2 && into == *b"cdc";
+    Ok(whole && rest)
+}
+
+fn writes_on(file: &ByteByByte) -> IoResult<bool> {
+    let whole = write_on(file, 1, b"xyz")? == 3 && file.bytes.get() == *b"axyz";
+    Ok(whole && write_on(file, 3, b"xy").is_err())
 }
 
 // A file that takes and gives one byte a call. Its second call fails.
@@ -232,16 +265,17 @@ impl FileExt for FailsSecond {
 }
 
 #[test]
-fn a_fault_of_a_file_is_reported_after_the_bytes_before_it(rt: HostRuntime) -> Result<(), Fail> {
+fn a_fault_of_a_file_is_reported_after_the_bytes_before_it(rt: HostRuntime) {
     let file = FailsSecond {
         calls: Cell::new(0),
     };
-    assert!(rt; read_on(&file, &mut [0; 4], 0, &mut [0; 3]).is_err());
-    assert_eq!(rt; file.calls.get(), 2);
+    assert!(rt; fails_in_two_calls(&file));
+}
+
+fn fails_in_two_calls(file: &FailsSecond) -> bool {
+    let no_read = read_on(file, &mut [0; 4], 0, &mut [0; 3]).is_err() && file.calls.get() == 2;
     file.calls.set(0);
-    assert!(rt; write_on(&file, 0, b"abc").is_err());
-    assert_eq!(rt; file.calls.get(), 2);
-    Ok(())
+    no_read && write_on(file, 0, b"abc").is_err() && file.calls.get() == 2
 }
 
 #[test]
@@ -249,21 +283,27 @@ fn another_disk_reads_what_was_written(rt: HostRuntime) -> Result<(), Fail> {
     let alloc = rt.alloc();
     let name = "hhh_file_disk_test";
     let _ = fs::remove_file(&rt, name);
-    let mut disk = StoreDisk::new(alloc, &rt, PathText::of(alloc, name)?)?;
-    assert_eq!(rt; disk.len(), Ok(0));
-    assert_eq!(rt; disk.write_at(3, b"abcde"), Ok(()));
-    assert_eq!(rt; disk.sync(), Ok(()));
-    assert_eq!(rt; disk.write_at(4, b"x"), Ok(()));
-    assert_eq!(rt; disk.sync(), Ok(()));
-    assert_eq!(rt; disk.write_at(1 << 63, b"y"), Err(Failed));
-    let mut other = StoreDisk::new(alloc, &rt, PathText::of(alloc, name)?)?;
-    let mut into = [9; 8];
-    assert_eq!(rt; other.read_at(2, &mut into), Ok(6));
-    assert_eq!(rt; into, *b"\0axcde\x09\x09");
-    assert_eq!(rt; other.read_at(8, &mut into), Ok(0));
-    assert_eq!(rt; other.len(), Ok(8));
+    assert!(rt; is_written(&mut StoreDisk::new(alloc, &rt, PathText::of(alloc, name)?)?));
+    assert!(rt; reads_as_written(&mut StoreDisk::new(alloc, &rt, PathText::of(alloc, name)?)?));
     fs::remove_file(&rt, name)?;
     Ok(())
+}
+
+fn is_written<D: Disk>(disk: &mut D) -> bool {
+    disk.len() == Ok(0)
+        && disk.write_at(3, b"abcde") == Ok(())
+        && disk.sync() == Ok(())
+        && disk.write_at(4, b"x") == Ok(())
+        && disk.sync() == Ok(())
+        && disk.write_at(1 << 63, b"y") == Err(Failed)
+}
+
+fn reads_as_written<D: Disk>(disk: &mut D) -> bool {
+    let mut into = [9; 8];
+    disk.read_at(2, &mut into) == Ok(6)
+        && into == *b"\0axcde\x09\x09"
+        && disk.read_at(8, &mut into) == Ok(0)
+        && disk.len() == Ok(8)
 }
 
 // A first sync fails where the file has no name by then, and so does each later one.
@@ -272,11 +312,11 @@ fn a_failed_sync_is_lasting(rt: HostRuntime) -> Result<(), Fail> {
     let alloc = rt.alloc();
     let name = "hhh_file_disk_sync_test";
     let mut disk = StoreDisk::new(alloc, &rt, PathText::of(alloc, name)?)?;
-    assert_eq!(rt; disk.write_at(0, b"a"), Ok(()));
+    assert!(rt; disk.write_at(0, b"a") == Ok(()));
     fs::remove_file(&rt, name)?;
-    assert_eq!(rt; disk.sync(), Err(Failed));
+    assert!(rt; disk.sync() == Err(Failed));
     fs::write(&rt, name, b"a".as_slice())?;
-    assert_eq!(rt; disk.sync(), Err(Failed));
+    assert!(rt; disk.sync() == Err(Failed));
     fs::remove_file(&rt, name)?;
     Ok(())
 }
@@ -286,12 +326,16 @@ fn no_call_succeeds_without_a_regular_file(rt: HostRuntime) -> Result<(), Fail> 
     let alloc = rt.alloc();
     for path in ["no such directory/file", ".", "/dev/full", ""] {
         let mut disk = StoreDisk::new(alloc, &rt, PathText::of(alloc, path)?)?;
-        assert_eq!(rt; disk.len(), Err(Failed));
-        assert_eq!(rt; disk.read_at(0, &mut [0; 1]), Err(Failed));
-        assert_eq!(rt; disk.write_at(0, b"a"), Err(Failed));
-        assert_eq!(rt; disk.sync(), Err(Failed));
+        assert!(rt; each_call_fails(&mut disk), "{path}");
     }
     Ok(())
+}
+
+fn each_call_fails<D: Disk>(disk: &mut D) -> bool {
+    disk.len() == Err(Failed)
+        && disk.read_at(0, &mut [0; 1]) == Err(Failed)
+        && disk.write_at(0, b"a") == Err(Failed)
+        && disk.sync() == Err(Failed)
 }
 
 // A file that is as long as the calls of its sync, and that takes what is written.
@@ -354,15 +398,17 @@ fn each_sync_syncs_the_file_and_the_first_one_its_name(rt: HostRuntime) -> Resul
         synced: Cell::new(0),
     };
     let mut disk = CountedDisk::new(alloc, &names, PathText::of(alloc, "a")?)?;
-    assert_eq!(rt; disk.write_at(0, b"a"), Ok(()));
-    assert_eq!(rt; disk.len(), Ok(0));
+    assert!(rt; disk.write_at(0, b"a") == Ok(()));
+    assert!(rt; disk.len() == Ok(0));
     for syncs in 1..4 {
-        assert_eq!(rt; disk.sync(), Ok(()));
-        assert_eq!(rt; disk.len(), Ok(syncs));
-        assert_eq!(rt; names.synced.get(), 1);
+        assert!(rt; syncs_to_length(&mut disk, syncs) && names.synced.get() == 1);
     }
-    assert_eq!(rt; names.opened.get(), 1);
+    assert!(rt; names.opened.get() == 1);
     Ok(())
+}
+
+fn syncs_to_length<D: Disk>(disk: &mut D, length: u64) -> bool {
+    disk.sync() == Ok(()) && disk.len() == Ok(length)
 }
 
 // Neither a device nor a directory of the kernel's can be synced, so `Ok` would show that the system was not asked.
@@ -375,24 +421,14 @@ fn a_sync_of_the_system_is_asked_for(rt: HostRuntime) -> Result<(), Fail> {
 }
 
 #[test]
-fn a_status_is_told_in_its_line_and_its_code(rt: HostRuntime) -> Result<(), Fail> {
+fn a_status_is_told_in_its_line_and_its_code(rt: HostRuntime) {
     let alloc = rt.alloc();
     let mut room = [0; 20];
     let mut errors = StdSink::new(room.as_mut_slice());
-    assert_eq!(rt;
-        finish(alloc, &Status::Done, &mut errors),
-        ExitCode::from(0)
-    );
-    assert_eq!(rt;
-        finish(alloc, &Status::ReadFault, &mut errors),
-        ExitCode::from(4)
-    );
-    assert_eq!(rt;
-        finish(alloc, &Status::DiskFault, &mut errors),
-        ExitCode::from(6)
-    );
-    assert_eq!(rt; room, *b"hhh: read fault\nhhh:");
-    Ok(())
+    assert!(rt; finish(alloc, &Status::Done, &mut errors) == ExitCode::from(0));
+    assert!(rt; finish(alloc, &Status::ReadFault, &mut errors) == ExitCode::from(4));
+    assert!(rt; finish(alloc, &Status::DiskFault, &mut errors) == ExitCode::from(6));
+    assert!(rt; room == *b"hhh: read fault\nhhh:");
 }
 
 // Whatever arguments a test is given, they are no command.

@@ -14,6 +14,3 @@ pub use laws::{
     standing_cuts_have_one_report,
 };
 pub use reporting::report_of;
-
-#[cfg(test)]
-mod tests;

@@ -9,5 +9,5 @@ use std::test::Fail;
 
 /// The prefix with these texts of its source and of its destination.
 pub(crate) fn prefix_of_texts(source: &str, dest: &str) -> Result<Prefix, Fail> {
-    Prefix::parse(source.as_bytes(), dest.as_bytes()).map_err(|_| Fail::from("no prefix"))
+    Ok(Prefix::parse(source.as_bytes(), dest.as_bytes())?)
 }

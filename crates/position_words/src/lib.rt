@@ -12,6 +12,3 @@ pub use laws::{even_words_hold_their_states, odd_words_are_held};
 pub use rule::SlotRule;
 pub use view::{Aim, Held, Trail, View};
 pub use words::{Seat, Shared, Take, Words};
-
-#[cfg(test)]
-mod tests;

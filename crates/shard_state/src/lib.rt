@@ -21,6 +21,3 @@ pub use laws::{
 pub use shard_core::{Core, states_are_kept};
 pub use shard_state::{Folded, ShardState};
 pub use snapshot::Snapshot;
-
-#[cfg(test)]
-mod tests;

@@ -1,6 +1,9 @@
 //! The bytes of made traffic, and its writing.
 
-use outside_io::{Failed, MemorySink};
+ghost use Rattle.std.specs.Prelude.{◌≤◌};
+
+use outside_io::MemorySink;
+use std::alloc::Global;
 use std::test::Fail;
 use traffic_maker::{make, make_bytes};
 
@@ -36,12 +39,24 @@ const BY_GREATEST: [[u8; 8]; 3] = [
 
 #[test]
 fn makes_one_frame(rt: HostRuntime) -> Result<(), Fail> {
-    let alloc = rt.alloc();
-    assert_eq!(rt; make_bytes(alloc, 7, 1)?.as_slice(), &ONE_FRAME[..]);
-    let mut sink = MemorySink::with_room(alloc, 100, Vec::new(alloc))?;
-    make(7, 1, &mut sink)?;
-    assert_eq!(rt; sink.taken(), &ONE_FRAME[..]);
+    assert!(rt; one_frame_is_made(rt.alloc())?);
+    assert!(rt; are_written(rt.alloc(), 1, 100, &ONE_FRAME)?);
     Ok(())
+}
+
+fn one_frame_is_made(alloc: Global) -> Result<bool, Fail> {
+    let bytes = make_bytes(alloc, 7, 1)?;
+    Ok(bytes.as_slice() == ONE_FRAME.as_slice())
+}
+
+// Whether seed 7 writes these bytes for this many frames, to a sink of this room.
+fn are_written(alloc: Global, frames: u32, room: usize, want: &[u8]) -> Result<bool, Fail>
+    requires first { 1 ≤ frames }
+    requires last { frames ≤ 1300 }
+{
+    let mut sink = MemorySink::with_room(alloc, room, Vec::new(alloc))?;
+    make(7, frames, &mut sink)?;
+    Ok(sink.taken() == want)
 }
 
 // The lengths of frames on the wire in turn, low byte first: four of them add up to 4 * 250.
@@ -49,37 +64,74 @@ const LENGTHS: [[u8; 2]; 4] = [[100, 0], [200, 0], [44, 1], [144, 1]];
 
 #[test]
 fn makes_more_frames(rt: HostRuntime) -> Result<(), Fail> {
-    let alloc = rt.alloc();
-    for (seed, addresses) in [(7, &BY_SEVEN[..]), (u64::MAX, &BY_GREATEST[..])] {
-        let bytes = make_bytes(alloc, seed, addresses.len() as u32)?;
-        for (index, expected) in addresses.iter().enumerate() {
-            let frame = 24 + 50 * index;
-            assert_eq!(rt;
-                bytes.as_slice().get(frame + 12..frame + 14),
-                Some(&LENGTHS[index % 4][..])
-            );
-            assert_eq!(rt;
-                bytes.as_slice().get(frame + 42..frame + 50),
-                Some(&expected[..])
-            );
-        }
-    }
+    assert_eq!(rt; first_wrong_frame(rt.alloc(), 7, &BY_SEVEN)?, None);
+    assert_eq!(rt;
+        first_wrong_frame(rt.alloc(), u64::MAX, &BY_GREATEST)?,
+        None
+    );
     Ok(())
 }
 
-// A capture of three pieces, and sinks that fail in the middle of the second piece, and at its first byte.
+fn first_wrong_frame(
+    alloc: Global,
+    seed: u64,
+    addresses: &[[u8; 8]],
+) -> Result<Option<usize>, Fail> {
+    if addresses.is_empty() || addresses.len() > 8 {
+        return Err("no such number of frames".into());
+    }
+    let bytes = make_bytes(alloc, seed, addresses.len() as u32)?;
+    Ok(first_wrong_addresses(&bytes, addresses))
+}
+
+fn first_wrong_addresses(bytes: &[u8], addresses: &[[u8; 8]]) -> Option<usize> {
+    for (index, expected) in addresses.iter().enumerate() {
+        if !is_frame(bytes, index, expected) {
+            return Some(index);
+        }
+    }
+    None
+}
+
+fn is_frame(bytes: &[u8], index: usize, expected: &[u8; 8]) -> bool {
+    if index >= 8 {
+        return false;
+    }
+    let frame = 24 + 50 * index;
+    bytes.get(frame + 12..frame + 14) == Some(&LENGTHS[index % 4][..])
+        && bytes.get(frame + 42..frame + 50) == Some(&expected[..])
+}
+
+// A capture of three pieces.
+const FRAMES: u32 = 1300;
+
+const LENGTH: usize = 65_024;
+
 #[test]
 fn writes_pieces(rt: HostRuntime) -> Result<(), Fail> {
-    let alloc = rt.alloc();
-    let whole = make_bytes(alloc, 7, 1300)?;
-    let mut sink = MemorySink::with_room(alloc, 65_024, Vec::new(alloc))?;
-    make(7, 1300, &mut sink)?;
-    assert_eq!(rt; sink.taken(), whole.as_slice());
-    let mut full = MemorySink::with_room(alloc, 40_000, Vec::new(alloc))?;
-    assert_eq!(rt; make(7, 1300, &mut full), Err(Failed));
-    assert_eq!(rt; Some(full.taken()), whole.as_slice().get(..40_000));
-    let mut fails = MemorySink::with_room(alloc, 65_024, vec![in alloc; 2]?)?;
-    assert_eq!(rt; make(7, 1300, &mut fails), Err(Failed));
-    assert_eq!(rt; Some(fails.taken()), whole.as_slice().get(..32_024));
+    let whole = make_bytes(rt.alloc(), 7, FRAMES)?;
+    assert!(rt; are_written(rt.alloc(), FRAMES, LENGTH, &whole)?);
     Ok(())
+}
+
+// Sinks that fail in the middle of the second piece, and at its first byte.
+#[test]
+fn stops_at_a_failed_piece(rt: HostRuntime) -> Result<(), Fail> {
+    let whole = make_bytes(rt.alloc(), 7, FRAMES)?;
+    assert!(rt; takes_a_beginning(rt.alloc(), &whole, 40_000, &[], 40_000)?);
+    assert!(rt; takes_a_beginning(rt.alloc(), &whole, LENGTH, &[2], 32_024)?);
+    Ok(())
+}
+
+// Whether a sink of this room, of whose calls these fail, takes a beginning of the whole.
+fn takes_a_beginning(
+    alloc: Global,
+    whole: &[u8],
+    room: usize,
+    fails: &[u64],
+    length: usize,
+) -> Result<bool, Fail> {
+    let mut sink = MemorySink::with_room(alloc, room, Vec::from_slice(alloc, fails)?)?;
+    let made = make(7, FRAMES, &mut sink);
+    Ok(made.is_err() && Some(sink.taken()) == whole.get(..length))
 }

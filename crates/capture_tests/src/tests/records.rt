@@ -1,7 +1,7 @@
 //! The records of a capture's frames, and why a frame has none.
 
-use frame_records::{Skip, Weigh, read_records};
-use outside_io::MemorySource;
+use frame_records::{Records, Skip, Weigh, read_records};
+use outside_io::{MemorySource, Source};
 use pcap_frames::{CaptureFault, FaultKind, ReadRefusal};
 use prefix_lattice::Record;
 use std::alloc::{AllocError, Global};
@@ -11,6 +11,9 @@ use std::test::Fail;
 const SRC: u32 = 0x0a01_0203;
 
 const DST: u32 = 0x1404_0506;
+
+// What follows the first byte of an IPv4 header with these addresses.
+const HEADER_REST: [u8; 19] = [0, 0, 86, 0, 0, 0, 0, 64, 17, 0, 0, 10, 1, 2, 3, 20, 4, 5, 6];
 
 const ADDRESSES: [u8; 12] = [2, 0, 0, 0, 0, 2, 2, 0, 0, 0, 0, 1];
 
@@ -34,48 +37,31 @@ const ARP: [u8; 2] = [8, 6];
 
 const IPV6: [u8; 2] = [0x86, 0xdd];
 
-// The parts of a frame: its tags, its type, the first byte after the type, and its two lengths.
-#[derive(Clone, Copy, Debug)]
-struct FrameLayout<'a> {
-    tags: &'a [u8],
-    kind: [u8; 2],
-    first: u8,
-    captured: u32,
-    original: u32,
-}
+// The parts of a frame: its tags, its type, the first byte after the type, and its captured length.
+type FrameLayout = (&'static [u8], [u8; 2], u8, u32);
 
-// A frame of 100 bytes on the wire.
-fn layout(tags: &[u8], kind: [u8; 2], first: u8, captured: u32) -> FrameLayout<'_> {
-    FrameLayout {
-        tags,
-        kind,
-        first,
-        captured,
-        original: 100,
-    }
-}
+const PLAIN: FrameLayout = (NO_TAG, IPV4, 0x45, 34);
 
 // The captured bytes. Zeros follow the IPv4 header.
-fn captured_bytes(alloc: Global, frame: &FrameLayout<'_>) -> Result<Vec<u8>, AllocError> {
+fn captured_bytes(alloc: Global, frame: &FrameLayout) -> Result<Vec<u8>, AllocError> {
+    let (tags, kind, first, captured) = *frame;
     let mut bytes = Vec::from_slice(alloc, &ADDRESSES)?;
-    bytes.extend_from_slice(frame.tags)?;
-    bytes.extend_from_slice(&frame.kind)?;
-    bytes.push(frame.first)?;
-    bytes.extend_from_slice(&[0, 0, 86, 0, 0, 0, 0, 64, 17, 0, 0])?;
-    bytes.extend_from_slice(&SRC.to_be_bytes())?;
-    bytes.extend_from_slice(&DST.to_be_bytes())?;
-    bytes.resize(frame.captured as usize, 0)?;
+    bytes.extend_from_slice(tags)?;
+    bytes.extend_from_slice(&kind)?;
+    bytes.push(first)?;
+    bytes.extend_from_slice(&HEADER_REST)?;
+    bytes.resize(captured as usize, 0)?;
     Ok(bytes)
 }
 
-// A little-endian capture of these frames.
-fn capture_of(alloc: Global, frames: &[FrameLayout<'_>]) -> Result<Vec<u8>, AllocError> {
+// A little-endian capture of these frames, which are this long on the wire.
+fn capture_of(alloc: Global, frames: &[FrameLayout], original: u32) -> Result<Vec<u8>, AllocError> {
     let mut bytes = Vec::from_slice(alloc, &[0xd4, 0xc3, 0xb2, 0xa1, 2, 0, 4, 0])?;
     bytes.extend_from_slice(&[0, 0, 0, 0, 0, 0, 0, 0, 0, 0, 4, 0, 1, 0, 0, 0])?;
     for frame in frames {
         bytes.extend_from_slice(&[0, 0, 0, 0, 0, 0, 0, 0])?;
-        bytes.extend_from_slice(&frame.captured.to_le_bytes())?;
-        bytes.extend_from_slice(&frame.original.to_le_bytes())?;
+        bytes.extend_from_slice(&frame.3.to_le_bytes())?;
+        bytes.extend_from_slice(&original.to_le_bytes())?;
         bytes.extend_from_slice(&captured_bytes(alloc, frame)?)?;
     }
     Ok(bytes)
@@ -83,7 +69,7 @@ fn capture_of(alloc: Global, frames: &[FrameLayout<'_>]) -> Result<Vec<u8>, Allo
 
 // The result of reading a capture: its first record, the numbers of records and of frames skipped as not IPv4, as
 // short and for a bad header, and the number of frames.
-#[derive(Drop)]
+#[derive(Clone, Copy)]
 struct Counted {
     first: Option<Record>,
     records: usize,
@@ -91,143 +77,214 @@ struct Counted {
     frames: u64,
 }
 
-// Reads a capture of these frames. `None` where it is refused.
+// Reads a capture of these frames, which are this long on the wire. `None` where it is refused.
 fn read(
     alloc: Global,
-    frames: &[FrameLayout<'_>],
+    frames: &[FrameLayout],
+    original: u32,
     weigh: Weigh,
 ) -> Result<Option<Counted>, AllocError> {
-    let bytes = capture_of(alloc, frames)?;
+    let bytes = capture_of(alloc, frames, original)?;
     let mut source = MemorySource::new(bytes, Vec::new(alloc), 1000);
-    let Ok(records) = read_records(alloc, &mut source, weigh) else {
-        return Ok(None);
-    };
-    Ok(Some(Counted {
+    Ok(read_all(alloc, &mut source, weigh))
+}
+
+// A source of any kind keeps what is known of one in memory out of the proof.
+fn read_all<S: Source>(alloc: Global, source: &mut S, weigh: Weigh) -> Option<Counted> {
+    match read_records(alloc, source, weigh) {
+        Ok(records) => Some(numbers_of(&records)),
+        Err(_) => None,
+    }
+}
+
+fn numbers_of(records: &Records) -> Counted {
+    Counted {
         first: records.list.as_slice().first().copied(),
         records: records.list.len(),
         skipped: [records.not_ipv4, records.short, records.bad_header],
         frames: records.frames,
-    }))
+    }
 }
+
+// A frame, and how many are skipped for each reason.
+type Telling = (FrameLayout, [u64; 3]);
+
+const COUNTS: [u64; 3] = [0, 0, 0];
+
+const NOT_IPV4: [u64; 3] = [1, 0, 0];
+
+const SHORT: [u64; 3] = [0, 1, 0];
+
+const BAD_HEADER: [u64; 3] = [0, 0, 1];
+
+const TELLINGS: [Telling; 30] = [
+    // The type ends with byte 13, and the header 20 bytes later.
+    ((NO_TAG, IPV4, 0x45, 13), SHORT),
+    ((NO_TAG, ARP, 0, 13), SHORT),
+    ((NO_TAG, ARP, 0, 14), NOT_IPV4),
+    ((NO_TAG, IPV4, 0x45, 14), SHORT),
+    ((NO_TAG, IPV4, 0x44, 33), SHORT),
+    ((NO_TAG, IPV4, 0x45, 34), COUNTS),
+    // A tag moves both by 4 bytes.
+    ((VLAN, IPV4, 0x45, 14), SHORT),
+    ((VLAN, ARP, 0, 17), SHORT),
+    ((VLAN, ARP, 0, 18), NOT_IPV4),
+    ((SERVICE, IPV4, 0x45, 18), SHORT),
+    ((SERVICE, IPV4, 0x45, 37), SHORT),
+    ((SERVICE, IPV4, 0x45, 38), COUNTS),
+    ((VLAN, IPV4, 0x45, 38), COUNTS),
+    // So does a second tag.
+    ((VLAN_VLAN, ARP, 0, 18), SHORT),
+    ((VLAN_VLAN, ARP, 0, 21), SHORT),
+    ((VLAN_VLAN, ARP, 0, 22), NOT_IPV4),
+    ((SERVICE_VLAN, IPV4, 0x45, 22), SHORT),
+    ((SERVICE_VLAN, IPV4, 0x45, 41), SHORT),
+    ((SERVICE_VLAN, IPV4, 0x45, 42), COUNTS),
+    ((VLAN_VLAN, IPV4, 0x45, 42), COUNTS),
+    ((VLAN_SERVICE, IPV4, 0x45, 42), COUNTS),
+    // A third tag counts as a type of its own.
+    ((THREE_TAGS, IPV4, 0x45, 22), NOT_IPV4),
+    ((THREE_TAGS, IPV4, 0x45, 46), NOT_IPV4),
+    // Version and header length.
+    ((NO_TAG, IPV4, 0x44, 34), BAD_HEADER),
+    ((NO_TAG, IPV4, 0x65, 34), BAD_HEADER),
+    ((VLAN, IPV4, 0x35, 38), BAD_HEADER),
+    ((SERVICE_VLAN, IPV4, 0x40, 42), BAD_HEADER),
+    ((NO_TAG, IPV4, 0x46, 38), COUNTS),
+    ((NO_TAG, IPV4, 0x4f, 34), COUNTS),
+    ((NO_TAG, IPV6, 0x60, 54), NOT_IPV4),
+];
 
 #[test]
 fn tells_a_record_or_why_there_is_none(rt: HostRuntime) -> Result<(), Fail> {
-    let alloc = rt.alloc();
-    let counts = [0, 0, 0];
-    let not_ipv4 = [1, 0, 0];
-    let short = [0, 1, 0];
-    let bad_header = [0, 0, 1];
-    for (frame, want) in [
-        // The type ends with byte 13, and the header 20 bytes later.
-        (layout(NO_TAG, IPV4, 0x45, 13), short),
-        (layout(NO_TAG, ARP, 0, 13), short),
-        (layout(NO_TAG, ARP, 0, 14), not_ipv4),
-        (layout(NO_TAG, IPV4, 0x45, 14), short),
-        (layout(NO_TAG, IPV4, 0x44, 33), short),
-        (layout(NO_TAG, IPV4, 0x45, 34), counts),
-        // A tag moves both by 4 bytes.
-        (layout(VLAN, IPV4, 0x45, 14), short),
-        (layout(VLAN, ARP, 0, 17), short),
-        (layout(VLAN, ARP, 0, 18), not_ipv4),
-        (layout(SERVICE, IPV4, 0x45, 18), short),
-        (layout(SERVICE, IPV4, 0x45, 37), short),
-        (layout(SERVICE, IPV4, 0x45, 38), counts),
-        (layout(VLAN, IPV4, 0x45, 38), counts),
-        // So does a second tag.
-        (layout(VLAN_VLAN, ARP, 0, 18), short),
-        (layout(VLAN_VLAN, ARP, 0, 21), short),
-        (layout(VLAN_VLAN, ARP, 0, 22), not_ipv4),
-        (layout(SERVICE_VLAN, IPV4, 0x45, 22), short),
-        (layout(SERVICE_VLAN, IPV4, 0x45, 41), short),
-        (layout(SERVICE_VLAN, IPV4, 0x45, 42), counts),
-        (layout(VLAN_VLAN, IPV4, 0x45, 42), counts),
-        (layout(VLAN_SERVICE, IPV4, 0x45, 42), counts),
-        // A third tag counts as a type of its own.
-        (layout(THREE_TAGS, IPV4, 0x45, 22), not_ipv4),
-        (layout(THREE_TAGS, IPV4, 0x45, 46), not_ipv4),
-        // Version and header length.
-        (layout(NO_TAG, IPV4, 0x44, 34), bad_header),
-        (layout(NO_TAG, IPV4, 0x65, 34), bad_header),
-        (layout(VLAN, IPV4, 0x35, 38), bad_header),
-        (layout(SERVICE_VLAN, IPV4, 0x40, 42), bad_header),
-        (layout(NO_TAG, IPV4, 0x46, 38), counts),
-        (layout(NO_TAG, IPV4, 0x4f, 34), counts),
-        (layout(NO_TAG, IPV6, 0x60, 54), not_ipv4),
-    ] {
-        let read = read(alloc, &[frame], Weigh::Bytes)?.ok_or("refused")?;
-        assert_eq!(rt; read.skipped, want, "{frame:?}");
-        assert_eq!(rt; read.records == 1, want == counts, "{frame:?}");
-    }
+    assert_eq!(rt; first_wrong_telling(rt.alloc(), &TELLINGS)?, None);
     Ok(())
 }
+
+fn first_wrong_telling(alloc: Global, cases: &[Telling]) -> Result<Option<usize>, Fail> {
+    for (place, case) in cases.iter().enumerate() {
+        if !is_told(alloc, *case)? {
+            return Ok(Some(place));
+        }
+    }
+    Ok(None)
+}
+
+fn is_told(alloc: Global, (frame, want): Telling) -> Result<bool, Fail> {
+    let read = read(alloc, &[frame], 100, Weigh::Bytes)?.ok_or("refused")?;
+    Ok(read.skipped == want && (read.records == 1) == (want == COUNTS))
+}
+
+// A length on the wire, and the weight by bytes.
+type Weighing = (u32, u32);
+
+const WEIGHINGS: [Weighing; 5] = [(0, 34), (33, 34), (34, 34), (35, 35), (u32::MAX, u32::MAX)];
 
 #[test]
 fn weighs_by_the_greater_length_or_by_one(rt: HostRuntime) -> Result<(), Fail> {
-    let alloc = rt.alloc();
-    // The length on the wire, and the weight by bytes.
-    for (original, weight) in [(0, 34), (33, 34), (34, 34), (35, 35), (u32::MAX, u32::MAX)] {
-        let mut frame = layout(NO_TAG, IPV4, 0x45, 34);
-        frame.original = original;
-        let by_bytes = read(alloc, &[frame], Weigh::Bytes)?.ok_or("refused")?;
-        assert_eq!(rt; by_bytes.first, Record::new(SRC, DST, weight));
-        let by_packets = read(alloc, &[frame], Weigh::Packets)?.ok_or("refused")?;
-        assert_eq!(rt; by_packets.first, Record::new(SRC, DST, 1));
-    }
+    assert_eq!(rt; first_wrong_weight(rt.alloc(), &WEIGHINGS)?, None);
     Ok(())
 }
+
+fn first_wrong_weight(alloc: Global, cases: &[Weighing]) -> Result<Option<usize>, Fail> {
+    for (place, (original, weight)) in cases.iter().enumerate() {
+        if !weighs(alloc, *original, Weigh::Bytes, *weight)?
+            || !weighs(alloc, *original, Weigh::Packets, 1)?
+        {
+            return Ok(Some(place));
+        }
+    }
+    Ok(None)
+}
+
+// Whether a frame of this length on the wire has this weight.
+fn weighs(alloc: Global, original: u32, weigh: Weigh, weight: u32) -> Result<bool, Fail> {
+    let read = read(alloc, &[PLAIN], original, weigh)?.ok_or("refused")?;
+    Ok(read.first == Record::new(SRC, DST, weight))
+}
+
+const FRAMES: [FrameLayout; 8] = [
+    (NO_TAG, IPV4, 0x45, 34),
+    (VLAN, IPV4, 0x45, 38),
+    (SERVICE_VLAN, IPV4, 0x45, 42),
+    (NO_TAG, ARP, 0, 42),
+    (NO_TAG, IPV6, 0x60, 54),
+    (THREE_TAGS, IPV4, 0x45, 46),
+    (NO_TAG, IPV4, 0x45, 33),
+    (NO_TAG, IPV4, 0x44, 34),
+];
 
 #[test]
 fn reads_the_records_of_a_capture(rt: HostRuntime) -> Result<(), Fail> {
-    let alloc = rt.alloc();
-    let frames = [
-        layout(NO_TAG, IPV4, 0x45, 34),
-        layout(VLAN, IPV4, 0x45, 38),
-        layout(SERVICE_VLAN, IPV4, 0x45, 42),
-        layout(NO_TAG, ARP, 0, 42),
-        layout(NO_TAG, IPV6, 0x60, 54),
-        layout(THREE_TAGS, IPV4, 0x45, 46),
-        layout(NO_TAG, IPV4, 0x45, 33),
-        layout(NO_TAG, IPV4, 0x44, 34),
-    ];
-    let read = read(alloc, &frames, Weigh::Bytes)?.ok_or("refused")?;
-    assert_eq!(rt; read.first, Record::new(SRC, DST, 100));
-    assert_eq!(rt; read.records, 3);
-    assert_eq!(rt; read.skipped, [3, 1, 1]);
-    assert_eq!(rt; read.frames, 8);
+    assert!(rt; three_records_are_read(rt.alloc())?);
     Ok(())
 }
+
+fn three_records_are_read(alloc: Global) -> Result<bool, Fail> {
+    let read = read(alloc, &FRAMES, 100, Weigh::Bytes)?.ok_or("refused")?;
+    Ok(
+        read.first == Record::new(SRC, DST, 100)
+            && read.records == 3
+            && read.skipped == [3, 1, 1]
+            && read.frames == 8,
+    )
+}
+
+// Why a capture of one frame is refused, of which this many bytes stand, and of whose calls these fail.
+fn refusal_of(
+    alloc: Global,
+    length: usize,
+    fails: &[u64],
+) -> Result<Option<ReadRefusal>, AllocError> {
+    let mut bytes = capture_of(alloc, &[PLAIN], 100)?;
+    bytes.truncate(length);
+    let mut source = MemorySource::new(bytes, Vec::from_slice(alloc, fails)?, 30);
+    Ok(read_records(alloc, &mut source, Weigh::Bytes).err())
+}
+
+const CUT_FRAME: ReadRefusal = ReadRefusal::Capture(CaptureFault {
+    kind: FaultKind::CutFrame,
+    place: 24,
+});
 
 #[test]
 fn refuses_what_the_reader_refuses(rt: HostRuntime) -> Result<(), Fail> {
-    let alloc = rt.alloc();
-    let mut bytes = capture_of(alloc, &[layout(NO_TAG, IPV4, 0x45, 34)])?;
-    let mut source = MemorySource::new(bytes.to_vec(alloc)?, Vec::from_slice(alloc, &[2])?, 30);
-    assert_eq!(rt;
-        read_records(alloc, &mut source, Weigh::Bytes).err(),
-        Some(ReadRefusal::ReadFault)
-    );
-    bytes.truncate(73);
-    let mut source = MemorySource::new(bytes, Vec::new(alloc), 30);
-    let fault = CaptureFault {
-        kind: FaultKind::CutFrame,
-        place: 24,
-    };
-    assert_eq!(rt;
-        read_records(alloc, &mut source, Weigh::Bytes).err(),
-        Some(ReadRefusal::Capture(fault))
-    );
+    assert!(rt; are_refused(rt.alloc())?);
     Ok(())
 }
 
+fn are_refused(alloc: Global) -> Result<bool, AllocError> {
+    Ok(
+        refusal_of(alloc, 74, &[2])? == Some(ReadRefusal::ReadFault)
+            && refusal_of(alloc, 73, &[])? == Some(CUT_FRAME),
+    )
+}
+
+// Why a frame is skipped, and the text of it.
+type Told = (Skip, &'static str);
+
+const SKIPS: [Told; 3] = [
+    (Skip::NotIpv4, "not IPv4"),
+    (Skip::Short, "short"),
+    (Skip::BadHeader, "bad header"),
+];
+
 #[test]
 fn texts(rt: HostRuntime) -> Result<(), Fail> {
-    let alloc = rt.alloc();
-    for (skip, text) in [
-        (Skip::NotIpv4, "not IPv4"),
-        (Skip::Short, "short"),
-        (Skip::BadHeader, "bad header"),
-    ] {
-        assert_eq!(rt; format!(in alloc; "{skip}")?.as_str(), text);
-    }
+    assert_eq!(rt; first_wrong_text(rt.alloc(), &SKIPS)?, None);
     Ok(())
+}
+
+fn first_wrong_text(alloc: Global, cases: &[Told]) -> Result<Option<usize>, Fail> {
+    for (place, (skip, text)) in cases.iter().enumerate() {
+        if !has_text(alloc, skip, text)? {
+            return Ok(Some(place));
+        }
+    }
+    Ok(None)
+}
+
+fn has_text(alloc: Global, skip: &Skip, text: &str) -> Result<bool, Fail> {
+    let told = format!(in alloc; "{skip}")?;
+    Ok(told.as_str() == text)
 }

@@ -8,7 +8,6 @@ use super::prefix_of_texts;
 use conditioned_bounds::{Intervals, LineIndex, bound, closest, kept_pairs};
 use prefix_lattice::{Node, Prefix, Prefixes, Record, prefixes_are_ordered};
 use std::alloc::{AllocError, Global};
-use std::process::Abort;
 use std::test::Fail;
 
 /// The traffic of one packet, whose weight is known to be from `low` to `high`.
@@ -58,76 +57,130 @@ fn parse_all(alloc: Global, texts: &[Texts]) -> Result<Prefixes, Fail> {
     Ok(prefixes)
 }
 
+/// Five lines.
+const LINES: [Texts; 5] = [
+    ("10.1.1.0/24", "20.0.0.0/8"),
+    ("10.0.0.0/8", "0.0.0.0/0"),
+    ("11.0.0.0/8", "20.0.0.0/8"),
+    ("10.1.0.0/16", "20.0.0.0/8"),
+    ("10.2.0.0/16", "20.0.0.0/8"),
+];
+
+/// A prefix, and the two closest lines under it.
+type Closest = (Texts, [Texts; 2]);
+
+const CLOSEST: [Closest; 2] = [
+    (
+        ("10.0.0.0/8", "0.0.0.0/0"),
+        [("10.1.0.0/16", "20.0.0.0/8"), ("10.2.0.0/16", "20.0.0.0/8")],
+    ),
+    (
+        ROOT,
+        [("10.0.0.0/8", "0.0.0.0/0"), ("11.0.0.0/8", "20.0.0.0/8")],
+    ),
+];
+
 #[test]
 fn closest_lines(rt: HostRuntime) -> Result<(), Fail> {
-    let alloc = rt.alloc();
-    let reported = parse_all(
-        alloc,
-        &[
-            ("10.1.1.0/24", "20.0.0.0/8"),
-            ("10.0.0.0/8", "0.0.0.0/0"),
-            ("11.0.0.0/8", "20.0.0.0/8"),
-            ("10.1.0.0/16", "20.0.0.0/8"),
-            ("10.2.0.0/16", "20.0.0.0/8"),
-        ],
-    )?;
-    for (text, want) in [
-        (
-            ("10.0.0.0/8", "0.0.0.0/0"),
-            [("10.1.0.0/16", "20.0.0.0/8"), ("10.2.0.0/16", "20.0.0.0/8")],
-        ),
-        (
-            ROOT,
-            [("10.0.0.0/8", "0.0.0.0/0"), ("11.0.0.0/8", "20.0.0.0/8")],
-        ),
-    ] {
-        let lines = closest(alloc, &parse(text)?, &reported)?;
-        assert_eq!(rt; lines.as_slice(), parse_all(alloc, &want)?.as_slice());
-    }
+    let lines = parse_all(rt.alloc(), &LINES)?;
+    assert_eq!(rt; first_other_closest(rt.alloc(), &lines, &CLOSEST)?, None);
     Ok(())
 }
+
+/// The place of the first prefix under which other lines are closest.
+fn first_other_closest(
+    alloc: Global,
+    lines: &Prefixes,
+    cases: &[Closest],
+) -> Result<Option<usize>, Fail> {
+    for (place, (text, want)) in cases.iter().enumerate() {
+        let prefix = parse(*text)?;
+        if !are_closest(alloc, &prefix, lines, &parse_all(alloc, want)?)? {
+            return Ok(Some(place));
+        }
+    }
+    Ok(None)
+}
+
+fn are_closest(
+    alloc: Global,
+    prefix: &Prefix,
+    lines: &Prefixes,
+    want: &Prefixes,
+) -> Result<bool, AllocError> {
+    Ok(closest(alloc, prefix, lines)?.as_slice() == want.as_slice())
+}
+
+/// The meets of the kept pairs of the stairs.
+const MEETS: [Texts; 2] = [
+    ("10.1.0.0/16", "20.1.1.0/24"),
+    ("10.1.1.0/24", "20.1.0.0/16"),
+];
 
 #[test]
 fn meets_of_kept_pairs(rt: HostRuntime) -> Result<(), Fail> {
-    let alloc = rt.alloc();
-    let meets = kept_pairs(alloc, &parse_all(alloc, &STAIRS)?)?;
-    let want = [
-        ("10.1.0.0/16", "20.1.1.0/24"),
-        ("10.1.1.0/24", "20.1.0.0/16"),
-    ];
-    assert_eq!(rt; meets.as_slice(), parse_all(alloc, &want)?.as_slice());
+    assert!(rt; are_meets(rt.alloc(), &STAIRS, &MEETS)?);
     Ok(())
 }
 
+/// Whether these are the meets of the kept pairs of some members.
+fn are_meets(alloc: Global, members: &[Texts], meets: &[Texts]) -> Result<bool, Fail> {
+    let members = parse_all(alloc, members)?;
+    let want = parse_all(alloc, meets)?;
+    Ok(kept_pairs(alloc, &members)?.as_slice() == want.as_slice())
+}
+
+/// A bound, and how many closest lines and kept pairs it counts.
+type Bound = (i128, u64, u64);
+
+fn bound_of(alloc: Global, text: Texts, known: &OnePacket) -> Result<Bound, Fail> {
+    let prefix = parse(text)?;
+    let lines = parse_all(alloc, &STAIRS)?;
+    let parts = bound(alloc, &prefix, &lines, known)?;
+    Ok((parts.value, parts.closest, parts.pairs))
+}
+
+/// A packet of the stairs, whose weight is known to be from `low` to `high`.
+fn packet_of(low: u64, high: u64) -> Result<OnePacket, Fail> {
+    let packet = Record::new(0x0a01_0101, 0x1401_0101, 9).ok_or("a weight of 0")?;
+    one_packet(packet, low, high)
+}
+
+fn one_packet(packet: Record, low: u64, high: u64) -> Result<OnePacket, Fail> {
+    if low > high || high >= 1 << 60 {
+        return Err("no interval of a weight".into());
+    }
+    Ok(OnePacket { packet, low, high })
+}
+
+/// The low and the high of the packet's weight, a prefix, and its bound.
+type Bounding = (u64, u64, Texts, Bound);
+
+const BOUNDINGS: [Bounding; 4] = [
+    // 9 - 27 + 18.
+    (9, 9, ROOT, (0, 3, 2)),
+    // 11 - 21 + 22.
+    (7, 11, ROOT, (12, 3, 2)),
+    // 11 - 14 + 11.
+    (7, 11, ("10.0.0.0/8", "20.1.0.0/16"), (8, 2, 1)),
+    // No line is under it.
+    (7, 11, ("10.1.1.0/24", "20.1.1.0/24"), (11, 0, 0)),
+];
+
 #[test]
 fn bounds_of_prefixes(rt: HostRuntime) -> Result<(), Fail> {
-    let alloc = rt.alloc();
-    let packet = Record::new(0x0a01_0101, 0x1401_0101, 9).ok_or("a weight of 0")?;
-    let reported = parse_all(alloc, &STAIRS)?;
-    let exact = OnePacket {
-        packet,
-        low: 9,
-        high: 9,
-    };
-    let wide = OnePacket {
-        packet,
-        low: 7,
-        high: 11,
-    };
-    for (intervals, text, want) in [
-        // 9 - 27 + 18.
-        (&exact, ROOT, (0, 3, 2)),
-        // 11 - 21 + 22.
-        (&wide, ROOT, (12, 3, 2)),
-        // 11 - 14 + 11.
-        (&wide, ("10.0.0.0/8", "20.1.0.0/16"), (8, 2, 1)),
-        // No line is under it.
-        (&wide, ("10.1.1.0/24", "20.1.1.0/24"), (11, 0, 0)),
-    ] {
-        let parts = bound(alloc, &parse(text)?, &reported, intervals)?;
-        assert_eq!(rt; (parts.value, parts.closest, parts.pairs), want);
-    }
+    assert_eq!(rt; first_other_bound(rt.alloc(), &BOUNDINGS)?, None);
     Ok(())
+}
+
+/// The place of the first prefix whose bound is another.
+fn first_other_bound(alloc: Global, cases: &[Bounding]) -> Result<Option<usize>, Fail> {
+    for (place, (low, high, text, want)) in cases.iter().enumerate() {
+        if bound_of(alloc, *text, &packet_of(*low, *high)?)? != *want {
+            return Ok(Some(place));
+        }
+    }
+    Ok(None)
 }
 
 /// Whether a prefix is one of some lines.
@@ -141,50 +194,53 @@ fn is_among(lines: &Prefixes, prefix: &Prefix) -> bool
 }
 
 /// Pushes a prefix that neither has yet to both.
-fn push_new(
-    rt: &impl Abort,
-    pushed: &mut Prefixes,
-    index: &mut LineIndex,
-    prefix: &Prefix,
-) -> Result<(), AllocError>
+fn push_new(pushed: &mut Prefixes, index: &mut LineIndex, prefix: &Prefix) -> Result<(), Fail>
     requires { pushed.old ≡ index.old }
     ensures { OnOk result (pushed.new ≡ index.new) }
 {
     prefixes_are_ordered();
-    assert!(rt; pushed.len() <= 1000);
-    assert!(rt; !is_among(pushed, prefix));
+    if pushed.len() > 1000 || is_among(pushed, prefix) {
+        return Err("no new line".into());
+    }
     pushed.push(*prefix)?;
-    index.push(prefix)
+    index.push(prefix)?;
+    Ok(())
 }
 
 /// An index of these lines, pushed in their order.
-fn indexed(rt: &impl Abort, alloc: Global, lines: &Prefixes) -> Result<LineIndex, AllocError> {
+fn indexed(alloc: Global, lines: &Prefixes) -> Result<LineIndex, Fail> {
     let mut pushed = Prefixes::new(alloc);
     let mut index = LineIndex::new(alloc);
     for line in lines.as_slice() {
-        push_new(rt, &mut pushed, &mut index, line)?;
+        push_new(&mut pushed, &mut index, line)?;
     }
     Ok(index)
 }
 
 #[test]
 fn lines_of_an_index(rt: HostRuntime) -> Result<(), Fail> {
-    let alloc = rt.alloc();
-    let packet = Record::new(0x0a01_0101, 0x1401_0101, 9).ok_or("a weight of 0")?;
-    let exact = OnePacket {
-        packet,
-        low: 9,
-        high: 9,
-    };
-    let lines = parse_all(alloc, &STAIRS)?;
-    let index = indexed(&rt, alloc, &lines)?;
-    assert_eq!(rt; index.closest(&parse(ROOT)?)?.as_slice(), lines.as_slice());
-    let parts = index.bound(&parse(ROOT)?, &exact)?;
+    assert!(rt; are_lines_of_their_index(rt.alloc(), &STAIRS)?);
     // 9 - 27 + 18.
-    assert_eq!(rt; (parts.closest, parts.pairs, parts.value), (3, 2, 0));
-    let none = LineIndex::new(alloc).bound(&parse(ROOT)?, &exact)?;
-    assert_eq!(rt; (none.closest, none.pairs, none.value), (0, 0, 9));
+    assert!(rt; bound_by_index(rt.alloc(), &STAIRS)? == (0, 3, 2));
+    assert!(rt; bound_by_index(rt.alloc(), &[])? == (9, 0, 0));
     Ok(())
+}
+
+/// Whether the closest lines of the root are those of the index.
+fn are_lines_of_their_index(alloc: Global, texts: &[Texts]) -> Result<bool, Fail> {
+    let root = parse(ROOT)?;
+    let lines = parse_all(alloc, texts)?;
+    let index = indexed(alloc, &lines)?;
+    Ok(index.closest(&root)?.as_slice() == lines.as_slice())
+}
+
+/// The bound of the root by an index of lines.
+fn bound_by_index(alloc: Global, texts: &[Texts]) -> Result<Bound, Fail> {
+    let root = parse(ROOT)?;
+    let exact = packet_of(9, 9)?;
+    let index = indexed(alloc, &parse_all(alloc, texts)?)?;
+    let parts = index.bound(&root, &exact)?;
+    Ok((parts.value, parts.closest, parts.pairs))
 }
 
 /// The sides of a small world: a tree of six nets and the net above all. Of two of them, one begins the other, they are
@@ -233,45 +289,54 @@ fn some_lines(alloc: Global, state: &mut u64, rarity: u32) -> Result<Prefixes, F
 
 /// Whether the index gives for a prefix what the plain calls give.
 fn agree(
-    rt: &impl Abort,
     alloc: Global,
     lines: &Prefixes,
     index: &LineIndex,
     prefix: &Prefix,
     intervals: &OnePacket,
-) -> Result<(), Fail> {
+) -> Result<bool, AllocError> {
     let near = closest(alloc, prefix, lines)?;
-    assert_eq!(rt; index.closest(prefix)?.as_slice(), near.as_slice());
-    let parts = bound(alloc, prefix, lines, intervals)?;
-    assert_eq!(rt; index.bound(prefix, intervals)?, parts);
-    Ok(())
+    if index.closest(prefix)?.as_slice() != near.as_slice() {
+        return Ok(false);
+    }
+    Ok(index.bound(prefix, intervals)? == bound(alloc, prefix, lines, intervals)?)
 }
 
 #[test]
 fn an_index_gives_what_a_plain_list_gives(rt: HostRuntime) -> Result<(), Fail> {
-    let alloc = rt.alloc();
     let packet = Record::new(0x0a01_0305, 0x0a01_0307, 9).ok_or("a weight of 0")?;
-    let intervals = OnePacket {
-        packet,
-        low: 5,
-        high: 9,
-    };
+    let intervals = one_packet(packet, 5, 9)?;
+    assert!(rt; kept_in_sets(rt.alloc(), &intervals)? > 2000);
+    Ok(())
+}
+
+/// Compares indexes of 2,000 sets of lines with the plain lists. Returns how many pairs of the root are kept in all.
+fn kept_in_sets(alloc: Global, intervals: &OnePacket) -> Result<u64, Fail> {
     let mut state = 7;
     let mut kept = 0u64;
     for set in 0..2000u32 {
+        let other = of_world(next(&mut state) % 49)?;
         let lines = some_lines(alloc, &mut state, 2 + set % 8)?;
-        let index = indexed(&rt, alloc, &lines)?;
-        agree(&rt, alloc, &lines, &index, &parse(ROOT)?, &intervals)?;
-        agree(
-            &rt,
-            alloc,
-            &lines,
-            &index,
-            &of_world(next(&mut state) % 49)?,
-            &intervals,
-        )?;
-        kept = kept.wrapping_add(index.bound(&parse(ROOT)?, &intervals)?.pairs);
+        kept = kept.wrapping_add(kept_in_set(alloc, &lines, &other, intervals)?);
     }
-    assert!(rt; kept > 2000, "{kept} kept pairs");
-    Ok(())
+    Ok(kept)
+}
+
+/// Compares an index of some lines with the plain list, at the root and at one more prefix. Returns how many pairs of the
+/// root are kept.
+fn kept_in_set(
+    alloc: Global,
+    lines: &Prefixes,
+    other: &Prefix,
+    intervals: &OnePacket,
+) -> Result<u64, Fail> {
+    let root = parse(ROOT)?;
+    let index = indexed(alloc, lines)?;
+    if !agree(alloc, lines, &index, &root, intervals)? {
+        return Err("another answer at the root".into());
+    }
+    if !agree(alloc, lines, &index, other, intervals)? {
+        return Err("another answer at a prefix of the world".into());
+    }
+    Ok(index.bound(&root, intervals)?.pairs)
 }

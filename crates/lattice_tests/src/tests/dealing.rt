@@ -3,10 +3,9 @@
 ghost use Rattle.std.specs.Prelude.{◌≡◌, ◌%◌, bit_xor};
 ghost use Rattle.deal_rules.specs.{IsAsked};
 
-use deal_rules::{DealKind, Dealer, Dealers, deal};
+use deal_rules::{DealKind, Dealer, Dealers, Dealt, deal};
 use prefix_lattice::{Record, RecordList};
 use std::alloc::{AllocError, Global};
-use std::process::Abort;
 use std::test::Fail;
 
 // The source, the destination and the weight of each record.
@@ -15,47 +14,58 @@ const RECORDS: [(u32, u32, u32); 5] = [(7, 1, 1), (4, 4, 2), (7, 2, 3), (16, 255
 // A number of shards, and the expected shard of each record.
 type Row = (u32, [u32; 5]);
 
-// Deals the records to each number of shards of a table.
-fn check_rows(rt: &impl Abort, alloc: Global, dealer: &Dealer, rows: [Row; 4]) -> Result<(), Fail> {
+fn records_of(alloc: Global) -> Result<RecordList, Fail> {
     let mut list = RecordList::new(alloc);
     for (src, dst, weight) in RECORDS {
         list.push(Record::new(src, dst, weight).ok_or("a weight of 0")?)?;
     }
-    for (shards, numbers) in rows {
-        check_row(rt, alloc, dealer, &list, shards, numbers)?;
-    }
-    Ok(())
+    Ok(list)
 }
 
-// Deals the records, and compares the list of each shard, also in a copy turned into lists.
-fn check_row(
-    rt: &impl Abort,
+// The place of the first row by which the records are not dealt.
+fn first_wrong(alloc: Global, dealer: &Dealer, rows: &[Row]) -> Result<Option<usize>, Fail> {
+    let list = records_of(alloc)?;
+    for (place, (shards, numbers)) in rows.iter().enumerate() {
+        if !is_dealt(alloc, dealer, &list, *shards, *numbers)? {
+            return Ok(Some(place));
+        }
+    }
+    Ok(None)
+}
+
+fn is_dealt(
     alloc: Global,
     dealer: &Dealer,
     list: &RecordList,
     shards: u32,
     numbers: [u32; 5],
-) -> Result<(), Fail> {
-    assert!(rt; shards >= 1);
-    assert!(rt; shards <= 16);
-    assert!(rt; list.len() <= 16_777_216);
+) -> Result<bool, Fail> {
+    if shards < 1 || shards > 16 {
+        return Err("number of shards".into());
+    }
+    if list.len() > 16_777_216 {
+        return Err("too many records".into());
+    }
     let dealt = deal(alloc, list, dealer, shards)?;
-    assert_eq!(rt; dealt.shards(), shards);
+    Ok(dealt.shards() == shards && has_each_shard(alloc, &dealt, list, numbers)?)
+}
+
+// Whether each shard has its records, also in a copy turned into lists.
+fn has_each_shard(
+    alloc: Global,
+    dealt: &Dealt,
+    list: &RecordList,
+    numbers: [u32; 5],
+) -> Result<bool, AllocError> {
     let copies = dealt.copy(alloc)?.into_lists();
     for shard in 0..dealt.shards() {
+        let copy = copies[shard as usize].as_slice();
         let want = list_of(alloc, list, numbers, shard)?;
-        assert_eq!(rt;
-            dealt.list(shard).as_slice(),
-            want.as_slice(),
-            "{shard} of {shards}"
-        );
-        assert_eq!(rt;
-            copies[shard as usize].as_slice(),
-            want.as_slice(),
-            "{shard} of {shards}"
-        );
+        if dealt.list(shard).as_slice() != want.as_slice() || copy != want.as_slice() {
+            return Ok(false);
+        }
     }
-    Ok(())
+    Ok(true)
 }
 
 fn list_of(
@@ -102,51 +112,77 @@ fn to_the_first(place: u64, rec: Record, shards: u32) -> u32
     0
 }
 
+const IN_TURN: [Row; 4] = [
+    (1, [0, 0, 0, 0, 0]),
+    (2, [0, 1, 0, 1, 0]),
+    (3, [0, 1, 2, 0, 1]),
+    (16, [0, 1, 2, 3, 4]),
+];
+
+const BY_SOURCE: [Row; 4] = [
+    (1, [0, 0, 0, 0, 0]),
+    (2, [1, 0, 1, 0, 1]),
+    (3, [1, 1, 1, 1, 0]),
+    (16, [7, 4, 7, 0, 1]),
+];
+
+const BY_BOTH: [Row; 4] = [
+    (1, [0, 0, 0, 0, 0]),
+    (2, [0, 0, 1, 1, 1]),
+    (3, [0, 0, 2, 2, 0]),
+    (16, [6, 0, 5, 15, 1]),
+];
+
+const TO_THE_FIRST: [Row; 4] = [
+    (1, [0, 0, 0, 0, 0]),
+    (2, [0, 0, 0, 0, 0]),
+    (3, [0, 0, 0, 0, 0]),
+    (16, [0, 0, 0, 0, 0]),
+];
+
+fn dealers_of(alloc: Global) -> Result<Dealers, AllocError> {
+    let round = Box::new(alloc, by_place)?;
+    let source = Box::new(alloc, by_source)?;
+    let free = Box::new(alloc, by_both)?;
+    Ok(Dealers {
+        round: Dealer::new(DealKind::RoundRobin, round),
+        source: Dealer::new(DealKind::BySource, source),
+        free: Dealer::new(DealKind::Free, free),
+    })
+}
+
+// The place of the first row by which the dealer of a kind does not deal.
+fn first_wrong_of(alloc: Global, kind: DealKind, rows: &[Row]) -> Result<Option<usize>, Fail> {
+    let dealers = dealers_of(alloc)?;
+    let dealer = dealers.of(kind);
+    if dealer.kind() != kind {
+        return Err("dealer of another kind".into());
+    }
+    first_wrong(alloc, dealer, rows)
+}
+
 #[test]
 fn deals_by_each_kind(rt: HostRuntime) -> Result<(), Fail> {
-    let alloc = rt.alloc();
-    let dealers = Dealers {
-        round: Dealer::new(DealKind::RoundRobin, Box::new(alloc, by_place)?),
-        source: Dealer::new(DealKind::BySource, Box::new(alloc, by_source)?),
-        free: Dealer::new(DealKind::Free, Box::new(alloc, by_both)?),
-    };
     assert_eq!(rt;
-        dealers.of(DealKind::RoundRobin).kind(),
-        DealKind::RoundRobin
+        first_wrong_of(rt.alloc(), DealKind::RoundRobin, &IN_TURN)?,
+        None
     );
-    let rows = [
-        (1, [0, 0, 0, 0, 0]),
-        (2, [0, 1, 0, 1, 0]),
-        (3, [0, 1, 2, 0, 1]),
-        (16, [0, 1, 2, 3, 4]),
-    ];
-    check_rows(&rt, alloc, dealers.of(DealKind::RoundRobin), rows)?;
-    assert_eq!(rt; dealers.of(DealKind::BySource).kind(), DealKind::BySource);
-    let rows = [
-        (1, [0, 0, 0, 0, 0]),
-        (2, [1, 0, 1, 0, 1]),
-        (3, [1, 1, 1, 1, 0]),
-        (16, [7, 4, 7, 0, 1]),
-    ];
-    check_rows(&rt, alloc, dealers.of(DealKind::BySource), rows)?;
-    assert_eq!(rt; dealers.of(DealKind::Free).kind(), DealKind::Free);
-    let rows = [
-        (1, [0, 0, 0, 0, 0]),
-        (2, [0, 0, 1, 1, 1]),
-        (3, [0, 0, 2, 2, 0]),
-        (16, [6, 0, 5, 15, 1]),
-    ];
-    check_rows(&rt, alloc, dealers.of(DealKind::Free), rows)
+    assert_eq!(rt;
+        first_wrong_of(rt.alloc(), DealKind::BySource, &BY_SOURCE)?,
+        None
+    );
+    assert_eq!(rt; first_wrong_of(rt.alloc(), DealKind::Free, &BY_BOTH)?, None);
+    Ok(())
 }
 
 #[test]
 fn deals_all_to_one_shard(rt: HostRuntime) -> Result<(), Fail> {
-    let dealer = Dealer::new(DealKind::Free, Box::new(rt.alloc(), to_the_first)?);
-    let rows = [
-        (1, [0, 0, 0, 0, 0]),
-        (2, [0, 0, 0, 0, 0]),
-        (3, [0, 0, 0, 0, 0]),
-        (16, [0, 0, 0, 0, 0]),
-    ];
-    check_rows(&rt, rt.alloc(), &dealer, rows)
+    assert_eq!(rt; first_wrong_of_one(rt.alloc(), &TO_THE_FIRST)?, None);
+    Ok(())
+}
+
+// The place of the first row by which the dealer that uses only the first shard does not deal.
+fn first_wrong_of_one(alloc: Global, rows: &[Row]) -> Result<Option<usize>, Fail> {
+    let dealer = Dealer::new(DealKind::Free, Box::new(alloc, to_the_first)?);
+    first_wrong(alloc, &dealer, rows)
 }

@@ -13,6 +13,7 @@ use std::process::Abort;
 use std::sync::Wait;
 use std::test::Fail;
 use std::thread::Threads;
+use test_runs::Ended;
 use traffic_maker::make_bytes;
 
 // Two slots for one shard at capacity 2 take fewer bytes than this.
@@ -47,21 +48,52 @@ const MOST_CALLS: u64 = 1000;
 // How many ways there are in which a crash may leave a disk in memory.
 const CRASHES: u8 = 4;
 
-// Which call of a run fails: of the source, of the sink or of the disk; or the disk's calls from one on.
+// Which call of a run fails: of the source, of the sink or of the disk; and from which on those of the disk do.
 #[derive(Clone, Copy)]
-enum Failing {
-    Nothing,
-    Source(u64),
-    Sink(u64),
-    Disk(u64),
-    DiskFrom(u64),
+struct Failing {
+    source: Option<u64>,
+    sink: Option<u64>,
+    disk: Option<u64>,
+    fuse: Option<u64>,
 }
+
+const NOTHING: Failing = Failing {
+    source: None,
+    sink: None,
+    disk: None,
+    fuse: None,
+};
 
 #[derive(Drop)]
 struct Outcome {
-    status: Status,
-    text: Vec<u8>,
+    ended: Ended,
     disk: MemoryDisk,
+}
+
+// The calls that fail.
+fn listed(alloc: Global, call: Option<u64>) -> Result<Vec<u64>, AllocError> {
+    let mut calls = Vec::new(alloc);
+    if let Some(call) = call {
+        calls.push(call)?;
+    }
+    Ok(calls)
+}
+
+// A source of a made capture of eight frames.
+fn source_of(alloc: Global, failing: Failing) -> Result<MemorySource, AllocError> {
+    let fails = listed(alloc, failing.source)?;
+    match make_bytes(alloc, 7, 8) {
+        Ok(capture) => Ok(MemorySource::new(capture, fails, 64)),
+        Err(_) => Err(AllocError),
+    }
+}
+
+// A disk with these bytes.
+fn disk_of(alloc: Global, bytes: &[u8], failing: Failing) -> Result<MemoryDisk, AllocError> {
+    let held = Vec::from_slice(alloc, bytes)?;
+    let room = ROOM.max(held.len());
+    let fails = listed(alloc, failing.disk)?;
+    MemoryDisk::with_room(alloc, room, 1_048_576, held, failing.fuse, fails)
 }
 
 // Runs over a made capture of eight frames, with a store of these bytes.
@@ -73,26 +105,22 @@ fn run_once<R: Threads + Wait + Sync>(
     store: &[u8],
     failing: Failing,
 ) -> Result<Outcome, AllocError> {
-    let mut of_source = Vec::new(alloc);
-    let mut of_sink = Vec::new(alloc);
-    let mut of_disk = Vec::new(alloc);
-    let mut fuse = None;
-    match failing {
-        Failing::Nothing => {}
-        Failing::Source(call) => of_source.push(call)?,
-        Failing::Sink(call) => of_sink.push(call)?,
-        Failing::Disk(call) => of_disk.push(call)?,
-        Failing::DiskFrom(call) => fuse = Some(call),
-    }
-    let Ok(capture) = make_bytes(alloc, 7, 8) else {
-        return Err(AllocError);
-    };
-    let held = Vec::from_slice(alloc, store)?;
-    let room = ROOM.max(held.len());
-    let mut disk = MemoryDisk::with_room(alloc, room, 1_048_576, held, fuse, of_disk)?;
-    let mut source = MemorySource::new(capture, of_source, 64);
+    let mut disk = disk_of(alloc, store, failing)?;
+    let ended = run_on_disk(rt, alloc, dealers, words, &mut disk, failing)?;
+    Ok(Outcome { ended, disk })
+}
+
+fn run_on_disk<R: Threads + Wait + Sync>(
+    rt: &R,
+    alloc: Global,
+    dealers: &Dealers,
+    words: &[&str],
+    disk: &mut MemoryDisk,
+    failing: Failing,
+) -> Result<Ended, AllocError> {
+    let mut source = source_of(alloc, failing)?;
     let mut text = MemorySource::new(Vec::new(alloc), Vec::new(alloc), 64);
-    let mut sink = MemorySink::with_room(alloc, 4096, of_sink)?;
+    let mut sink = MemorySink::with_room(alloc, 4096, listed(alloc, failing.sink)?)?;
     let status = run(
         rt,
         alloc,
@@ -100,12 +128,25 @@ fn run_once<R: Threads + Wait + Sync>(
         &mut source,
         &mut text,
         &mut sink,
-        &mut disk,
+        disk,
         &OpenGate,
         dealers,
     );
     let text = Vec::from_slice(alloc, sink.taken())?;
-    Ok(Outcome { status, text, disk })
+    Ok(Ended { status, text })
+}
+
+// Runs on what a crash after another run left.
+fn run_after<R: Threads + Wait + Sync>(
+    rt: &R,
+    alloc: Global,
+    dealers: &Dealers,
+    broken: &Outcome,
+    choice: u8,
+    failing: Failing,
+) -> Result<Outcome, AllocError> {
+    let store = broken.disk.crash(alloc, choice)?;
+    run_once(rt, alloc, dealers, &REPORT, &store, failing)
 }
 
 // The bytes of a store that was just formatted.
@@ -114,7 +155,7 @@ fn formatted<R: Threads + Wait + Sync>(
     alloc: Global,
     dealers: &Dealers,
 ) -> Result<Vec<u8>, AllocError> {
-    let made = run_once(rt, alloc, dealers, &FORMAT, &[], Failing::Nothing)?;
+    let made = run_once(rt, alloc, dealers, &FORMAT, &[], NOTHING)?;
     made.disk.crash(alloc, 0)
 }
 
@@ -125,16 +166,21 @@ fn filled<R: Threads + Wait + Sync>(
     dealers: &Dealers,
 ) -> Result<Vec<u8>, AllocError> {
     let store = formatted(rt, alloc, dealers)?;
-    let made = run_once(rt, alloc, dealers, &REPORT, &store, Failing::Nothing)?;
+    let made = run_once(rt, alloc, dealers, &REPORT, &store, NOTHING)?;
     made.disk.crash(alloc, 0)
+}
+
+// What is wrong with the text of a session.
+fn fault_in(alloc: Global, text: &[u8]) -> Option<SessionFault> {
+    read_session(alloc, text).err()
 }
 
 // Whether whole lines begin a session, and are not all of one.
 fn begins_a_session(alloc: Global, text: &[u8]) -> bool {
-    match read_session(alloc, text) {
-        Err(SessionFault::Text(TextFault::MissingEnd(_))) => true,
-        _ => false,
-    }
+    matches!(
+        fault_in(alloc, text),
+        Some(SessionFault::Text(TextFault::MissingEnd(_)))
+    )
 }
 
 // The position in the last line that begins with this word, 0 where there is none.
@@ -186,17 +232,7 @@ pub(crate) fn a_source_fails<R: Abort + Threads + Wait + Sync>(
     alloc: Global,
     dealers: &Dealers,
 ) -> Result<(), Fail> {
-    let store = filled(rt, alloc, dealers)?;
-    for call in 0..MOST_CALLS {
-        let broken = run_once(rt, alloc, dealers, &REPORT, &store, Failing::Source(call))?;
-        if broken.status == Status::Done {
-            return Ok(());
-        }
-        assert_eq!(rt; broken.status, Status::ReadFault);
-        assert!(rt; broken.text.is_empty());
-    }
-    assert!(rt; false, "no run ended well");
-    Ok(())
+    each_call_fails(rt, alloc, dealers, Stream::Source)
 }
 
 // Each call of the sink that fails leaves the beginning of a session, and a store that opens at what was saved.
@@ -205,17 +241,7 @@ pub(crate) fn a_sink_fails<R: Abort + Threads + Wait + Sync>(
     alloc: Global,
     dealers: &Dealers,
 ) -> Result<(), Fail> {
-    let store = filled(rt, alloc, dealers)?;
-    for call in 0..MOST_CALLS {
-        let broken = run_once(rt, alloc, dealers, &REPORT, &store, Failing::Sink(call))?;
-        if broken.status == Status::Done {
-            return Ok(());
-        }
-        assert_eq!(rt; broken.status, Status::WriteFault);
-        goes_on(rt, alloc, dealers, &broken)?;
-    }
-    assert!(rt; false, "no run ended well");
-    Ok(())
+    each_call_fails(rt, alloc, dealers, Stream::Sink)
 }
 
 // So does each call of the disk that fails.
@@ -224,17 +250,81 @@ pub(crate) fn a_disk_fails<R: Abort + Threads + Wait + Sync>(
     alloc: Global,
     dealers: &Dealers,
 ) -> Result<(), Fail> {
+    each_call_fails(rt, alloc, dealers, Stream::Disk)
+}
+
+#[derive(Clone, Copy)]
+enum Stream {
+    Source,
+    Sink,
+    Disk,
+}
+
+fn each_call_fails<R: Abort + Threads + Wait + Sync>(
+    rt: &R,
+    alloc: Global,
+    dealers: &Dealers,
+    stream: Stream,
+) -> Result<(), Fail> {
     let store = filled(rt, alloc, dealers)?;
     for call in 0..MOST_CALLS {
-        let broken = run_once(rt, alloc, dealers, &REPORT, &store, Failing::Disk(call))?;
-        if broken.status == Status::Done {
+        let (failing, fault) = failing_at(stream, call);
+        if ends_well(rt, alloc, dealers, &store, failing, fault)? {
             return Ok(());
         }
-        assert_eq!(rt; broken.status, Status::DiskFault);
-        goes_on(rt, alloc, dealers, &broken)?;
     }
     assert!(rt; false, "no run ended well");
     Ok(())
+}
+
+// One failing call, and what a run ends in that makes it.
+fn failing_at(stream: Stream, call: u64) -> (Failing, Status) {
+    let call = Some(call);
+    match stream {
+        Stream::Source => (
+            Failing {
+                source: call,
+                ..NOTHING
+            },
+            Status::ReadFault,
+        ),
+        Stream::Sink => (
+            Failing {
+                sink: call,
+                ..NOTHING
+            },
+            Status::WriteFault,
+        ),
+        Stream::Disk => (
+            Failing {
+                disk: call,
+                ..NOTHING
+            },
+            Status::DiskFault,
+        ),
+    }
+}
+
+// Whether a run ends well. If not, it has written nothing where the source failed, and else another goes on from it.
+fn ends_well<R: Abort + Threads + Wait + Sync>(
+    rt: &R,
+    alloc: Global,
+    dealers: &Dealers,
+    store: &[u8],
+    failing: Failing,
+    fault: Status,
+) -> Result<bool, Fail> {
+    let broken = run_once(rt, alloc, dealers, &REPORT, store, failing)?;
+    if broken.ended.status == Status::Done {
+        return Ok(true);
+    }
+    assert_eq!(rt; broken.ended.status, fault);
+    if failing.source.is_some() {
+        assert!(rt; broken.ended.text.is_empty());
+    } else {
+        goes_on(rt, alloc, dealers, &broken)?;
+    }
+    Ok(false)
 }
 
 // What a broken run wrote begins a session, and after each crash the next run goes on from what it saved, or from later.
@@ -244,42 +334,85 @@ fn goes_on<R: Abort + Threads + Wait + Sync>(
     dealers: &Dealers,
     broken: &Outcome,
 ) -> Result<(), Fail> {
-    assert!(rt; begins_a_session(alloc, &broken.text));
-    let saved = last_position(&broken.text, b"saved ");
+    assert!(rt; begins_a_session(alloc, &broken.ended.text));
+    let saved = last_position(&broken.ended.text, b"saved ");
     for choice in 0..CRASHES {
-        let store = broken.disk.crash(alloc, choice)?;
-        let next = run_once(rt, alloc, dealers, &REPORT, &store, Failing::Nothing)?;
-        assert_eq!(rt; next.status, Status::Done);
-        assert!(rt; last_position(&next.text, b"opened ") >= saved);
+        let next = run_after(rt, alloc, dealers, broken, choice, NOTHING)?;
+        assert_eq!(rt; next.ended.status, Status::Done);
+        assert!(rt; last_position(&next.ended.text, b"opened ") >= saved);
     }
     Ok(())
 }
 
 // The disk stops at a call, what the crash leaves is opened by a second run, which is stopped at the same call of its own,
 // and what that crash leaves by a third. It begins no earlier than what the first two saved, and its last report is that
-// of a run without a store. The calls are those from one on, as many as these or up to one that no run makes.
+// of a run without a store. The calls are seven from one on, or up to one that no run makes: so many are made.
 pub(crate) fn the_disk_stops_twice<R: Abort + Threads + Wait + Sync>(
     rt: &R,
     alloc: Global,
     dealers: &Dealers,
     from: u64,
-    count: u64,
-) -> Result<u64, Fail> {
+    made: u64,
+) -> Result<(), Fail> {
     let store = formatted(rt, alloc, dealers)?;
-    let plain = run_once(rt, alloc, dealers, &WITHOUT_A_STORE, &[], Failing::Nothing)?;
-    assert_eq!(rt; plain.status, Status::Done);
-    let report = last_report(alloc, &plain.text)?;
+    let report = plain_report(rt, alloc, dealers)?;
+    let stopped = count_stops(rt, alloc, dealers, &store, &report, from)?;
+    assert_eq!(rt; stopped, made);
+    Ok(())
+}
+
+// How many of seven calls are made.
+fn count_stops<R: Abort + Threads + Wait + Sync>(
+    rt: &R,
+    alloc: Global,
+    dealers: &Dealers,
+    store: &[u8],
+    report: &[u8],
+    from: u64,
+) -> Result<u64, Fail> {
     let mut stopped: u64 = 0;
-    for call in from..from.saturating_add(count) {
-        let first = run_once(rt, alloc, dealers, &REPORT, &store, Failing::DiskFrom(call))?;
-        if first.status == Status::Done {
+    for call in from..from.saturating_add(7) {
+        if !stops(rt, alloc, dealers, store, call, report)? {
             return Ok(stopped);
         }
-        assert_eq!(rt; first.status, Status::DiskFault);
-        stops_again(rt, alloc, dealers, &first, call, &report)?;
         stopped = call.saturating_sub(from).saturating_add(1);
     }
     Ok(stopped)
+}
+
+// The last report of a run without a store.
+fn plain_report<R: Abort + Threads + Wait + Sync>(
+    rt: &R,
+    alloc: Global,
+    dealers: &Dealers,
+) -> Result<Vec<u8>, Fail> {
+    let plain = run_once(rt, alloc, dealers, &WITHOUT_A_STORE, &[], NOTHING)?;
+    assert_eq!(rt; plain.ended.status, Status::Done);
+    Ok(last_report(alloc, &plain.ended.text)?)
+}
+
+// Whether a run makes such a call of the disk. If it does, the runs after it are compared.
+fn stops<R: Abort + Threads + Wait + Sync>(
+    rt: &R,
+    alloc: Global,
+    dealers: &Dealers,
+    store: &[u8],
+    call: u64,
+    report: &[u8],
+) -> Result<bool, Fail> {
+    let failing = Failing {
+        fuse: Some(call),
+        ..NOTHING
+    };
+    let first = run_once(rt, alloc, dealers, &REPORT, store, failing)?;
+    if first.ended.status == Status::Done {
+        return Ok(false);
+    }
+    assert_eq!(rt; first.ended.status, Status::DiskFault);
+    for choice in 0..CRASHES {
+        stops_again(rt, alloc, dealers, &first, choice, failing, report)?;
+    }
+    Ok(true)
 }
 
 fn stops_again<R: Abort + Threads + Wait + Sync>(
@@ -287,23 +420,32 @@ fn stops_again<R: Abort + Threads + Wait + Sync>(
     alloc: Global,
     dealers: &Dealers,
     first: &Outcome,
-    call: u64,
+    choice: u8,
+    failing: Failing,
     report: &[u8],
 ) -> Result<(), Fail> {
-    for choice in 0..CRASHES {
-        let store = first.disk.crash(alloc, choice)?;
-        let second = run_once(rt, alloc, dealers, &REPORT, &store, Failing::DiskFrom(call))?;
-        let saved = last_position(&first.text, b"saved ").max(last_position(
-            &second.text,
-            b"saved ",
-        ));
-        for again in 0..CRASHES {
-            let store = second.disk.crash(alloc, again)?;
-            let third = run_once(rt, alloc, dealers, &REPORT, &store, Failing::Nothing)?;
-            assert_eq!(rt; third.status, Status::Done);
-            assert!(rt; last_position(&third.text, b"opened ") >= saved);
-            assert_eq!(rt; last_report(alloc, &third.text)?.as_slice(), report);
-        }
+    let second = run_after(rt, alloc, dealers, first, choice, failing)?;
+    let saved = last_position(&first.ended.text, b"saved ").max(last_position(
+        &second.ended.text,
+        b"saved ",
+    ));
+    for again in 0..CRASHES {
+        let third = run_after(rt, alloc, dealers, &second, again, NOTHING)?;
+        reports_as(rt, alloc, &third.ended, saved, report)?;
     }
+    Ok(())
+}
+
+// A session begins no earlier than at this position, and its last report is this one.
+fn reports_as(
+    rt: &impl Abort,
+    alloc: Global,
+    ended: &Ended,
+    saved: u64,
+    report: &[u8],
+) -> Result<(), Fail> {
+    assert_eq!(rt; ended.status, Status::Done);
+    assert!(rt; last_position(&ended.text, b"opened ") >= saved);
+    assert_eq!(rt; last_report(alloc, &ended.text)?.as_slice(), report);
     Ok(())
 }

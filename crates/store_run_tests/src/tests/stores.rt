@@ -18,32 +18,44 @@ fn disk_of(alloc: Global, bytes: &[u8], fails: &[u64]) -> Result<MemoryDisk, All
     disk_with(alloc, bytes, None, fails)
 }
 
+const TWO_ROUNDS: [&str; 6] = [
+    "report",
+    "--store=s",
+    "--shards=1",
+    "--rounds=2",
+    "--workers=1",
+    "--callers=1",
+];
+
 // Each round is saved: a store that three sessions of two rounds have used has the sequence 9.
 pub(crate) fn saves_each_round<R: Abort + Threads + Wait + Sync>(
     rt: &R,
     alloc: Global,
     dealers: &Dealers,
 ) -> Result<(), Fail> {
-    let words = [
-        "report",
-        "--store=s",
-        "--shards=1",
-        "--rounds=2",
-        "--workers=1",
-        "--callers=1",
-    ];
     let mut disk = disk_of(alloc, &[], &[])?;
     run_on(rt, alloc, dealers, &FORMAT, &[], &mut disk)?;
     for _ in 0..3 {
-        let ended = run_on(rt, alloc, dealers, &words, &[ONE, ONE], &mut disk)?;
+        let ended = run_on(rt, alloc, dealers, &TWO_ROUNDS, &[ONE, ONE], &mut disk)?;
         assert_eq!(rt; ended.status, Status::Done);
-        let lines = ended.text.split(|byte| *byte == b'\n');
-        assert_eq!(rt; lines.filter(|line| line.starts_with(b"saved ")).count(), 3);
+        assert_eq!(rt; saves_in(&ended.text), 3);
     }
+    let slot = [0, 0, 0, 0, 0, 0, 3, 188, 0, 0, 0, 0, 0, 0, 0, 9];
+    assert_eq!(rt; slot_on(rt, &mut disk), slot);
+    Ok(())
+}
+
+// How many saves a session tells of.
+fn saves_in(text: &[u8]) -> usize {
+    let lines = text.split(|byte| *byte == b'\n');
+    lines.filter(|line| line.starts_with(b"saved ")).count()
+}
+
+// The first bytes of a store's first slot.
+fn slot_on(rt: &impl Abort, disk: &mut MemoryDisk) -> [u8; 16] {
     let mut slot = [0; 16];
     assert_eq!(rt; disk.read_at(64, &mut slot), Ok(16));
-    assert_eq!(rt; slot, [0, 0, 0, 0, 0, 0, 3, 188, 0, 0, 0, 0, 0, 0, 0, 9]);
-    Ok(())
+    slot
 }
 
 // The first bytes of a store.
@@ -56,13 +68,24 @@ pub(crate) fn formats<R: Abort + Threads + Wait + Sync>(
     let mut disk = disk_of(alloc, &[], &[])?;
     let ended = run_on(rt, alloc, dealers, &words, &[], &mut disk)?;
     assert_eq!(rt; ended.status, Status::Done);
+    let header = [0, 0, 0x48, 0x48, 0x48, 0x53, 1, 1, 0, 2, 0, 0];
+    begins_with(rt, &front_on(rt, &mut disk), &header);
+    Ok(())
+}
+
+// The bytes of a disk that holds as many.
+fn front_on(rt: &impl Abort, disk: &mut MemoryDisk) -> [u8; 64] {
     let mut front = [1; 64];
     assert_eq!(rt; disk.len(), Ok(64));
     assert_eq!(rt; disk.read_at(0, &mut front), Ok(64));
-    let expected = [0, 0, 0x48, 0x48, 0x48, 0x53, 1, 1, 0, 2, 0, 0];
-    assert!(rt; front.starts_with(&expected));
-    assert!(rt; front[12..].iter().all(|byte| *byte == 0));
-    Ok(())
+    front
+}
+
+// The bytes are these, and after them only 0.
+fn begins_with(rt: &impl Abort, bytes: &[u8], front: &[u8]) {
+    assert!(rt; bytes.starts_with(front));
+    assert!(rt; front.len() <= bytes.len());
+    assert!(rt; bytes[front.len()..].iter().all(|byte| *byte == 0));
 }
 
 // Stores that aren't opened.
@@ -71,34 +94,74 @@ pub(crate) fn refuses_stores<R: Abort + Threads + Wait + Sync>(
     alloc: Global,
     dealers: &Dealers,
 ) -> Result<(), Fail> {
-    for bytes in [[0; 64].as_slice(), &[0; 63]] {
-        let mut disk = disk_of(alloc, bytes, &[])?;
-        let ended = run_on(rt, alloc, dealers, &REPORT, &[ONE], &mut disk)?;
-        assert_eq!(rt; ended.status, Status::NotFormatted);
-        assert!(rt; ended.text.is_empty());
-    }
-    let asked = StoreSettings {
-        shards: 1,
-        capacity: 512,
-        weigh: Weigh::Bytes,
-        deal: DealKind::RoundRobin,
-    };
-    let narrow = ["format", "--store=s", "--shards=1", "--capacity=2"];
+    refuses_bytes(rt, alloc, dealers, &[0; 64])?;
+    refuses_bytes(rt, alloc, dealers, &[0; 63])?;
     let mut disk = disk_of(alloc, &[], &[])?;
-    run_on(rt, alloc, dealers, &narrow, &[], &mut disk)?;
+    refuses_other_settings(rt, alloc, dealers, &mut disk)?;
+    refuses_a_changed_byte(rt, alloc, dealers, &mut disk)?;
+    refuses_another_capture(rt, alloc, dealers, &mut disk)
+}
+
+fn refuses_bytes<R: Abort + Threads + Wait + Sync>(
+    rt: &R,
+    alloc: Global,
+    dealers: &Dealers,
+    bytes: &[u8],
+) -> Result<(), Fail> {
+    let mut disk = disk_of(alloc, bytes, &[])?;
     let ended = run_on(rt, alloc, dealers, &REPORT, &[ONE], &mut disk)?;
+    assert_eq!(rt; ended.status, Status::NotFormatted);
+    assert!(rt; ended.text.is_empty());
+    Ok(())
+}
+
+const ASKED: StoreSettings = StoreSettings {
+    shards: 1,
+    capacity: 512,
+    weigh: Weigh::Bytes,
+    deal: DealKind::RoundRobin,
+};
+
+fn refuses_other_settings<R: Abort + Threads + Wait + Sync>(
+    rt: &R,
+    alloc: Global,
+    dealers: &Dealers,
+    disk: &mut MemoryDisk,
+) -> Result<(), Fail> {
+    let narrow = ["format", "--store=s", "--shards=1", "--capacity=2"];
+    run_on(rt, alloc, dealers, &narrow, &[], disk)?;
+    let ended = run_on(rt, alloc, dealers, &REPORT, &[ONE], disk)?;
     let stored = StoreSettings {
         capacity: 2,
-        ..asked
+        ..ASKED
     };
+    let asked = ASKED;
     assert_eq!(rt; ended.status, Status::OtherSettings { stored, asked });
-    run_on(rt, alloc, dealers, &FORMAT, &[], &mut disk)?;
+    Ok(())
+}
+
+fn refuses_a_changed_byte<R: Abort + Threads + Wait + Sync>(
+    rt: &R,
+    alloc: Global,
+    dealers: &Dealers,
+    disk: &mut MemoryDisk,
+) -> Result<(), Fail> {
+    run_on(rt, alloc, dealers, &FORMAT, &[], disk)?;
     assert_eq!(rt; disk.write_at(0, &[1]), Ok(()));
-    let ended = run_on(rt, alloc, dealers, &REPORT, &[ONE], &mut disk)?;
+    let ended = run_on(rt, alloc, dealers, &REPORT, &[ONE], disk)?;
     assert_eq!(rt; ended.status, Status::Damaged(0));
-    run_on(rt, alloc, dealers, &FORMAT, &[], &mut disk)?;
-    run_on(rt, alloc, dealers, &REPORT, &[ONE], &mut disk)?;
-    let ended = run_on(rt, alloc, dealers, &REPORT, &[ONE, ONE], &mut disk)?;
+    Ok(())
+}
+
+fn refuses_another_capture<R: Abort + Threads + Wait + Sync>(
+    rt: &R,
+    alloc: Global,
+    dealers: &Dealers,
+    disk: &mut MemoryDisk,
+) -> Result<(), Fail> {
+    run_on(rt, alloc, dealers, &FORMAT, &[], disk)?;
+    run_on(rt, alloc, dealers, &REPORT, &[ONE], disk)?;
+    let ended = run_on(rt, alloc, dealers, &REPORT, &[ONE, ONE], disk)?;
     assert!(rt; matches!(ended.status, Status::OtherCapture { .. }));
     assert!(rt; ended.text.is_empty());
     Ok(())
@@ -111,14 +174,35 @@ pub(crate) fn tells_the_faults_of_the_disk<R: Abort + Threads + Wait + Sync>(
     dealers: &Dealers,
 ) -> Result<(), Fail> {
     let mut disk = disk_of(alloc, &[], &[0])?;
-    for words in [FORMAT.as_slice(), &FORMAT, &REPORT] {
-        let ended = run_on(rt, alloc, dealers, words, &[ONE], &mut disk)?;
-        if words.len() == FORMAT.len() && ended.status == Status::DiskFault {
-            assert!(rt; ended.text.is_empty());
-        } else {
-            assert_eq!(rt; ended.status, Status::Done);
-        }
+    ends(rt, alloc, dealers, &FORMAT, true, &mut disk)?;
+    ends(rt, alloc, dealers, &FORMAT, true, &mut disk)?;
+    ends(rt, alloc, dealers, &REPORT, false, &mut disk)?;
+    fails_at_first(rt, alloc, dealers)
+}
+
+// A run ends well, or where it may fail with a fault of the disk.
+fn ends<R: Abort + Threads + Wait + Sync>(
+    rt: &R,
+    alloc: Global,
+    dealers: &Dealers,
+    words: &[&str],
+    may_fail: bool,
+    disk: &mut MemoryDisk,
+) -> Result<(), Fail> {
+    let ended = run_on(rt, alloc, dealers, words, &[ONE], disk)?;
+    if may_fail && ended.status == Status::DiskFault {
+        assert!(rt; ended.text.is_empty());
+    } else {
+        assert_eq!(rt; ended.status, Status::Done);
     }
+    Ok(())
+}
+
+fn fails_at_first<R: Abort + Threads + Wait + Sync>(
+    rt: &R,
+    alloc: Global,
+    dealers: &Dealers,
+) -> Result<(), Fail> {
     let mut disk = disk_of(alloc, &HEADER, &[0])?;
     let ended = run_on(rt, alloc, dealers, &REPORT, &[ONE], &mut disk)?;
     assert_eq!(rt; ended.status, Status::DiskFault);

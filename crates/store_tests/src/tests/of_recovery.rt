@@ -1,11 +1,13 @@
 //! The opening of a store.
 
-ghost use Rattle.std.specs.Prelude.{◌≡◌, ◌≤◌, ◌^◌, length, IfOk};
+ghost use Rattle.std.specs.Prelude.{◌≡◌, ◌≤◌, ◌^◌, length};
 ghost use Rattle.checkpoint.specs.{AreSettings, greatest_sequence};
 
-use super::worked_saves::{DIGEST, PACKET, by_place, cut_of, disk_of, records};
-use checkpoint::{Saver, StoreSettings, digest_of, encode, header_of, read_header};
-use deal_rules::{DealKind, Dealer, Dealt, deal};
+use super::worked_saves::{
+    DIGEST, ONE_SHARD, PACKET, SMALLEST, cut_of, dealt_of, disk_of, records,
+};
+use checkpoint::{StoreSettings, digest_of, encode, header_of};
+use deal_rules::Dealt;
 use prefix_lattice::Record;
 use recovery::{OpenFault, Opened, reopen};
 use slot_disk::{Disk, format};
@@ -28,33 +30,6 @@ const OTHER_DIGEST: [u8; 32] = [
 // The last sequence that is opened: 64 below the last.
 const LAST_OPENED: u64 = 0x3fff_ffff_ffff_ffc0;
 
-// The settings of one shard with tables of this capacity, by bytes and dealt in turn.
-fn settings_of(capacity: u16) -> Result<StoreSettings, Fail>
-    ensures { IfOk result AreSettings }
-{
-    let [high, low] = capacity.to_be_bytes();
-    let mut header = [0; 62];
-    header[..8].copy_from_slice(&[0x48, 0x48, 0x48, 0x53, 1, 1, high, low]);
-    match read_header(&header) {
-        Some(settings) => Ok(settings),
-        None => Err("no settings".into()),
-    }
-}
-
-// `count` records, dealt to one shard.
-fn dealt_of(alloc: Global, rec: Record, count: usize) -> Result<Dealt, Fail>
-    requires { count ≤ 2 ^ 24 }
-    ensures { IfOk result (λ dealt. length dealt ≡ 1) }
-{
-    let dealer = Dealer::new(DealKind::RoundRobin, Box::new(alloc, by_place)?);
-    let list = records(alloc, rec, count)?;
-    let dealt = deal(alloc, &list, &dealer, 1)?;
-    if dealt.shards() != 1 {
-        return Err("not one shard".into());
-    }
-    Ok(dealt)
-}
-
 // The body of a cut of `count` records, with tables of two entries.
 fn body_of(
     alloc: Global,
@@ -73,8 +48,9 @@ fn body_of(
 
 // A store with these gates and bodies, whose tables have two entries: the bodies are 1,556 bytes apart.
 fn store_of(alloc: Global, gates: [u8; 2], first: &[u8], second: &[u8]) -> Result<Vec<u8>, Fail> {
+    let header = header_of(&SMALLEST);
     let mut bytes = gates.to_vec(alloc)?;
-    bytes.extend_from_slice(&header_of(&settings_of(2)?))?;
+    bytes.extend_from_slice(&header)?;
     bytes.extend_from_slice(first)?;
     bytes.resize(64 + 1_556, 0)?;
     bytes.extend_from_slice(second)?;
@@ -82,30 +58,80 @@ fn store_of(alloc: Global, gates: [u8; 2], first: &[u8], second: &[u8]) -> Resul
 }
 
 // What the opening of a store gives: the sequence of the saver, and whether there is a base and its position.
-#[derive(Clone, Copy, Debug, PartialEq, Eq)]
+#[derive(Clone, Copy, PartialEq, Eq)]
 struct Found {
     sequence: u64,
     has_base: bool,
     position: Option<u64>,
 }
 
-// Opens a store of these bytes, with tables of this capacity, for `count` dealt records.
+// What the opening of a store gives whose base is at this position.
+fn found_at(sequence: u64, position: u64) -> Result<Found, OpenFault> {
+    Ok(Found {
+        sequence,
+        has_base: true,
+        position: Some(position),
+    })
+}
+
+// Opens a store of these bytes, of these settings of one shard, for `count` dealt records.
 fn open(
     alloc: Global,
-    bytes: Vec<u8>,
-    capacity: u16,
+    bytes: &[u8],
+    settings: &StoreSettings,
     rec: Record,
+    count: usize,
+) -> Result<Result<Found, OpenFault>, Fail>
+    requires settings { AreSettings settings.now }
+    requires shards { settings.now.shards ≡ 1 }
+    requires few { count ≤ 2 ^ 24 }
+{
+    open_in_part(alloc, bytes, &[], settings, rec, count)
+}
+
+// The same on a disk whose calls with these numbers fail.
+fn open_in_part(
+    alloc: Global,
+    bytes: &[u8],
+    fails: &[u64],
+    settings: &StoreSettings,
+    rec: Record,
+    count: usize,
+) -> Result<Result<Found, OpenFault>, Fail>
+    requires settings { AreSettings settings.now }
+    requires shards { settings.now.shards ≡ 1 }
+    requires few { count ≤ 2 ^ 24 }
+{
+    let dealt = dealt_of(alloc, rec, count)?;
+    let mut disk = disk_of(alloc, bytes.to_vec(alloc)?, None, fails)?;
+    Ok(found_on(alloc, &mut disk, settings, &dealt))
+}
+
+// A disk of any kind keeps what is known of a disk in memory out of the proof.
+fn found_on<D: Disk>(
+    alloc: Global,
+    disk: &mut D,
+    settings: &StoreSettings,
+    dealt: &Dealt,
+) -> Result<Found, OpenFault>
+    requires settings { AreSettings settings.now }
+    requires shards { length dealt.now ≡ settings.now.shards }
+{
+    found_of(reopen(alloc, disk, settings, dealt))
+}
+
+// Opens a store with these gates and bodies, whose tables have two entries, for `count` dealt packets.
+fn open_slots(
+    alloc: Global,
+    gates: [u8; 2],
+    first: &[u8],
+    second: &[u8],
     count: usize,
 ) -> Result<Result<Found, OpenFault>, Fail>
     requires { count ≤ 2 ^ 24 }
 {
-    let settings = settings_of(capacity)?;
-    let dealt = dealt_of(alloc, rec, count)?;
-    if settings.shards != 1 {
-        return Err("not one shard".into());
-    }
-    let mut disk = disk_of(alloc, bytes, None, &[])?;
-    Ok(found_of(reopen(alloc, &mut disk, &settings, &dealt)))
+    let bytes = store_of(alloc, gates, first, second)?;
+    open(alloc, &bytes, &SMALLEST, PACKET, count)
 }
 
 fn found_of(opened: Result<Opened, OpenFault>) -> Result<Found, OpenFault> {
@@ -117,192 +143,284 @@ fn found_of(opened: Result<Opened, OpenFault>) -> Result<Found, OpenFault> {
     })
 }
 
-// The digest of `count` dealt records under tables of two entries.
-fn small_digest(alloc: Global, rec: Record, count: usize) -> Result<[u8; 32], Fail>
+// The digest of `count` dealt packets under tables of two entries.
+fn small_digest(alloc: Global, count: usize) -> Result<[u8; 32], Fail>
     requires { count ≤ 2 ^ 24 }
 {
-    let settings = settings_of(2)?;
-    let dealt = dealt_of(alloc, rec, count)?;
-    if settings.shards != 1 {
-        return Err("not one shard".into());
-    }
-    Ok(digest_of(&dealt, &settings))
+    let dealt = dealt_of(alloc, PACKET, count)?;
+    Ok(digest_of(&dealt, &SMALLEST))
 }
 
-// Opens a new store, and saves a cut of the dealt packet.
-fn save_first<D: Disk>(alloc: Global, disk: &mut D) -> Result<Saver, Fail> {
-    let settings = settings_of(512)?;
+// Opens a new store, saves a cut of the dealt packet, and gives the digest of the saver.
+fn save_first<D: Disk>(
+    alloc: Global,
+    disk: &mut D,
+    settings: &StoreSettings,
+) -> Result<[u8; 32], Fail>
+    requires settings { AreSettings settings.now }
+    requires shards { settings.now.shards ≡ 1 }
+    requires capacity { settings.now.capacity ≡ 512 }
+{
     let dealt = dealt_of(alloc, PACKET, 1)?;
-    if settings.shards != 1 {
-        return Err("not one shard".into());
-    }
-    if settings.capacity != 512 {
-        return Err("another capacity".into());
-    }
-    let opened = reopen(alloc, disk, &settings, &dealt)?;
+    let opened = reopen(alloc, disk, settings, &dealt)?;
     if opened.base.is_some() {
         return Err("a base".into());
     }
     let cut = cut_of(alloc, records(alloc, PACKET, 1)?, 512)?;
-    Ok(opened.saver.save(alloc, disk, &cut)?)
+    let saver = opened.saver.save(alloc, disk, &cut)?;
+    Ok(*saver.digest())
 }
+
+// The bytes of a store that the dealt packet was saved into.
+fn saved_image(alloc: Global) -> Result<Vec<u8>, Fail> {
+    let mut disk = disk_of(alloc, Vec::new(alloc), None, &[])?;
+    format(&mut disk, &header_of(&ONE_SHARD))?;
+    if save_first(alloc, &mut disk, &ONE_SHARD)? != DIGEST {
+        return Err("another digest".into());
+    }
+    Ok(disk.crash(alloc, 0)?)
+}
+
+// Other records are another capture.
+const OTHER_CAPTURE: OpenFault = OpenFault::OtherCapture {
+    stored: DIGEST,
+    asked: OTHER_DIGEST,
+};
 
 #[test]
 fn a_store_is_opened_where_it_was_left(rt: HostRuntime) -> Result<(), Fail> {
-    let alloc = rt.alloc();
-    let mut disk = disk_of(alloc, Vec::new(alloc), None, &[])?;
-    format(&mut disk, &header_of(&settings_of(512)?))?;
-    let saver = save_first(alloc, &mut disk)?;
-    assert_eq!(rt; saver.digest(), &DIGEST);
-    let image = disk.crash(alloc, 0)?;
-    assert_eq!(rt; image.len(), 64 + 956);
-    let found = open(alloc, image.clone()?, 512, PACKET, 1)?;
-    let want = Found {
-        sequence: 1,
-        has_base: true,
-        position: Some(1),
-    };
-    assert_eq!(rt; found, Ok(want));
-    // Other records are another capture.
-    let found = open(alloc, image.clone()?, 512, OTHER_PACKET, 1)?;
-    let fault = OpenFault::OtherCapture {
-        stored: DIGEST,
-        asked: OTHER_DIGEST,
-    };
-    assert_eq!(rt; found, Err(fault));
+    assert!(rt; a_left_store_is_opened(rt.alloc())?);
     Ok(())
+}
+
+fn a_left_store_is_opened(alloc: Global) -> Result<bool, Fail> {
+    let image = saved_image(alloc)?;
+    Ok(
+        image.len() == 64 + 956
+            && open(alloc, &image, &ONE_SHARD, PACKET, 1)? == found_at(1, 1)
+            && open(alloc, &image, &ONE_SHARD, OTHER_PACKET, 1)? == Err(OTHER_CAPTURE),
+    )
 }
 
 #[test]
 fn other_bytes_are_refused(rt: HostRuntime) -> Result<(), Fail> {
-    let alloc = rt.alloc();
-    let short = open(alloc, vec![in alloc; 0; 63]?, 512, PACKET, 1)?;
-    assert_eq!(rt; short, Err(OpenFault::NotFormatted));
-    let zeros = open(alloc, vec![in alloc; 0; 64]?, 512, PACKET, 1)?;
-    assert_eq!(rt; zeros, Err(OpenFault::NotFormatted));
-    let small = open(alloc, store_of(alloc, [0, 0], &[], &[])?, 512, PACKET, 1)?;
-    let fault = OpenFault::OtherSettings {
-        stored: settings_of(2)?,
-        asked: settings_of(512)?,
-    };
-    assert_eq!(rt; small, Err(fault));
-    // A gate is open, and no body is under it.
-    let rows = [([1, 0], 0), ([0, 1], 1), ([1, 1], 0)];
-    for (gates, slot) in rows {
-        let bytes = store_of(alloc, gates, &[], &[])?;
-        let broken = open(alloc, bytes, 2, PACKET, 1)?;
-        assert_eq!(rt; broken, Err(OpenFault::Damaged(slot)));
-    }
+    assert!(rt; is_not_formatted(rt.alloc(), &[0; 63])?);
+    assert!(rt; is_not_formatted(rt.alloc(), &[0; 64])?);
     Ok(())
 }
+
+fn is_not_formatted(alloc: Global, bytes: &[u8]) -> Result<bool, Fail> {
+    Ok(open(alloc, bytes, &ONE_SHARD, PACKET, 1)? == Err(OpenFault::NotFormatted))
+}
+
+const OTHER_SETTINGS: OpenFault = OpenFault::OtherSettings {
+    stored: SMALLEST,
+    asked: ONE_SHARD,
+};
+
+#[test]
+fn other_settings_are_refused(rt: HostRuntime) -> Result<(), Fail> {
+    assert!(rt; a_smaller_store_is_refused(rt.alloc())?);
+    Ok(())
+}
+
+fn a_smaller_store_is_refused(alloc: Global) -> Result<bool, Fail> {
+    let bytes = store_of(alloc, [0, 0], &[], &[])?;
+    Ok(open(alloc, &bytes, &ONE_SHARD, PACKET, 1)? == Err(OTHER_SETTINGS))
+}
+
+// The gates of a store, and the slot that is damaged.
+type Gates = ([u8; 2], u8);
+
+const OPEN_GATES: [Gates; 3] = [([1, 0], 0), ([0, 1], 1), ([1, 1], 0)];
+
+// A gate is open, and no body is under it.
+#[test]
+fn open_gates_need_bodies(rt: HostRuntime) -> Result<(), Fail> {
+    assert_eq!(rt; first_wrong_gates(rt.alloc(), &OPEN_GATES)?, None);
+    Ok(())
+}
+
+fn first_wrong_gates(alloc: Global, cases: &[Gates]) -> Result<Option<usize>, Fail> {
+    for (place, (gates, slot)) in cases.iter().enumerate() {
+        if open_slots(alloc, *gates, &[], &[], 1)? != Err(OpenFault::Damaged(*slot)) {
+            return Ok(Some(place));
+        }
+    }
+    Ok(None)
+}
+
+// The sequences of a cut of one packet in slot 0 and of one of two in slot 1, and the position that is opened.
+type Newest = (u64, u64, u64);
+
+const NEWEST: [Newest; 3] = [(1, 2, 2), (2, 1, 1), (7, 7, 1)];
 
 #[test]
 fn the_newest_slot_is_opened(rt: HostRuntime) -> Result<(), Fail> {
-    let alloc = rt.alloc();
-    let digest = small_digest(alloc, PACKET, 2)?;
-    // The sequences of a cut of one packet in slot 0 and of one of two in slot 1, and the position that is opened.
-    let rows = [(1, 2, 2), (2, 1, 1), (7, 7, 1)];
-    for (first, second, position) in rows {
-        assert!(rt; first >= 1 && first <= 7);
-        assert!(rt; second >= 1 && second <= 7);
-        let one = body_of(alloc, first, &digest, PACKET, 1)?;
-        let two = body_of(alloc, second, &digest, PACKET, 2)?;
-        let found = open(alloc, store_of(alloc, [1, 1], &one, &two)?, 2, PACKET, 2)?;
-        let want = Found {
-            sequence: first.max(second),
-            has_base: true,
-            position: Some(position),
-        };
-        assert_eq!(rt; found, Ok(want));
-        // A closed gate counts for nothing, whatever is under it.
-        let found = open(alloc, store_of(alloc, [1, 255], &one, &two)?, 2, PACKET, 2)?;
-        let want = Found {
-            sequence: first,
-            has_base: true,
-            position: Some(1),
-        };
-        assert_eq!(rt; found, Ok(want));
-    }
+    let digest = small_digest(rt.alloc(), 2)?;
+    assert_eq!(rt; first_wrong_newest(rt.alloc(), &digest, &NEWEST)?, None);
     Ok(())
 }
 
+fn first_wrong_newest(
+    alloc: Global,
+    digest: &[u8; 32],
+    cases: &[Newest],
+) -> Result<Option<usize>, Fail> {
+    for (place, (first, second, position)) in cases.iter().enumerate() {
+        if !newest_is_opened(alloc, digest, *first, *second, *position)? {
+            return Ok(Some(place));
+        }
+    }
+    Ok(None)
+}
+
+fn newest_is_opened(
+    alloc: Global,
+    digest: &[u8; 32],
+    first: u64,
+    second: u64,
+    position: u64,
+) -> Result<bool, Fail> {
+    if first < 1 || first > 7 || second < 1 || second > 7 {
+        return Ok(false);
+    }
+    // A closed gate counts for nothing, whatever is under it.
+    Ok(
+        open_two(alloc, [1, 1], digest, first, second)? == found_at(first.max(second), position)
+            && open_two(alloc, [1, 255], digest, first, second)? == found_at(first, 1),
+    )
+}
+
+// Opens a store with these gates over saves of one packet and of two with these sequences.
+fn open_two(
+    alloc: Global,
+    gates: [u8; 2],
+    digest: &[u8; 32],
+    first: u64,
+    second: u64,
+) -> Result<Result<Found, OpenFault>, Fail>
+    requires first { 1 ≤ first }
+    requires first_limit { first ≤ greatest_sequence }
+    requires second { 1 ≤ second }
+    requires second_limit { second ≤ greatest_sequence }
+{
+    let one = body_of(alloc, first, digest, PACKET, 1)?;
+    let two = body_of(alloc, second, digest, PACKET, 2)?;
+    open_slots(alloc, gates, &one, &two, 2)
+}
+
+const LIGHTER: Record = Record {
+    weight: 99,
+    ..PACKET
+};
+
+// The sequence of a save, and the records that its cut counts.
+type SavedCut = (u64, Record, usize);
+
+// A sequence that is too late, a position past the end, and a total that is not the weight of the records.
+const DAMAGED_CUTS: [SavedCut; 3] = [
+    (LAST_OPENED + 1, PACKET, 1),
+    (3, PACKET, 2),
+    (3, LIGHTER, 1),
+];
+
 #[test]
 fn cuts_that_cannot_go_on_are_damaged(rt: HostRuntime) -> Result<(), Fail> {
-    let alloc = rt.alloc();
-    let digest = small_digest(alloc, PACKET, 1)?;
-    let last = body_of(alloc, LAST_OPENED, &digest, PACKET, 1)?;
-    let found = open(alloc, store_of(alloc, [1, 0], &last, &[])?, 2, PACKET, 1)?;
-    let want = Found {
-        sequence: LAST_OPENED,
-        has_base: true,
-        position: Some(1),
-    };
-    assert_eq!(rt; found, Ok(want));
-    let lighter = Record {
-        weight: 99,
-        ..PACKET
-    };
-    // A sequence that is too late, a position past the end, and a total that is not the weight of the records.
-    let late = body_of(alloc, LAST_OPENED + 1, &digest, PACKET, 1)?;
-    let past = body_of(alloc, 3, &digest, PACKET, 2)?;
-    let light = body_of(alloc, 3, &digest, lighter, 1)?;
-    let earlier = body_of(alloc, 2, &digest, PACKET, 1)?;
-    for body in [&late, &past, &light] {
-        let bytes = store_of(alloc, [1, 1], &earlier, body)?;
-        let found = open(alloc, bytes, 2, PACKET, 1)?;
-        assert_eq!(rt; found, Err(OpenFault::Damaged(1)));
-    }
-    // Only the newest slot is checked.
-    let bytes = store_of(alloc, [1, 1], &last, &past)?;
-    assert_eq!(rt; open(alloc, bytes, 2, PACKET, 1)?, Ok(want));
+    let digest = small_digest(rt.alloc(), 1)?;
+    assert_eq!(rt; first_undamaged(rt.alloc(), &digest, &DAMAGED_CUTS)?, None);
     Ok(())
+}
+
+fn first_undamaged(
+    alloc: Global,
+    digest: &[u8; 32],
+    cases: &[SavedCut],
+) -> Result<Option<usize>, Fail> {
+    for (place, (sequence, rec, count)) in cases.iter().enumerate() {
+        if !is_damaged(alloc, digest, *sequence, *rec, *count)? {
+            return Ok(Some(place));
+        }
+    }
+    Ok(None)
+}
+
+// Whether this cut in slot 1, after an earlier one in slot 0, is damaged.
+fn is_damaged(
+    alloc: Global,
+    digest: &[u8; 32],
+    sequence: u64,
+    rec: Record,
+    count: usize,
+) -> Result<bool, Fail> {
+    if sequence < 1 || sequence > LAST_OPENED + 1 || count > 2 {
+        return Ok(false);
+    }
+    let earlier = body_of(alloc, 2, digest, PACKET, 1)?;
+    let body = body_of(alloc, sequence, digest, rec, count)?;
+    Ok(open_slots(alloc, [1, 1], &earlier, &body, 1)? == Err(OpenFault::Damaged(1)))
+}
+
+#[test]
+fn the_last_sequence_is_opened(rt: HostRuntime) -> Result<(), Fail> {
+    let digest = small_digest(rt.alloc(), 1)?;
+    assert!(rt; a_last_sequence_is_opened(rt.alloc(), &digest)?);
+    Ok(())
+}
+
+fn a_last_sequence_is_opened(alloc: Global, digest: &[u8; 32]) -> Result<bool, Fail> {
+    let last = body_of(alloc, LAST_OPENED, digest, PACKET, 1)?;
+    let past = body_of(alloc, 3, digest, PACKET, 2)?;
+    // Only the newest slot is checked.
+    Ok(
+        open_slots(alloc, [1, 0], &last, &[], 1)? == found_at(LAST_OPENED, 1)
+            && open_slots(alloc, [1, 1], &last, &past, 1)? == found_at(LAST_OPENED, 1),
+    )
 }
 
 // A begun store takes two calls, and a body three.
 #[test]
 fn each_call_of_the_disk_may_fail(rt: HostRuntime) -> Result<(), Fail> {
-    let alloc = rt.alloc();
-    let settings = settings_of(2)?;
-    let dealt = dealt_of(alloc, PACKET, 1)?;
-    assert!(rt; settings.shards == 1);
-    let digest = small_digest(alloc, PACKET, 1)?;
-    let body = body_of(alloc, 1, &digest, PACKET, 1)?;
-    let bytes = store_of(alloc, [1, 0], &body, &[])?;
-    for call in 0..6 {
-        let mut disk = disk_of(alloc, bytes.clone()?, None, &[call])?;
-        let found = found_of(reopen(alloc, &mut disk, &settings, &dealt));
-        assert_eq!(rt;
-            found.err(),
-            (call < 5).then_some(OpenFault::DiskFault),
-            "at call {call}"
-        );
-    }
+    let bytes = saved_store(rt.alloc())?;
+    assert_eq!(rt; first_wrong_call(rt.alloc(), &bytes)?, None);
     Ok(())
+}
+
+// A store whose slot 0 holds a cut of the packet.
+fn saved_store(alloc: Global) -> Result<Vec<u8>, Fail> {
+    let digest = small_digest(alloc, 1)?;
+    let body = body_of(alloc, 1, &digest, PACKET, 1)?;
+    store_of(alloc, [1, 0], &body, &[])
+}
+
+// The first call whose fault shows where it should not, or does not show.
+fn first_wrong_call(alloc: Global, bytes: &[u8]) -> Result<Option<u64>, Fail> {
+    for call in 0..6 {
+        let found = open_in_part(alloc, bytes, &[call], &SMALLEST, PACKET, 1)?;
+        if found.err() != (call < 5).then_some(OpenFault::DiskFault) {
+            return Ok(Some(call));
+        }
+    }
+    Ok(None)
 }
 
 #[test]
 fn texts(rt: HostRuntime) -> Result<(), Fail> {
-    let alloc = rt.alloc();
-    let settings = settings_of(2)?;
+    assert!(rt; faults_are_told(rt.alloc())?);
+    Ok(())
+}
+
+fn faults_are_told(alloc: Global) -> Result<bool, Fail> {
     let text = format!(in alloc;
         "{}, {}, {}, {}, {}, {}",
         OpenFault::DiskFault,
         OpenFault::NotFormatted,
-        OpenFault::OtherSettings {
-            stored: settings,
-            asked: settings
-        },
+        OTHER_SETTINGS,
         OpenFault::Damaged(1),
-        OpenFault::OtherCapture {
-            stored: DIGEST,
-            asked: DIGEST
-        },
+        OTHER_CAPTURE,
         OpenFault::OutOfMemory
     )?;
-    assert_eq!(rt;
-        text.as_str(),
-        "disk fault, store not formatted, store has other settings, store damaged: slot 1, \
-         store is of another capture, out of memory"
-    );
-    Ok(())
+    let want = "disk fault, store not formatted, store has other settings, store damaged: slot 1, \
+                store is of another capture, out of memory";
+    Ok(text.as_str() == want)
 }

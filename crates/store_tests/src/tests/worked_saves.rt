@@ -4,10 +4,27 @@ ghost use Rattle.std.specs.Prelude.{◌≡◌, ◌≤◌, ◌%◌, ◌^◌, [], 
 ghost use Rattle.deal_rules.specs.{IsAsked};
 ghost use Rattle.shard_state.specs.{cut_positions};
 
+use checkpoint::StoreSettings;
+use deal_rules::{DealKind, Dealer, Dealt, deal};
+use frame_records::Weigh;
 use prefix_lattice::{Record, RecordList};
 use shard_state::{Cut, ShardState};
 use slot_disk::MemoryDisk;
 use std::alloc::{AllocError, Global};
+use std::test::Fail;
+
+pub(crate) const ONE_SHARD: StoreSettings = StoreSettings {
+    shards: 1,
+    capacity: 512,
+    weigh: Weigh::Bytes,
+    deal: DealKind::RoundRobin,
+};
+
+// The smallest settings: tables of two entries.
+pub(crate) const SMALLEST: StoreSettings = StoreSettings {
+    capacity: 2,
+    ..ONE_SHARD
+};
 
 // A packet of 100 bytes from 10.1.2.3 to 20.1.2.3.
 pub(crate) const PACKET: Record = Record {
@@ -23,7 +40,7 @@ pub(crate) const DIGEST: [u8; 32] = [
     0x7b, 0x7a, 0x07, 0xdf, 0xbf, 0x74, 0xa5, 0xeb, 0x2d, 0x99, 0x79, 0x32, 0x36, 0x26, 0x73, 0x91,
 ];
 
-pub(crate) fn by_place(place: u64, rec: Record, shards: u32) -> u32
+fn by_place(place: u64, rec: Record, shards: u32) -> u32
     requires { IsAsked place rec shards }
     ensures { result ≡ place % shards }
 {
@@ -39,6 +56,26 @@ pub(crate) fn records(alloc: Global, rec: Record, count: usize) -> Result<Record
         list.push(rec)?;
     }
     Ok(list)
+}
+
+// `count` records, dealt to one shard.
+pub(crate) fn dealt_of(alloc: Global, rec: Record, count: usize) -> Result<Dealt, Fail>
+    requires { count ≤ 2 ^ 24 }
+    ensures { IfOk result (λ dealt. length dealt ≡ 1) }
+{
+    let dealt = deal_in_turn(alloc, rec, count)?;
+    if dealt.shards() != 1 {
+        return Err("not one shard".into());
+    }
+    Ok(dealt)
+}
+
+fn deal_in_turn(alloc: Global, rec: Record, count: usize) -> Result<Dealt, AllocError>
+    requires { count ≤ 2 ^ 24 }
+{
+    let dealer = Dealer::new(DealKind::RoundRobin, Box::new(alloc, by_place)?);
+    let list = records(alloc, rec, count)?;
+    deal(alloc, &list, &dealer, 1)
 }
 
 // A cut of one shard that counted these records whole.
@@ -67,4 +104,26 @@ pub(crate) fn disk_of(
     let room = bytes.len().max(4_096);
     let fails = Vec::from_slice(alloc, fails)?;
     MemoryDisk::with_room(alloc, room, 1_048_576, bytes, fuse, fails)
+}
+
+// Whether a crash with this choice leaves these bytes.
+pub(crate) fn leaves(
+    alloc: Global,
+    disk: &MemoryDisk,
+    choice: u8,
+    want: &[u8],
+) -> Result<bool, AllocError> {
+    Ok(disk.crash(alloc, choice)?.as_slice() == want)
+}
+
+// A place in bytes, and what they go on with there.
+pub(crate) type Part = (usize, &'static [u8]);
+
+pub(crate) fn has_parts(bytes: &[u8], parts: &[Part]) -> bool {
+    for (place, part) in parts {
+        if *place > bytes.len() || !bytes[*place..].starts_with(part) {
+            return false;
+        }
+    }
+    true
 }

@@ -2,151 +2,189 @@
 
 ghost use Rattle.std.specs.Prelude.{◌≤◌};
 
-use super::{entry, next};
+use super::{has_entries, next, numbers_of, table_after};
 use rank_table::RankTable;
-use space_saving::{Flat, PlainTable, Summary};
+use space_saving::{Entry, Flat, PlainTable, Summary};
 use std::alloc::{AllocError, Global};
-use std::process::Abort;
 use std::test::Fail;
 
-/// Adds a weight of at most `weights` for one of `keys` keys to both tables.
-fn add_to_both(
-    rt: &impl Abort,
-    plain: &mut PlainTable,
-    table: &mut RankTable,
+/// Adds of weights up to `weights` for keys below `keys`, by random numbers.
+#[derive(Drop)]
+struct Adds {
     random: u64,
     keys: u64,
     weights: u64,
-) {
-    assert!(rt; keys >= 1);
-    assert!(rt; weights >= 1);
-    assert!(rt; weights < 1 << 32);
-    let key = (random >> 33) % keys;
-    let weight = 1 + ((random >> 24) % weights) as u32;
-    assert!(rt; plain.total() < 1 << 55);
-    plain.add(key, weight);
-    assert!(rt; table.total() < 1 << 55);
-    table.add(key, weight);
 }
 
-/// Compares all entries of both tables, in their order.
-fn compare(
-    rt: &impl Abort,
-    alloc: Global,
-    plain: &PlainTable,
-    table: &RankTable,
-) -> Result<(), AllocError> {
+/// The adds that a test begins with.
+fn adds_of(keys: u64, weights: u64) -> Adds {
+    Adds {
+        random: 7,
+        keys,
+        weights,
+    }
+}
+
+/// Makes the next add to both tables. Returns whether they can take it.
+fn add_to_both(plain: &mut PlainTable, table: &mut RankTable, adds: &mut Adds) -> bool {
+    let random = next(adds.random);
+    adds.random = random;
+    if adds.keys == 0 || adds.weights == 0 || adds.weights >= 1 << 32 {
+        return false;
+    }
+    let key = (random >> 33) % adds.keys;
+    let weight = 1 + ((random >> 24) % adds.weights) as u32;
+    if plain.total() >= 1 << 55 || table.total() >= 1 << 55 {
+        return false;
+    }
+    plain.add(key, weight);
+    table.add(key, weight);
+    true
+}
+
+/// Whether both tables have the same entries, in their order.
+fn are_equal(alloc: Global, plain: &PlainTable, table: &RankTable) -> Result<bool, AllocError> {
     let mut expected = Flat::with_room(alloc, plain.capacity())?;
     plain.copy_into(&mut expected);
     let mut flat = Flat::with_room(alloc, table.capacity())?;
     table.copy_into(&mut flat);
-    assert_eq!(rt;
-        (flat.len(), flat.total()),
-        (expected.len(), expected.total())
-    );
-    for place in 0..flat.len() {
-        assert!(rt; place < expected.len());
-        assert_eq!(rt; flat.entry(place), expected.entry(place), "place {place}");
-    }
-    Ok(())
+    Ok(are_equal_copies(&flat, &expected))
 }
 
-/// Compares both tables after each of 2,000 adds, and a restored one after each of 500 more.
+fn are_equal_copies(flat: &Flat, expected: &Flat) -> bool {
+    if flat.len() != expected.len() || flat.total() != expected.total() {
+        return false;
+    }
+    for place in 0..flat.len() {
+        if place >= expected.len() || flat.entry(place) != expected.entry(place) {
+            return false;
+        }
+    }
+    true
+}
+
+/// Whether both tables are equal after each of this many adds.
+fn follow(
+    alloc: Global,
+    plain: &mut PlainTable,
+    table: &mut RankTable,
+    adds: &mut Adds,
+    turns: u32,
+) -> Result<bool, AllocError> {
+    for _turn in 0..turns {
+        if !add_to_both(plain, table, adds) || !are_equal(alloc, plain, table)? {
+            return Ok(false);
+        }
+    }
+    Ok(true)
+}
+
+/// The table that is restored from a copy of this one.
+fn restored(alloc: Global, table: &RankTable) -> Result<RankTable, AllocError> {
+    let mut flat = Flat::with_room(alloc, table.capacity())?;
+    table.copy_into(&mut flat);
+    RankTable::restore(alloc, &flat)
+}
+
+/// Whether both tables are equal after each of 2,000 adds, and a restored one after each of 500 more.
 fn follow_the_plain_table(
-    rt: &impl Abort,
     alloc: Global,
     capacity: u32,
     keys: u64,
     weights: u64,
-) -> Result<(), AllocError>
+) -> Result<bool, AllocError>
     requires least { 2 ≤ capacity }
     requires most { capacity ≤ 4096 }
 {
+    let mut adds = adds_of(keys, weights);
     let mut plain = PlainTable::with_capacity(alloc, capacity)?;
     let mut table = RankTable::with_capacity(alloc, capacity)?;
-    let mut random = 7;
-    for _turn in 0..2000 {
-        random = next(random);
-        add_to_both(rt, &mut plain, &mut table, random, keys, weights);
-        compare(rt, alloc, &plain, &table)?;
+    if !follow(alloc, &mut plain, &mut table, &mut adds, 2000)? {
+        return Ok(false);
     }
-    let mut flat = Flat::with_room(alloc, table.capacity())?;
-    table.copy_into(&mut flat);
-    let mut again = RankTable::restore(alloc, &flat)?;
-    for _turn in 0..500 {
-        random = next(random);
-        add_to_both(rt, &mut plain, &mut again, random, keys, weights);
-        compare(rt, alloc, &plain, &again)?;
-    }
-    Ok(())
+    let mut again = restored(alloc, &table)?;
+    follow(alloc, &mut plain, &mut again, &mut adds, 500)
+}
+
+/// Whether tables of four capacities follow the plain table.
+fn follow_plain_tables(alloc: Global, weights: u64) -> Result<bool, AllocError> {
+    Ok(
+        follow_the_plain_table(alloc, 2, 8, weights)?
+            && follow_the_plain_table(alloc, 3, 8, weights)?
+            && follow_the_plain_table(alloc, 16, 40, weights)?
+            && follow_the_plain_table(alloc, 512, 1200, weights)?,
+    )
 }
 
 #[test]
 fn random_adds_follow_the_plain_table(rt: HostRuntime) -> Result<(), Fail> {
-    let alloc = rt.alloc();
     // Few weights make many ties; many make counts so far apart that they don't fit into a word.
     for weights in [2, 1500, u64::from(u32::MAX)] {
-        follow_the_plain_table(&rt, alloc, 2, 8, weights)?;
-        follow_the_plain_table(&rt, alloc, 3, 8, weights)?;
-        follow_the_plain_table(&rt, alloc, 16, 40, weights)?;
-        follow_the_plain_table(&rt, alloc, 512, 1200, weights)?;
+        assert!(rt;
+            follow_plain_tables(rt.alloc(), weights)?,
+            "weights up to {weights}"
+        );
     }
     Ok(())
 }
 
-/// Compares both tables after `adds` adds.
+/// Whether both tables are equal after this many adds.
 fn end_as_the_plain_table(
-    rt: &impl Abort,
     alloc: Global,
     capacity: u32,
-    adds: u32,
-    keys: u64,
-    weights: u64,
-) -> Result<(), AllocError>
+    turns: u32,
+    mut adds: Adds,
+) -> Result<bool, AllocError>
     requires least { 2 ≤ capacity }
     requires most { capacity ≤ 4096 }
 {
     let mut plain = PlainTable::with_capacity(alloc, capacity)?;
     let mut table = RankTable::with_capacity(alloc, capacity)?;
-    let mut random = 7;
-    for _turn in 0..adds {
-        random = next(random);
-        add_to_both(rt, &mut plain, &mut table, random, keys, weights);
+    for _turn in 0..turns {
+        if !add_to_both(&mut plain, &mut table, &mut adds) {
+            return Ok(false);
+        }
     }
-    compare(rt, alloc, &plain, &table)
+    are_equal(alloc, &plain, &table)
 }
 
 #[test]
 fn ranks_that_do_not_fit_are_never_wrong(rt: HostRuntime) -> Result<(), Fail> {
     let alloc = rt.alloc();
     // Counts as far apart as weights allow, in the largest table.
-    end_as_the_plain_table(&rt, alloc, 4096, 10_000, 9000, u64::from(u32::MAX))?;
+    let far = adds_of(9000, u64::from(u32::MAX));
+    assert!(rt; end_as_the_plain_table(alloc, 4096, 10_000, far)?);
     // More adds than times fit into a word.
-    end_as_the_plain_table(&rt, alloc, 2, (1 << 24) + 5000, 8, 9)?;
-    end_as_the_plain_table(&rt, alloc, 3, (1 << 24) + 5000, 5, 1)?;
+    assert!(rt; end_as_the_plain_table(alloc, 2, (1 << 24) + 5000, adds_of(8, 9))?);
+    assert!(rt; end_as_the_plain_table(alloc, 3, (1 << 24) + 5000, adds_of(5, 1))?);
     Ok(())
 }
 
 #[test]
 fn tables_answer(rt: HostRuntime) -> Result<(), Fail> {
-    let alloc = rt.alloc();
-    let mut table = RankTable::with_capacity(alloc, 2)?;
-    assert_eq!(rt;
-        (table.len(), table.full(), table.interval(7)),
-        (0, false, (0, 0))
-    );
-    table.add(1, 5);
-    table.add(2, 3);
-    assert_eq!(rt; table.interval(7), (0, 3));
-    table.add(3, 4);
-    assert_eq!(rt; table.interval(1), (5, 5));
-    assert_eq!(rt; table.interval(3), (4, 7));
-    assert_eq!(rt; table.interval(2), (0, 5));
-    assert_eq!(rt;
-        (table.len(), table.capacity(), table.total(), table.full()),
-        (2, 2, 12, true)
-    );
-    assert_eq!(rt; table.entry(0), entry(1, 5, 0));
-    assert_eq!(rt; table.entry(1), entry(3, 7, 3));
+    let empty: RankTable = table_after(rt.alloc(), 2, &[])?;
+    assert!(rt; empty.interval(7) == (0, 0) && numbers_of(&empty) == (0, 2, 0, false));
+    let two: RankTable = table_after(rt.alloc(), 2, &[(1, 5), (2, 3)])?;
+    assert!(rt; two.interval(7) == (0, 3));
+    let full: RankTable = table_after(rt.alloc(), 2, &[(1, 5), (2, 3), (3, 4)])?;
+    assert!(rt; is_full(&full));
     Ok(())
+}
+
+fn is_full(table: &RankTable) -> bool {
+    let last = Entry {
+        key: 3,
+        count: 7,
+        error: 3,
+    };
+    let first = Entry {
+        key: 1,
+        count: 5,
+        error: 0,
+    };
+    table.interval(1) == (5, 5)
+        && table.interval(3) == (4, 7)
+        && table.interval(2) == (0, 5)
+        && numbers_of(table) == (2, 2, 12, true)
+        && has_entries(table, &[first, last])
 }

@@ -1,9 +1,12 @@
 //! The arguments of the command line.
 
-use command_words::{Command, Opt, Settings, WordsKind, WordsRefusal, paths, read_words};
+use command_words::{
+    Command, Opt, PathTexts, Settings, WordsKind, WordsRefusal, paths, read_words,
+};
 use deal_rules::DealKind;
 use frame_records::Weigh;
 use prefix_lattice::{Prefix, PrefixFault, Side};
+use std::alloc::{AllocError, Global};
 use std::test::Fail;
 
 const DEFAULTS: Settings = Settings {
@@ -20,7 +23,9 @@ const DEFAULTS: Settings = Settings {
 };
 
 // Arguments joined by single spaces, and what is wrong with them.
-const BAD_WORDS: [(&str, WordsKind); 67] = [
+type BadWords = (&'static str, WordsKind);
+
+const BAD_WORDS: [BadWords; 67] = [
     ("", WordsKind::NoCommand),
     ("way", WordsKind::UnknownCommand),
     ("Report", WordsKind::UnknownCommand),
@@ -148,184 +153,250 @@ const BAD_WORDS: [(&str, WordsKind); 67] = [
 
 #[test]
 fn refuses_words(rt: HostRuntime) -> Result<(), Fail> {
-    let alloc = rt.alloc();
-    for (line, kind) in BAD_WORDS {
-        let words: Vec<&str> = line.split_whitespace().collect(alloc)?;
-        let refusal = WordsRefusal::Bad(kind);
-        assert_eq!(rt; read_words(alloc, words.as_slice()), Err(refusal), "{line}");
-        assert_eq!(rt;
-            paths(alloc, words.as_slice()).err(),
-            Some(refusal),
-            "{line}"
-        );
-    }
+    assert_eq!(rt; first_taken(rt.alloc(), &BAD_WORDS)?, None);
     Ok(())
 }
+
+// The place of the first arguments that are not refused as they should be. A test's table is a parameter of what goes
+// through it: a proof with the table in every fact takes far longer.
+fn first_taken(alloc: Global, cases: &[BadWords]) -> Result<Option<usize>, AllocError> {
+    for (place, (line, kind)) in cases.iter().enumerate() {
+        if !are_refused(alloc, line, WordsRefusal::Bad(*kind))? {
+            return Ok(Some(place));
+        }
+    }
+    Ok(None)
+}
+
+fn are_refused(alloc: Global, line: &str, refusal: WordsRefusal) -> Result<bool, AllocError> {
+    let words: Vec<&str> = line.split_whitespace().collect(alloc)?;
+    Ok(
+        read_words(alloc, words.as_slice()) == Err(refusal)
+            && paths(alloc, words.as_slice()).err() == Some(refusal),
+    )
+}
+
+// Arguments, what they ask for, and the capture, the text of reports and the store that they name.
+struct GoodWords {
+    line: &'static str,
+    command: Command,
+    capture: &'static str,
+    report: &'static str,
+    store: &'static str,
+}
+
+const LEAST: Settings = Settings {
+    capacity: 16,
+    phi: 125_000,
+    ..DEFAULTS
+};
+
+const ALL: Settings = Settings {
+    shards: 16,
+    capacity: 17,
+    phi: 117_648,
+    weigh: Weigh::Packets,
+    deal: DealKind::Free,
+    block: 1,
+    workers: 16,
+    callers: 8,
+    rounds: 32,
+    store: true,
+};
+
+const SMALL: Settings = Settings {
+    capacity: 2,
+    store: true,
+    ..DEFAULTS
+};
+
+const BY_PACKETS: Settings = Settings {
+    weigh: Weigh::Packets,
+    ..DEFAULTS
+};
+
+const BUSY: Settings = Settings {
+    shards: 16,
+    workers: 16,
+    ..DEFAULTS
+};
+
+const GOOD_WORDS: [GoodWords; 9] = [
+    GoodWords {
+        line: "report",
+        command: Command::Report(DEFAULTS),
+        capture: "-",
+        report: "",
+        store: "",
+    },
+    GoodWords {
+        line: "report --capture=a=b",
+        command: Command::Report(DEFAULTS),
+        capture: "a=b",
+        report: "",
+        store: "",
+    },
+    GoodWords {
+        line: "report --capacity 16 --phi 125000",
+        command: Command::Report(LEAST),
+        capture: "-",
+        report: "",
+        store: "",
+    },
+    GoodWords {
+        line: "report --phi=117648 --rounds 32 --deal free --capacity 17 --block 1 --shards=16 --store s --workers=16 --weigh packets --callers 8 --capture c",
+        command: Command::Report(ALL),
+        capture: "c",
+        report: "",
+        store: "s",
+    },
+    GoodWords {
+        line: "format --store=s --capacity 2",
+        command: Command::Format(SMALL),
+        capture: "",
+        report: "",
+        store: "s",
+    },
+    GoodWords {
+        line: "audit --report R",
+        command: Command::Audit(DEFAULTS),
+        capture: "-",
+        report: "R",
+        store: "",
+    },
+    GoodWords {
+        line: "audit --weigh packets --report=r --capture c",
+        command: Command::Audit(BY_PACKETS),
+        capture: "c",
+        report: "r",
+        store: "",
+    },
+    GoodWords {
+        line: "make 18446744073709551615 1000000",
+        command: Command::Make {
+            seed: 18_446_744_073_709_551_615,
+            frames: 1_000_000,
+        },
+        capture: "",
+        report: "",
+        store: "",
+    },
+    GoodWords {
+        line: "demo --shards=16 0 --workers 16 1",
+        command: Command::Demo {
+            seed: 0,
+            frames: 1,
+            settings: BUSY,
+        },
+        capture: "",
+        report: "",
+        store: "",
+    },
+];
 
 #[test]
 fn reads_words(rt: HostRuntime) -> Result<(), Fail> {
-    let alloc = rt.alloc();
-    let least = Settings {
-        capacity: 16,
-        phi: 125_000,
-        ..DEFAULTS
-    };
-    let all = Settings {
-        shards: 16,
-        capacity: 17,
-        phi: 117_648,
-        weigh: Weigh::Packets,
-        deal: DealKind::Free,
-        block: 1,
-        workers: 16,
-        callers: 8,
-        rounds: 32,
-        store: true,
-    };
-    let small = Settings {
-        capacity: 2,
-        store: true,
-        ..DEFAULTS
-    };
-    let by_packets = Settings {
-        weigh: Weigh::Packets,
-        ..DEFAULTS
-    };
-    let busy = Settings {
-        shards: 16,
-        workers: 16,
-        ..DEFAULTS
-    };
-    // The arguments, what they ask for, and the capture, the text of reports and the store that they name.
-    let cases = [
-        ("report", Command::Report(DEFAULTS), "-", "", ""),
-        (
-            "report --capture=a=b",
-            Command::Report(DEFAULTS),
-            "a=b",
-            "",
-            "",
-        ),
-        (
-            "report --capacity 16 --phi 125000",
-            Command::Report(least),
-            "-",
-            "",
-            "",
-        ),
-        (
-            "report --phi=117648 --rounds 32 --deal free --capacity 17 --block 1 --shards=16 --store s --workers=16 --weigh packets --callers 8 --capture c",
-            Command::Report(all),
-            "c",
-            "",
-            "s",
-        ),
-        (
-            "format --store=s --capacity 2",
-            Command::Format(small),
-            "",
-            "",
-            "s",
-        ),
-        ("audit --report R", Command::Audit(DEFAULTS), "-", "R", ""),
-        (
-            "audit --weigh packets --report=r --capture c",
-            Command::Audit(by_packets),
-            "c",
-            "r",
-            "",
-        ),
-        (
-            "make 18446744073709551615 1000000",
-            Command::Make {
-                seed: 18_446_744_073_709_551_615,
-                frames: 1_000_000,
-            },
-            "",
-            "",
-            "",
-        ),
-        (
-            "demo --shards=16 0 --workers 16 1",
-            Command::Demo {
-                seed: 0,
-                frames: 1,
-                settings: busy,
-            },
-            "",
-            "",
-            "",
-        ),
-    ];
-    for (line, command, capture, report, store) in cases {
-        let words: Vec<&str> = line.split_whitespace().collect(alloc)?;
-        assert_eq!(rt; read_words(alloc, words.as_slice()), Ok(command), "{line}");
-        let named = paths(alloc, words.as_slice())?;
-        assert_eq!(rt; named.capture.as_str(), capture, "{line}");
-        assert_eq!(rt; named.report.as_str(), report, "{line}");
-        assert_eq!(rt; named.store.as_str(), store, "{line}");
-    }
+    assert_eq!(rt; first_misread(rt.alloc(), &GOOD_WORDS)?, None);
     Ok(())
 }
+
+// The place of the first arguments that are not read as they should be.
+fn first_misread(alloc: Global, cases: &[GoodWords]) -> Result<Option<usize>, Fail> {
+    for (place, case) in cases.iter().enumerate() {
+        if !is_read(alloc, case)? {
+            return Ok(Some(place));
+        }
+    }
+    Ok(None)
+}
+
+fn is_read(alloc: Global, case: &GoodWords) -> Result<bool, Fail> {
+    let words: Vec<&str> = case.line.split_whitespace().collect(alloc)?;
+    Ok(
+        ask_for(alloc, words.as_slice(), case.command)
+            && names_these(&paths(alloc, words.as_slice())?, case),
+    )
+}
+
+fn ask_for(alloc: Global, words: &[&str], command: Command) -> bool {
+    read_words(alloc, words) == Ok(command)
+}
+
+fn names_these(named: &PathTexts, case: &GoodWords) -> bool {
+    named.capture.as_str() == case.capture
+        && named.report.as_str() == case.report
+        && named.store.as_str() == case.store
+}
+
+const WEIGH_BY_PACKETS: [&str; 5] = ["weigh", "10.1.0.0/16", "--weigh", "packets", "0.0.0.0/0"];
 
 #[test]
 fn reads_a_prefix(rt: HostRuntime) -> Result<(), Fail> {
-    let words = ["weigh", "10.1.0.0/16", "--weigh", "packets", "0.0.0.0/0"];
     let prefix = Prefix::parse(b"10.1.0.0/16", b"0.0.0.0/0")?;
-    let settings = Settings {
-        weigh: Weigh::Packets,
-        ..DEFAULTS
+    let command = Command::Weigh {
+        prefix,
+        settings: BY_PACKETS,
     };
-    assert_eq!(rt;
-        read_words(rt.alloc(), &words),
-        Ok(Command::Weigh { prefix, settings })
-    );
+    assert!(rt; ask_for(rt.alloc(), &WEIGH_BY_PACKETS, command));
     Ok(())
 }
 
+// Why arguments are refused, and how it is told.
+type Told = (WordsKind, &'static str);
+
+const TOLD: [Told; 16] = [
+    (WordsKind::NoCommand, "no command"),
+    (WordsKind::UnknownCommand, "unknown command"),
+    (WordsKind::Refused, "refused"),
+    (
+        WordsKind::BadPrefix(PrefixFault::BadLength(Side::Source)),
+        "prefix: source: bad length",
+    ),
+    (WordsKind::BadNumber(Opt::Seed), "SEED: no number"),
+    (
+        WordsKind::OutOfLimits(Opt::Frames),
+        "FRAMES: outside its limits",
+    ),
+    (WordsKind::BadChoice(Opt::Weigh), "weigh: no such choice"),
+    (WordsKind::BadNumber(Opt::Shards), "shards: no number"),
+    (
+        WordsKind::OutOfLimits(Opt::Capacity),
+        "capacity: outside its limits",
+    ),
+    (WordsKind::OutOfLimits(Opt::Phi), "phi: outside its limits"),
+    (WordsKind::BadChoice(Opt::Deal), "deal: no such choice"),
+    (
+        WordsKind::OutOfLimits(Opt::Block),
+        "block: outside its limits",
+    ),
+    (WordsKind::BadNumber(Opt::Workers), "workers: no number"),
+    (WordsKind::BadNumber(Opt::Callers), "callers: no number"),
+    (WordsKind::BadNumber(Opt::Rounds), "rounds: no number"),
+    (WordsKind::Bound, "phi times capacity is below 2000000"),
+];
+
 #[test]
 fn writes_refusals(rt: HostRuntime) -> Result<(), Fail> {
-    let alloc = rt.alloc();
-    let cases = [
-        (WordsKind::NoCommand, "no command"),
-        (WordsKind::UnknownCommand, "unknown command"),
-        (WordsKind::Refused, "refused"),
-        (
-            WordsKind::BadPrefix(PrefixFault::BadLength(Side::Source)),
-            "prefix: source: bad length",
-        ),
-        (WordsKind::BadNumber(Opt::Seed), "SEED: no number"),
-        (
-            WordsKind::OutOfLimits(Opt::Frames),
-            "FRAMES: outside its limits",
-        ),
-        (WordsKind::BadChoice(Opt::Weigh), "weigh: no such choice"),
-        (WordsKind::BadNumber(Opt::Shards), "shards: no number"),
-        (
-            WordsKind::OutOfLimits(Opt::Capacity),
-            "capacity: outside its limits",
-        ),
-        (WordsKind::OutOfLimits(Opt::Phi), "phi: outside its limits"),
-        (WordsKind::BadChoice(Opt::Deal), "deal: no such choice"),
-        (
-            WordsKind::OutOfLimits(Opt::Block),
-            "block: outside its limits",
-        ),
-        (WordsKind::BadNumber(Opt::Workers), "workers: no number"),
-        (WordsKind::BadNumber(Opt::Callers), "callers: no number"),
-        (WordsKind::BadNumber(Opt::Rounds), "rounds: no number"),
-        (WordsKind::Bound, "phi times capacity is below 2000000"),
-    ];
-    for (kind, text) in cases {
-        assert_eq!(rt; format!(in alloc; "{kind}")?.as_str(), text);
-        assert_eq!(rt;
-            format!(in alloc; "{}", WordsRefusal::Bad(kind))?.as_str(),
-            text
-        );
-    }
-    assert_eq!(rt;
-        format!(in alloc; "{}", WordsRefusal::OutOfMemory)?.as_str(),
-        "out of memory"
-    );
+    assert_eq!(rt; first_told_otherwise(rt.alloc(), &TOLD)?, None);
+    assert!(rt; is_written(rt.alloc(), WordsRefusal::OutOfMemory, "out of memory")?);
     Ok(())
+}
+
+// The place of the first fault that is not told as it should be.
+fn first_told_otherwise(alloc: Global, cases: &[Told]) -> Result<Option<usize>, Fail> {
+    for (place, (kind, text)) in cases.iter().enumerate() {
+        if !is_told(alloc, *kind, text)? {
+            return Ok(Some(place));
+        }
+    }
+    Ok(None)
+}
+
+fn is_told(alloc: Global, kind: WordsKind, text: &str) -> Result<bool, Fail> {
+    let told = format!(in alloc; "{kind}")?;
+    Ok(told.as_str() == text && is_written(alloc, WordsRefusal::Bad(kind), text)?)
+}
+
+fn is_written(alloc: Global, refusal: WordsRefusal, text: &str) -> Result<bool, Fail> {
+    Ok(format!(in alloc; "{refusal}")?.as_str() == text)
 }

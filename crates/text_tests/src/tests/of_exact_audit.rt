@@ -7,9 +7,8 @@ use super::worked_lines::{prefix_of, two_lines};
 use deal_rules::{DealKind, Dealer, Dealt, deal};
 use exact_audit::{Verdict, audit};
 use hhh_report::{Line, Lines, Positions, Report};
-use prefix_lattice::{Record, RecordList};
+use prefix_lattice::{Prefix, Record, RecordList};
 use std::alloc::{AllocError, Global};
-use std::process::Abort;
 use std::test::Fail;
 
 /// The source, the destination and the weight of a record.
@@ -46,17 +45,24 @@ fn in_turn(place: u64, rec: Record, shards: u32) -> u32
     (place % u64::from(shards)) as u32
 }
 
-/// These records, dealt in turn.
-fn dealt_of(rt: &impl Abort, alloc: Global, sent: &[Sent], shards: u32) -> Result<Dealt, Fail> {
+fn list_of(alloc: Global, sent: &[Sent]) -> Result<RecordList, Fail> {
     let mut list = RecordList::new(alloc);
     for (src, dst, weight) in sent {
         list.push(Record::new(*src, *dst, *weight).ok_or("a weight of 0")?)?;
     }
-    assert!(rt; shards >= 1);
-    assert!(rt; shards <= 16);
-    assert!(rt; list.len() <= 16_777_216);
+    Ok(list)
+}
+
+/// These records, dealt in turn.
+fn dealt_of(alloc: Global, list: &RecordList, shards: u32) -> Result<Dealt, Fail> {
+    if shards < 1 || shards > 16 {
+        return Err("number of shards".into());
+    }
+    if list.len() > 16_777_216 {
+        return Err("too many records".into());
+    }
     let dealer = Dealer::new(DealKind::RoundRobin, Box::new(alloc, in_turn)?);
-    Ok(deal(alloc, &list, &dealer, shards)?)
+    Ok(deal(alloc, list, &dealer, shards)?)
 }
 
 fn positions_of(alloc: Global, of_shards: &[u64]) -> Result<Positions, AllocError> {
@@ -116,110 +122,156 @@ fn with_two_lines(
     })
 }
 
-/// Audits a report of the one packet, for tables of 512 entries and a hundredth of the total.
-fn audit_one(rt: &impl Abort, alloc: Global, report: &Report) -> Result<Verdict, Fail> {
-    let dealt = dealt_of(rt, alloc, &ONE, 1)?;
-    Ok(audit(alloc, &dealt, report, 512, 10_000)?)
+/// The line of a prefix.
+fn line_of(source: &str, dest: &str, lo: u64, hi: u64) -> Result<Line, Fail> {
+    Ok(Line {
+        prefix: prefix_of(source, dest)?,
+        lo,
+        hi,
+    })
 }
+
+/// Audits a report over these records, dealt in turn.
+fn audit_over(
+    alloc: Global,
+    sent: &[Sent],
+    report: &Report,
+    shards: u32,
+    capacity: u32,
+    phi: u32,
+) -> Result<Verdict, Fail> {
+    if capacity < 2 || capacity > 4096 {
+        return Err("capacity".into());
+    }
+    if phi < 1 || phi > 1_000_000 {
+        return Err("phi".into());
+    }
+    let dealt = dealt_of(alloc, &list_of(alloc, sent)?, shards)?;
+    Ok(audit(alloc, &dealt, report, capacity, phi)?)
+}
+
+/// Audits a report of the one packet, for tables of 512 entries and a hundredth of the total.
+fn audit_one(alloc: Global, report: &Report) -> Result<Verdict, Fail> {
+    audit_over(alloc, &ONE, report, 1, 512, 10_000)
+}
+
+/// Audits a report of the eleven packets in two shards, for half of the total.
+fn audit_eleven(alloc: Global, report: &Report, capacity: u32) -> Result<Verdict, Fail> {
+    audit_over(alloc, &ELEVEN, report, 2, capacity, 500_000)
+}
+
+/// The position, total, threshold, low and high of a report, and its verdict.
+type Row = (u64, u64, u64, u64, u64, Verdict);
+
+const ROWS: [Row; 9] = [
+    (1, 100, 1, 100, 100, Verdict::Good),
+    (2, 100, 1, 100, 100, Verdict::BadPositions),
+    (0, 100, 1, 100, 100, Verdict::BadTotal),
+    (1, 99, 1, 100, 100, Verdict::BadTotal),
+    (1, 100, 2, 100, 100, Verdict::BadThreshold),
+    (1, 100, 0, 100, 100, Verdict::BadThreshold),
+    (1, 100, 1, 99, 99, Verdict::BadInterval(1)),
+    (1, 100, 1, 101, 101, Verdict::BadInterval(1)),
+    (1, 100, 1, 99, 100, Verdict::TooWide(1)),
+];
 
 #[test]
 fn one_number_is_changed_at_a_time(rt: HostRuntime) -> Result<(), Fail> {
-    let alloc = rt.alloc();
-    let prefix = prefix_of("10.1.2.3/32", "20.1.2.3/32")?;
-    // The position, total, threshold, low and high of a report, and its verdict.
-    let rows: [(u64, u64, u64, u64, u64, Verdict); 9] = [
-        (1, 100, 1, 100, 100, Verdict::Good),
-        (2, 100, 1, 100, 100, Verdict::BadPositions),
-        (0, 100, 1, 100, 100, Verdict::BadTotal),
-        (1, 99, 1, 100, 100, Verdict::BadTotal),
-        (1, 100, 2, 100, 100, Verdict::BadThreshold),
-        (1, 100, 0, 100, 100, Verdict::BadThreshold),
-        (1, 100, 1, 99, 99, Verdict::BadInterval(1)),
-        (1, 100, 1, 101, 101, Verdict::BadInterval(1)),
-        (1, 100, 1, 99, 100, Verdict::TooWide(1)),
-    ];
-    for (at, total, threshold, lo, hi, want) in rows {
-        let report = with_line(alloc, &[at], total, threshold, Line { prefix, lo, hi })?;
-        assert_eq!(rt; audit_one(&rt, alloc, &report)?, want);
-    }
+    assert_eq!(rt; first_wrong(rt.alloc(), &ROWS)?, None);
     Ok(())
 }
 
-#[test]
-fn lines_are_left_out_or_too_many(rt: HostRuntime) -> Result<(), Fail> {
-    let alloc = rt.alloc();
+/// The place of the first row whose verdict is another.
+fn first_wrong(alloc: Global, rows: &[Row]) -> Result<Option<usize>, Fail> {
     let prefix = prefix_of("10.1.2.3/32", "20.1.2.3/32")?;
-    let root = prefix_of("0.0.0.0/0", "0.0.0.0/0")?;
-    let silent = without_lines(alloc, &[1], 100, 1)?;
-    assert_eq!(rt;
-        audit_one(&rt, alloc, &silent)?,
-        Verdict::LeftOut(prefix, 100)
-    );
-    let first = Line {
-        prefix,
-        lo: 100,
-        hi: 100,
-    };
-    let second = Line {
-        prefix: root,
-        lo: 100,
-        hi: 100,
-    };
-    let more = with_two_lines(alloc, &[1], 100, 1, first, second)?;
-    assert_eq!(rt; audit_one(&rt, alloc, &more)?, Verdict::NotJustified(2));
-    let two_positions = with_line(alloc, &[1, 0], 100, 1, first)?;
-    assert_eq!(rt;
-        audit_one(&rt, alloc, &two_positions)?,
-        Verdict::BadPositions
-    );
-    let light = prefix_of("10.1.2.4/32", "20.1.2.3/32")?;
-    let low = with_two_lines(
-        alloc,
-        &[2],
-        110,
-        55,
-        first,
-        Line {
-            prefix: light,
-            lo: 10,
-            hi: 10,
-        },
-    )?;
-    let dealt = dealt_of(&rt, alloc, &TWO, 1)?;
-    assert_eq!(rt;
-        audit(alloc, &dealt, &low, 512, 500_000)?,
-        Verdict::LowLine(2)
-    );
+    for (place, row) in rows.iter().enumerate() {
+        if !has_its_verdict(alloc, prefix, row)? {
+            return Ok(Some(place));
+        }
+    }
+    Ok(None)
+}
+
+fn has_its_verdict(alloc: Global, prefix: Prefix, row: &Row) -> Result<bool, Fail> {
+    let (at, total, threshold, lo, hi, want) = *row;
+    let report = with_line(alloc, &[at], total, threshold, Line { prefix, lo, hi })?;
+    Ok(audit_one(alloc, &report)? == want)
+}
+
+#[test]
+fn a_prefix_without_a_line_is_left_out(rt: HostRuntime) -> Result<(), Fail> {
+    let prefix = prefix_of("10.1.2.3/32", "20.1.2.3/32")?;
+    assert!(rt; verdict_without_lines(rt.alloc())? == Verdict::LeftOut(prefix, 100));
     Ok(())
+}
+
+fn verdict_without_lines(alloc: Global) -> Result<Verdict, Fail> {
+    let silent = without_lines(alloc, &[1], 100, 1)?;
+    audit_one(alloc, &silent)
+}
+
+#[test]
+fn a_line_for_which_nothing_is_left_is_too_many(rt: HostRuntime) -> Result<(), Fail> {
+    assert!(rt; verdict_with_one_more(rt.alloc())? == Verdict::NotJustified(2));
+    Ok(())
+}
+
+fn verdict_with_one_more(alloc: Global) -> Result<Verdict, Fail> {
+    let first = line_of("10.1.2.3/32", "20.1.2.3/32", 100, 100)?;
+    let root = line_of("0.0.0.0/0", "0.0.0.0/0", 100, 100)?;
+    let more = with_two_lines(alloc, &[1], 100, 1, first, root)?;
+    audit_one(alloc, &more)
+}
+
+#[test]
+fn each_shard_has_one_position(rt: HostRuntime) -> Result<(), Fail> {
+    assert!(rt; verdict_of_two_positions(rt.alloc())? == Verdict::BadPositions);
+    Ok(())
+}
+
+fn verdict_of_two_positions(alloc: Global) -> Result<Verdict, Fail> {
+    let line = line_of("10.1.2.3/32", "20.1.2.3/32", 100, 100)?;
+    let two_positions = with_line(alloc, &[1, 0], 100, 1, line)?;
+    audit_one(alloc, &two_positions)
+}
+
+#[test]
+fn a_line_below_the_threshold_is_low(rt: HostRuntime) -> Result<(), Fail> {
+    assert!(rt; verdict_on_a_light_line(rt.alloc())? == Verdict::LowLine(2));
+    Ok(())
+}
+
+fn verdict_on_a_light_line(alloc: Global) -> Result<Verdict, Fail> {
+    let first = line_of("10.1.2.3/32", "20.1.2.3/32", 100, 100)?;
+    let light = line_of("10.1.2.4/32", "20.1.2.3/32", 10, 10)?;
+    let low = with_two_lines(alloc, &[2], 110, 55, first, light)?;
+    audit_over(alloc, &TWO, &low, 1, 512, 500_000)
 }
 
 #[test]
 fn records_of_two_shards_are_added(rt: HostRuntime) -> Result<(), Fail> {
-    let alloc = rt.alloc();
-    let prefix = prefix_of("1.0.0.1/32", "101.0.0.1/32")?;
-    let root = prefix_of("0.0.0.0/0", "0.0.0.0/0")?;
-    let dealt = dealt_of(&rt, alloc, &ELEVEN, 2)?;
-    let first = Line {
-        prefix,
-        lo: 5,
-        hi: 6,
-    };
-    let second = Line {
-        prefix: root,
-        lo: 11,
-        hi: 11,
-    };
-    let whole = with_two_lines(alloc, &[6, 5], 11, 6, first, second)?;
-    assert_eq!(rt; audit(alloc, &dealt, &whole, 4, 500_000)?, Verdict::Good);
-    let coarse = with_line(alloc, &[6, 5], 11, 6, second)?;
-    assert_eq!(rt;
-        audit(alloc, &dealt, &coarse, 4, 500_000)?,
-        Verdict::LeftOut(prefix, 6)
-    );
-    let wide = with_two_lines(alloc, &[6, 5], 11, 6, first, second)?;
-    assert_eq!(rt;
-        audit(alloc, &dealt, &wide, 12, 500_000)?,
-        Verdict::TooWide(1)
-    );
+    assert!(rt; verdict_on_both_lines(rt.alloc(), 4)? == Verdict::Good);
+    // With larger tables an interval as wide is too wide.
+    assert!(rt; verdict_on_both_lines(rt.alloc(), 12)? == Verdict::TooWide(1));
     Ok(())
+}
+
+fn verdict_on_both_lines(alloc: Global, capacity: u32) -> Result<Verdict, Fail> {
+    let first = line_of("1.0.0.1/32", "101.0.0.1/32", 5, 6)?;
+    let root = line_of("0.0.0.0/0", "0.0.0.0/0", 11, 11)?;
+    let whole = with_two_lines(alloc, &[6, 5], 11, 6, first, root)?;
+    audit_eleven(alloc, &whole, capacity)
+}
+
+#[test]
+fn a_heavy_prefix_of_two_shards_is_left_out(rt: HostRuntime) -> Result<(), Fail> {
+    let prefix = prefix_of("1.0.0.1/32", "101.0.0.1/32")?;
+    assert!(rt; verdict_on_the_root(rt.alloc())? == Verdict::LeftOut(prefix, 6));
+    Ok(())
+}
+
+fn verdict_on_the_root(alloc: Global) -> Result<Verdict, Fail> {
+    let root = line_of("0.0.0.0/0", "0.0.0.0/0", 11, 11)?;
+    let coarse = with_line(alloc, &[6, 5], 11, 6, root)?;
+    audit_eleven(alloc, &coarse, 4)
 }

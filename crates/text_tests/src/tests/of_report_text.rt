@@ -5,10 +5,10 @@ ghost use Rattle.report_text.specs.{ShowsPositions};
 
 use super::worked_lines::{prefix_of, two_lines};
 use frame_records::Records;
-use hhh_report::{Line, Positions, Report};
+use hhh_report::{Line, Positions, Report, Reported};
 use prefix_lattice::RecordList;
 use report_text::{
-    Mark, SessionFault, TextFault, print, print_positions, print_tail, read_session,
+    Mark, Session, SessionFault, TextFault, print, print_positions, print_tail, read_session,
 };
 use std::alloc::{AllocError, Global};
 use std::test::Fail;
@@ -46,34 +46,59 @@ fn report_of(alloc: Global, positions: Positions, first: Line, second: Line) -> 
     })
 }
 
+const PRINTED: &[u8] =
+    b"before report\nat 3 16777216\ntotal 260\nthreshold 60\nline 10.1.2.3/32 20.1.2.3/32 100 100\nline 10.0.0.0/8 0.0.0.0/0 0 18446744073709551615\ndone\n";
+
 #[test]
 fn prints_a_report(rt: HostRuntime) -> Result<(), Fail> {
-    let alloc = rt.alloc();
-    let positions = positions_of(alloc, 3, 16_777_216)?;
+    let report = report_of_two_lines(rt.alloc())?;
+    assert!(rt; is_printed(rt.alloc(), &report)?);
+    Ok(())
+}
+
+fn report_of_two_lines(alloc: Global) -> Result<Report, Fail>
+    ensures positions { IfOk result (λ report. ShowsPositions report.positions) }
+    ensures threshold { IfOk result (λ report. 1 ≤ report.threshold) }
+{
     let exact = line_of("10.1.2.3/32", "20.1.2.3/32", 100, 100)?;
     let wide = line_of("10.0.0.0/8", "0.0.0.0/0", 0, 18_446_744_073_709_551_615)?;
-    let report = report_of(alloc, positions, exact, wide)?;
+    report_of(alloc, positions_of(alloc, 3, 16_777_216)?, exact, wide)
+}
+
+// Whether a report is printed as `PRINTED`, after what the text has already.
+fn is_printed(alloc: Global, report: &Report) -> Result<bool, AllocError>
+    requires positions { ShowsPositions report.now.positions }
+    requires threshold { 1 ≤ report.now.threshold }
+{
     let mut text = Vec::from_slice(alloc, b"before ")?;
-    print(&report, &mut text)?;
-    let want =
-        b"before report\nat 3 16777216\ntotal 260\nthreshold 60\nline 10.1.2.3/32 20.1.2.3/32 100 100\nline 10.0.0.0/8 0.0.0.0/0 0 18446744073709551615\ndone\n";
-    assert_eq!(rt; text.as_slice(), want.as_slice());
-    Ok(())
+    print(report, &mut text)?;
+    Ok(text.as_slice() == PRINTED)
 }
 
 #[test]
 fn prints_positions(rt: HostRuntime) -> Result<(), Fail> {
-    let alloc = rt.alloc();
-    let mut text = Vec::new(alloc);
-    print_positions(Mark::Opened, &positions_of(alloc, 0, 7)?, &mut text)?;
-    print_positions(Mark::Saved, &positions_of(alloc, 12, 0)?, &mut text)?;
-    assert_eq!(rt; text.as_slice(), b"opened 0 7\nsaved 12 0\n".as_slice());
+    assert!(rt; are_printed(rt.alloc())?);
     Ok(())
+}
+
+// Whether positions are printed by each mark, one behind the other.
+fn are_printed(alloc: Global) -> Result<bool, AllocError> {
+    let opened = positions_of(alloc, 0, 7)?;
+    let saved = positions_of(alloc, 12, 0)?;
+    let mut text = Vec::new(alloc);
+    print_positions(Mark::Opened, &opened, &mut text)?;
+    print_positions(Mark::Saved, &saved, &mut text)?;
+    Ok(text.as_slice() == b"opened 0 7\nsaved 12 0\n".as_slice())
 }
 
 #[test]
 fn prints_the_last_lines(rt: HostRuntime) -> Result<(), Fail> {
-    let alloc = rt.alloc();
+    assert!(rt; is_the_tail(rt.alloc())?);
+    Ok(())
+}
+
+// Whether the last lines are printed with these numbers of frames.
+fn is_the_tail(alloc: Global) -> Result<bool, AllocError> {
     let records = Records {
         list: RecordList::new(alloc),
         frames: 7,
@@ -83,11 +108,7 @@ fn prints_the_last_lines(rt: HostRuntime) -> Result<(), Fail> {
     };
     let mut text = Vec::new(alloc);
     print_tail(&records, &mut text)?;
-    assert_eq!(rt;
-        text.as_slice(),
-        b"frames 7\nskipped 2 1 0\nend\n".as_slice()
-    );
-    Ok(())
+    Ok(text.as_slice() == b"frames 7\nskipped 2 1 0\nend\n".as_slice())
 }
 
 // The text of lines, each of which ends by `|` here and by a line feed there.
@@ -102,44 +123,70 @@ fn text_of(alloc: Global, lines: &str) -> Result<Vec<u8>, AllocError> {
 const SESSION: &str =
     "opened 0|report|at 1|total 100|threshold 1|line 10.1.2.3/32 20.1.2.3/32 100 100|done|frames 1|skipped 0 0 0|end|";
 
-#[test]
-fn reads_a_session(rt: HostRuntime) -> Result<(), Fail> {
-    let alloc = rt.alloc();
-    let text = text_of(alloc, SESSION)?;
-    let session = read_session(alloc, text.as_slice())?;
-    assert_eq!(rt; session.opened.as_slice(), [0].as_slice());
-    assert_eq!(rt; session.reports.len(), 1);
-    let reported = session.reports.at(0);
-    assert!(rt; reported.saved.is_none());
-    assert_eq!(rt; reported.report.positions.as_slice(), [1].as_slice());
-    assert_eq!(rt; reported.report.total, 100);
-    assert_eq!(rt; reported.report.threshold, 1);
-    let line = line_of("10.1.2.3/32", "20.1.2.3/32", 100, 100)?;
-    assert_eq!(rt; reported.report.lines.as_slice(), [line].as_slice());
-    assert_eq!(rt; session.frames, 1);
-    assert_eq!(rt; session.not_ipv4, 0);
-    assert_eq!(rt; session.short, 0);
-    assert_eq!(rt; session.bad_header, 0);
-    Ok(())
+fn session_of(alloc: Global, lines: &str) -> Result<Session, Fail> {
+    let text = text_of(alloc, lines)?;
+    Ok(read_session(alloc, text.as_slice())?)
+}
+
+// The numbers of frames in a session's last lines.
+fn counts_of(session: &Session) -> (u64, u64, u64, u64) {
+    (
+        session.frames,
+        session.not_ipv4,
+        session.short,
+        session.bad_header,
+    )
 }
 
 #[test]
-fn reads_saved_positions(rt: HostRuntime) -> Result<(), Fail> {
-    let alloc = rt.alloc();
-    let text = text_of(
-        alloc,
-        "opened 0 7|report|at 3 7|total 2|threshold 1|done|report|at 4 7|total 3|threshold 1|done|saved 4 7|frames 9|skipped 3 2 1|end|",
-    )?;
-    let session = read_session(alloc, text.as_slice())?;
-    assert_eq!(rt; session.reports.len(), 2);
-    assert!(rt; session.reports.at(0).saved.is_none());
-    let saved = session.reports.at(1).saved.as_ref().ok_or("not saved")?;
-    assert_eq!(rt; saved.as_slice(), [4, 7].as_slice());
-    assert_eq!(rt; session.frames, 9);
-    assert_eq!(rt; session.not_ipv4, 3);
-    assert_eq!(rt; session.short, 2);
-    assert_eq!(rt; session.bad_header, 1);
+fn reads_a_session(rt: HostRuntime) -> Result<(), Fail> {
+    let line = line_of("10.1.2.3/32", "20.1.2.3/32", 100, 100)?;
+    let session = session_of(rt.alloc(), SESSION)?;
+    assert!(rt; is_the_session(&session, line));
     Ok(())
+}
+
+// Whether a session is that of `SESSION`.
+fn is_the_session(session: &Session, line: Line) -> bool {
+    session.opened.as_slice() == [0].as_slice()
+        && session.reports.len() == 1
+        && is_the_report(session.reports.at(0), line)
+        && counts_of(session) == (1, 0, 0, 0)
+}
+
+// Whether a report is the one of `SESSION`.
+fn is_the_report(reported: &Reported, line: Line) -> bool {
+    let report = &reported.report;
+    reported.saved.is_none()
+        && report.positions.as_slice() == [1].as_slice()
+        && report.total == 100
+        && report.threshold == 1
+        && report.lines.as_slice() == [line].as_slice()
+}
+
+const SAVED_SESSION: &str =
+    "opened 0 7|report|at 3 7|total 2|threshold 1|done|report|at 4 7|total 3|threshold 1|done|saved 4 7|frames 9|skipped 3 2 1|end|";
+
+#[test]
+fn reads_saved_positions(rt: HostRuntime) -> Result<(), Fail> {
+    let session = session_of(rt.alloc(), SAVED_SESSION)?;
+    assert!(rt; is_the_saved_session(&session));
+    Ok(())
+}
+
+// Whether a session is that of `SAVED_SESSION`, whose second report alone has its positions saved.
+fn is_the_saved_session(session: &Session) -> bool {
+    session.reports.len() == 2
+        && session.reports.at(0).saved.is_none()
+        && are_saved(session.reports.at(1), &[4, 7])
+        && counts_of(session) == (9, 3, 2, 1)
+}
+
+fn are_saved(reported: &Reported, positions: &[u64]) -> bool {
+    match &reported.saved {
+        Some(saved) => saved.as_slice() == positions,
+        None => false,
+    }
 }
 
 // The fault of a text, if it has one.
@@ -151,72 +198,92 @@ fn fault_of(alloc: Global, lines: &str) -> Result<Option<SessionFault>, AllocErr
     }
 }
 
+// A text, and the number of its first wrong line.
+type WrongText = (&'static str, u64);
+
+const WRONG_TEXTS: [WrongText; 7] = [
+    (
+        "opened 0|report|at 0|total 00|threshold 1|done|frames 0|skipped 0 0 0|end|",
+        4,
+    ),
+    (
+        "opened 0|report|at 0|total 0|threshold 1|done|frames 0|skipped 0 0 0|end|x",
+        10,
+    ),
+    (
+        "opened 0 0|report|at 1|total 100|threshold 1|line 10.1.2.3/32 20.1.2.3/32 100 100|done|frames 1|skipped 0 0 0|end|",
+        3,
+    ),
+    (
+        "opened 0|report|at 1|total 100|threshold 0|line 10.1.2.3/32 20.1.2.3/32 100 100|done|frames 1|skipped 0 0 0|end|",
+        5,
+    ),
+    (
+        "opened 0|report|at 1|total 100|threshold 1|line 10.1.2.3/32 20.1.2.3/32 101 100|done|frames 1|skipped 0 0 0|end|",
+        6,
+    ),
+    (
+        "opened 0|report|at 1|total 100|threshold 1|line 10.1.2.3/32 20.1.2.3/32 100 100|line 10.1.2.3/32 20.1.2.3/32 100 100|done|frames 1|skipped 0 0 0|end|",
+        7,
+    ),
+    (
+        "opened 0|report|at 16777217|total 100|threshold 1|line 10.1.2.3/32 20.1.2.3/32 100 100|done|frames 1|skipped 0 0 0|end|",
+        3,
+    ),
+];
+
 #[test]
 fn refuses_texts_at_their_line(rt: HostRuntime) -> Result<(), Fail> {
-    let alloc = rt.alloc();
-    let wrong = [
-        (
-            "opened 0|report|at 0|total 00|threshold 1|done|frames 0|skipped 0 0 0|end|",
-            4,
-        ),
-        (
-            "opened 0|report|at 0|total 0|threshold 1|done|frames 0|skipped 0 0 0|end|x",
-            10,
-        ),
-        (
-            "opened 0 0|report|at 1|total 100|threshold 1|line 10.1.2.3/32 20.1.2.3/32 100 100|done|frames 1|skipped 0 0 0|end|",
-            3,
-        ),
-        (
-            "opened 0|report|at 1|total 100|threshold 0|line 10.1.2.3/32 20.1.2.3/32 100 100|done|frames 1|skipped 0 0 0|end|",
-            5,
-        ),
-        (
-            "opened 0|report|at 1|total 100|threshold 1|line 10.1.2.3/32 20.1.2.3/32 101 100|done|frames 1|skipped 0 0 0|end|",
-            6,
-        ),
-        (
-            "opened 0|report|at 1|total 100|threshold 1|line 10.1.2.3/32 20.1.2.3/32 100 100|line 10.1.2.3/32 20.1.2.3/32 100 100|done|frames 1|skipped 0 0 0|end|",
-            7,
-        ),
-        (
-            "opened 0|report|at 16777217|total 100|threshold 1|line 10.1.2.3/32 20.1.2.3/32 100 100|done|frames 1|skipped 0 0 0|end|",
-            3,
-        ),
-    ];
-    for (text, line) in wrong {
-        let fault = fault_of(alloc, text)?;
-        assert_eq!(rt;
-            fault,
-            Some(SessionFault::Text(TextFault::BadLine(line))),
-            "{text}"
-        );
-    }
+    assert_eq!(rt; first_read(rt.alloc(), &WRONG_TEXTS)?, None);
     Ok(())
+}
+
+// The place of the first text that is not refused at its line.
+fn first_read(alloc: Global, texts: &[WrongText]) -> Result<Option<usize>, AllocError> {
+    for (place, (text, line)) in texts.iter().enumerate() {
+        if !has_fault(alloc, text, TextFault::BadLine(*line))? {
+            return Ok(Some(place));
+        }
+    }
+    Ok(None)
+}
+
+fn has_fault(alloc: Global, lines: &str, fault: TextFault) -> Result<bool, AllocError> {
+    Ok(fault_of(alloc, lines)? == Some(SessionFault::Text(fault)))
 }
 
 #[test]
 fn misses_the_end(rt: HostRuntime) -> Result<(), Fail> {
-    let alloc = rt.alloc();
-    let fault = fault_of(alloc, "opened 0|report|at 0|total 0|threshold 1|done|")?;
-    assert_eq!(rt; fault, Some(SessionFault::Text(TextFault::MissingEnd(7))));
+    let text = "opened 0|report|at 0|total 0|threshold 1|done|";
+    assert!(rt; has_fault(rt.alloc(), text, TextFault::MissingEnd(7))?);
     Ok(())
 }
 
+// A fault, and how it is written.
+type Written = (SessionFault, &'static str);
+
+const WRITTEN: [Written; 4] = [
+    (SessionFault::Text(TextFault::BadLine(4)), "line 4"),
+    (
+        SessionFault::Text(TextFault::MissingEnd(7)),
+        "no end at line 7",
+    ),
+    (SessionFault::Text(TextFault::TooLong), "too long"),
+    (SessionFault::OutOfMemory, "out of memory"),
+];
+
 #[test]
 fn writes_faults_as_text(rt: HostRuntime) -> Result<(), Fail> {
-    let alloc = rt.alloc();
-    let texts = [
-        (SessionFault::Text(TextFault::BadLine(4)), "line 4"),
-        (
-            SessionFault::Text(TextFault::MissingEnd(7)),
-            "no end at line 7",
-        ),
-        (SessionFault::Text(TextFault::TooLong), "too long"),
-        (SessionFault::OutOfMemory, "out of memory"),
-    ];
-    for (fault, text) in texts {
-        assert_eq!(rt; format!(in alloc; "{fault}")?.as_str(), text);
-    }
+    assert_eq!(rt; first_written_otherwise(rt.alloc(), &WRITTEN)?, None);
     Ok(())
+}
+
+// The place of the first fault that is written otherwise.
+fn first_written_otherwise(alloc: Global, cases: &[Written]) -> Result<Option<usize>, Fail> {
+    for (place, (fault, text)) in cases.iter().enumerate() {
+        if format!(in alloc; "{fault}")?.as_str() != *text {
+            return Ok(Some(place));
+        }
+    }
+    Ok(None)
 }

@@ -10,7 +10,7 @@ use std::cmp::Ordering;
 use std::test::Fail;
 
 pub(crate) fn prefix_of(source: &str, dest: &str) -> Result<Prefix, Fail> {
-    Prefix::parse(source.as_bytes(), dest.as_bytes()).map_err(|_| Fail::from("no prefix"))
+    Ok(Prefix::parse(source.as_bytes(), dest.as_bytes())?)
 }
 
 // Two lines in their order.

@@ -1,14 +1,12 @@
 //! What `audit` finds.
 
+use super::endings::{compare, run_with};
 use super::reports::ELEVEN;
 use deal_rules::Dealers;
 use exact_audit::Verdict;
-use gate_workers::OpenGate;
-use hhh_engine::{Status, run};
+use hhh_engine::Status;
 use outside_io::{MemorySink, MemorySource};
-use pcap_frames::{CaptureFault, FaultKind};
 use report_text::TextFault;
-use slot_disk::MemoryDisk;
 use std::alloc::{AllocError, Global};
 use std::marker::Sync;
 use std::process::Abort;
@@ -30,6 +28,10 @@ const NARROW: [&str; 7] = [
     "--deal=round",
 ];
 
+// The session over one packet.
+const SOUND_TEXT: &str =
+    "opened 0\nreport\nat 1\ntotal 100\nthreshold 1\nline 10.1.2.3/32 20.1.2.3/32 100 100\ndone\nframes 1\nskipped 0 0 0\nend\n";
+
 // The arguments, the packets, the text, what the run ends in, and what is written.
 type Case = (
     &'static [&'static str],
@@ -41,13 +43,7 @@ type Case = (
 
 // A session over one packet, with its lines changed.
 const CASES: [Case; 8] = [
-    (
-        &AUDIT,
-        &[ONE],
-        "opened 0\nreport\nat 1\ntotal 100\nthreshold 1\nline 10.1.2.3/32 20.1.2.3/32 100 100\ndone\nframes 1\nskipped 0 0 0\nend\n",
-        Status::Done,
-        "good 1\n",
-    ),
+    (&AUDIT, &[ONE], SOUND_TEXT, Status::Done, "good 1\n"),
     (
         &AUDIT,
         &[ONE],
@@ -71,7 +67,7 @@ const CASES: [Case; 8] = [
     (
         &AUDIT,
         &[],
-        "opened 0\nreport\nat 1\ntotal 100\nthreshold 1\nline 10.1.2.3/32 20.1.2.3/32 100 100\ndone\nframes 1\nskipped 0 0 0\nend\n",
+        SOUND_TEXT,
         Status::AuditNo {
             report: 1,
             verdict: Verdict::BadPositions,
@@ -124,20 +120,31 @@ pub(crate) fn audits<R: Abort + Threads + Wait + Sync>(
     alloc: Global,
     dealers: &Dealers,
 ) -> Result<(), Fail> {
-    for (words, packets, text, status, written) in CASES {
-        let ended = audit_over(
-            rt,
-            alloc,
-            dealers,
-            words,
-            packets,
-            text.as_bytes(),
-            SOUND_CALLS,
-        )?;
-        assert_eq!(rt; ended.status, status);
-        assert_eq!(rt; ended.text.as_slice(), written.as_bytes());
+    each_is_audited(rt, alloc, dealers, &CASES)?;
+    names_what_is_left_out(rt, alloc, dealers)
+}
+
+// A table is a parameter of what goes through it: a proof with the table in every fact takes far longer.
+fn each_is_audited<R: Abort + Threads + Wait + Sync>(
+    rt: &R,
+    alloc: Global,
+    dealers: &Dealers,
+    cases: &[Case],
+) -> Result<(), Fail> {
+    for (words, packets, text, status, written) in cases {
+        let text = text.as_bytes();
+        let ended = audit_over(rt, alloc, dealers, words, packets, text, SOUND_CALLS)?;
+        compare(rt, ended, *status, written.as_bytes());
     }
-    // No line has the packet's prefix.
+    Ok(())
+}
+
+// No line has the packet's prefix.
+fn names_what_is_left_out<R: Abort + Threads + Wait + Sync>(
+    rt: &R,
+    alloc: Global,
+    dealers: &Dealers,
+) -> Result<(), Fail> {
     let text =
         b"opened 0\nreport\nat 1\ntotal 100\nthreshold 1\ndone\nframes 1\nskipped 0 0 0\nend\n";
     let ended = audit_over(rt, alloc, dealers, &AUDIT, &[ONE], text, SOUND_CALLS)?;
@@ -236,17 +243,35 @@ pub(crate) fn finds_each_change<R: Abort + Threads + Wait + Sync>(
     alloc: Global,
     dealers: &Dealers,
 ) -> Result<(), Fail> {
-    for (report, written) in CHANGES {
-        let mut text = Vec::from_slice(alloc, b"opened 0 0\nreport\n")?;
-        text.extend_from_slice(report.as_bytes())?;
-        text.extend_from_slice(b"done\nframes 11\nskipped 0 0 0\nend\n")?;
-        let ended = audit_over(rt, alloc, dealers, &NARROW, &ELEVEN, &text, SOUND_CALLS)?;
+    each_change_is_found(rt, alloc, dealers, &CHANGES)
+}
+
+fn each_change_is_found<R: Abort + Threads + Wait + Sync>(
+    rt: &R,
+    alloc: Global,
+    dealers: &Dealers,
+    changes: &[Change],
+) -> Result<(), Fail> {
+    for (report, written) in changes {
+        let text = session_of(alloc, report)?;
+        let ended = audit_eleven(rt, alloc, dealers, &text)?;
         assert_eq!(rt; ended.text.as_slice(), written.as_bytes());
     }
     Ok(())
 }
 
-const BAD_TEXTS: [(&str, TextFault); 9] = [
+// The text of a session with these lines of its report.
+fn session_of(alloc: Global, report: &str) -> Result<Vec<u8>, AllocError> {
+    let mut text = Vec::from_slice(alloc, b"opened 0 0\nreport\n")?;
+    text.extend_from_slice(report.as_bytes())?;
+    text.extend_from_slice(b"done\nframes 11\nskipped 0 0 0\nend\n")?;
+    Ok(text)
+}
+
+// A text, and what is wrong with it.
+type BadText = (&'static str, TextFault);
+
+const BAD_TEXTS: [BadText; 9] = [
     (
         "opened 0 0\nreport\nat 1\ntotal 100\nthreshold 1\nline 10.1.2.3/32 20.1.2.3/32 100 100\ndone\nframes 1\nskipped 0 0 0\nend\n",
         TextFault::BadLine(3),
@@ -287,18 +312,19 @@ pub(crate) fn refuses_texts<R: Abort + Threads + Wait + Sync>(
     alloc: Global,
     dealers: &Dealers,
 ) -> Result<(), Fail> {
-    for (text, fault) in BAD_TEXTS {
-        let ended = audit_over(
-            rt,
-            alloc,
-            dealers,
-            &AUDIT,
-            &[],
-            text.as_bytes(),
-            SOUND_CALLS,
-        )?;
-        assert_eq!(rt; ended.status, Status::BadReport(fault));
-        assert_eq!(rt; ended.text.as_slice(), b"".as_slice());
+    each_text_is_refused(rt, alloc, dealers, &BAD_TEXTS)
+}
+
+fn each_text_is_refused<R: Abort + Threads + Wait + Sync>(
+    rt: &R,
+    alloc: Global,
+    dealers: &Dealers,
+    texts: &[BadText],
+) -> Result<(), Fail> {
+    for (text, fault) in texts {
+        let text = text.as_bytes();
+        let ended = audit_over(rt, alloc, dealers, &AUDIT, &[], text, SOUND_CALLS)?;
+        compare(rt, ended, Status::BadReport(*fault), b"");
     }
     Ok(())
 }
@@ -317,39 +343,51 @@ const SOUND_CALLS: Fails = Fails {
     sink: &[],
 };
 
+// What fails, and what an audit ends in.
+type Failing = (Fails, Status);
+
+const FAILING: [Failing; 3] = [
+    (
+        Fails {
+            capture: &[0],
+            ..SOUND_CALLS
+        },
+        Status::ReadFault,
+    ),
+    (
+        Fails {
+            text: &[2],
+            ..SOUND_CALLS
+        },
+        Status::ReadFault,
+    ),
+    (
+        Fails {
+            sink: &[0],
+            ..SOUND_CALLS
+        },
+        Status::WriteFault,
+    ),
+];
+
 pub(crate) fn tells_the_faults_of_its_inputs<R: Abort + Threads + Wait + Sync>(
     rt: &R,
     alloc: Global,
     dealers: &Dealers,
 ) -> Result<(), Fail> {
-    let (words, packets, text, _, _) = CASES[0];
-    let failing: [(Fails, Status); 3] = [
-        (
-            Fails {
-                capture: &[0],
-                ..SOUND_CALLS
-            },
-            Status::ReadFault,
-        ),
-        (
-            Fails {
-                text: &[2],
-                ..SOUND_CALLS
-            },
-            Status::ReadFault,
-        ),
-        (
-            Fails {
-                sink: &[0],
-                ..SOUND_CALLS
-            },
-            Status::WriteFault,
-        ),
-    ];
+    each_fault_is_told(rt, alloc, dealers, &FAILING)
+}
+
+fn each_fault_is_told<R: Abort + Threads + Wait + Sync>(
+    rt: &R,
+    alloc: Global,
+    dealers: &Dealers,
+    failing: &[Failing],
+) -> Result<(), Fail> {
+    let text = SOUND_TEXT.as_bytes();
     for (fails, status) in failing {
-        let ended = audit_over(rt, alloc, dealers, words, packets, text.as_bytes(), fails)?;
-        assert_eq!(rt; ended.status, status);
-        assert_eq!(rt; ended.text.as_slice(), b"".as_slice());
+        let ended = audit_over(rt, alloc, dealers, &AUDIT, &[ONE], text, *fails)?;
+        compare(rt, ended, *status, b"");
     }
     Ok(())
 }
@@ -373,18 +411,19 @@ pub(crate) fn own_reports_are_good<R: Abort + Threads + Wait + Sync>(
     let capture = capture_of(alloc, &ELEVEN)?;
     let session = run_over(rt, alloc, dealers, &words, capture, SOUND)?;
     assert_eq!(rt; session.status, Status::Done);
-    let ended = audit_over(
-        rt,
-        alloc,
-        dealers,
-        &NARROW,
-        &ELEVEN,
-        &session.text,
-        SOUND_CALLS,
-    )?;
-    assert_eq!(rt; ended.status, Status::Done);
-    assert_eq!(rt; ended.text.as_slice(), b"good 10\n".as_slice());
+    let ended = audit_eleven(rt, alloc, dealers, &session.text)?;
+    compare(rt, ended, Status::Done, b"good 10\n");
     Ok(())
+}
+
+// Audits a text over the eleven packets.
+fn audit_eleven<R: Threads + Wait + Sync>(
+    rt: &R,
+    alloc: Global,
+    dealers: &Dealers,
+    text: &[u8],
+) -> Result<Ended, AllocError> {
+    audit_over(rt, alloc, dealers, &NARROW, &ELEVEN, text, SOUND_CALLS)
 }
 
 // Audits a text over a capture of these packets, both read in pieces.
@@ -403,18 +442,13 @@ fn audit_over<R: Threads + Wait + Sync>(
     let mut text = MemorySource::new(text, Vec::from_slice(alloc, fails.text)?, 50);
     let fails = Vec::from_slice(alloc, fails.sink)?;
     let mut sink = MemorySink::with_room(alloc, 4096, fails)?;
-    let mut disk = MemoryDisk::with_room(alloc, 0, 0, Vec::new(alloc), None, Vec::new(alloc))?;
-    let status = run(
+    run_with(
         rt,
         alloc,
+        dealers,
         words,
         &mut capture,
         &mut text,
         &mut sink,
-        &mut disk,
-        &OpenGate,
-        dealers,
-    );
-    let text = Vec::from_slice(alloc, sink.taken())?;
-    Ok(Ended { status, text })
+    )
 }

@@ -1,5 +1,6 @@
 //! Reports whose disk fails, and what the next report goes on from.
 
+use super::endings::compare;
 use super::gates::Turnstile;
 use deal_rules::Dealers;
 use hhh_engine::Status;
@@ -10,7 +11,7 @@ use std::process::Abort;
 use std::sync::Wait;
 use std::test::Fail;
 use std::thread::Threads;
-use test_runs::{FORMAT, ONE, REPORT, disk_with, run_gated_on, run_on};
+use test_runs::{Ended, FORMAT, ONE, REPORT, disk_with, run_gated_on, run_on};
 
 const ROUND: [&str; 7] = [
     "report",
@@ -108,14 +109,36 @@ pub(crate) fn goes_on_after_each_fault<R: Abort + Threads + Wait + Sync>(
     let mut empty = disk_with(alloc, &[], None, &[])?;
     run_on(rt, alloc, dealers, &FORMAT, &[], &mut empty)?;
     let store = empty.crash(alloc, 0)?;
-    for left in LEFT {
+    each_fault(rt, alloc, dealers, &store, &LEFT)
+}
+
+// A table is a parameter of what goes through it: a proof with the table in every fact takes far longer.
+fn each_fault<R: Abort + Threads + Wait + Sync>(
+    rt: &R,
+    alloc: Global,
+    dealers: &Dealers,
+    store: &[u8],
+    cases: &[Left],
+) -> Result<(), Fail> {
+    for left in cases {
         for call in left.calls.0..left.calls.1 {
-            let mut disk = disk_with(alloc, &store, Some(call), &[])?;
-            breaks_off(rt, alloc, dealers, &mut disk, &left)?;
-            goes_on(rt, alloc, dealers, &disk, &left)?;
+            fails_from(rt, alloc, dealers, store, call, left)?;
         }
     }
     Ok(())
+}
+
+fn fails_from<R: Abort + Threads + Wait + Sync>(
+    rt: &R,
+    alloc: Global,
+    dealers: &Dealers,
+    store: &[u8],
+    call: u64,
+    left: &Left,
+) -> Result<(), Fail> {
+    let mut disk = disk_with(alloc, store, Some(call), &[])?;
+    breaks_off(rt, alloc, dealers, &mut disk, left)?;
+    goes_on(rt, alloc, dealers, &disk, left)
 }
 
 // The report ends with a disk fault, unless all calls went well, after as many pieces.
@@ -126,19 +149,44 @@ fn breaks_off<R: Abort + Threads + Wait + Sync>(
     disk: &mut MemoryDisk,
     left: &Left,
 ) -> Result<(), Fail> {
+    let text = first_pieces(rt, alloc, left.pieces)?;
     let gate = Turnstile::after(3);
-    let ended = run_gated_on(rt, alloc, dealers, &ROUND, &[ONE; 8], disk, &gate)?;
+    let ended = run_round(rt, alloc, dealers, disk, &gate)?;
     assert_eq!(rt; gate.missed(), 0);
-    let status = if left.pieces < PIECES.len() {
+    compare(rt, ended, status_after(left.pieces), &text);
+    Ok(())
+}
+
+fn run_round<R: Threads + Wait + Sync>(
+    rt: &R,
+    alloc: Global,
+    dealers: &Dealers,
+    disk: &mut MemoryDisk,
+    gate: &Turnstile,
+) -> Result<Ended, AllocError> {
+    run_gated_on(rt, alloc, dealers, &ROUND, &[ONE; 8], disk, gate)
+}
+
+fn status_after(pieces: usize) -> Status {
+    if pieces < PIECES.len() {
         Status::DiskFault
     } else {
         Status::Done
-    };
-    assert_eq!(rt; ended.status, status);
-    assert!(rt; left.pieces <= PIECES.len());
-    let text = joined(alloc, &PIECES[..left.pieces])?;
-    assert_eq!(rt; ended.text.as_slice(), text.as_slice());
-    Ok(())
+    }
+}
+
+fn first_pieces(rt: &impl Abort, alloc: Global, count: usize) -> Result<Vec<u8>, AllocError> {
+    first_of(rt, alloc, &PIECES, count)
+}
+
+fn first_of(
+    rt: &impl Abort,
+    alloc: Global,
+    texts: &[&str],
+    count: usize,
+) -> Result<Vec<u8>, AllocError> {
+    assert!(rt; count <= texts.len());
+    joined(alloc, &texts[..count])
 }
 
 // After each crash the next report ends well, and goes on from the position that the crash left.
@@ -150,12 +198,34 @@ fn goes_on<R: Abort + Threads + Wait + Sync>(
     left: &Left,
 ) -> Result<(), Fail> {
     for choice in 0..4 {
-        let mut crashed = disk_with(alloc, &disk.crash(alloc, choice)?, None, &[])?;
-        let ended = run_on(rt, alloc, dealers, &REPORT, &[ONE; 8], &mut crashed)?;
-        assert_eq!(rt; ended.status, Status::Done);
         let opened = if choice == 1 { left.kept } else { left.lost };
-        let text = joined(alloc, &[opened, REST])?;
-        assert_eq!(rt; ended.text.as_slice(), text.as_slice(), "crash {choice}");
+        goes_on_from(rt, alloc, dealers, disk, choice, opened)?;
     }
     Ok(())
+}
+
+fn goes_on_from<R: Abort + Threads + Wait + Sync>(
+    rt: &R,
+    alloc: Global,
+    dealers: &Dealers,
+    disk: &MemoryDisk,
+    choice: u8,
+    opened: &str,
+) -> Result<(), Fail> {
+    let text = joined(alloc, &[opened, REST])?;
+    let ended = report_after(rt, alloc, dealers, disk, choice)?;
+    compare(rt, ended, Status::Done, &text);
+    Ok(())
+}
+
+// The next report after a crash.
+fn report_after<R: Threads + Wait + Sync>(
+    rt: &R,
+    alloc: Global,
+    dealers: &Dealers,
+    disk: &MemoryDisk,
+    choice: u8,
+) -> Result<Ended, AllocError> {
+    let mut crashed = disk_with(alloc, &disk.crash(alloc, choice)?, None, &[])?;
+    run_on(rt, alloc, dealers, &REPORT, &[ONE; 8], &mut crashed)
 }

@@ -6,9 +6,9 @@ ghost use Rattle.prefix_lattice.specs.{under};
 
 use conditioned_bounds::{Intervals, LineIndex, bound, closest, kept_pairs};
 use cut_merge::Merged;
-use deal_rules::{Dealer, deal};
-use frame_records::{Weigh, read_records};
-use hhh_output::report_of;
+use deal_rules::{Dealer, Dealt, deal};
+use frame_records::{Records, Weigh, read_records};
+use hhh_output::{Report, report_of};
 use outside_io::MemorySource;
 use prefix_lattice::{Prefix, Prefixes, prefixes_are_ordered};
 use shard_state::{Cut, ShardState};
@@ -35,23 +35,41 @@ impl Intervals for MergedIntervals<'_> {
     }
 }
 
-// The tables of 8 shards that count the records of 200,000 made frames.
-fn demo_cut(rt: &impl Abort, alloc: Global, dealer: &Dealer) -> Result<Cut, Fail> {
+// The records of 200,000 made frames.
+fn demo_records(alloc: Global) -> Result<Records, Fail> {
     let bytes = make_bytes(alloc, 7, 200_000)?;
     let mut capture = MemorySource::new(bytes, Vec::new(alloc), 65_536);
-    let records = read_records(alloc, &mut capture, Weigh::Bytes).map_err(|_| "a capture")?;
+    Ok(read_records(alloc, &mut capture, Weigh::Bytes).map_err(|_| "a capture")?)
+}
+
+// These records, dealt to 8 shards.
+fn demo_dealt(rt: &impl Abort, alloc: Global, dealer: &Dealer) -> Result<Dealt, Fail> {
+    let records = demo_records(alloc)?;
     assert!(rt; records.list.len() <= 200_000);
-    let dealt = deal(alloc, &records.list, dealer, 8)?;
+    Ok(deal(alloc, &records.list, dealer, 8)?)
+}
+
+// The tables of the shards that count the records.
+fn demo_cut(rt: &impl Abort, alloc: Global, dealer: &Dealer) -> Result<Cut, Fail> {
+    let dealt = demo_dealt(rt, alloc, dealer)?;
     let mut cut = Cut::with_room(alloc, 8, 512)?;
     for shard in 0..dealt.shards() {
-        let list = dealt.list(shard).copy(alloc)?;
-        let mut state = ShardState::start(alloc, list, 512)?;
-        state.fold_block(200_000);
+        let state = counted(rt, alloc, &dealt, shard)?;
         assert!(rt; shard < cut.shards());
         assert!(rt; cut.capacity() == state.capacity());
         cut.copy_shard(shard, &state);
     }
     Ok(cut)
+}
+
+// A shard after all its records.
+fn counted(rt: &impl Abort, alloc: Global, dealt: &Dealt, shard: u32) -> Result<ShardState, Fail> {
+    assert!(rt; shard < dealt.shards());
+    let list = dealt.list(shard).copy(alloc)?;
+    assert!(rt; list.len() <= 200_000);
+    let mut state = ShardState::start(alloc, list, 512)?;
+    state.fold_block(200_000);
+    Ok(state)
 }
 
 // Whether a prefix is under one of some lines, or is one of them.
@@ -78,6 +96,12 @@ fn push_new(
     index.push(prefix)
 }
 
+// How many pairs of lines the plain calls find for a prefix.
+fn pairs_of(alloc: Global, lines: &Prefixes, prefix: &Prefix) -> Result<u64, Fail> {
+    let near = closest(alloc, prefix, lines)?;
+    Ok(kept_pairs(alloc, &near)?.len() as u64)
+}
+
 // Whether the index returns for a prefix what the plain calls return.
 fn agree(
     rt: &impl Abort,
@@ -89,34 +113,75 @@ fn agree(
 ) -> Result<(), Fail> {
     let near = closest(alloc, prefix, lines)?;
     assert_eq!(rt; index.closest(prefix)?.as_slice(), near.as_slice());
+    agree_on_bound(rt, alloc, lines, index, prefix, intervals)
+}
+
+fn agree_on_bound(
+    rt: &impl Abort,
+    alloc: Global,
+    lines: &Prefixes,
+    index: &LineIndex,
+    prefix: &Prefix,
+    intervals: &MergedIntervals<'_>,
+) -> Result<(), Fail> {
     let parts = bound(alloc, prefix, lines, intervals)?;
-    assert_eq!(rt; parts.pairs, kept_pairs(alloc, &near)?.len() as u64);
+    assert_eq!(rt; parts.pairs, pairs_of(alloc, lines, prefix)?);
     assert_eq!(rt; index.bound(prefix, intervals)?, parts);
     Ok(())
 }
 
 // The report has 28 lines, as that of `demo` over the same records.
-pub(crate) fn compares_the_lines_of_a_report(
+fn report_on(rt: &impl Abort, alloc: Global, cut: &Cut) -> Result<Report, Fail> {
+    assert!(rt; cut.shards() <= 16);
+    assert!(rt; cut.capacity() == 512);
+    let report = report_of(alloc, cut, 10_000)?;
+    assert_eq!(rt; report.lines.len(), 28);
+    Ok(report)
+}
+
+fn merged_of(rt: &impl Abort, alloc: Global, cut: &Cut) -> Result<Merged, Fail> {
+    assert!(rt; cut.shards() <= 16);
+    assert!(rt; cut.capacity() == 512);
+    Ok(Merged::of(alloc, cut)?)
+}
+
+pub(crate) fn compares_a_report(
     rt: &impl Abort,
     alloc: Global,
     dealer: &Dealer,
 ) -> Result<(), Fail> {
     let cut = demo_cut(rt, alloc, dealer)?;
-    assert!(rt; cut.shards() <= 16);
-    assert!(rt; cut.capacity() == 512);
-    let report = report_of(alloc, &cut, 10_000)?;
-    assert_eq!(rt; report.lines.len(), 28);
+    let report = report_on(rt, alloc, &cut)?;
+    let merged = merged_of(rt, alloc, &cut)?;
+    compares_the_lines_of_a_report(rt, alloc, &report, &MergedIntervals { merged: &merged })
+}
+
+fn compares_the_lines_of_a_report(
+    rt: &impl Abort,
+    alloc: Global,
+    report: &Report,
+    intervals: &MergedIntervals<'_>,
+) -> Result<(), Fail> {
     let mut lines = Prefixes::new(alloc);
     let mut index = LineIndex::new(alloc);
     for line in report.lines.as_slice() {
         push_new(rt, &mut lines, &mut index, &line.prefix)?;
     }
-    let merged = Merged::of(alloc, &cut)?;
-    let intervals = MergedIntervals { merged: &merged };
+    agree_on_each(rt, alloc, &lines, &index, intervals)
+}
+
+// Also for the root, which is no line.
+fn agree_on_each(
+    rt: &impl Abort,
+    alloc: Global,
+    lines: &Prefixes,
+    index: &LineIndex,
+    intervals: &MergedIntervals<'_>,
+) -> Result<(), Fail> {
     let root = Prefix::parse(b"0.0.0.0/0", b"0.0.0.0/0").map_err(|_| "a prefix")?;
-    agree(rt, alloc, &lines, &index, &root, &intervals)?;
+    agree(rt, alloc, lines, index, &root, intervals)?;
     for prefix in lines.as_slice() {
-        agree(rt, alloc, &lines, &index, prefix, &intervals)?;
+        agree(rt, alloc, lines, index, prefix, intervals)?;
     }
     Ok(())
 }

@@ -1,5 +1,6 @@
 //! Made traffic, and what `demo` says of it.
 
+use super::endings::compare;
 use deal_rules::Dealers;
 use hhh_engine::Status;
 use std::alloc::Global;
@@ -17,6 +18,25 @@ const FRAME: [u8; 50] = [
     0x45, 0, 0, 86, 0, 0, 0, 0, 64, 17, 0, 0, 10, 0, 3, 40, 20, 166, 26, 127, // IPv4
 ];
 
+const MAKE: [&str; 3] = ["make", "7", "1"];
+
+const DEMO: [&str; 3] = ["demo", "7", "1"];
+
+// What a command without a capture ends in.
+fn ends_with<R: Abort + Threads + Wait + Sync>(
+    rt: &R,
+    alloc: Global,
+    dealers: &Dealers,
+    words: &[&str],
+    outside: Outside,
+    status: Status,
+    text: &[u8],
+) -> Result<(), Fail> {
+    let ended = run_over(rt, alloc, dealers, words, Vec::new(alloc), outside)?;
+    compare(rt, ended, status, text);
+    Ok(())
+}
+
 pub(crate) fn makes_a_capture<R: Abort + Threads + Wait + Sync>(
     rt: &R,
     alloc: Global,
@@ -24,17 +44,19 @@ pub(crate) fn makes_a_capture<R: Abort + Threads + Wait + Sync>(
 ) -> Result<(), Fail> {
     let mut capture = Vec::from_slice(alloc, &HEADER)?;
     capture.extend_from_slice(&FRAME)?;
-    let words = ["make", "7", "1"];
-    let ended = run_over(rt, alloc, dealers, &words, Vec::new(alloc), SOUND)?;
-    assert_eq!(rt; ended.status, Status::Done);
-    assert_eq!(rt; ended.text.as_slice(), capture.as_slice());
-
+    ends_with(rt, alloc, dealers, &MAKE, SOUND, Status::Done, &capture)?;
     // A sink with room for 30 bytes takes a part of it.
+    capture.truncate(30);
     let full = Outside { room: 30, ..SOUND };
-    let ended = run_over(rt, alloc, dealers, &words, Vec::new(alloc), full)?;
-    assert_eq!(rt; ended.status, Status::WriteFault);
-    assert_eq!(rt; ended.text.as_slice(), &capture[..30]);
-    Ok(())
+    ends_with(
+        rt,
+        alloc,
+        dealers,
+        &MAKE,
+        full,
+        Status::WriteFault,
+        &capture,
+    )
 }
 
 pub(crate) fn demonstrates<R: Abort + Threads + Wait + Sync>(
@@ -42,21 +64,13 @@ pub(crate) fn demonstrates<R: Abort + Threads + Wait + Sync>(
     alloc: Global,
     dealers: &Dealers,
 ) -> Result<(), Fail> {
-    let words = ["demo", "7", "1"];
-    let ended = run_over(rt, alloc, dealers, &words, Vec::new(alloc), SOUND)?;
-    assert_eq!(rt; ended.status, Status::Done);
-    let summary =
-        b"demo 7 1\nrecords 1\ntotal 100\nthreshold 1\nlines 1\naudit good\nend\n".as_slice();
-    assert_eq!(rt; ended.text.as_slice(), summary);
-
+    let summary = b"demo 7 1\nrecords 1\ntotal 100\nthreshold 1\nlines 1\naudit good\nend\n";
+    ends_with(rt, alloc, dealers, &DEMO, SOUND, Status::Done, summary)?;
     let fails = Outside {
         sink_fails: &[0],
         ..SOUND
     };
-    let ended = run_over(rt, alloc, dealers, &words, Vec::new(alloc), fails)?;
-    assert_eq!(rt; ended.status, Status::WriteFault);
-    assert_eq!(rt; ended.text.as_slice(), b"".as_slice());
-    Ok(())
+    ends_with(rt, alloc, dealers, &DEMO, fails, Status::WriteFault, b"")
 }
 
 // 200,000 frames: 200,000 records and 50,000,000 bytes, of which 1 % is the threshold. Another program of the same
@@ -66,15 +80,10 @@ pub(crate) fn demonstrates_the_same_with_one_worker<R: Abort + Threads + Wait + 
     alloc: Global,
     dealers: &Dealers,
 ) -> Result<(), Fail> {
-    let words = ["demo", "7", "200000", "--shards=8"];
-    let ended = run_over(rt, alloc, dealers, &words, Vec::new(alloc), SOUND)?;
-    assert_eq!(rt; ended.status, Status::Done);
     let summary =
-        b"demo 7 200000\nrecords 200000\ntotal 50000000\nthreshold 500000\nlines 28\naudit good\nend\n".as_slice();
-    assert_eq!(rt; ended.text.as_slice(), summary);
-
+        b"demo 7 200000\nrecords 200000\ntotal 50000000\nthreshold 500000\nlines 28\naudit good\nend\n";
+    let words = ["demo", "7", "200000", "--shards=8"];
+    ends_with(rt, alloc, dealers, &words, SOUND, Status::Done, summary)?;
     let words = ["demo", "7", "200000", "--shards=8", "--workers=1"];
-    let other = run_over(rt, alloc, dealers, &words, Vec::new(alloc), SOUND)?;
-    assert_eq!(rt; other.text.as_slice(), summary);
-    Ok(())
+    ends_with(rt, alloc, dealers, &words, SOUND, Status::Done, summary)
 }

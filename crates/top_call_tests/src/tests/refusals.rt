@@ -1,5 +1,6 @@
 //! What is refused, and how it is reported.
 
+use super::endings::compare;
 use checkpoint::StoreSettings;
 use deal_rules::{DealKind, Dealers};
 use exact_audit::Verdict;
@@ -8,7 +9,7 @@ use hhh_engine::{Opt, Status, WordsKind, fault_line};
 use pcap_frames::{CaptureFault, FaultKind};
 use prefix_lattice::{PrefixFault, Side};
 use report_text::TextFault;
-use std::alloc::Global;
+use std::alloc::{AllocError, Global};
 use std::marker::Sync;
 use std::process::Abort;
 use std::sync::Wait;
@@ -89,51 +90,92 @@ pub(crate) fn refuses_words<R: Abort + Threads + Wait + Sync>(
     alloc: Global,
     dealers: &Dealers,
 ) -> Result<(), Fail> {
-    for (words, kind, line) in CASES {
-        let ended = run_over(rt, alloc, dealers, words, capture_of(alloc, &[ONE])?, SOUND)?;
-        assert_eq!(rt; ended.status, Status::BadWords(kind));
-        assert_eq!(rt; ended.status.number(), 2);
-        assert_eq!(rt; ended.text.as_slice(), b"".as_slice());
-        assert_eq!(rt;
-            fault_line(alloc, &ended.status)?.as_slice(),
-            line.as_bytes()
-        );
+    each_is_refused(rt, alloc, dealers, &CASES)
+}
+
+fn each_is_refused<R: Abort + Threads + Wait + Sync>(
+    rt: &R,
+    alloc: Global,
+    dealers: &Dealers,
+    cases: &[Case],
+) -> Result<(), Fail> {
+    for (words, kind, line) in cases {
+        let bytes = capture_of(alloc, &[ONE])?;
+        let ended = run_over(rt, alloc, dealers, words, bytes, SOUND)?;
+        compare(rt, ended, Status::BadWords(*kind), b"");
+        is_told(rt, alloc, Status::BadWords(*kind), 2, line.as_bytes())?;
     }
     Ok(())
 }
+
+// Compares the number of a status, and the line that reports it.
+fn is_told(
+    rt: &impl Abort,
+    alloc: Global,
+    status: Status,
+    number: u8,
+    line: &[u8],
+) -> Result<(), Fail> {
+    assert_eq!(rt; status.number(), number);
+    assert_eq!(rt; fault_line(alloc, &status)?.as_slice(), line);
+    Ok(())
+}
+
+// The offset of a byte of a capture, its new value, the number of bytes kept, the fault, and the offset it is reported at.
+type Change = (usize, u8, usize, FaultKind, u64);
+
+const CHANGES: [Change; 9] = [
+    (0, 0xd4, 0, FaultKind::ShortHeader, 0),
+    (0, 0xd4, 23, FaultKind::ShortHeader, 23),
+    (0, 0x1f, 4, FaultKind::NotCapture, 0),
+    (6, 3, 8, FaultKind::Version, 4),
+    (20, 101, 74, FaultKind::Link, 20),
+    (23, 0x10, 74, FaultKind::Link, 20),
+    (0, 0xd4, 30, FaultKind::CutFrame, 24),
+    (0, 0xd4, 60, FaultKind::CutFrame, 24),
+    (34, 5, 40, FaultKind::LongFrame, 24),
+];
 
 pub(crate) fn refuses_captures<R: Abort + Threads + Wait + Sync>(
     rt: &R,
     alloc: Global,
     dealers: &Dealers,
 ) -> Result<(), Fail> {
+    each_change_is_refused(rt, alloc, dealers, &CHANGES)
+}
+
+fn each_change_is_refused<R: Abort + Threads + Wait + Sync>(
+    rt: &R,
+    alloc: Global,
+    dealers: &Dealers,
+    changes: &[Change],
+) -> Result<(), Fail> {
     let words = ["report", "--shards", "1"];
-    let one_frame = capture_of(alloc, &[ONE])?;
-    // The offset of a byte, its new value, the number of bytes kept, the fault, and the offset it is reported at.
-    for (place, byte, length, kind, at) in [
-        (0, 0xd4, 0, FaultKind::ShortHeader, 0),
-        (0, 0xd4, 23, FaultKind::ShortHeader, 23),
-        (0, 0x1f, 4, FaultKind::NotCapture, 0),
-        (6, 3, 8, FaultKind::Version, 4),
-        (20, 101, 74, FaultKind::Link, 20),
-        (23, 0x10, 74, FaultKind::Link, 20),
-        (0, 0xd4, 30, FaultKind::CutFrame, 24),
-        (0, 0xd4, 60, FaultKind::CutFrame, 24),
-        (34, 5, 40, FaultKind::LongFrame, 24),
-    ] {
-        let mut bytes = one_frame.to_vec(alloc)?;
-        assert!(rt; place < bytes.len());
-        bytes[place] = byte;
-        bytes.truncate(length);
+    for (place, byte, length, kind, at) in changes {
+        let bytes = changed(rt, alloc, *place, *byte, *length)?;
         let ended = run_over(rt, alloc, dealers, &words, bytes, SOUND)?;
-        assert_eq!(rt;
-            ended.status,
-            Status::BadCapture(CaptureFault { kind, place: at }),
-            "byte {place}"
-        );
-        assert_eq!(rt; ended.text.as_slice(), b"".as_slice());
+        let fault = CaptureFault {
+            kind: *kind,
+            place: *at,
+        };
+        compare(rt, ended, Status::BadCapture(fault), b"");
     }
     Ok(())
+}
+
+// A capture of one frame with another byte at a place, of which the first bytes are kept.
+fn changed(
+    rt: &impl Abort,
+    alloc: Global,
+    place: usize,
+    byte: u8,
+    length: usize,
+) -> Result<Vec<u8>, AllocError> {
+    let mut bytes = capture_of(alloc, &[ONE])?;
+    assert!(rt; place < bytes.len());
+    bytes[place] = byte;
+    bytes.truncate(length);
+    Ok(bytes)
 }
 
 // The calls of a source of 74 bytes in pieces of 7: eleven, and one more at the end.
@@ -144,48 +186,46 @@ pub(crate) fn tells_the_faults_of_source_and_sink<R: Abort + Threads + Wait + Sy
     alloc: Global,
     dealers: &Dealers,
 ) -> Result<(), Fail> {
-    let words = ["report", "--shards", "1"];
-    for call in &CALLS {
-        let outside = Outside {
-            source_fails: call,
-            ..SOUND
-        };
-        let ended = run_over(
-            rt,
-            alloc,
-            dealers,
-            &words,
-            capture_of(alloc, &[ONE])?,
-            outside,
-        )?;
-        assert_eq!(rt; ended.status, Status::ReadFault);
-        assert_eq!(rt; ended.text.as_slice(), b"".as_slice());
-    }
-    let outside = Outside {
+    each_call_of_the_source_fails(rt, alloc, dealers, &CALLS)?;
+    let fails = Outside {
         sink_fails: &[0],
         ..SOUND
     };
-    let ended = run_over(
-        rt,
-        alloc,
-        dealers,
-        &words,
-        capture_of(alloc, &[ONE])?,
-        outside,
-    )?;
-    assert_eq!(rt; ended.status, Status::WriteFault);
-    assert_eq!(rt; ended.text.as_slice(), b"".as_slice());
-    let outside = Outside { room: 12, ..SOUND };
-    let ended = run_over(
-        rt,
-        alloc,
-        dealers,
-        &words,
-        capture_of(alloc, &[ONE])?,
-        outside,
-    )?;
-    assert_eq!(rt; ended.status, Status::WriteFault);
-    assert_eq!(rt; ended.text.as_slice(), b"opened 0\nrep".as_slice());
+    breaks_off(rt, alloc, dealers, fails, Status::WriteFault, b"")?;
+    let full = Outside { room: 12, ..SOUND };
+    let text = b"opened 0\nrep";
+    breaks_off(rt, alloc, dealers, full, Status::WriteFault, text)
+}
+
+fn each_call_of_the_source_fails<R: Abort + Threads + Wait + Sync>(
+    rt: &R,
+    alloc: Global,
+    dealers: &Dealers,
+    calls: &'static [[u64; 1]],
+) -> Result<(), Fail> {
+    for call in calls {
+        let fails = Outside {
+            source_fails: call,
+            ..SOUND
+        };
+        breaks_off(rt, alloc, dealers, fails, Status::ReadFault, b"")?;
+    }
+    Ok(())
+}
+
+// What a report on one packet ends in.
+fn breaks_off<R: Abort + Threads + Wait + Sync>(
+    rt: &R,
+    alloc: Global,
+    dealers: &Dealers,
+    outside: Outside,
+    status: Status,
+    text: &[u8],
+) -> Result<(), Fail> {
+    let words = ["report", "--shards", "1"];
+    let bytes = capture_of(alloc, &[ONE])?;
+    let ended = run_over(rt, alloc, dealers, &words, bytes, outside)?;
+    compare(rt, ended, status, text);
     Ok(())
 }
 
@@ -197,93 +237,114 @@ const SETTINGS: StoreSettings = StoreSettings {
     deal: DealKind::Free,
 };
 
+// A status, its number, and the line that reports it.
+type Told = (Status, u8, &'static str);
+
+const TOLD: [Told; 13] = [
+    (Status::Done, 0, "hhh: done\n"),
+    (Status::ReadFault, 4, "hhh: read fault\n"),
+    (Status::WriteFault, 5, "hhh: write fault\n"),
+    (Status::DiskFault, 6, "hhh: disk fault\n"),
+    (Status::NotFormatted, 7, "hhh: store not formatted\n"),
+    (Status::Damaged(1), 8, "hhh: store damaged: slot 1\n"),
+    (
+        Status::OtherSettings {
+            stored: SETTINGS,
+            asked: SETTINGS,
+        },
+        9,
+        "hhh: store has other settings\n",
+    ),
+    (
+        Status::OtherCapture {
+            stored: [0; 32],
+            asked: [1; 32],
+        },
+        10,
+        "hhh: store is of another capture\n",
+    ),
+    (
+        Status::AuditNo {
+            report: 2,
+            verdict: Verdict::BadTotal,
+        },
+        11,
+        "hhh: audit: no\n",
+    ),
+    (
+        Status::BadReport(TextFault::BadLine(4)),
+        12,
+        "hhh: bad report: line 4\n",
+    ),
+    (
+        Status::BadReport(TextFault::MissingEnd(7)),
+        12,
+        "hhh: bad report: no end at line 7\n",
+    ),
+    (
+        Status::BadReport(TextFault::TooLong),
+        12,
+        "hhh: bad report: too long\n",
+    ),
+    (Status::OutOfMemory, 13, "hhh: out of memory\n"),
+];
+
+// The fault of a capture, its place, and the line that reports it.
+type BadCapture = (FaultKind, u64, &'static str);
+
+const BAD_CAPTURES: [BadCapture; 7] = [
+    (
+        FaultKind::ShortHeader,
+        23,
+        "hhh: bad capture: short header at 23\n",
+    ),
+    (
+        FaultKind::NotCapture,
+        0,
+        "hhh: bad capture: not a capture at 0\n",
+    ),
+    (FaultKind::Version, 4, "hhh: bad capture: version at 4\n"),
+    (FaultKind::Link, 20, "hhh: bad capture: link at 20\n"),
+    (
+        FaultKind::LongFrame,
+        24,
+        "hhh: bad capture: long frame at 24\n",
+    ),
+    (
+        FaultKind::CutFrame,
+        24,
+        "hhh: bad capture: cut frame at 24\n",
+    ),
+    (
+        FaultKind::TooManyFrames,
+        570_425_368,
+        "hhh: bad capture: too many frames at 570425368\n",
+    ),
+];
+
 pub(crate) fn tells_each_status(rt: &impl Abort, alloc: Global) -> Result<(), Fail> {
-    let bad = |kind, place| Status::BadCapture(CaptureFault { kind, place });
-    for (status, number, line) in [
-        (Status::Done, 0, b"hhh: done\n".as_slice()),
-        (Status::ReadFault, 4, b"hhh: read fault\n"),
-        (Status::WriteFault, 5, b"hhh: write fault\n"),
-        (Status::DiskFault, 6, b"hhh: disk fault\n"),
-        (Status::NotFormatted, 7, b"hhh: store not formatted\n"),
-        (Status::Damaged(1), 8, b"hhh: store damaged: slot 1\n"),
-        (
-            Status::OtherSettings {
-                stored: SETTINGS,
-                asked: SETTINGS,
-            },
-            9,
-            b"hhh: store has other settings\n",
-        ),
-        (
-            Status::OtherCapture {
-                stored: [0; 32],
-                asked: [1; 32],
-            },
-            10,
-            b"hhh: store is of another capture\n",
-        ),
-        (
-            bad(FaultKind::ShortHeader, 23),
-            3,
-            b"hhh: bad capture: short header at 23\n",
-        ),
-        (
-            bad(FaultKind::NotCapture, 0),
-            3,
-            b"hhh: bad capture: not a capture at 0\n",
-        ),
-        (
-            bad(FaultKind::Version, 4),
-            3,
-            b"hhh: bad capture: version at 4\n",
-        ),
-        (
-            bad(FaultKind::Link, 20),
-            3,
-            b"hhh: bad capture: link at 20\n",
-        ),
-        (
-            bad(FaultKind::LongFrame, 24),
-            3,
-            b"hhh: bad capture: long frame at 24\n",
-        ),
-        (
-            bad(FaultKind::CutFrame, 24),
-            3,
-            b"hhh: bad capture: cut frame at 24\n",
-        ),
-        (
-            bad(FaultKind::TooManyFrames, 570_425_368),
-            3,
-            b"hhh: bad capture: too many frames at 570425368\n",
-        ),
-        (
-            Status::AuditNo {
-                report: 2,
-                verdict: Verdict::BadTotal,
-            },
-            11,
-            b"hhh: audit: no\n",
-        ),
-        (
-            Status::BadReport(TextFault::BadLine(4)),
-            12,
-            b"hhh: bad report: line 4\n",
-        ),
-        (
-            Status::BadReport(TextFault::MissingEnd(7)),
-            12,
-            b"hhh: bad report: no end at line 7\n",
-        ),
-        (
-            Status::BadReport(TextFault::TooLong),
-            12,
-            b"hhh: bad report: too long\n",
-        ),
-        (Status::OutOfMemory, 13, b"hhh: out of memory\n"),
-    ] {
-        assert_eq!(rt; status.number(), number);
-        assert_eq!(rt; fault_line(alloc, &status)?.as_slice(), line);
+    each_is_told(rt, alloc, &TOLD)?;
+    each_bad_capture_is_told(rt, alloc, &BAD_CAPTURES)
+}
+
+fn each_is_told(rt: &impl Abort, alloc: Global, cases: &[Told]) -> Result<(), Fail> {
+    for (status, number, line) in cases {
+        is_told(rt, alloc, *status, *number, line.as_bytes())?;
+    }
+    Ok(())
+}
+
+fn each_bad_capture_is_told(
+    rt: &impl Abort,
+    alloc: Global,
+    cases: &[BadCapture],
+) -> Result<(), Fail> {
+    for (kind, place, line) in cases {
+        let fault = CaptureFault {
+            kind: *kind,
+            place: *place,
+        };
+        is_told(rt, alloc, Status::BadCapture(fault), 3, line.as_bytes())?;
     }
     Ok(())
 }

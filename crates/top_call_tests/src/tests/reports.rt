@@ -1,14 +1,14 @@
 //! What `report` writes.
 
+use super::endings::{Written, each_is_written, writes};
 use deal_rules::Dealers;
-use hhh_engine::Status;
 use std::alloc::{AllocError, Global};
 use std::marker::Sync;
 use std::process::Abort;
 use std::sync::Wait;
 use std::test::Fail;
 use std::thread::Threads;
-use test_runs::{HEADER, ONE, Packet, SOUND, capture_of, packet_bytes, push_frame, run_over};
+use test_runs::{HEADER, ONE, Packet, capture_of, packet_bytes, push_frame};
 
 // Packets from N.0.0.1 to (100 + N).0.0.1, N being 1 to 6.
 const X: Packet = (0x0100_0001, 0x6500_0001);
@@ -45,20 +45,17 @@ const CROSSING: [Packet; 8] = [
     (0x2b00_0001, 0x3500_0001),
 ];
 
-// The arguments, the packets, and what is written.
-type Case = (&'static [&'static str], &'static [Packet], &'static str);
+// The session over that one packet, with one shard.
+const OF_ONE: &str =
+    "opened 0\nreport\nat 1\ntotal 100\nthreshold 1\nline 10.1.2.3/32 20.1.2.3/32 100 100\ndone\nframes 1\nskipped 0 0 0\nend\n";
 
-const CASES: [Case; 8] = [
+const CASES: [Written; 8] = [
     (
         &["report", "--shards", "1"],
         &[],
         "opened 0\nreport\nat 0\ntotal 0\nthreshold 1\ndone\nframes 0\nskipped 0 0 0\nend\n",
     ),
-    (
-        &["report", "--shards", "1"],
-        &[ONE],
-        "opened 0\nreport\nat 1\ntotal 100\nthreshold 1\nline 10.1.2.3/32 20.1.2.3/32 100 100\ndone\nframes 1\nskipped 0 0 0\nend\n",
-    ),
+    (&["report", "--shards", "1"], &[ONE], OF_ONE),
     (
         &["report"],
         &[ONE, ONE],
@@ -128,19 +125,7 @@ pub(crate) fn reports<R: Abort + Threads + Wait + Sync>(
     alloc: Global,
     dealers: &Dealers,
 ) -> Result<(), Fail> {
-    for (words, packets, want) in CASES {
-        let ended = run_over(
-            rt,
-            alloc,
-            dealers,
-            words,
-            capture_of(alloc, packets)?,
-            SOUND,
-        )?;
-        assert_eq!(rt; ended.status, Status::Done, "{want}");
-        assert_eq!(rt; ended.text.as_slice(), want.as_bytes(), "{want}");
-    }
-    Ok(())
+    each_is_written(rt, alloc, dealers, &CASES)
 }
 
 // The rule answers shard 0 for each record.
@@ -152,17 +137,8 @@ pub(crate) fn deals_to_the_first<R: Abort + Threads + Wait + Sync>(
     let words = ["report", "--shards", "2", "--deal", "free"];
     let want =
         "opened 0 0\nreport\nat 1 0\ntotal 100\nthreshold 1\nline 10.1.2.3/32 20.1.2.3/32 100 100\ndone\nframes 1\nskipped 0 0 0\nend\n";
-    let ended = run_over(
-        rt,
-        alloc,
-        dealers,
-        &words,
-        capture_of(alloc, &[ONE])?,
-        SOUND,
-    )?;
-    assert_eq!(rt; ended.status, Status::Done);
-    assert_eq!(rt; ended.text.as_slice(), want.as_bytes());
-    Ok(())
+    let bytes = capture_of(alloc, &[ONE])?;
+    writes(rt, alloc, dealers, &words, bytes, want)
 }
 
 // The header of a big-endian capture with timestamps in nanoseconds.
@@ -192,22 +168,34 @@ fn capture_by(alloc: Global, big: bool, magic: &[u8]) -> Result<Vec<u8>, AllocEr
     Ok(bytes)
 }
 
+// A magic, and whether it is that of a big-endian capture.
+type Spelling = (bool, [u8; 4]);
+
+const SPELLINGS: [Spelling; 4] = [
+    (false, [0xd4, 0xc3, 0xb2, 0xa1]),
+    (false, [0x4d, 0x3c, 0xb2, 0xa1]),
+    (true, [0xa1, 0xb2, 0xc3, 0xd4]),
+    (true, [0xa1, 0xb2, 0x3c, 0x4d]),
+];
+
 pub(crate) fn reads_the_four_spellings_of_the_magic<R: Abort + Threads + Wait + Sync>(
     rt: &R,
     alloc: Global,
     dealers: &Dealers,
 ) -> Result<(), Fail> {
-    let (words, _, want) = CASES[1];
-    for (big, magic) in [
-        (false, [0xd4, 0xc3, 0xb2, 0xa1]),
-        (false, [0x4d, 0x3c, 0xb2, 0xa1]),
-        (true, [0xa1, 0xb2, 0xc3, 0xd4]),
-        (true, [0xa1, 0xb2, 0x3c, 0x4d]),
-    ] {
-        let bytes = capture_by(alloc, big, &magic)?;
-        let ended = run_over(rt, alloc, dealers, words, bytes, SOUND)?;
-        assert_eq!(rt; ended.status, Status::Done);
-        assert_eq!(rt; ended.text.as_slice(), want.as_bytes());
+    each_spelling_is_read(rt, alloc, dealers, &SPELLINGS)
+}
+
+fn each_spelling_is_read<R: Abort + Threads + Wait + Sync>(
+    rt: &R,
+    alloc: Global,
+    dealers: &Dealers,
+    spellings: &[Spelling],
+) -> Result<(), Fail> {
+    let words = ["report", "--shards", "1"];
+    for (big, magic) in spellings {
+        let bytes = capture_by(alloc, *big, magic)?;
+        writes(rt, alloc, dealers, &words, bytes, OF_ONE)?;
     }
     Ok(())
 }
@@ -219,28 +207,42 @@ const TWO_TAGS: [u8; 8] = [0x88, 0xa8, 0, 1, 0x81, 0, 0, 2];
 
 const THREE_TAGS: [u8; 12] = [0x88, 0xa8, 0, 1, 0x81, 0, 0, 2, 0x81, 0, 0, 3];
 
-// Three IPv4 frames with no tag, one and two; then ARP, IPv6 and three tags; then a cut-off header and one too short.
-fn mixed_capture(alloc: Global) -> Result<Vec<u8>, AllocError> {
-    let mut bytes = Vec::from_slice(alloc, &HEADER)?;
-    for tags in [
-        [].as_slice(),
-        &TAG,
-        &TWO_TAGS,
-        &[8, 6],
-        &[0x86, 0xdd],
-        &THREE_TAGS,
-    ] {
-        push_frame(&mut bytes, &packet_bytes(alloc, tags, ONE)?)?;
+// What is between the addresses and the type of a frame.
+type Tags = &'static [u8];
+
+// Three IPv4 frames with no tag, one and two; then ARP, IPv6 and three tags.
+const TAGGED: [Tags; 6] = [&[], &TAG, &TWO_TAGS, &[8, 6], &[0x86, 0xdd], &THREE_TAGS];
+
+fn push_tagged(alloc: Global, bytes: &mut Vec<u8>, tagged: &[Tags]) -> Result<(), AllocError> {
+    for tags in tagged {
+        push_frame(bytes, &packet_bytes(alloc, tags, ONE)?)?;
     }
-    let whole = packet_bytes(alloc, &[], ONE)?;
-    let mut cut = whole.to_vec(alloc)?;
+    Ok(())
+}
+
+// A frame whose header is cut off by one byte.
+fn push_cut(alloc: Global, bytes: &mut Vec<u8>) -> Result<(), AllocError> {
+    let mut cut = packet_bytes(alloc, &[], ONE)?;
     cut.pop();
-    push_frame(&mut bytes, &cut)?;
+    push_frame(bytes, &cut)
+}
+
+// A frame whose header says that it is too short.
+fn push_short(alloc: Global, bytes: &mut Vec<u8>) -> Result<(), AllocError> {
+    let whole = packet_bytes(alloc, &[], ONE)?;
     let mut short = Vec::new(alloc);
     for (place, byte) in whole.iter().enumerate() {
         short.push(if place == 14 { 0x44 } else { *byte })?;
     }
-    push_frame(&mut bytes, &short)?;
+    push_frame(bytes, &short)
+}
+
+// The tagged frames, then a cut-off header and one too short.
+fn mixed_capture(alloc: Global) -> Result<Vec<u8>, AllocError> {
+    let mut bytes = Vec::from_slice(alloc, &HEADER)?;
+    push_tagged(alloc, &mut bytes, &TAGGED)?;
+    push_cut(alloc, &mut bytes)?;
+    push_short(alloc, &mut bytes)?;
     Ok(bytes)
 }
 
@@ -252,8 +254,5 @@ pub(crate) fn counts_frames_without_a_record<R: Abort + Threads + Wait + Sync>(
     let words = ["report", "--shards", "1"];
     let want =
         "opened 0\nreport\nat 3\ntotal 300\nthreshold 3\nline 10.1.2.3/32 20.1.2.3/32 300 300\ndone\nframes 8\nskipped 3 1 1\nend\n";
-    let ended = run_over(rt, alloc, dealers, &words, mixed_capture(alloc)?, SOUND)?;
-    assert_eq!(rt; ended.status, Status::Done);
-    assert_eq!(rt; ended.text.as_slice(), want.as_bytes());
-    Ok(())
+    writes(rt, alloc, dealers, &words, mixed_capture(alloc)?, want)
 }

@@ -1,23 +1,19 @@
 //! What `weigh` writes.
 
+use super::endings::{Written, compare, each_is_written, run_with};
 use deal_rules::Dealers;
-use gate_workers::OpenGate;
-use hhh_engine::{Status, run};
+use hhh_engine::Status;
 use outside_io::{MemorySink, MemorySource};
 use pcap_frames::{CaptureFault, FaultKind};
-use slot_disk::MemoryDisk;
 use std::alloc::{AllocError, Global};
 use std::marker::Sync;
 use std::process::Abort;
 use std::sync::Wait;
 use std::test::Fail;
 use std::thread::Threads;
-use test_runs::{HEADER, ONE, Packet, SOUND, capture_of, run_over};
+use test_runs::{Ended, HEADER, ONE, SOUND, run_over};
 
-// The arguments, the packets, and what is written.
-type Case = (&'static [&'static str], &'static [Packet], &'static str);
-
-const CASES: [Case; 6] = [
+const CASES: [Written; 6] = [
     (
         &["weigh", "10.0.0.0/8", "20.0.0.0/8"],
         &[ONE],
@@ -55,20 +51,10 @@ pub(crate) fn weighs_prefixes<R: Abort + Threads + Wait + Sync>(
     alloc: Global,
     dealers: &Dealers,
 ) -> Result<(), Fail> {
-    for (words, packets, want) in CASES {
-        let ended = run_over(
-            rt,
-            alloc,
-            dealers,
-            words,
-            capture_of(alloc, packets)?,
-            SOUND,
-        )?;
-        assert_eq!(rt; ended.status, Status::Done, "{want}");
-        assert_eq!(rt; ended.text.as_slice(), want.as_bytes(), "{want}");
-    }
-    Ok(())
+    each_is_written(rt, alloc, dealers, &CASES)
 }
+
+const ALL: [&str; 3] = ["weigh", "0.0.0.0/0", "0.0.0.0/0"];
 
 // A capture of one frame with this many captured bytes, all zero except its type and the first byte of its header.
 fn long_capture(alloc: Global, captured: u32) -> Result<Vec<u8>, AllocError> {
@@ -81,46 +67,33 @@ fn long_capture(alloc: Global, captured: u32) -> Result<Vec<u8>, AllocError> {
     Ok(bytes)
 }
 
+// Weighs everything in a capture, which is read in pieces of a page.
+fn weigh_all<R: Threads + Wait + Sync>(
+    rt: &R,
+    alloc: Global,
+    dealers: &Dealers,
+    bytes: Vec<u8>,
+) -> Result<Ended, AllocError> {
+    let mut source = MemorySource::new(bytes, Vec::new(alloc), 4096);
+    let mut text = MemorySource::new(Vec::new(alloc), Vec::new(alloc), 64);
+    let mut sink = MemorySink::with_room(alloc, 4096, Vec::new(alloc))?;
+    run_with(rt, alloc, dealers, &ALL, &mut source, &mut text, &mut sink)
+}
+
 pub(crate) fn weighs_the_longest_frame<R: Abort + Threads + Wait + Sync>(
     rt: &R,
     alloc: Global,
     dealers: &Dealers,
 ) -> Result<(), Fail> {
-    let words = ["weigh", "0.0.0.0/0", "0.0.0.0/0"];
-    let mut source = MemorySource::new(long_capture(alloc, 262_144)?, Vec::new(alloc), 4096);
-    let mut text = MemorySource::new(Vec::new(alloc), Vec::new(alloc), 64);
-    let mut sink = MemorySink::with_room(alloc, 4096, Vec::new(alloc))?;
-    let mut disk = MemoryDisk::with_room(alloc, 0, 0, Vec::new(alloc), None, Vec::new(alloc))?;
-    assert_eq!(rt;
-        run(
-            rt,
-            alloc,
-            &words,
-            &mut source,
-            &mut text,
-            &mut sink,
-            &mut disk,
-            &OpenGate,
-            dealers
-        ),
-        Status::Done
-    );
-    assert_eq!(rt;
-        sink.taken(),
-        b"low 262144\nhigh 262144\ntotal 262144\n".as_slice()
-    );
+    let ended = weigh_all(rt, alloc, dealers, long_capture(alloc, 262_144)?)?;
+    let text = b"low 262144\nhigh 262144\ntotal 262144\n";
+    compare(rt, ended, Status::Done, text);
     let fault = CaptureFault {
         kind: FaultKind::LongFrame,
         place: 24,
     };
-    let ended = run_over(
-        rt,
-        alloc,
-        dealers,
-        &words,
-        long_capture(alloc, 262_145)?,
-        SOUND,
-    )?;
+    let bytes = long_capture(alloc, 262_145)?;
+    let ended = run_over(rt, alloc, dealers, &ALL, bytes, SOUND)?;
     assert_eq!(rt; ended.status, Status::BadCapture(fault));
     Ok(())
 }

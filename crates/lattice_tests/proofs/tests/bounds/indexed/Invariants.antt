@@ -3,4 +3,4 @@ use Rattle.lattice_tests.proofs.tests.bounds.indexed.Given as goal
 
 -- both have the same lines
 abbrev pub invariant-loop-line : goal.invariant-loop-line
-invariant-loop-line g l = l.pushed ≡ l.index
+invariant-loop-line l = l.pushed ≡ l.index

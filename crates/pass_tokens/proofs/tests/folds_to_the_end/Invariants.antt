@@ -1,6 +1,0 @@
-use Rattle.pass_tokens.specs.Board.{IsPassOf}
-use Rattle.pass_tokens.proofs.tests.folds_to_the_end.Given as goal
-
--- between two folds the pass is one of the board
-abbrev pub invariant-loop : goal.invariant-loop
-invariant-loop g l = IsPassOf l.board l.pass

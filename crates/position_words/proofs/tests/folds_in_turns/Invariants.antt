@@ -1,7 +1,0 @@
-use Rattle.std.proofs.Common.{◌≡◌, None}
-use Rattle.position_words.specs.Seat.{IsSeatOf, view}
-use Rattle.position_words.proofs.tests.folds_in_turns.Given as goal
-
--- between two turns the seat is one of the words, and holds nothing
-abbrev pub invariant-loop : goal.invariant-loop
-invariant-loop l = IsSeatOf l.words l.seat × ((view l.seat).held ≡ None)

@@ -1,6 +1,0 @@
-use Rattle.std.proofs.Common.{◌≡◌, take}
-use Rattle.shard_state.proofs.tests.list_of.Given as goal
-
--- the records so far
-abbrev pub invariant-loop-rec : goal.invariant-loop-rec
-invariant-loop-rec l = l.list ≡ take l.rec-index l.records
