@@ -9,12 +9,11 @@ use Rattle.std.proofs.lemmas.Bool.{cases_lt}
 use Rattle.std.proofs.lemmas.List.Folds.{list_any-append, list_any_none}
 use Rattle.std.proofs.lemmas.List.Elements.{All-push, All-weaker, All-nil}
 use Rattle.prefix_lattice.specs.{node_index, node_at, node_level, PrefixValue, IsPrefix, node_of_prefix, prefix_code}
-use Rattle.prefix_lattice.specs.{under, same_as, strictly_under}
+use Rattle.prefix_lattice.specs.{under, same_as, strictly_under, upper_at}
 use Rattle.prefix_lattice.proofs.NodePlaceLemmas.{node_at_own_place, node_place_is_small}
-use Rattle.conditioned_bounds.specs.Uppers.{upper_at, AreUpperCodes}
+use Rattle.conditioned_bounds.specs.Uppers.{AreUpperCodes}
 use Rattle.conditioned_bounds.proofs.UpperLemmas.{UpperKeysAreApart, upper_key_is_small, upper_node_is_valid}
 use Rattle.conditioned_bounds.proofs.UpperLemmas.{same_upper_code}
-use Rattle.conditioned_bounds.proofs.UpperLemmas.{upper-only}
 
 -- what the laws of the lattice say of prefixes that are under others
 pub record CodeOrderHolds : Type 0 where
@@ -23,6 +22,7 @@ pub record CodeOrderHolds : Type 0 where
       → prefix ≡ other
   pub level : (lower upper : PrefixValue) → strictly_under lower upper ≡ true
       → node_level (node_of_prefix upper) < node_level (node_of_prefix lower)
+  pub only : (lower upper : PrefixValue) → under lower upper ≡ true → upper_at lower (node_of_prefix upper) ≡ Some upper
 
 -- a prefix that is strictly under another is under it
 pub code_above-under : (lower upper : PrefixValue) → strictly_under lower upper ≡ true → under lower upper ≡ true
@@ -107,11 +107,11 @@ codes_skip prefix place codes within before none = record {
         ∙ sym (none upper is (sym (node_at_own_place (node_of_prefix upper) (upper_node_is_valid upper is)) ∙ ap node_at at))
 
 -- a node at which the prefix is strictly under one
-pub codes_add : UpperKeysAreApart → (prefix : PrefixValue) (place : ℕ) (codes : List ℕ) (upper : PrefixValue)
+pub codes_add : UpperKeysAreApart → CodeOrderHolds → (prefix : PrefixValue) (place : ℕ) (codes : List ℕ) (upper : PrefixValue)
     → CodesBefore prefix place codes → IsPrefix upper → node_index (node_of_prefix upper) ≡ place
     → strictly_under prefix upper ≡ true
     → CodesBefore prefix (place + 1) (codes ++ prefix_code upper ∷ [])
-codes_add apart prefix place codes upper before upper_is at is =
+codes_add apart order prefix place codes upper before upper_is at is =
     let small = upper_key_is_small upper upper_is in
     let low : place * 2 ^ 64 ≤ prefix_code upper = omega (arith, at) in
     let high : prefix_code upper < (place + 1) * 2 ^ 64 = omega (arith, at, small) in
@@ -171,8 +171,8 @@ codes_add apart prefix place codes upper before upper_is at is =
         ∙ node_at_own_place (node_of_prefix other) (upper_node_is_valid other other_is) in
         let one : upper ≡ other =
         some-injective upper other
-        (sym (upper-only prefix upper (code_above-under prefix upper is)) ∙ ap (upper_at prefix) node
-        ∙ upper-only prefix other (code_above-under prefix other is_other)) in
+        (sym (order.only prefix upper (code_above-under prefix upper is)) ∙ ap (upper_at prefix) node
+        ∙ order.only prefix other (code_above-under prefix other is_other)) in
         eq-eqb (prefix_code upper) (prefix_code other) (ap prefix_code one))
 
 -- after the last node they are all

@@ -1,5 +1,5 @@
 -- Worked examples of how lines are indexed, most by computing.
-use Rattle.std.proofs.Common.{◌≡◌, ◌≢◌, ℕ, ◌+◌, ◌*◌, ◌^◌, true, false, List, [], ◌∷◌, length, None, Some, refl, sym, ap}
+use Rattle.std.proofs.Common.{◌≡◌, ◌≢◌, ℕ, ◌+◌, ◌*◌, ◌^◌, false, List, [], ◌∷◌, length, None, Some, refl, sym, ap}
 use Rattle.std.proofs.Common.{◌<◌, ◌∙◌, map, All, Vec, subst, arith}
 use Rattle.std.specs.Map.{lookup}
 use Rattle.std.specs.Ordering.{nat_cmp}
@@ -8,9 +8,9 @@ use Rattle.std.specs.BTreeMap.{BTreeMap, is_at}
 use Rattle.std.specs.declared.alloc.Global.{Global}
 use Rattle.std.proofs.lemmas.Bool.{false≢true}
 use Rattle.prefix_lattice.proofs.ListLemmas.{Contains-list_head}
-use Rattle.prefix_lattice.specs.{NodeValue, PrefixValue, AreLeadingBytes, IsPrefix, node_of_prefix, strictly_under}
+use Rattle.prefix_lattice.specs.{PrefixValue, AreLeadingBytes, IsPrefix, node_of_prefix, strictly_under}
 use Rattle.prefix_lattice.specs.{prefix_code}
-use Rattle.conditioned_bounds.specs.Uppers.{is_upper, shortened, upper_at, AreUpperCodes}
+use Rattle.conditioned_bounds.specs.Uppers.{AreUpperCodes}
 use Rattle.conditioned_bounds.specs.Members.{member_limit, AreMembers}
 use Rattle.conditioned_bounds.specs.Numbers.{line_numbers, line_numbers_at, HaveRoom}
 use Rattle.conditioned_bounds.specs.Numbers.{HasRoomFor}
@@ -19,26 +19,6 @@ use Rattle.conditioned_bounds.specs.LineIndex.{root_line, indexed_line, AreIndex
 -- 10.1.0.0/16 20.0.0.0/8
 abbrev net : PrefixValue
 net = record { source = 10 ∷ 1 ∷ []; dest = 20 ∷ [] }
-
--- a node that keeps this many bytes of each address
-abbrev node : ℕ → ℕ → NodeValue
-node sources dests = record { source_bytes = sources; dest_bytes = dests }
-
-pub a_node_of_fewer_source_bytes : is_upper (node 1 1) net ≡ true
-a_node_of_fewer_source_bytes = refl
-
-pub a_node_of_more_destination_bytes : is_upper (node 1 2) net ≡ false
-a_node_of_more_destination_bytes = refl
-
--- 10.0.0.0/8 0.0.0.0/0
-pub net_cut_down : shortened net (node 1 0) ≡ record { source = 10 ∷ []; dest = [] }
-net_cut_down = refl
-
-pub net_is_under_one_prefix_of_a_node : upper_at net (node 1 1) ≡ Some (record { source = 10 ∷ []; dest = 20 ∷ [] })
-net_is_under_one_prefix_of_a_node = refl
-
-pub net_is_under_none_of_a_node_that_keeps_more : upper_at net (node 3 0) ≡ None
-net_is_under_none_of_a_node_that_keeps_more = refl
 
 -- node 11 of the 25, and 10.1.0.0 and 20.0.0.0
 pub code_of_the_net : prefix_code net ≡ 11 * 2 ^ 64 + 0x0a01000014000000

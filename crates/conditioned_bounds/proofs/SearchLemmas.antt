@@ -10,9 +10,7 @@ use Rattle.std.proofs.lemmas.List.{take_more}
 use Rattle.std.proofs.lemmas.List.Elements.{Contains-get_or, Contains-push_cases}
 use Rattle.std.proofs.lemmas.List.Folds.{list_any_none, list_any-from_Any}
 use Rattle.prefix_lattice.specs.{NodeValue, PrefixValue, node_of_prefix, under, same_as, strictly_under}
-use Rattle.prefix_lattice.specs.{lines_under}
-use Rattle.conditioned_bounds.specs.Uppers.{upper_at}
-use Rattle.conditioned_bounds.proofs.UpperLemmas.{upper-only}
+use Rattle.prefix_lattice.specs.{lines_under, upper_at}
 use Rattle.conditioned_bounds.proofs.CodeLemmas.{CodeOrderHolds, no_code_above_own_node, code_above-under}
 
 -- no member of the first nodes passes the test
@@ -91,21 +89,21 @@ search_some-injective : (x y : PrefixValue) → ◌≡◌ {A = Option PrefixValu
 search_some-injective x y same = cc
 
 -- none of a node at which it has no upper one
-pub search_no_upper-explains_none : (line prefix other : PrefixValue) → upper_at line (node_of_prefix other) ≡ None
+pub search_no_upper-explains_none : CodeOrderHolds → (line prefix other : PrefixValue) → upper_at line (node_of_prefix other) ≡ None
     → search_explains line prefix other ≡ false
-search_no_upper-explains_none line prefix other none =
+search_no_upper-explains_none order line prefix other none =
     search-false_and (strictly_under other prefix) (strictly_under line other)
     (false_from_ne_true (strictly_under line other) (λ is.
-    none-some other (sym none ∙ upper-only line other (code_above-under line other is))))
+    none-some other (sym none ∙ order.only line other (code_above-under line other is))))
 
 -- and of another node only its upper one
-pub search_other-explains_none : (line prefix other upper : PrefixValue) → upper_at line (node_of_prefix other) ≡ Some upper
+pub search_other-explains_none : CodeOrderHolds → (line prefix other upper : PrefixValue) → upper_at line (node_of_prefix other) ≡ Some upper
     → (upper ≡ other → strictly_under upper prefix ≡ false) → search_explains line prefix other ≡ false
-search_other-explains_none line prefix other upper found apart =
+search_other-explains_none order line prefix other upper found apart =
     false_from_ne_true (search_explains line prefix other) (λ is.
     let both = and_parts (strictly_under other prefix) (strictly_under line other) is in
     let same : upper ≡ other =
-    search_some-injective upper other (sym found ∙ upper-only line other (code_above-under line other both.1)) in
+    search_some-injective upper other (sym found ∙ order.only line other (code_above-under line other both.1)) in
     false≢true (sym (apart same) ∙ ap (λ p. strictly_under p prefix) same ∙ both.0))
 
 -- whether a meet is under a member that is neither of two
@@ -123,7 +121,7 @@ search_first-is_no_third order first second meet third is node =
     let both = and_parts (under meet third) (not (same_as third first || same_as third second)) found in
     let one : third ≡ first =
     search_some-injective third first
-    (sym (upper-only meet third both.0) ∙ ap (upper_at meet) node ∙ upper-only meet first is) in
+    (sym (order.only meet third both.0) ∙ ap (upper_at meet) node ∙ order.only meet first is) in
     let same : same_as third first ≡ true = ap (λ p. same_as p first) one ∙ search_same-reflexive order first in
     false≢true (sym (ap (λ b. not (b || same_as third second)) same) ∙ both.1))
 
@@ -135,7 +133,7 @@ search_second-is_no_third order first second meet third is node =
     let both = and_parts (under meet third) (not (same_as third first || same_as third second)) found in
     let one : third ≡ second =
     search_some-injective third second
-    (sym (upper-only meet third both.0) ∙ ap (upper_at meet) node ∙ upper-only meet second is) in
+    (sym (order.only meet third both.0) ∙ ap (upper_at meet) node ∙ order.only meet second is) in
     let same : same_as third second ≡ true = ap (λ p. same_as p second) one ∙ search_same-reflexive order second in
     false≢true (sym (ap (λ b. not (same_as third first || b)) same ∙ ap not (or_true (same_as third first)))
     ∙ both.1))
@@ -145,21 +143,21 @@ search_second-is_no_third order first second meet third is node =
     or_true false = refl
 
 -- where a meet has no upper one at a node, no member of the node is a third
-pub search_no_upper-no_third : (first second meet third : PrefixValue) → upper_at meet (node_of_prefix third) ≡ None
+pub search_no_upper-no_third : CodeOrderHolds → (first second meet third : PrefixValue) → upper_at meet (node_of_prefix third) ≡ None
     → is_search_third first second meet third ≡ false
-search_no_upper-no_third first second meet third none =
+search_no_upper-no_third order first second meet third none =
     false_from_ne_true (is_search_third first second meet third) (λ found.
     none-some third (sym none
-    ∙ upper-only meet third
+    ∙ order.only meet third
     (and_parts (under meet third) (not (same_as third first || same_as third second)) found).0))
 
 -- where it has one, no other member is
-pub search_other-is_no_third : (first second meet third upper : PrefixValue) → upper_at meet (node_of_prefix third) ≡ Some upper
+pub search_other-is_no_third : CodeOrderHolds → (first second meet third upper : PrefixValue) → upper_at meet (node_of_prefix third) ≡ Some upper
     → (upper ≡ third → ⊥) → is_search_third first second meet third ≡ false
-search_other-is_no_third first second meet third upper is apart =
+search_other-is_no_third order first second meet third upper is apart =
     false_from_ne_true (is_search_third first second meet third) (λ found.
     apart (search_some-injective upper third (sym is
-    ∙ upper-only meet third
+    ∙ order.only meet third
     (and_parts (under meet third) (not (same_as third first || same_as third second)) found).0)))
 
 -- a member of another node than both that the meet is under is a third

@@ -13,9 +13,9 @@ use crate::meet_sums::sum_of_meets;
 use crate::members::Members;
 use crate::numbers::{make_room, note, numbers_at};
 use crate::sums::sum_of_lows;
-use crate::uppers::{code_of, codes_above, upper};
+use crate::uppers::{code_of, codes_above};
 use crate::{BoundParts, Intervals, bounds_hold};
-use prefix_lattice::{Prefix, Prefixes, prefixes_are_ordered};
+use prefix_lattice::{Prefix, Prefixes, prefixes_are_ordered, uppers_are_above};
 use std::alloc::{AllocError, Global};
 use std::collections::BTreeMap;
 use std::marker::Model;
@@ -126,12 +126,13 @@ fn is_under_another(lines: &Members, line: &Prefix, prefix: &Prefix) -> bool
     ensures { result ≡ list_any (λ other. strictly_under line.now other) (lines_under prefix.now lines.now) }
 {
     prefixes_are_ordered();
+    uppers_are_above();
     let own = line.node();
     for node in lines.nodes() {
         if *node == own {
             continue;
         }
-        let Some(other) = upper(line, *node) else {
+        let Some(other) = line.upper(*node) else {
             continue;
         };
         if !other.strictly_under(prefix) {

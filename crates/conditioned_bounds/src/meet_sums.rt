@@ -7,8 +7,7 @@ ghost use Rattle.conditioned_bounds.specs.Members.{member_limit};
 
 use crate::Intervals;
 use crate::members::Members;
-use crate::uppers::upper;
-use prefix_lattice::{Prefix, prefixes_are_ordered};
+use prefix_lattice::{Prefix, prefixes_are_ordered, uppers_are_above};
 
 /// The sum of the highs of some meets, and how many there are.
 #[derive(Clone, Copy, PartialEq, Eq)]
@@ -78,6 +77,7 @@ fn is_under_third(members: &Members, first: &Prefix, second: &Prefix, meet: &Pre
     ensures { result ≡ under_third members.now first.now second.now meet.now }
 {
     prefixes_are_ordered();
+    uppers_are_above();
     let first = first.node();
     let second = second.node();
     for node in members.nodes() {
@@ -87,7 +87,7 @@ fn is_under_third(members: &Members, first: &Prefix, second: &Prefix, meet: &Pre
         if *node == second {
             continue;
         }
-        let Some(third) = upper(meet, *node) else {
+        let Some(third) = meet.upper(*node) else {
             continue;
         };
         if members.has(&third) {

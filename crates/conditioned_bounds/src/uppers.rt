@@ -1,30 +1,13 @@
-//! The prefixes that a prefix is under, one at each node that keeps no more than it.
+//! The numbers of the prefixes that a prefix is under, one at each node that keeps no more than it.
 
 ghost use Rattle.std.specs.Prelude.{◌≡◌, IfOk};
-ghost use Rattle.prefix_lattice.specs.{IsPrefix, IsNode, prefix_code};
-ghost use Rattle.conditioned_bounds.specs.Uppers.{upper_at, AreUpperCodes};
+ghost use Rattle.prefix_lattice.specs.{IsPrefix, prefix_code};
+ghost use Rattle.conditioned_bounds.specs.Uppers.{AreUpperCodes};
 
-use prefix_lattice::{Node, Prefix, Record, keys_are_of_their_node, prefixes_are_ordered};
+use prefix_lattice::{
+    Node, Prefix, keys_are_of_their_node, prefixes_are_ordered, uppers_are_above,
+};
 use std::alloc::{AllocError, Global};
-
-/// The prefix of a node that this prefix is under. There is none where the node keeps more bytes of an address.
-pub(crate) fn upper(prefix: &Prefix, node: Node) -> Option<Prefix>
-    ensures value { result ≡ upper_at prefix.now node }
-    ensures prefix { IsPrefix prefix.now }
-    ensures node { IsNode node }
-{
-    prefix.keeps_leading_bytes();
-    let own = prefix.node();
-    if node.source_bytes() > own.source_bytes() || node.dest_bytes() > own.dest_bytes() {
-        return None;
-    }
-    let pair = Record {
-        src: prefix.source(),
-        dst: prefix.dest(),
-        weight: 1,
-    };
-    Some(Prefix::of(&pair, node))
-}
 
 /// The number of a prefix, by its node and then by its key. No two prefixes share one.
 pub(crate) fn code_of(prefix: &Prefix) -> u128
@@ -40,6 +23,7 @@ pub(crate) fn codes_above(alloc: Global, prefix: &Prefix) -> Result<Vec<u128>, A
 {
     prefixes_are_ordered();
     keys_are_of_their_node();
+    uppers_are_above();
     prefix.keeps_leading_bytes();
     let mut codes = Vec::with_capacity(alloc, 24)?;
     for place in 0..25 {
@@ -47,7 +31,7 @@ pub(crate) fn codes_above(alloc: Global, prefix: &Prefix) -> Result<Vec<u128>, A
         if node == prefix.node() {
             continue;
         }
-        if let Some(above) = upper(prefix, node) {
+        if let Some(above) = prefix.upper(node) {
             codes.push(code_of(&above))?;
         }
     }

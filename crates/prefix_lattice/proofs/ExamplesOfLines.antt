@@ -1,7 +1,8 @@
 -- Worked examples of what lines explain: closest lines, kept pairs and the staircase law.
-use Rattle.std.proofs.Common.{◌≡◌, ◌≢◌, List, [], ◌∷◌, length, true, false, None, Some, AllPairs, refl, ap, arith}
+use Rattle.std.proofs.Common.{◌≡◌, ◌≢◌, ℕ, List, [], ◌∷◌, length, true, false, None, Some, AllPairs, refl, ap, arith}
 use Rattle.std.proofs.lemmas.List.Elements.{All-cons, All-nil}
 use Rattle.std.proofs.lemmas.List.Kept.{AllPairs-cons}
+use Rattle.prefix_lattice.specs.Node.{NodeValue}
 use Rattle.prefix_lattice.specs.Record.{RecordValue}
 use Rattle.prefix_lattice.specs.Prefix.{PrefixValue}
 use Rattle.prefix_lattice.specs.Lattice.{strictly_under}
@@ -12,7 +13,32 @@ use Rattle.prefix_lattice.specs.KeptPairs.{under_third, unless_third, pair_meet}
 use Rattle.prefix_lattice.specs.KeptPairs.{pair_meets, kept_pairs}
 use Rattle.prefix_lattice.specs.ClosestLines.{AreIncomparable, covering_count}
 use Rattle.prefix_lattice.specs.Staircase.{ObeyStaircase}
+use Rattle.prefix_lattice.specs.Uppers.{is_upper, shortened, upper_at}
 use Rattle.prefix_lattice.proofs.Examples.{packet, answer, prefix, root, to_twenty, from_ten_to_twenty}
+
+-- a node that keeps this many bytes of each address
+abbrev node : ℕ → ℕ → NodeValue
+node sources dests = record { source_bytes = sources; dest_bytes = dests }
+
+-- 10.1.0.0/16 20.0.0.0/8
+abbrev net : PrefixValue
+net = record { source = 10 ∷ 1 ∷ []; dest = 20 ∷ [] }
+
+pub a_node_of_fewer_source_bytes : is_upper (node 1 1) net ≡ true
+a_node_of_fewer_source_bytes = refl
+
+pub a_node_of_more_destination_bytes : is_upper (node 1 2) net ≡ false
+a_node_of_more_destination_bytes = refl
+
+-- 10.0.0.0/8 0.0.0.0/0
+pub net_cut_down : shortened net (node 1 0) ≡ record { source = 10 ∷ []; dest = [] }
+net_cut_down = refl
+
+pub net_is_under_one_prefix_of_a_node : upper_at net (node 1 1) ≡ Some (record { source = 10 ∷ []; dest = 20 ∷ [] })
+net_is_under_one_prefix_of_a_node = refl
+
+pub net_is_under_none_of_a_node_that_keeps_more : upper_at net (node 3 0) ≡ None
+net_is_under_none_of_a_node_that_keeps_more = refl
 
 -- the root and three under it, of which the first is under the other two
 abbrev lines : List PrefixValue

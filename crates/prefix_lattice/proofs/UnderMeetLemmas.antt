@@ -268,7 +268,7 @@ under_meet-zeros_after front =
     ap (λ m. m * unit) (mul-div_cancel (number_from 256 0 front) (address_unit_is_positive (4 - length front)))
 
 -- the address of leading bytes begins with them
-under_meet-address_begins : (front : List ℕ) → AreLeadingBytes front
+pub under_meet-address_begins : (front : List ℕ) → AreLeadingBytes front
     → begins_with (address_bytes (address_of front)) front ≡ true
 under_meet-address_begins front leading =
     let n = length front in

@@ -4,7 +4,7 @@ use Rattle.std.specs.Prelude.{ℕ, ◌≡◌, ◌≢◌, not, Bool, false, List,
 use Rattle.std.specs.List.{list_any}
 use Rattle.prefix_lattice.specs.Record.{RecordValue}
 use Rattle.prefix_lattice.specs.Prefix.{PrefixValue, covers}
-use Rattle.prefix_lattice.specs.Lattice.{under, strictly_under}
+use Rattle.prefix_lattice.specs.Lattice.{strictly_under}
 
 -- the lines that are strictly under a prefix
 abbrev pub lines_under : PrefixValue → List PrefixValue → List PrefixValue

@@ -2,7 +2,6 @@
 use Rattle.std.specs.Prelude.{ℕ, ◌&&◌, not, List, filter, sum_by}
 use Rattle.prefix_lattice.specs.Record.{RecordValue}
 use Rattle.prefix_lattice.specs.Prefix.{PrefixValue, covers}
-use Rattle.prefix_lattice.specs.Lattice.{under}
 use Rattle.prefix_lattice.specs.ClosestLines.{lines_under, one_line_covers}
 
 -- the conditioned weight of a prefix: the weight of the records that it covers and no line strictly under it covers

@@ -1,5 +1,5 @@
 -- The leading bytes of an IPv4 address, which a prefix keeps.
-use Rattle.std.specs.Prelude.{ℕ, ◌-◌, ◌<◌, ◌≤◌, ◌==◌, ◌&&◌, Bool, true, false, List, [], ◌∷◌, length, slice_index}
+use Rattle.std.specs.Prelude.{ℕ, ◌<◌, ◌≤◌, ◌==◌, ◌&&◌, Bool, true, false, List, [], ◌∷◌, length, slice_index}
 use Rattle.prefix_lattice.specs.Address.{address_length}
 
 -- whether a list of bytes begins with another

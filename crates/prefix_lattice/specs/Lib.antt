@@ -14,6 +14,7 @@ pub mod ConditionedWeight
 pub mod KeptPairs
 pub mod Staircase
 pub mod ClosestLines
+pub mod Uppers
 -- the face: what contracts of other crates cite
 pub use Rattle.prefix_lattice.specs.Staircase.{ObeyStaircase}
 pub use Rattle.prefix_lattice.specs.ClosestLines.{closest, covering_count, greatest_lines}
@@ -33,6 +34,7 @@ pub use Rattle.prefix_lattice.specs.Node.{IsNode, NodeValue, deepest_level, node
 pub use Rattle.prefix_lattice.specs.Node.{node_count}
 pub use Rattle.prefix_lattice.specs.Prefix.{HasPrefixKey, IsPrefixKey, IsPrefix, PrefixValue, covers, prefix_code}
 pub use Rattle.prefix_lattice.specs.Prefix.{prefix_key, node_of_prefix, prefix_at}
+pub use Rattle.prefix_lattice.specs.Uppers.{upper_at}
 pub use Rattle.prefix_lattice.specs.Weight.{total_weight, prefix_weight}
 pub use Rattle.prefix_lattice.specs.PrefixText.{HasPrefixFault, SpellsPrefix, address_text}
 pub use Rattle.prefix_lattice.specs.PrefixText.{longest_prefix_text, prefix_text, side_text, text_space}

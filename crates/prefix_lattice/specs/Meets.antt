@@ -3,7 +3,6 @@ use Rattle.std.specs.Prelude.{ℕ, ◌≡◌, ◌^◌, ◌<◌, true, List, Opti
 use Rattle.prefix_lattice.specs.KeptBytes.{begins_with}
 use Rattle.prefix_lattice.specs.Record.{RecordValue}
 use Rattle.prefix_lattice.specs.Prefix.{PrefixValue, covers}
-use Rattle.prefix_lattice.specs.Lattice.{under}
 
 -- one side of a meet: the longer of two lists of kept bytes, if it begins with the other
 abbrev pub meet_side : List ℕ → List ℕ → Option (List ℕ)

@@ -1,8 +1,7 @@
 -- The staircase law: how many kept pairs of the lines that cover a record meet over it.
 use Rattle.std.specs.Prelude.{◌≡◌, ◌+◌, ◌≤◌, List}
 use Rattle.prefix_lattice.specs.Record.{RecordValue}
-use Rattle.prefix_lattice.specs.Prefix.{PrefixValue, covers}
-use Rattle.prefix_lattice.specs.Meets.{meet}
+use Rattle.prefix_lattice.specs.Prefix.{PrefixValue}
 use Rattle.prefix_lattice.specs.KeptPairs.{kept_pairs}
 use Rattle.prefix_lattice.specs.ClosestLines.{covering_count}
 

@@ -1,5 +1,5 @@
 -- The weight of a prefix over records, and the weight of all records.
-use Rattle.std.specs.Prelude.{ℕ, List, sum_by, filter, ◌-◌}
+use Rattle.std.specs.Prelude.{ℕ, List, sum_by, filter}
 use Rattle.prefix_lattice.specs.Record.{RecordValue}
 use Rattle.prefix_lattice.specs.Prefix.{PrefixValue, covers}
 

@@ -1,9 +1,9 @@
 //! Laws of the lattice. A caller that calls one has its contract available.
 
 ghost use Rattle.std.specs.Prelude.{◌≡◌, ◌≢◌, ◌<◌, ◌≤◌, ◌↔◌, ℕ, List, ◌∷◌, ◌++◌, length, All, AllPairs, IsSomeAnd};
-ghost use Rattle.std.specs.Prelude.{true};
+ghost use Rattle.std.specs.Prelude.{true, Some};
 ghost use Rattle.std.specs.Cmp.{IsTotalOrder};
-ghost use Rattle.prefix_lattice.specs.Node.{node_level};
+ghost use Rattle.prefix_lattice.specs.Node.{NodeValue, node_level};
 ghost use Rattle.prefix_lattice.specs.Record.{RecordValue};
 ghost use Rattle.prefix_lattice.specs.Prefix.{PrefixValue, IsPrefix, covers, node_of_prefix};
 ghost use Rattle.prefix_lattice.specs.Lattice.{under, strictly_under};
@@ -15,6 +15,7 @@ ghost use Rattle.prefix_lattice.specs.PrefixText.{longest_prefix_text};
 ghost use Rattle.prefix_lattice.specs.ClosestLines.{lines_under, one_line_covers, closest, AreIncomparable};
 ghost use Rattle.prefix_lattice.specs.KeptPairs.{kept_pairs};
 ghost use Rattle.prefix_lattice.specs.Staircase.{ObeyStaircase};
+ghost use Rattle.prefix_lattice.specs.Uppers.{IsAbove, upper_at};
 
 use std::cmp::Ordering;
 
@@ -30,6 +31,13 @@ pub fn prefixes_are_ordered()
 /// A law of covering: a record that a prefix covers is also covered by each prefix that this one is under.
 pub fn covering_goes_up()
     ensures { (lower upper : PrefixValue) (rec : RecordValue) → under lower upper ≡ true → covers lower rec ≡ true → covers upper rec ≡ true }
+{}
+
+/// A law of upper prefixes: the upper one of a node is a prefix of that node which the lower one is under, and each prefix
+/// that the lower one is under is its upper one of some node.
+pub fn uppers_are_above()
+    ensures above { (prefix upper : PrefixValue) (node : NodeValue) → IsPrefix prefix → upper_at prefix node ≡ Some upper → IsAbove prefix upper node }
+    ensures only { (prefix upper : PrefixValue) → under prefix upper ≡ true → upper_at prefix (node_of_prefix upper) ≡ Some upper }
 {}
 
 /// A law of reports: their order is total, and only equal prefixes compare as equal.

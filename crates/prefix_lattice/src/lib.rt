@@ -17,6 +17,7 @@ pub use decimal::number_of;
 pub use laws::{
     closest_lines_explain, covering_goes_up, kept_meets_stay_under, meets_are_greatest,
     prefix_texts_read_back, prefixes_are_ordered, report_order_is_total, staircase_law,
+    uppers_are_above,
 };
 pub use node::Node;
 pub use prefix::{

@@ -1,7 +1,7 @@
-//! Which prefix is under which, meets, the order of a report, and texts that are read back.
+//! Which prefix is under which, upper prefixes, meets, the order of a report, and texts that are read back.
 
 use super::prefix_of_texts;
-use prefix_lattice::Prefix;
+use prefix_lattice::{Node, Prefix};
 use std::cmp::Ordering;
 use std::test::Fail;
 
@@ -60,6 +60,44 @@ fn prefix_of_some(text: Option<&str>) -> Result<Option<Prefix>, Fail> {
         Some(text) => Ok(Some(prefix_of(text)?)),
         None => Ok(None),
     }
+}
+
+// A prefix, how many bytes a node keeps of its addresses, and the prefix of the node that it is under, if there is one.
+type CutDown = (&'static str, u8, u8, Option<&'static str>);
+
+const CUT_DOWN: [CutDown; 5] = [
+    (
+        "10.1.0.0/16 20.1.0.0/16",
+        1,
+        2,
+        Some("10.0.0.0/8 20.1.0.0/16"),
+    ),
+    (
+        "10.1.0.0/16 20.1.0.0/16",
+        2,
+        2,
+        Some("10.1.0.0/16 20.1.0.0/16"),
+    ),
+    ("10.1.0.0/16 20.1.0.0/16", 3, 0, None),
+    ("10.1.0.0/16 20.1.0.0/16", 0, 3, None),
+    ("10.1.2.3/32 20.1.2.3/32", 0, 0, Some("0.0.0.0/0 0.0.0.0/0")),
+];
+
+#[test]
+fn cuts_prefixes_down_to_nodes(rt: HostRuntime) -> Result<(), Fail> {
+    assert_eq!(rt; first_cut_otherwise(&CUT_DOWN)?, None);
+    Ok(())
+}
+
+// The place of the first prefix that is cut down to another.
+fn first_cut_otherwise(cases: &[CutDown]) -> Result<Option<usize>, Fail> {
+    for (place, (text, source_bytes, dest_bytes, want)) in cases.iter().enumerate() {
+        let node = Node::new(*source_bytes, *dest_bytes).ok_or("no node")?;
+        if prefix_of(text)?.upper(node) != prefix_of_some(*want)? {
+            return Ok(Some(place));
+        }
+    }
+    Ok(None)
 }
 
 // Two prefixes, whether the first is under the second, and whether strictly.

@@ -1,12 +1,14 @@
 //! Which prefix is under which, the greatest under two, and the order of a report.
 
 ghost use Rattle.std.specs.Prelude.{◌≡◌, ◌≢◌, ◌↔◌, true, IsTrue, IsSome, IsSomeAnd, IfSome};
+ghost use Rattle.prefix_lattice.specs.Node.{IsNode};
 ghost use Rattle.prefix_lattice.specs.Prefix.{PrefixValue, IsPrefix};
 ghost use Rattle.prefix_lattice.specs.Lattice.{under, strictly_under};
 ghost use Rattle.prefix_lattice.specs.Meets.{meet, AreMeet};
 ghost use Rattle.prefix_lattice.specs.ReportOrder.{report_order};
+ghost use Rattle.prefix_lattice.specs.Uppers.{upper_at};
 
-use crate::Prefix;
+use crate::{Node, Prefix, Record};
 use std::cmp::Ordering;
 
 impl Prefix {
@@ -32,6 +34,26 @@ impl Prefix {
         ensures differs { IsTrue result ↔ (IsTrue (under self.now other.now) × (self.now ≢ other.now)) }
     {
         self.under(other) && !other.under(self)
+    }
+
+    /// The prefix of a node that this prefix is under: as many of its leading bytes as the node keeps. `None` exactly where
+    /// the node keeps more bytes of an address than this prefix. `uppers_are_above` says more of it.
+    pub fn upper(&self, node: Node) -> Option<Prefix>
+        ensures value { result ≡ upper_at self.now node }
+        ensures prefix { IsPrefix self.now }
+        ensures node { IsNode node }
+    {
+        self.keeps_leading_bytes();
+        let own = self.node();
+        if node.source_bytes() > own.source_bytes() || node.dest_bytes() > own.dest_bytes() {
+            return None;
+        }
+        let pair = Record {
+            src: self.source(),
+            dst: self.dest(),
+            weight: 1,
+        };
+        Some(Prefix::of(&pair, node))
     }
 
     /// The greatest prefix under both. `None` exactly where no pair of addresses is covered by both.

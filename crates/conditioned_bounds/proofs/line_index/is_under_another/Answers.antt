@@ -1,9 +1,8 @@
 use Rattle.std.proofs.Common.{◌≡◌, ◌≢◌, true, None, Some, Contains, refl, sym, ap, ◌∙◌}
 use Rattle.std.proofs.Common.{subst}
 use Rattle.std.proofs.lemmas.Bool.{and_from, false≢true}
-use Rattle.prefix_lattice.specs.{node_of_prefix, strictly_under}
-use Rattle.conditioned_bounds.specs.Uppers.{upper_at}
-use Rattle.conditioned_bounds.proofs.UpperLemmas.{same_upper_node, other_upper_node, upper-is}
+use Rattle.prefix_lattice.specs.{node_of_prefix, strictly_under, upper_at}
+use Rattle.conditioned_bounds.proofs.UpperLemmas.{same_upper_node, other_upper_node}
 use Rattle.conditioned_bounds.proofs.CodeLemmas.{CodeOrderHolds, code_above-by_node}
 use Rattle.conditioned_bounds.proofs.SearchLemmas.{search_explains, search_explained, search-one_more_node}
 use Rattle.conditioned_bounds.proofs.SearchLemmas.{search_ends_with_none, search_finds_one}
@@ -17,6 +16,7 @@ loop-node-preserved-then-eq c =
       reflexive = c.prefixes_are_ordered.ensures.reflexive;
       antisymmetric = c.prefixes_are_ordered.ensures.antisymmetric;
       level = c.prefixes_are_ordered.ensures.level;
+      only = c.uppers_are_above.ensures.only;
     } in
     search-one_more_node c.args.lines.now (search_explains c.args.line.now c.args.prefix.now) c.nodes-node-items.result.now
     c.loop-node.node-index c.node-item.result c.loop-node.invariant c.loop-node-test.true c.node-item.is
@@ -26,20 +26,32 @@ loop-node-preserved-then-eq c =
 
 pub loop-node-preserved-in_default : goal.loop-node-preserved-in_default
 loop-node-preserved-in_default c =
+    let order : CodeOrderHolds = record {
+      reflexive = c.prefixes_are_ordered.ensures.reflexive;
+      antisymmetric = c.prefixes_are_ordered.ensures.antisymmetric;
+      level = c.prefixes_are_ordered.ensures.level;
+      only = c.uppers_are_above.ensures.only;
+    } in
     let none : upper_at c.args.line.now c.node-item.result ≡ None = sym c.upper.ensures.value ∙ c.in_default.is in
     search-one_more_node c.args.lines.now (search_explains c.args.line.now c.args.prefix.now) c.nodes-node-items.result.now
     c.loop-node.node-index c.node-item.result c.loop-node.invariant c.loop-node-test.true c.node-item.is
     (λ member there at.
-    search_no_upper-explains_none c.args.line.now c.args.prefix.now member (ap (upper_at c.args.line.now) at ∙ none))
+    search_no_upper-explains_none order c.args.line.now c.args.prefix.now member (ap (upper_at c.args.line.now) at ∙ none))
 
 pub loop-node-preserved-then-not-strictly_under : goal.loop-node-preserved-then-not-strictly_under
 loop-node-preserved-then-not-strictly_under c =
+    let order : CodeOrderHolds = record {
+      reflexive = c.prefixes_are_ordered.ensures.reflexive;
+      antisymmetric = c.prefixes_are_ordered.ensures.antisymmetric;
+      level = c.prefixes_are_ordered.ensures.level;
+      only = c.uppers_are_above.ensures.only;
+    } in
     let found : upper_at c.args.line.now c.node-item.result ≡ Some c.in-Some.other =
     sym c.upper.ensures.value ∙ c.in-Some.is in
     search-one_more_node c.args.lines.now (search_explains c.args.line.now c.args.prefix.now) c.nodes-node-items.result.now
     c.loop-node.node-index c.node-item.result c.loop-node.invariant c.loop-node-test.true c.node-item.is
     (λ member there at.
-    search_other-explains_none c.args.line.now c.args.prefix.now member c.in-Some.other
+    search_other-explains_none order c.args.line.now c.args.prefix.now member c.in-Some.other
     (ap (upper_at c.args.line.now) at ∙ found)
     (λ same. sym c.strictly_under.ensures.value ∙ c.if-not-strictly_under.true))
 
@@ -49,12 +61,13 @@ returns-then-has c =
       reflexive = c.prefixes_are_ordered.ensures.reflexive;
       antisymmetric = c.prefixes_are_ordered.ensures.antisymmetric;
       level = c.prefixes_are_ordered.ensures.level;
+      only = c.uppers_are_above.ensures.only;
     } in
     let line = c.args.line.now in
     let prefix = c.args.prefix.now in
     let other = c.in-Some.other in
     let found : upper_at line c.node-item.result ≡ Some other = sym c.upper.ensures.value ∙ c.in-Some.is in
-    let is = upper-is line other c.node-item.result c.upper.ensures.prefix found in
+    let is = c.uppers_are_above.ensures.above line other c.node-item.result c.upper.ensures.prefix found in
     let apart : node_of_prefix line ≢ node_of_prefix other =
     λ same. other_upper_node c.node-item.result c.node-own.result c.if-eq.ensures
     (sym is.of_node ∙ sym same ∙ sym c.node-own.ensures) in
@@ -67,12 +80,18 @@ returns-then-has c =
 
 pub loop-node-preserved : goal.loop-node-preserved
 loop-node-preserved c =
+    let order : CodeOrderHolds = record {
+      reflexive = c.prefixes_are_ordered.ensures.reflexive;
+      antisymmetric = c.prefixes_are_ordered.ensures.antisymmetric;
+      level = c.prefixes_are_ordered.ensures.level;
+      only = c.uppers_are_above.ensures.only;
+    } in
     let found : upper_at c.args.line.now c.node-item.result ≡ Some c.in-Some.other =
     sym c.upper.ensures.value ∙ c.in-Some.is in
     search-one_more_node c.args.lines.now (search_explains c.args.line.now c.args.prefix.now) c.nodes-node-items.result.now
     c.loop-node.node-index c.node-item.result c.loop-node.invariant c.loop-node-test.true c.node-item.is
     (λ member there at.
-    search_other-explains_none c.args.line.now c.args.prefix.now member c.in-Some.other
+    search_other-explains_none order c.args.line.now c.args.prefix.now member c.in-Some.other
     (ap (upper_at c.args.line.now) at ∙ found)
     (λ same. absurd (false≢true (c.if-has.ensures.1 (subst (Contains c.args.lines.now) (sym same) there)))))
 

@@ -1,8 +1,7 @@
 use Rattle.std.proofs.Common.{◌≡◌, ◌≢◌, None, Some, Contains, refl, sym, ap, ◌∙◌, subst}
 use Rattle.std.proofs.lemmas.Bool.{false≢true}
-use Rattle.prefix_lattice.specs.{node_of_prefix}
-use Rattle.conditioned_bounds.specs.Uppers.{upper_at}
-use Rattle.conditioned_bounds.proofs.UpperLemmas.{same_upper_node, other_upper_node, upper-is}
+use Rattle.prefix_lattice.specs.{node_of_prefix, upper_at}
+use Rattle.conditioned_bounds.proofs.UpperLemmas.{same_upper_node, other_upper_node}
 use Rattle.conditioned_bounds.proofs.CodeLemmas.{CodeOrderHolds}
 use Rattle.conditioned_bounds.proofs.SearchLemmas.{is_search_third, search-one_more_node, search_ends_with_none}
 use Rattle.conditioned_bounds.proofs.SearchLemmas.{search_finds_one, search_first-is_no_third}
@@ -17,6 +16,7 @@ loop-node-preserved-then-eq c =
       reflexive = c.prefixes_are_ordered.ensures.reflexive;
       antisymmetric = c.prefixes_are_ordered.ensures.antisymmetric;
       level = c.prefixes_are_ordered.ensures.level;
+      only = c.uppers_are_above.ensures.only;
     } in
     search-one_more_node c.args.members.now (is_search_third c.args.first.now c.args.second.now c.args.meet.now)
     c.nodes-node-items.result.now c.loop-node.node-index c.node-item.result c.loop-node.invariant
@@ -31,6 +31,7 @@ loop-node-preserved-then-eq-2 c =
       reflexive = c.prefixes_are_ordered.ensures.reflexive;
       antisymmetric = c.prefixes_are_ordered.ensures.antisymmetric;
       level = c.prefixes_are_ordered.ensures.level;
+      only = c.uppers_are_above.ensures.only;
     } in
     search-one_more_node c.args.members.now (is_search_third c.args.first.now c.args.second.now c.args.meet.now)
     c.nodes-node-items.result.now c.loop-node.node-index c.node-item.result c.loop-node.invariant
@@ -41,12 +42,18 @@ loop-node-preserved-then-eq-2 c =
 
 pub loop-node-preserved-in_default : goal.loop-node-preserved-in_default
 loop-node-preserved-in_default c =
+    let order : CodeOrderHolds = record {
+      reflexive = c.prefixes_are_ordered.ensures.reflexive;
+      antisymmetric = c.prefixes_are_ordered.ensures.antisymmetric;
+      level = c.prefixes_are_ordered.ensures.level;
+      only = c.uppers_are_above.ensures.only;
+    } in
     let none : upper_at c.args.meet.now c.node-item.result ≡ None = sym c.upper.ensures.value ∙ c.in_default.is in
     search-one_more_node c.args.members.now (is_search_third c.args.first.now c.args.second.now c.args.meet.now)
     c.nodes-node-items.result.now c.loop-node.node-index c.node-item.result c.loop-node.invariant
     c.loop-node-test.true c.node-item.is
     (λ member there at.
-    search_no_upper-no_third c.args.first.now c.args.second.now c.args.meet.now member
+    search_no_upper-no_third order c.args.first.now c.args.second.now c.args.meet.now member
     (ap (upper_at c.args.meet.now) at ∙ none))
 
 pub returns-then-has : goal.returns-then-has
@@ -55,10 +62,11 @@ returns-then-has c =
       reflexive = c.prefixes_are_ordered.ensures.reflexive;
       antisymmetric = c.prefixes_are_ordered.ensures.antisymmetric;
       level = c.prefixes_are_ordered.ensures.level;
+      only = c.uppers_are_above.ensures.only;
     } in
     let third = c.in-Some.third in
     let found : upper_at c.args.meet.now c.node-item.result ≡ Some third = sym c.upper.ensures.value ∙ c.in-Some.is in
-    let is = upper-is c.args.meet.now third c.node-item.result c.upper.ensures.prefix found in
+    let is = c.uppers_are_above.ensures.above c.args.meet.now third c.node-item.result c.upper.ensures.prefix found in
     let not_first : node_of_prefix third ≢ node_of_prefix c.args.first.now =
     λ same. other_upper_node c.node-item.result c.node-first.result c.if-eq.ensures
     (sym is.of_node ∙ same ∙ sym c.node-first.ensures) in
@@ -71,13 +79,19 @@ returns-then-has c =
 
 pub loop-node-preserved : goal.loop-node-preserved
 loop-node-preserved c =
+    let order : CodeOrderHolds = record {
+      reflexive = c.prefixes_are_ordered.ensures.reflexive;
+      antisymmetric = c.prefixes_are_ordered.ensures.antisymmetric;
+      level = c.prefixes_are_ordered.ensures.level;
+      only = c.uppers_are_above.ensures.only;
+    } in
     let found : upper_at c.args.meet.now c.node-item.result ≡ Some c.in-Some.third =
     sym c.upper.ensures.value ∙ c.in-Some.is in
     search-one_more_node c.args.members.now (is_search_third c.args.first.now c.args.second.now c.args.meet.now)
     c.nodes-node-items.result.now c.loop-node.node-index c.node-item.result c.loop-node.invariant
     c.loop-node-test.true c.node-item.is
     (λ member there at.
-    search_other-is_no_third c.args.first.now c.args.second.now c.args.meet.now member c.in-Some.third
+    search_other-is_no_third order c.args.first.now c.args.second.now c.args.meet.now member c.in-Some.third
     (ap (upper_at c.args.meet.now) at ∙ found)
     (λ same. false≢true (c.if-has.ensures.1 (subst (Contains c.args.members.now) (sym same) there))))
 

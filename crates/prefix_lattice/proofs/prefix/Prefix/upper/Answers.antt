@@ -1,11 +1,13 @@
 use Rattle.std.proofs.Common.{◌≤◌, ℕ, length, ap, ◌∙◌, sym, Some, arith}
-use Rattle.prefix_lattice.specs.{NodeValue, prefix_at, address_of}
-use Rattle.conditioned_bounds.proofs.UpperLemmas.{upper_of_addresses-shortened, upper-some}
-use Rattle.conditioned_bounds.proofs.uppers.upper.Goals as goal
+use Rattle.prefix_lattice.specs.Address.{address_of}
+use Rattle.prefix_lattice.specs.Node.{NodeValue}
+use Rattle.prefix_lattice.specs.Prefix.{prefix_at}
+use Rattle.prefix_lattice.proofs.UpperLemmas.{upper_of_addresses-shortened, upper-some}
+use Rattle.prefix_lattice.proofs.prefix.Prefix.upper.Goals as goal
 
 pub returns-clause-value : goal.returns-clause-value
 returns-clause-value c =
-    let prefix = c.args.prefix.now in
+    let prefix = c.args.self.now in
     let node = c.args.node in
     let own_source = ap (λ (n : NodeValue). n.source_bytes) c.node-own.ensures in
     let own_dest = ap (λ (n : NodeValue). n.dest_bytes) c.node-own.ensures in
