@@ -6,6 +6,7 @@ pub mod NodeSumLemmas
 pub mod LeftOutLemmas
 pub mod LineTestLemmas
 pub mod KeptLineLemmas
+pub mod ClosestLineLemmas
 pub mod FindingLemmas
 pub mod VerdictLemmas
 pub mod OneVerdictLemmas

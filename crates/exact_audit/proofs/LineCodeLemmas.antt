@@ -1,17 +1,23 @@
 -- The codes of lines, one line after another.
-use Rattle.std.proofs.Common.{◌≡◌, ℕ, ◌+◌, ◌^◌, ◌<◌, nat_eq, Bool, true, false, ◌||◌, cond, List, [], ◌∷◌, ◌++◌}
-use Rattle.std.proofs.Common.{length, take, get_or}
-use Rattle.std.proofs.Common.{refl, sym, ap, ◌∙◌, subst}
+use Rattle.std.proofs.Common.{◌≡◌, ◌≢◌, ℕ, ◌+◌, ◌^◌, ◌<◌, nat_eq, Bool, true, false, ◌||◌, cond, List, [], ◌∷◌}
+use Rattle.std.proofs.Common.{◌++◌, length, map, take, get_or, AllPairs, Contains}
+use Rattle.std.proofs.Common.{refl, sym, ap, ◌∙◌, subst, arith}
 use Rattle.std.specs.List.{list_any}
-use Rattle.std.proofs.lemmas.Bool.{false≢true, eqb-true, eq-eqb}
-use Rattle.std.proofs.lemmas.List.{map_more}
-use Rattle.std.proofs.lemmas.List.Elements.{All-push}
+use Rattle.std.specs.declared.cmp.Ordering.TheVariants.{Less, Greater}
+use Rattle.std.specs.Ordering.{ordering_reverse}
+use Rattle.std.specs.Cmp.{IsTotalOrder}
+use Rattle.std.proofs.lemmas.Bool.{false≢true, eqb-true, eq-eqb, false_from_ne_true, cond-false}
+use Rattle.std.proofs.lemmas.List.{map_more, map_push, get_or-map, get_or-take, length-map, length-take-le, take-map}
+use Rattle.std.proofs.lemmas.List.Elements.{All-push, All-map, All-weaker}
+use Rattle.std.proofs.lemmas.List.Kept.{AllPairs-cons}
 use Rattle.std.proofs.lemmas.List.Folds.{list_any-append}
-use Rattle.prefix_lattice.specs.{PrefixValue, IsPrefix, prefix_key, prefix_code}
+use Rattle.prefix_lattice.specs.{PrefixValue, IsPrefix, node_of_prefix, prefix_key, prefix_code, report_order}
+use Rattle.prefix_lattice.proofs.ListLemmas.{AllPairs-list_head, AllPairs-list_tail}
 use Rattle.hhh_report.specs.declared.line.Line.{Line}
 use Rattle.hhh_report.specs.{prefixes_of_lines}
 use Rattle.exact_audit.specs.LineCodes.{AreLineCodes}
 use Rattle.exact_audit.proofs.ListAnyLemmas.{list_any_truths_are_equal}
+use Rattle.exact_audit.proofs.DepthLemmas.{coded_depth_has_line}
 
 -- one more prefix
 AreLineCodes-push : (lines : List PrefixValue) (prefix : PrefixValue) (codes new : List ℕ) → IsPrefix prefix
@@ -52,3 +58,71 @@ AreLineCodes-more lines index line codes new within at is small adds before =
     (sym (map_more (λ line. line.prefix) lines index line within
     ∙ ap (λ (l : Line). prefixes_of_lines (take index lines) ++ l.prefix ∷ []) (sym at)))
     (AreLineCodes-push (prefixes_of_lines (take index lines)) line.prefix codes new is small adds before)
+
+-- no two lines in the strict order of a report have the same prefix
+pub line_prefixes_differ : IsTotalOrder report_order → (lines : List Line)
+    → AllPairs (λ (line later : Line). report_order line.prefix later.prefix ≡ Less) lines
+    → AllPairs (λ prefix other. prefix ≢ other) (prefixes_of_lines lines)
+line_prefixes_differ order [] rising = λ i j d before below. absurd (omega arith)
+line_prefixes_differ order (line ∷ lines) rising =
+    AllPairs-cons (λ prefix other. prefix ≢ other) line.prefix (prefixes_of_lines lines)
+    (All-map (λ other. line.prefix ≢ other) (λ (l : Line). l.prefix) lines
+    (All-weaker (λ (later : Line). report_order line.prefix later.prefix ≡ Less)
+    (λ (other : Line). line.prefix ≢ other.prefix)
+    (λ other before same.
+    let back : report_order other.prefix line.prefix ≡ Less =
+    subst (λ p. report_order p line.prefix ≡ Less) same
+    (subst (λ p. report_order line.prefix p ≡ Less) (sym same) before) in
+    let turned : Less ≡ Greater =
+    sym before ∙ order.antisymm line.prefix other.prefix ∙ ap ordering_reverse back in
+    cc)
+    lines (AllPairs-list_head (λ (line later : Line). report_order line.prefix later.prefix ≡ Less) line lines rising)))
+    (line_prefixes_differ order lines
+    (AllPairs-list_tail (λ (line later : Line). report_order line.prefix later.prefix ≡ Less) line lines rising))
+
+-- the code of the next line is a new one
+pub next_line_code_is_new : ((prefix other : PrefixValue) → IsPrefix prefix → IsPrefix other
+    → node_of_prefix prefix ≡ node_of_prefix other → prefix_key prefix ≡ prefix_key other → prefix ≡ other)
+    → (lines : List Line) (index : ℕ) (line : Line) (codes : List ℕ)
+    → AllPairs (λ prefix other. prefix ≢ other) (prefixes_of_lines lines)
+    → index < length lines → line ≡ get_or lines index line → IsPrefix line.prefix → prefix_key line.prefix < 2 ^ 64
+    → AreLineCodes (prefixes_of_lines (take index lines)) codes
+    → list_any (nat_eq (prefix_code line.prefix)) codes ≡ false
+next_line_code_is_new apart lines index line codes differ within at is small coded =
+    false_from_ne_true (list_any (nat_eq (prefix_code line.prefix)) codes) (λ has.
+    twice (coded_depth_has_line apart (prefixes_of_lines (take index lines)) codes line.prefix coded is small has))
+  where
+    all : List PrefixValue
+    all = prefixes_of_lines lines
+
+    front : take index all ≡ prefixes_of_lines (take index lines)
+    front = take-map (λ (l : Line). l.prefix) index lines
+
+    long : length all ≡ length lines
+    long = length-map lines (λ (l : Line). l.prefix)
+
+    twice : Contains (prefixes_of_lines (take index lines)) line.prefix → ⊥
+    twice (place, inside, same) =
+        let few : length (prefixes_of_lines (take index lines)) ≡ index =
+        length-map (take index lines) (λ (l : Line). l.prefix) ∙ length-take-le index lines (omega (arith, within)) in
+        let before : place < index = omega (arith, inside, few) in
+        differ place index line.prefix before (omega (arith, within, long))
+        (sym (get_or-take index all place line.prefix before)
+        ∙ ap (λ (l : List PrefixValue). get_or l place line.prefix) front ∙ same
+        ∙ ap (λ (l : Line). l.prefix) at
+        ∙ sym (get_or-map (λ (l : Line). l.prefix) lines index line line.prefix within))
+
+-- so it is appended, and stands at the line's place
+pub codes_stay_placed : (lines : List Line) (index : ℕ) (line : Line) (codes new : List ℕ)
+    → index < length lines → line ≡ get_or lines index line
+    → list_any (nat_eq (prefix_code line.prefix)) codes ≡ false
+    → new ≡ cond (list_any (nat_eq (prefix_code line.prefix)) codes) codes (codes ++ prefix_code line.prefix ∷ [])
+    → codes ≡ map prefix_code (prefixes_of_lines (take index lines))
+    → new ≡ map prefix_code (prefixes_of_lines (take (index + 1) lines))
+codes_stay_placed lines index line codes new within at none is before =
+    is
+    ∙ cond-false (list_any (nat_eq (prefix_code line.prefix)) codes) codes (codes ++ prefix_code line.prefix ∷ []) none
+    ∙ ap (λ l. l ++ prefix_code line.prefix ∷ []) before
+    ∙ sym (map_push prefix_code (prefixes_of_lines (take index lines)) line.prefix)
+    ∙ ap (λ (l : Line). map prefix_code (prefixes_of_lines (take index lines) ++ l.prefix ∷ [])) at
+    ∙ ap (map prefix_code) (sym (map_more (λ (l : Line). l.prefix) lines index line within))

@@ -6,6 +6,7 @@ pub mod Counted
 pub mod LineCodes
 pub mod Depths
 pub mod NodeSums
+pub mod ClosestLines
 pub mod Widths
 pub mod Findings
 -- the face: what contracts of other crates cite

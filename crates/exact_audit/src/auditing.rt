@@ -55,5 +55,13 @@ pub fn audit(
     let codes = LineCodes::of(alloc, lines, seed)?;
     let counted = count_before(alloc, dealt, &report.positions, &codes)?;
     let findings = find(alloc, &counted, lines, &codes, report.threshold, seed)?;
-    verdict_of(alloc, lines, &findings, capacity, report.threshold, total)
+    verdict_of(
+        alloc,
+        lines,
+        &codes,
+        &findings,
+        capacity,
+        report.threshold,
+        total,
+    )
 }

@@ -1,114 +1,123 @@
-//! The numbers of closest lines of a prefix and of their kept pairs.
+//! The closest lines of each line.
 
-ghost use Rattle.std.specs.Prelude.{◌≡◌, ◌<◌, ◌≤◌, ◌*◌, IfOk, length};
-ghost use Rattle.std.specs.List.{filter_map, list_any};
-ghost use Rattle.prefix_lattice.specs.{strictly_under, lines_under, greatest_lines, closest, same_as};
-ghost use Rattle.prefix_lattice.specs.{under_third, pair_meet, kept_pairs};
-ghost use Rattle.hhh_report.specs.{prefixes_of_lines, line_limit};
+ghost use Rattle.std.specs.Prelude.{◌≡◌, ◌<◌, false, true, List, [], replicate, length, Contains, IfSome, IfNone, IfOk, OnOk};
+ghost use Rattle.std.specs.List.{list_any};
+ghost use Rattle.prefix_lattice.specs.{PrefixValue, IsNode, node_count, node_of_prefix};
+ghost use Rattle.hhh_report.specs.{prefixes_of_lines};
+ghost use Rattle.exact_audit.specs.LineCodes.{AreLineCodes, ArePlaced};
+ghost use Rattle.exact_audit.specs.ClosestLines.{is_between, is_right_above, closest_of_lines};
+ghost use Rattle.exact_audit.specs.ClosestLines.{IsNotedBefore, IsPlaceRightAbove};
 
+use crate::line_codes::LineCodes;
 use hhh_report::Line;
-use prefix_lattice::Prefix;
+use prefix_lattice::{Node, Prefix, Prefixes, keys_are_of_their_node, uppers_are_above};
 use std::alloc::{AllocError, Global};
 
-/// The closest lines of a prefix: those strictly under it that are strictly under no other such line. It costs a pass
-/// over the lines, and up to the square of the number of those under the prefix.
-pub(crate) fn closest(
+/// The closest lines of each line: those strictly under it that are strictly under no other such line, in the order of
+/// the lines. They are found from below, since a line is one of the closest of those right above it, of which there are at
+/// most five. So the cost grows with the number of lines: one look-up for each line and node, and again for each line
+/// above it.
+pub(crate) fn closest_of_each(
     alloc: Global,
-    prefix: &Prefix,
     lines: &[Line],
-) -> Result<Vec<Prefix>, AllocError>
-    ensures closest { IfOk result (λ found. found.items ≡ closest prefix.now (prefixes_of_lines lines.now)) }
-    ensures few { IfOk result (λ found. length found.items ≤ length lines.now) }
+    codes: &LineCodes,
+) -> Result<Vec<Prefixes>, AllocError>
+    requires codes { AreLineCodes (prefixes_of_lines lines.now) codes.now.codes.keys }
+    requires placed { ArePlaced (prefixes_of_lines lines.now) codes.now.codes.keys }
+    ensures { IfOk result (λ each. each.items ≡ closest_of_lines (prefixes_of_lines lines.now)) }
 {
-    let under = lines_under(alloc, prefix, lines)?;
-    greatest(alloc, &under)
-}
-
-// The lines that are strictly under a prefix.
-fn lines_under(alloc: Global, prefix: &Prefix, lines: &[Line]) -> Result<Vec<Prefix>, AllocError>
-    ensures under { IfOk result (λ under. under.items ≡ lines_under prefix.now (prefixes_of_lines lines.now)) }
-    ensures few { IfOk result (λ under. length under.items ≤ length lines.now) }
-{
-    let mut under = Vec::new(alloc);
+    let mut each = empty_lists(alloc, lines.len())?;
     for line in lines {
-        if line.prefix.strictly_under(prefix) {
-            under.push(line.prefix)?;
+        note(&mut each, &line.prefix, codes)?;
+    }
+    Ok(each)
+}
+
+// This many empty lists.
+fn empty_lists(alloc: Global, count: usize) -> Result<Vec<Prefixes>, AllocError>
+    ensures { IfOk result (λ lists. lists.items ≡ replicate count []) }
+{
+    let mut lists = Vec::with_capacity(alloc, count)?;
+    for _ in 0..count {
+        lists.push(Prefixes::new(alloc))?;
+    }
+    Ok(lists)
+}
+
+// Appends a prefix to the list of each line that is right above it.
+fn note(each: &mut Vec<Prefixes>, prefix: &Prefix, codes: &LineCodes) -> Result<(), AllocError>
+    requires { length each.old.items ≡ length codes.now.codes.keys }
+    ensures { OnOk result ((lines : List PrefixValue) → AreLineCodes lines codes.now.codes.keys
+        → ArePlaced lines codes.now.codes.keys
+        → IsNotedBefore node_count lines prefix.now each.old.items each.new.items) }
+{
+    uppers_are_above();
+    for index in 0..25 {
+        let node = Node::from_index(index).unwrap();
+        if let Some(place) = place_right_above(codes, prefix, node) {
+            each[place].push(*prefix)?;
         }
     }
-    Ok(under)
+    Ok(())
 }
 
-// The members that are strictly under no other member.
-fn greatest(alloc: Global, members: &[Prefix]) -> Result<Vec<Prefix>, AllocError>
-    ensures greatest { IfOk result (λ tops. tops.items ≡ greatest_lines members.now) }
-    ensures few { IfOk result (λ tops. length tops.items ≤ length members.now) }
+// The place of the line of a node that is right above a prefix, if there is one.
+fn place_right_above(codes: &LineCodes, prefix: &Prefix, node: Node) -> Option<usize>
+    requires { IsNode node }
+    ensures within { IfSome result (λ place. place < length codes.now.codes.keys) }
+    ensures some { IfSome result (λ place. (lines : List PrefixValue) → AreLineCodes lines codes.now.codes.keys
+        → ArePlaced lines codes.now.codes.keys → IsPlaceRightAbove lines prefix.now node place) }
+    ensures none { IfNone result ((lines : List PrefixValue) (upper : PrefixValue) → AreLineCodes lines codes.now.codes.keys
+        → Contains lines upper → node_of_prefix upper ≡ node → is_right_above lines upper prefix.now ≡ false) }
 {
-    let mut tops = Vec::new(alloc);
-    for member in members {
-        if !is_under_another(member, members) {
-            tops.push(*member)?;
+    keys_are_of_their_node();
+    uppers_are_above();
+    let Some(upper) = prefix.upper(node) else {
+        return None;
+    };
+    if !prefix.strictly_under(&upper) {
+        return None;
+    }
+    let Some(place) = codes.place(&upper) else {
+        return None;
+    };
+    if is_one_between(codes, &upper, prefix) {
+        return None;
+    }
+    Some(place)
+}
+
+// Whether a line is strictly between two prefixes.
+fn is_one_between(codes: &LineCodes, upper: &Prefix, lower: &Prefix) -> bool
+    ensures { (lines : List PrefixValue) → AreLineCodes lines codes.now.codes.keys
+        → result ≡ list_any (is_between upper.now lower.now) lines }
+{
+    for index in 0..25 {
+        let node = Node::from_index(index).unwrap();
+        if has_between(codes, upper, lower, node) {
+            return true;
         }
     }
-    Ok(tops)
+    false
 }
 
-fn is_under_another(member: &Prefix, members: &[Prefix]) -> bool
-    ensures { result ≡ list_any (λ other. strictly_under member.now other) members.now }
+// Whether a line of a node is strictly between two prefixes.
+fn has_between(codes: &LineCodes, upper: &Prefix, lower: &Prefix, node: Node) -> bool
+    ensures yes { (lines : List PrefixValue) → AreLineCodes lines codes.now.codes.keys → result ≡ true
+        → list_any (is_between upper.now lower.now) lines ≡ true }
+    ensures no { (lines : List PrefixValue) (other : PrefixValue) → AreLineCodes lines codes.now.codes.keys → result ≡ false
+        → Contains lines other → node_of_prefix other ≡ node → is_between upper.now lower.now other ≡ false }
 {
-    members.iter().any(|other| member.strictly_under(other))
-}
-
-/// How many pairs of members are kept: those whose meet exists and is under no third member. It costs up to the cube
-/// of the number of members.
-pub(crate) fn count_kept_pairs(members: &[Prefix]) -> u64
-    requires { length members.now < line_limit }
-    ensures number { result ≡ length (kept_pairs members.now) }
-    ensures few { result ≤ line_limit * line_limit }
-{
-    let mut pairs = 0;
-    for (place, first) in members.iter().enumerate() {
-        pairs += count_kept_with(members, first, &members[place + 1..]);
+    keys_are_of_their_node();
+    uppers_are_above();
+    let Some(other) = lower.upper(node) else {
+        return false;
+    };
+    if !other.strictly_under(upper) {
+        return false;
     }
-    pairs
-}
-
-// How many pairs of one member with each of these others are kept.
-fn count_kept_with(members: &[Prefix], first: &Prefix, seconds: &[Prefix]) -> u64
-    requires { length seconds.now < line_limit }
-    ensures number { result ≡ length (filter_map (pair_meet members.now first.now) seconds.now) }
-    ensures few { result ≤ length seconds.now }
-{
-    let mut pairs = 0;
-    for second in seconds {
-        if kept_meet(members, first, second).is_some() {
-            pairs += 1;
-        }
+    if !lower.strictly_under(&other) {
+        return false;
     }
-    pairs
-}
-
-// The meet of a pair, if the pair is kept.
-fn kept_meet(members: &[Prefix], first: &Prefix, second: &Prefix) -> Option<Prefix>
-    ensures { result ≡ pair_meet members.now first.now second.now }
-{
-    let meet = first.meet(second)?;
-    if is_under_third(members, first, second, &meet) {
-        None
-    } else {
-        Some(meet)
-    }
-}
-
-fn is_under_third(members: &[Prefix], first: &Prefix, second: &Prefix, meet: &Prefix) -> bool
-    ensures { result ≡ under_third members.now first.now second.now meet.now }
-{
-    members.iter().any(|third| meet.under(third)
-        && !(is_same(third, first) || is_same(third, second)))
-}
-
-// Whether two prefixes are the same: each is under the other.
-fn is_same(prefix: &Prefix, other: &Prefix) -> bool
-    ensures { result ≡ same_as prefix.now other.now }
-{
-    prefix.under(other) && other.under(prefix)
+    codes.has(&other)
 }

@@ -6,6 +6,7 @@ mod closest_lines;
 mod counted;
 mod depths;
 mod findings;
+mod kept_pairs;
 mod laws;
 mod left_out;
 mod line_codes;

@@ -1,17 +1,20 @@
 //! The tests of lines. Each answers the number of the first line that fails it, counted from 1.
 
 ghost use Rattle.std.specs.Prelude.{◌≡◌, ◌+◌, ◌*◌, ◌≤◌, ◌<◌, ◌^◌, ◌↔◌, List, length, All, IsTrue, IfOk};
-ghost use Rattle.prefix_lattice.specs.{RecordValue, HoldsWeight, total_weight, total_limit};
+ghost use Rattle.prefix_lattice.specs.{RecordValue, HoldsWeight, kept_pairs, total_weight, total_limit};
 ghost use Rattle.hhh_report.specs.{LineHoldsWeight, IsHeavyLine, IsNarrowLine, line_limit};
 ghost use Rattle.hhh_report.specs.{prefixes_of_lines};
 ghost use Rattle.exact_audit.specs.LineTests.{IsTestResult, PassesJustified};
-ghost use Rattle.exact_audit.specs.Widths.{widths_of};
+ghost use Rattle.exact_audit.specs.LineCodes.{AreLineCodes, ArePlaced};
 ghost use Rattle.exact_audit.specs.LineTests.{measures_of, most_audited};
 ghost use Rattle.exact_audit.specs.Findings.{AreSumsOf};
 
-use crate::closest_lines::{closest, count_kept_pairs};
+use crate::closest_lines::closest_of_each;
+use crate::kept_pairs::count_kept_pairs;
+use crate::line_codes::LineCodes;
 use crate::node_sums::Sums;
 use hhh_report::Line;
+use prefix_lattice::Prefix;
 use std::alloc::{AllocError, Global};
 
 /// The first line whose interval doesn't hold its prefix's weight.
@@ -72,10 +75,13 @@ pub(crate) struct Measures {
 pub(crate) fn not_justified(
     alloc: Global,
     lines: &[Line],
+    codes: &LineCodes,
     sums: &[Sums],
     by: &Measures,
 ) -> Result<Option<u64>, AllocError>
     requires few { length lines.now < line_limit }
+    requires codes { AreLineCodes (prefixes_of_lines lines.now) codes.now.codes.keys }
+    requires placed { ArePlaced (prefixes_of_lines lines.now) codes.now.codes.keys }
     requires as_many { length sums.now ≡ length lines.now }
     requires capacity { by.now.capacity ≤ most_audited }
     requires total { by.now.total < total_limit }
@@ -83,38 +89,29 @@ pub(crate) fn not_justified(
         → total_weight records ≡ by.now.total
         → IsTestResult (PassesJustified (measures_of by.now) records lines.now) lines.now found) }
 {
-    for (place, line) in lines.iter().enumerate() {
-        if !is_justified(alloc, line, lines, sums[place].left, by)? {
+    let closest = closest_of_each(alloc, lines, codes)?;
+    for place in 0..lines.len() {
+        if !is_justified(closest[place].as_slice(), sums[place].left, by) {
             return Ok(Some(place as u64 + 1));
         }
     }
     Ok(None)
 }
 
-// Whether a line is justified by this conditioned weight. Its closest lines are searched only where one width, the total
-// over the capacity, doesn't justify it; their kept pairs are counted only where a width for each of them doesn't either.
-fn is_justified(
-    alloc: Global,
-    line: &Line,
-    lines: &[Line],
-    left: u64,
-    by: &Measures,
-) -> Result<bool, AllocError>
-    requires few { length lines.now < line_limit }
+// Whether a line with these closest lines is justified by this conditioned weight. The kept pairs are counted only where a
+// width, the total over the capacity, for the line and each of these doesn't justify it.
+fn is_justified(members: &[Prefix], left: u64, by: &Measures) -> bool
+    requires few { length members.now < line_limit }
     requires capacity { by.now.capacity ≤ most_audited }
     requires total { by.now.total < total_limit }
-    ensures { IfOk result (λ justified. IsTrue justified ↔ (by.now.capacity * by.now.threshold ≤ by.now.capacity * left
-        + widths_of line.now.prefix (prefixes_of_lines lines.now) * by.now.total)) }
+    ensures { IsTrue result ↔ (by.now.capacity * by.now.threshold ≤ by.now.capacity * left
+        + (1 + length members.now + length (kept_pairs members.now)) * by.now.total) }
 {
-    if by.allows(left, 1) {
-        return Ok(true);
-    }
-    let members = closest(alloc, &line.prefix, lines)?;
     let widths = 1 + members.len() as u64;
     if by.allows(left, widths) {
-        return Ok(true);
+        return true;
     }
-    Ok(by.allows(left, widths + count_kept_pairs(&members)))
+    by.allows(left, widths + count_kept_pairs(members))
 }
 
 impl Measures {

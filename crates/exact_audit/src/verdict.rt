@@ -2,12 +2,14 @@
 
 ghost use Rattle.std.specs.Prelude.{◌≡◌, ◌≤◌, ◌<◌, List, length, IfOk};
 ghost use Rattle.prefix_lattice.specs.{RecordValue, total_weight, total_limit};
-ghost use Rattle.hhh_report.specs.{AreReportLines};
+ghost use Rattle.hhh_report.specs.{AreReportLines, prefixes_of_lines};
+ghost use Rattle.exact_audit.specs.LineCodes.{AreLineCodes, ArePlaced};
 ghost use Rattle.exact_audit.specs.LineTests.{most_audited};
 ghost use Rattle.exact_audit.specs.Verdict.{IsLineVerdict};
 ghost use Rattle.exact_audit.specs.Findings.{AreFindings};
 
 use crate::findings::Findings;
+use crate::line_codes::LineCodes;
 use crate::line_tests::{Measures, bad_interval, low_line, not_justified, too_wide};
 use hhh_report::Line;
 use prefix_lattice::Prefix;
@@ -44,12 +46,15 @@ pub enum Verdict {
 pub(crate) fn verdict_of(
     alloc: Global,
     lines: &[Line],
+    codes: &LineCodes,
     findings: &Findings,
     capacity: u32,
     threshold: u64,
     total: u64,
 ) -> Result<Verdict, AllocError>
     requires lines { AreReportLines lines.now }
+    requires codes { AreLineCodes (prefixes_of_lines lines.now) codes.now.codes.keys }
+    requires placed { ArePlaced (prefixes_of_lines lines.now) codes.now.codes.keys }
     requires as_many { length findings.now.sums.items ≡ length lines.now }
     requires capacity { capacity ≤ most_audited }
     requires total { total < total_limit }
@@ -71,7 +76,7 @@ pub(crate) fn verdict_of(
         threshold,
         total,
     };
-    if let Some(line) = not_justified(alloc, lines, &findings.sums, &by)? {
+    if let Some(line) = not_justified(alloc, lines, codes, &findings.sums, &by)? {
         return Ok(Verdict::NotJustified(line));
     }
     Ok(match findings.left_out {

@@ -27,7 +27,7 @@ returns-then-report-threshold-clause-good c =
 
 pub find-requires-clause-light : goal.find-requires-clause-light
 find-requires-clause-light c =
-    let are = c.in_ok-counted.ensures (prefixes_of_lines c.as_slice-lines.result.now) c.in_ok-codes.ensures in
+    let are = c.in_ok-counted.ensures (prefixes_of_lines c.as_slice-lines.result.now) c.in_ok-codes.ensures.codes in
     let same : total_weight (records_in c.deref.result.now) ≡ c.total_before-total.result =
     ap (λ (counted : List Counted). total_weight (records_in counted)) c.deref.ensures.value
     ∙ ap total_weight are.same ∙ sym c.total_before-total.ensures.total in
@@ -38,7 +38,7 @@ returns-clause-verdict c =
     let report = c.args.report.now in
     let lists = c.args.dealt.now in
     let records = records_before lists report.positions in
-    let are = c.in_ok-counted.ensures (prefixes_of_lines c.as_slice-lines.result.now) c.in_ok-codes.ensures in
+    let are = c.in_ok-counted.ensures (prefixes_of_lines c.as_slice-lines.result.now) c.in_ok-codes.ensures.codes in
     let found = c.in_ok-findings.ensures.found records
     (subst (AreCountedIn (prefixes_of_lines c.as_slice-lines.result.now) records) (sym c.deref.ensures.value) are) in
     let ByTotal : ℕ → List Line → Verdict → Type 0 = λ total lines verdict.

@@ -1,7 +1,7 @@
 use Rattle.std.proofs.Common.{◌≡◌, ◌+◌, ◌*◌, ◌≤◌, length, drop}
 use Rattle.prefix_lattice.specs.{pair_meets, kept_pairs}
 use Rattle.hhh_report.specs.{line_limit}
-use Rattle.exact_audit.proofs.closest_lines.count_kept_pairs.Given as goal
+use Rattle.exact_audit.proofs.kept_pairs.count_kept_pairs.Given as goal
 
 -- those of the first members so far, and those that are still to come
 abbrev pub invariant-loop-place : goal.invariant-loop-place

@@ -1,8 +1,8 @@
 use Rattle.std.proofs.Common.{ℕ, cond, ap, ◌∙◌, is_some, arith}
 use Rattle.prefix_lattice.specs.{pair_meet}
 use Rattle.exact_audit.proofs.KeptLineLemmas.{kept_line_count_grows}
-use Rattle.exact_audit.proofs.closest_lines.count_kept_with.Goals as goal
-use Rattle.exact_audit.proofs.closest_lines.count_kept_with.Goals.{then-is_some, else-is_some}
+use Rattle.exact_audit.proofs.kept_pairs.count_kept_with.Goals as goal
+use Rattle.exact_audit.proofs.kept_pairs.count_kept_with.Goals.{then-is_some, else-is_some}
 
 pub loop-second-preserved : goal.loop-second-preserved
 loop-second-preserved c =
