@@ -10,7 +10,8 @@ use Rattle.frame_records.specs.declared.weigh.Weigh.TheVariants.{Bytes, Packets}
 use Rattle.frame_records.specs.FrameRecord.{record_of}
 use Rattle.frame_records.specs.RecordVisitor.{visitor_weighing, capped, KeepsRecordsOf}
 use Rattle.frame_records.specs.RecordVisitor.{with_skip, after_frame}
-use Rattle.frame_records.specs.Records.{AreRecordsOf, HasRecords, HasRefused, HasReadInPart}
+use Rattle.outside_io.specs.{ReadsFront}
+use Rattle.frame_records.specs.Records.{AreRecordsOf, HasRecords, HasRefused}
 use Rattle.frame_records.proofs.Examples.{plain, arp, weighing}
 
 abbrev frames : List FrameValue
@@ -52,7 +53,7 @@ fault_without_a_count_is_none rose = omega (arith, rose)
 pub want_of_memory_has_no_other_cause : HasRefused None 3 3 OutOfMemory
 want_of_memory_has_no_other_cause = tt
 
-pub two_bytes_were_read : HasReadInPart (Some (1 ∷ 2 ∷ 3 ∷ [])) (Some (3 ∷ []))
+pub two_bytes_were_read : ReadsFront (Some (1 ∷ 2 ∷ 3 ∷ [])) (Some (3 ∷ []))
 two_bytes_were_read = (1 ∷ 2 ∷ [], refl)
 
 pub packets_where_the_type_says_so : visitor_weighing true ≡ Packets

@@ -1,6 +1,5 @@
 -- The result of reading the records of a capture.
 use Rattle.std.specs.Prelude.{⊤, ℕ, ◌≡◌, ◌≤◌, List, length, Option, IfSome}
-use Rattle.std.specs.Io.KnownBytes.{Consumes}
 use Rattle.pcap_frames.specs.{FrameValue, frame_count_limit}
 use Rattle.outside_io.specs.{FaultRose}
 use Rattle.frame_records.specs.CaptureFile.{FileHasFrames, IsRefusedFile}
@@ -31,7 +30,3 @@ abbrev pub HasRefused : Option (List ℕ) → ℕ → ℕ → ReadRefusal → Ty
 HasRefused left before now (Capture fault) = IfSome left (λ file. IsRefusedFile file fault)
 HasRefused left before now ReadFault = FaultRose before now
 HasRefused left before now OutOfMemory = ⊤
-
--- a front of the known bytes of the source was read, and the others remain
-abbrev pub HasReadInPart : Option (List ℕ) → Option (List ℕ) → Type 0
-HasReadInPart left now = (front : List ℕ) × Consumes left now front

@@ -1,8 +1,9 @@
 //! Reading the records of a capture.
 
-ghost use Rattle.std.specs.Prelude.{◌≡◌, ◌≤◌, ◌<◌, vec_len, length, IfOk, IfErr, OnOk, OnErr, IsErrOf};
+ghost use Rattle.std.specs.Prelude.{◌≡◌, ◌≤◌, ◌<◌, vec_len, length, IfOk, IfErr, OnOk, IsErrOf};
 ghost use Rattle.std.specs.Io.KnownBytes.{IsAtEnd};
-ghost use Rattle.frame_records.specs.Records.{HasRecords, HasRefused, HasReadInPart};
+ghost use Rattle.outside_io.specs.{ReadsFront};
+ghost use Rattle.frame_records.specs.Records.{HasRecords, HasRefused};
 ghost use Rattle.frame_records.specs.RecordVisitor.{visitor_weighing};
 ghost use Rattle.prefix_lattice.specs.{record_limit};
 
@@ -26,7 +27,7 @@ pub fn read_records<S: Source>(
     ensures few { IfOk result (λ records. length records.list ≤ record_limit) }
     ensures at_end { OnOk result (IsAtEnd (S.left source.new)) }
     ensures refused { IfErr result (HasRefused (S.left source.old) (S.faults source.old) (S.faults source.new)) }
-    ensures front { OnErr result (HasReadInPart (S.left source.old) (S.left source.new)) }
+    ensures front { ReadsFront (S.left source.old) (S.left source.new) }
     ensures later { S.faults source.old ≤ S.faults source.new }
     ensures told { (IsErrOf result ReadRefusal.ReadFault → ⊥) → S.faults source.new ≡ S.faults source.old }
 {
@@ -49,7 +50,7 @@ fn read_weighed<S: Source, const PACKETS: bool>(
     ensures few { IfOk result (λ records. length records.list ≤ record_limit) }
     ensures at_end { OnOk result (IsAtEnd (S.left source.new)) }
     ensures refused { IfErr result (HasRefused (S.left source.old) (S.faults source.old) (S.faults source.new)) }
-    ensures front { OnErr result (HasReadInPart (S.left source.old) (S.left source.new)) }
+    ensures front { ReadsFront (S.left source.old) (S.left source.new) }
     ensures later { S.faults source.old ≤ S.faults source.new }
     ensures told { (IsErrOf result ReadRefusal.ReadFault → ⊥) → S.faults source.new ≡ S.faults source.old }
 {

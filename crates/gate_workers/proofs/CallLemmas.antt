@@ -20,7 +20,7 @@ use Rattle.position_words.specs.declared.view.Trail.{Trail}
 use Rattle.position_words.specs.declared.view.View.{View}
 use Rattle.pass_tokens.specs.{IsOddWord, ReadsCut, ShardRead, after_reads, seen_in, states_of}
 use Rattle.gate_workers.specs.Calling.{Calls, IsCutAtCall, IsReportAtCall, after_calls, cut_at}
-use Rattle.gate_workers.specs.Calling.{shard_positions, positions_read, states_at}
+use Rattle.gate_workers.specs.Calling.{ReadsInRounds, ReadsOnce, shard_positions, positions_read, states_at}
 
 call_states_at_positions : (opening : List ShardValue) (reads : List ShardRead)
     → states_of opening reads ≡ states_at opening (positions_read reads)
@@ -290,4 +290,38 @@ more_calls opening phi rounds more before middle now reports later many one two 
       (two.never_fall shard inside)));
   each = All-append (λ (reported : Reported). IsReportAtCall opening phi reported.report) reports later one.each two.each;
   unsaved = All-append (λ (reported : Reported). reported.saved ≡ None) reports later one.unsaved two.unsaved;
+}
+
+-- rounds with reports are rounds of reads
+pub calls_read_in_rounds : (opening : List ShardValue) (phi rounds most : ℕ) (before now : View) (reports : List Reported)
+    → rounds ≤ most → Calls opening phi rounds before now reports → ReadsInRounds opening most before now
+calls_read_in_rounds opening phi rounds most before now reports few calls = record {
+  reads = calls.reads;
+  few = omega (arith, few, calls.as_many);
+  whole = calls_reach_each_shard opening phi reports calls.reads calls.positions calls.each;
+  odd = calls.odd;
+  view = calls.view;
+}
+
+-- and so with one more round, which has no report
+pub calls_read_once_more : (opening : List ShardValue) (phi rounds most : ℕ) (before middle now : View)
+    (reports : List Reported) → rounds < most → Calls opening phi rounds before middle reports
+    → ReadsOnce opening middle now → ReadsInRounds opening most before now
+calls_read_once_more opening phi rounds most before middle now reports few calls once = record {
+  reads = calls.reads ++ once.reads ∷ [];
+  few = omega (arith, few, calls.as_many, length-append calls.reads (once.reads ∷ []));
+  whole =
+      All-append (λ (round : List ShardRead). length round ≡ length opening) calls.reads (once.reads ∷ [])
+      (calls_reach_each_shard opening phi reports calls.reads calls.positions calls.each)
+      (All-cons (λ (round : List ShardRead). length round ≡ length opening) once.reads [] once.as_many
+      (All-nil (λ (round : List ShardRead). length round ≡ length opening)));
+  odd =
+      All-append (λ round. All (λ (read : ShardRead). All IsOddWord read.losses) round) calls.reads (once.reads ∷ [])
+      calls.odd
+      (All-cons (λ round. All (λ (read : ShardRead). All IsOddWord read.losses) round) once.reads [] once.odd
+      (All-nil (λ round. All (λ (read : ShardRead). All IsOddWord read.losses) round)));
+  view =
+      once.view ∙ ap (λ (v : View). record v { trails = after_reads v.trails once.reads }) calls.view
+      ∙ ap (λ trails. record before { trails = trails })
+      (sym (calls-append before.trails calls.reads (once.reads ∷ [])));
 }

@@ -1,5 +1,5 @@
 -- What a caller that reports round after round knows and answers.
-use Rattle.std.specs.Prelude.{ℕ, ◌≡◌, ◌<◌, List, [], ◌∷◌, map, fold, length, All, None, slice_index}
+use Rattle.std.specs.Prelude.{ℕ, ◌≡◌, ◌<◌, ◌≤◌, List, [], ◌∷◌, map, fold, length, All, None, slice_index}
 use Rattle.std.specs.List.Sorted.{IsNonDecreasing}
 use Rattle.shard_state.specs.{CutValue, IsShard, ShardValue, core_capacity, snapshot_of, shard_state_at}
 use Rattle.hhh_output.specs.{IsReportOf}
@@ -66,3 +66,11 @@ pub record ReadsOnce (opening : List ShardValue) (before now : View) : Type 0 wh
   pub as_many : length reads ≡ length opening
   pub odd : All (λ read. All IsOddWord read.losses) reads
   pub view : now ≡ record before { trails = after_reads before.trails reads }
+
+-- rounds of reads, at most this many, and no other step: each round read each shard once
+pub record ReadsInRounds (opening : List ShardValue) (rounds : ℕ) (before now : View) : Type 0 where
+  pub reads : List (List ShardRead)
+  pub few : length reads ≤ rounds
+  pub whole : All (λ round. length round ≡ length opening) reads
+  pub odd : All (λ round. All (λ read. All IsOddWord read.losses) round) reads
+  pub view : now ≡ record before { trails = after_calls before.trails reads }

@@ -1,11 +1,12 @@
 //! Reporting round after round.
 
-ghost use Rattle.std.specs.Prelude.{◌≡◌, ◌≤◌, ◌<◌, ◌++◌, [], ◌∷◌, length, All, IfOk, None};
+ghost use Rattle.std.specs.Prelude.{◌≡◌, ◌≤◌, ◌<◌, ◌++◌, [], ◌∷◌, length, All, IfOk, None, OnErr};
 ghost use Rattle.shard_state.specs.{BasesRepresent, HasCoreShape, core_capacity, core_lists, cut_positions};
 ghost use Rattle.hhh_report.specs.{IsSound, million};
 ghost use Rattle.hhh_output.specs.{IsWideShare};
 ghost use Rattle.pass_tokens.specs.{IsPassOf, view};
-ghost use Rattle.gate_workers.specs.Calling.{Calls, IsCutAtCall, IsReportAtCall, ReadsOnce, cut_at};
+ghost use Rattle.gate_workers.specs.Calling.{Calls, IsCutAtCall, IsReportAtCall, ReadsInRounds};
+ghost use Rattle.gate_workers.specs.Calling.{ReadsOnce, cut_at};
 
 use crate::{Gate, Turn};
 use hhh_output::report_of;
@@ -16,7 +17,8 @@ use std::alloc::{AllocError, Global};
 use std::sync::Wait;
 
 /// Reads a cut and reports on it, once in each round. `phi` is 1 to 1,000,000 parts per million, and wide enough for the
-/// capacity of the board's tables. The pass comes back also after an error, which means that memory ran out.
+/// capacity of the board's tables. The pass comes back also after an error, which means that memory ran out: then it has read
+/// in whole rounds all the same, the last of which has no report.
 pub fn call_reports<R: Wait, G: Gate>(
     rt: &R,
     alloc: Global,
@@ -36,6 +38,7 @@ pub fn call_reports<R: Wait, G: Gate>(
     ensures calls { IfOk result.1 (Calls board.now.opening phi rounds (view pass) (view result.0)) }
     ensures sound { IfOk result.1 (λ reports. BasesRepresent board.now.opening
         → All (λ reported. IsSound reported.report (core_lists board.now.opening) (core_capacity board.now.opening) phi) reports) }
+    ensures in_part { OnErr result.1 (ReadsInRounds board.now.opening rounds (view pass) (view result.0)) }
     ensures pass { IsPassOf board.now result.0 }
 {
     let reports = report_in_rounds(
@@ -64,6 +67,7 @@ pub(crate) fn report_in_rounds<R: Wait, G: Gate>(
     ensures calls { IfOk result (Calls board.now.opening phi rounds (view pass.old) (view pass.new)) }
     ensures sound { IfOk result (λ reports. BasesRepresent board.now.opening
         → All (λ reported. IsSound reported.report (core_lists board.now.opening) (core_capacity board.now.opening) phi) reports) }
+    ensures in_part { OnErr result (ReadsInRounds board.now.opening rounds (view pass.old) (view pass.new)) }
     ensures pass { IsPassOf board.now pass.new }
 {
     let mut reports = Reports::new(alloc);

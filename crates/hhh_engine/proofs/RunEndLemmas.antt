@@ -1,5 +1,6 @@
 -- How a run ends: by the fault of its arguments, or as its command did.
-use Rattle.std.proofs.Common.{◌≡◌, ◌⊎◌, ℕ, List, Ok, Err, inl, inr, ⊎_elim, refl, sym, ap, subst}
+use Rattle.std.proofs.Common.{◌≡◌, ◌⊎◌, ℕ, List, [], Ok, Err, inl, inr, ⊎_elim, refl, sym, ap, subst}
+use Rattle.std.proofs.KnownBytes.{Consumes-nil}
 use Rattle.std.specs.declared.result.Result.{Result}
 use Rattle.outside_io.specs.declared.source.Source.{Ghosts as SourceOf}
 use Rattle.outside_io.specs.declared.sink.Sink.{Ghosts as SinkOf}
@@ -84,6 +85,8 @@ module _ {S T K D : Type 0} (s : SourceOf S) (t : SourceOf T) (k : SinkOf K) (d 
     unused_capture = λ avoids. refl;
     unused_text = λ avoids. refl;
     unused_disk = λ avoids. refl;
+    capture_front = ([], Consumes-nil (s.left old.capture));
+    text_front = ([], Consumes-nil (t.left old.text));
     out_of_memory = λ is. cc is;
     complete = λ command asks can no_capture no_text no_sink no_disk. absurd (none command asks);
   }
@@ -114,6 +117,8 @@ module _ {S T K D : Type 0} (s : SourceOf S) (t : SourceOf T) (k : SinkOf K) (d 
     unused_capture = λ avoids. refl;
     unused_text = λ avoids. refl;
     unused_disk = λ avoids. refl;
+    capture_front = ([], Consumes-nil (s.left old.capture));
+    text_front = ([], Consumes-nil (t.left old.text));
     out_of_memory = λ is. inl (refl, IsAsBefore-untouched d old.disk old.disk only_now refl);
     complete = λ command asks can no_capture no_text no_sink no_disk. inr refl;
   }
@@ -244,6 +249,8 @@ module _ {S T K D : Type 0} (s : SourceOf S) (t : SourceOf T) (k : SinkOf K) (d 
             answers.text_unread (subst (λ c. UsesSession c → ⊥) (sym (same avoids.command avoids.asked)) avoids.unused);
         unused_disk = λ avoids.
             answers.unused (subst (λ c. UsesStore c → ⊥) (sym (same avoids.command avoids.asked)) avoids.unused);
+        capture_front = answers.fronts.0;
+        text_front = answers.fronts.1;
         out_of_memory = λ is.
             let ended = subst (Ended command) is ends in
             ⊎_elim

@@ -341,6 +341,8 @@ module _ {S T K D : Type 0} (s : SourceOf S) (t : SourceOf T) (k : SinkOf K) (d 
     unused_capture = ends.unused_capture;
     unused_text = ends.unused_text;
     unused_disk = ends.unused_disk;
+    capture_front = ends.capture_front;
+    text_front = ends.text_front;
     out_of_memory = λ is.
         ⊎_elim (λ nothing. inl nothing) (λ part. inr (wider_rules_allow_part part)) (ends.out_of_memory is);
     complete = λ command asked can.

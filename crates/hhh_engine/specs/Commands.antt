@@ -1,6 +1,6 @@
 -- Within the crate: how a command ended, in the words of its run.
 use Rattle.std.specs.Prelude.{◌≡◌}
-use Rattle.outside_io.specs.{FaultRose}
+use Rattle.outside_io.specs.{FaultRose, ReadsFront}
 use Rattle.outside_io.specs.declared.source.Source.{Ghosts as SourceOf}
 use Rattle.outside_io.specs.declared.sink.Sink.{Ghosts as SinkOf}
 use Rattle.slot_disk.specs.declared.disk.Disk.{Ghosts as DiskOf}
@@ -59,5 +59,6 @@ module _ {S T K D : Type 0} (s : SourceOf S) (t : SourceOf T) (k : SinkOf K) (d 
     pub reads : (fault : CaptureFault) → status ≡ BadCapture fault → UsesCapture command
     pub unread : (UsesCapture command → ⊥) → new.capture ≡ old.capture
     pub text_unread : (UsesSession command → ⊥) → new.text ≡ old.text
+    pub fronts : ReadsFront (s.left old.capture) (s.left new.capture) × ReadsFront (t.left old.text) (t.left new.text)
     pub formats : (settings : Settings) → command ≡ Format settings
         → FormatEnds d (saves_settings settings) old.sink new.sink old.disk new.disk status

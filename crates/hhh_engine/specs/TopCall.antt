@@ -1,7 +1,7 @@
 -- What a run promises: what each status says of the arguments, of what was read and written, and of the store's disk.
 use Rattle.std.specs.Prelude.{ℕ, ◌≡◌, ◌⊎◌, ◌≤◌, true, List, length, All, Some, IfSome}
 use Rattle.std.specs.Io.KnownBytes.{Appends, IsAtEnd}
-use Rattle.outside_io.specs.{FaultRose}
+use Rattle.outside_io.specs.{FaultRose, ReadsFront}
 use Rattle.outside_io.specs.declared.source.Source.{Ghosts as SourceOf}
 use Rattle.outside_io.specs.declared.sink.Sink.{Ghosts as SinkOf}
 use Rattle.prefix_lattice.specs.{RecordValue}
@@ -166,8 +166,8 @@ module _ {S T K D : Type 0} (s : SourceOf S) (t : SourceOf T) (k : SinkOf K) (d 
         pub rose : FaultRose (d.faults old.disk) (d.faults new.disk)
         pub in_part : ((new.sink ≡ old.sink) × EndsAsBefore command (IsAsBefore d old.disk new.disk)) ⊎ WritesPart
 
-      -- a store that is refused for a fault however the records of the capture are dealt is refused for it, unless the source or
-      -- the disk fails or memory runs out first
+      -- a store that has a fault however the records of the capture are dealt is refused for it, unless the source or the disk
+      -- fails or memory runs out first
       abbrev pub MustRefuseStore : Status → Type 0
       MustRefuseStore status =
           (settings : Settings) (file image : List ℕ) (frames : List FrameValue) (fault : OpenFault)
@@ -177,8 +177,8 @@ module _ {S T K D : Type 0} (s : SourceOf S) (t : SourceOf T) (k : SinkOf K) (d 
           → RefusesOpening (saves_settings settings) lists image fault)
           → (status ≡ status_of_opening fault) ⊎ ((status ≡ ReadFault) ⊎ ((status ≡ DiskFault) ⊎ (status ≡ OutOfMemory)))
 
-      -- a session is found unsound at the report that is the first that is not sound however the records are dealt, unless a
-      -- source or the sink fails or memory runs out first
+      -- where the same report is the first unsound one, by the same verdict, however the records are dealt, the audit names it,
+      -- unless a source or the sink fails or memory runs out first
       abbrev pub MustFindUnsound : Status → Type 0
       MustFindUnsound status =
           (settings : Settings) (file bytes : List ℕ) (frames : List FrameValue) (known : Session) (report : ℕ) (verdict : Verdict)
@@ -214,7 +214,7 @@ module _ {S T K D : Type 0} (s : SourceOf S) (t : SourceOf T) (k : SinkOf K) (d 
         -- for the records themselves, unless the run went on from a saved cut whose tables aren't those of its records. A crash
         -- at any moment of a report with a store leaves what it could have left when the run began, or a store that opens as
         -- before or to one of the cuts that the run saves, whichever lines were written by then; a crash afterwards leaves one
-        -- that opens to the last of them
+        -- that opens to the last of them. What the written lines say of the store is `KeepsItsStore` in specs/StorePromise
         pub done : status ≡ Done → WritesText
         -- the arguments are checked first, before anything is read
         pub bad_words : (kind : WordsKind) → status ≡ BadWords kind → RefusesWords kind
@@ -244,6 +244,9 @@ module _ {S T K D : Type 0} (s : SourceOf S) (t : SourceOf T) (k : SinkOf K) (d 
         pub unused_capture : CommandAvoids UsesCapture words → new.capture ≡ old.capture
         pub unused_text : CommandAvoids UsesSession words → new.text ≡ old.text
         pub unused_disk : CommandAvoids UsesStore words → new.disk ≡ old.disk
+        -- of each source a front was read, which may be empty or all of it, and the bytes after it remain
+        pub capture_front : ReadsFront (s.left old.capture) (s.left new.capture)
+        pub text_front : ReadsFront (t.left old.text) (t.left new.text)
         -- memory may run out at any time: then nothing was written, and the disk is as before; or a part of the text was
         -- written, which may be empty
         pub out_of_memory : status ≡ OutOfMemory → WritesNothing ⊎ WritesPart

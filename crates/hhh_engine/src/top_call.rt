@@ -1,6 +1,7 @@
 //! The top call: from arguments, a capture and the disk of a store to an output text and a status.
 
 ghost use Rattle.std.specs.Prelude.{◌≡◌};
+ghost use Rattle.outside_io.specs.{ReadsFront};
 ghost use Rattle.pcap_frames.specs.declared.fault.CaptureFault.{CaptureFault};
 ghost use Rattle.deal_rules.specs.{dealer_of};
 ghost use Rattle.command_words.specs.{argument_texts, IsLimitedCommand};
@@ -113,6 +114,7 @@ fn answer<R: Threads + Wait + Sync, S: Source, T: Source, K: Sink, D: Disk, G: G
     ensures reads { (fault : CaptureFault) → result ≡ BadCapture fault → UsesCapture command.now }
     ensures unread { (UsesCapture command.now → ⊥) → capture.new ≡ capture.old }
     ensures text_unread { (UsesSession command.now → ⊥) → text.new ≡ text.old }
+    ensures fronts { ReadsFront (S.left capture.old) (S.left capture.new) × ReadsFront (T.left text.old) (T.left text.new) }
     ensures formats { (settings : Settings) → command.now ≡ Format settings
         → FormatEnds D.Disk (saves_settings settings) sink.old sink.new disk.old disk.new result }
 {

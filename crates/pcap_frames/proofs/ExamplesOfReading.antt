@@ -30,7 +30,9 @@ want_of_memory_is_passed_on = refl
 
 pub whole_capture_is_seen : ShowsCapture album [] (frame ∷ []) (Some capture) (Some []) 1
 whole_capture_is_seen = record {
+  front = capture;
   frames = frame ∷ [];
+  consumed = sym (append-nil capture);
   counted = refl;
   limit = omega arith;
   are_frames = (frame_of_three_bytes, tt);

@@ -251,7 +251,9 @@ module _ {V : Type 0} (represents : V → List FrameValue → Type 0) where
       (Consumes-trans left now after read.bytes [] read.consumed consumed) in
       let splits = answer.0.1 in (
         record {
+          front = read.bytes;
           frames = read.frames;
+          consumed = whole;
           counted = sym answer.1;
           limit = omega (arith, answer.1, splits.limit);
           are_frames = read.are_frames;

@@ -13,7 +13,7 @@ pub record SplitsCapture (bytes : List ℕ) (order : FileOrder) (frames : List F
   pub begins : BeginsWithFrames order (drop header_length bytes) frames rest
   pub limit : length frames ≤ frame_count_limit
 
--- the file is a capture of these frames: a file header, and the frames up to the end of the file
+-- the file is a capture of these frames: a file header, and whole frames up to the end of the file, so a file that ends inside a frame is none
 abbrev pub IsCapture : List ℕ → List FrameValue → Type 0
 IsCapture file frames = (order : FileOrder) × SplitsCapture file order frames []
 

@@ -20,10 +20,13 @@ abbrev pub refusal_of : FeedFault → ReadRefusal
 refusal_of (feed.Refused fault) = Capture fault
 refusal_of feed.OutOfMemory = OutOfMemory
 
--- the visitor saw this many frames, the whole capture where the source's bytes are known, and the source is at its end
+-- a front of the source was read, up to its end, and the visitor saw this many frames, which are the whole capture where the
+-- source's bytes are known
 pub record ShowsCapture {V : Type 0} (represents : V → List FrameValue → Type 0) (seen saw : V)
     (left now : Option (List ℕ)) (count : ℕ) : Type 0 where
+  pub front : List ℕ
   pub frames : List FrameValue
+  pub consumed : Consumes left now front
   pub counted : length frames ≡ count
   pub limit : count ≤ frame_count_limit
   pub are_frames : AreFrames frames

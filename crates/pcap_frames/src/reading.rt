@@ -25,6 +25,8 @@ pub fn read_frames<S: Source, V: FrameVisitor>(
     // What the visitor saw: the frames of the capture, those before the fault, or some of them.
     ensures seen { IsSeen V.represents visitor.old visitor.new (S.left source.old) (S.left source.new) result }
 
+    ensures room { length buffer.new ≡ length buffer.old }
+
     // When each result is returned.
     ensures exact { IfSome (S.left source.old) (λ file. IsReadingOf file result) }
     ensures later { S.faults source.old ≤ S.faults source.new }

@@ -2,6 +2,7 @@
 
 ghost use Rattle.std.specs.Prelude.{◌≡◌, ◌≤◌, ◌<◌, ◌+◌, ◌++◌, ℕ, List, length, vec_len, IfOk, IfErr, OnErr, IsErrOf};
 ghost use Rattle.std.specs.Io.KnownBytes.{Consumes, IsAtEnd};
+ghost use Rattle.outside_io.specs.{ReadsFront};
 ghost use Rattle.report_text.specs.{longest_session};
 ghost use Rattle.session_audit.specs.Answer.{HasNoBytes};
 
@@ -17,7 +18,7 @@ pub fn read_text<T: Source>(alloc: Global, source: &mut T) -> Result<Vec<u8>, St
     ensures consumed { IfOk result (λ text. Consumes (T.left source.old) (T.left source.new) text.items) }
     ensures limit { IfOk result (λ text. length text.items ≤ longest_session + 1) }
     ensures at_end { IfOk result (λ text. length text.items ≤ longest_session → IsAtEnd (T.left source.new)) }
-    ensures front { OnErr result ((front : List ℕ) × Consumes (T.left source.old) (T.left source.new) front) }
+    ensures front { ReadsFront (T.left source.old) (T.left source.new) }
     ensures refused { IfErr result (HasNoBytes (T.faults source.old) (T.faults source.new)) }
     ensures told { (IsErrOf result Status.ReadFault → ⊥) → T.faults source.new ≡ T.faults source.old }
 {
@@ -42,7 +43,7 @@ fn append_piece<T: Source>(
 ) -> Result<usize, Status>
     ensures read { IfOk result (λ count. (piece : List ℕ) × (length piece ≡ count) × (text.new.items ≡ text.old.items ++ piece)
         × Consumes (T.left source.old) (T.left source.new) piece) }
-    ensures front { OnErr result ((front : List ℕ) × Consumes (T.left source.old) (T.left source.new) front) }
+    ensures front { OnErr result (ReadsFront (T.left source.old) (T.left source.new)) }
     ensures fits { IfOk result (λ count. count ≤ length buffer.old) }
     ensures at_end { IfOk result (λ count. count ≡ 0 → 0 < length buffer.old → IsAtEnd (T.left source.new)) }
     ensures refused { IfErr result (HasNoBytes (T.faults source.old) (T.faults source.new)) }

@@ -2,6 +2,7 @@
 
 ghost use Rattle.std.specs.Prelude.{⊤, ◌≡◌, List, ℕ, Option, IfOk, IfErr, OnOk, IsErrOf};
 ghost use Rattle.std.specs.Io.KnownBytes.{IsAtEnd};
+ghost use Rattle.outside_io.specs.{ReadsFront};
 ghost use Rattle.deal_rules.specs.{dealer_of};
 ghost use Rattle.command_words.specs.{AreLimited};
 ghost use Rattle.hhh_engine.specs.Reading.{AreAuditing, HasNoAudit};
@@ -38,6 +39,8 @@ pub(crate) fn audit<S: Source, T: Source, K: Sink>(
     ensures order { (store : Option (List ℕ)) → EndsInOrder ⊤ ⊤ (inputs (S.left capture.old) (S.left capture.new) (T.left text.old) (T.left text.new) store)
         (faults_of_source (S.faults capture.old) (T.faults text.old))
         (faults_of_source (S.faults capture.new) (T.faults text.new)) text.old text.new result }
+    ensures capture_front { ReadsFront (S.left capture.old) (S.left capture.new) }
+    ensures text_front { ReadsFront (T.left text.old) (T.left text.new) }
 {
     let audited = match read_audited(alloc, settings, capture, text, dealers) {
         Ok(audited) => audited,
@@ -67,6 +70,8 @@ fn read_audited<S: Source, T: Source>(
         (inputs (S.left capture.old) (S.left capture.new) (T.left text.old) (T.left text.new) store)) }
     ensures capture_at_end { OnOk result (IsAtEnd (S.left capture.new)) }
     ensures text_at_end { OnOk result (IsAtEnd (T.left text.new)) }
+    ensures capture_front { ReadsFront (S.left capture.old) (S.left capture.new) }
+    ensures text_front { ReadsFront (T.left text.old) (T.left text.new) }
     ensures refused { (store : Option (List ℕ))
         → IfErr result (HasNoAudit (inputs (S.left capture.old) (S.left capture.new) (T.left text.old) (T.left text.new) store)
         (faults_of_source (S.faults capture.old) (T.faults text.old)) (faults_of_source (S.faults capture.new) (T.faults text.new))) }

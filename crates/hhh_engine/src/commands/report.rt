@@ -2,6 +2,7 @@
 
 ghost use Rattle.std.specs.Prelude.{ℕ, ◌≡◌, ◌<◌, false, length, IfOk, IfErr, IfSome, OnOk, IsErrOf};
 ghost use Rattle.std.specs.Io.KnownBytes.{IsAtEnd};
+ghost use Rattle.outside_io.specs.{ReadsFront};
 ghost use Rattle.deal_rules.specs.{dealer_of};
 ghost use Rattle.command_words.specs.{AreLimited, HaveWideShare};
 ghost use Rattle.hhh_engine.specs.Tasks.{report_task};
@@ -41,6 +42,7 @@ pub(crate) fn report<R: Threads + Wait + Sync, S: Source, K: Sink, D: Disk, G: G
         (S.left capture.old) (S.left capture.new) disk.old disk.new)
         (course K.Sink (S.left capture.old) (faults_of_source (S.faults capture.old) other) (faults_of_source (S.faults capture.new) other)
         sink.old sink.new) result }
+    ensures front { ReadsFront (S.left capture.old) (S.left capture.new) }
     ensures told { (result ≡ DiskFault → ⊥) → D.faults disk.new ≡ D.faults disk.old }
     ensures unused { settings.now.store ≡ false → disk.new ≡ disk.old }
 {
@@ -72,6 +74,7 @@ fn read_dealt<S: Source>(
     ensures shards { IfOk result (λ fed. length fed.dealt ≡ settings.now.shards) }
     ensures tail { IfOk result (λ fed. 0 < length fed.tail.items) }
     ensures at_end { OnOk result (IsAtEnd (S.left capture.new)) }
+    ensures front { ReadsFront (S.left capture.old) (S.left capture.new) }
     ensures refused { IfErr result (HasNoText (S.left capture.old) (S.faults capture.old) (S.faults capture.new)) }
     ensures told { (IsErrOf result Status.ReadFault → ⊥) → S.faults capture.new ≡ S.faults capture.old }
 {

@@ -2,6 +2,7 @@
 
 ghost use Rattle.std.specs.Prelude.{ℕ, ◌≡◌, ◌≤◌, length, All, IfOk, IfErr, IfSome, OnOk, IsErrOf};
 ghost use Rattle.std.specs.Io.KnownBytes.{IsAtEnd};
+ghost use Rattle.outside_io.specs.{ReadsFront};
 ghost use Rattle.prefix_lattice.specs.{record_limit};
 ghost use Rattle.shard_state.specs.{records_table, HoldsNarrowlyOver};
 ghost use Rattle.hhh_engine.specs.Tasks.{weigh_task};
@@ -29,9 +30,10 @@ pub(crate) fn weigh<S: Source, K: Sink>(
     capture: &mut S,
     sink: &mut K,
 ) -> Status
-    ensures { (other : ℕ) → Ends (weigh_task prefix.now settings.now (S.left capture.old) (S.left capture.new))
+    ensures ends { (other : ℕ) → Ends (weigh_task prefix.now settings.now (S.left capture.old) (S.left capture.new))
         (course K.Sink (S.left capture.old) (faults_of_source (S.faults capture.old) other) (faults_of_source (S.faults capture.new) other)
         sink.old sink.new) result }
+    ensures front { ReadsFront (S.left capture.old) (S.left capture.new) }
 {
     let text = match read_weight(alloc, prefix, settings, capture) {
         Ok(text) => text,
@@ -52,6 +54,7 @@ fn read_weight<S: Source>(
 ) -> Result<Vec<u8>, Status>
     ensures text { IfOk result (λ text. IfSome (S.left capture.old) (λ file. IsWeightText prefix.now settings.now.weigh file text.items)) }
     ensures at_end { OnOk result (IsAtEnd (S.left capture.new)) }
+    ensures front { ReadsFront (S.left capture.old) (S.left capture.new) }
     ensures refused { IfErr result (HasNoText (S.left capture.old) (S.faults capture.old) (S.faults capture.new)) }
     ensures told { (IsErrOf result Status.ReadFault → ⊥) → S.faults capture.new ≡ S.faults capture.old }
 {

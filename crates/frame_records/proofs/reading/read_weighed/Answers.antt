@@ -18,3 +18,6 @@ returns-in-Ok-clause-few g c =
     let read = c.in-Ok.ensures.seen in
     visitor_records_are_few _ read.frames c.read_frames.new.visitor.records
     (subst (λ n. n ≤ 16777216) (sym read.counted) read.limit) (read.sees [] c.new-visitor.ensures)
+
+pub returns-in-Ok-clause-front : goal.returns-in-Ok-clause-front
+returns-in-Ok-clause-front g c = (c.in-Ok.ensures.seen.front, c.in-Ok.ensures.seen.consumed)

@@ -1,4 +1,5 @@
-use Rattle.std.proofs.Common.{refl}
+use Rattle.std.proofs.Common.{[], refl}
+use Rattle.std.proofs.KnownBytes.{Consumes-nil}
 use Rattle.command_words.specs.declared.command.Command.TheVariants.{Weigh, Report, Format, Audit, Make, Demo}
 use Rattle.hhh_engine.specs.Tasks.{made_task, report_task, weigh_task}
 use Rattle.hhh_engine.specs.TopCall.{streams}
@@ -15,7 +16,7 @@ returns-in-Weigh-clause-ends g c =
     (Weigh c.in-Weigh.prefix c.in-Weigh.settings) c.weigh.result c.in-Weigh.is
     (status_beside_disk (weigh_task c.in-Weigh.prefix c.in-Weigh.settings (g.S.Source.left c.args.capture.now)
     (g.S.Source.left c.weigh.new.capture)) _ _ _ c.weigh.result (λ failed. failed) refl
-    (IsAsBefore-untouched g.D.Disk c.args.disk.now c.args.disk.now g.met.D.Disk.only_now refl) (c.weigh.ensures _))
+    (IsAsBefore-untouched g.D.Disk c.args.disk.now c.args.disk.now g.met.D.Disk.only_now refl) (c.weigh.ensures.ends _))
 
 pub returns-in-Report-clause-ends : goal.returns-in-Report-clause-ends
 returns-in-Report-clause-ends g c =
@@ -58,7 +59,7 @@ returns-in-Weigh-clause-order g c =
     read_order_of_variant c.args.command.now (Weigh c.in-Weigh.prefix c.in-Weigh.settings) _ _ _ _ _ c.weigh.result c.in-Weigh.is
     (read_order_of_capture_alone
     (weigh_task c.in-Weigh.prefix c.in-Weigh.settings (g.S.Source.left c.args.capture.now) (g.S.Source.left c.weigh.new.capture))
-    g.K.Sink _ _ _ _ _ _ c.weigh.result _ _ _ _ tt (c.weigh.ensures 0))
+    g.K.Sink _ _ _ _ _ _ c.weigh.result _ _ _ _ tt (c.weigh.ensures.ends 0))
 
 pub returns-in-Report-clause-order : goal.returns-in-Report-clause-order
 returns-in-Report-clause-order g c =
@@ -88,3 +89,30 @@ returns-in-Demo-clause-order g c =
     read_order_of_variant c.args.command.now (Demo c.in-Demo.seed c.in-Demo.frames c.in-Demo.settings) _ _ _ _ _ c.demo.result
     c.in-Demo.is
     (read_order_of_neither _ _ _ _ _ _ c.demo.result c.demo.ensures.no_capture c.demo.ensures.no_read_fault)
+
+pub returns-in-Weigh-clause-fronts : goal.returns-in-Weigh-clause-fronts
+returns-in-Weigh-clause-fronts g c = (c.weigh.ensures.front, ([], Consumes-nil (g.T.Source.left c.args.text.now)))
+
+pub returns-in-Report-clause-fronts : goal.returns-in-Report-clause-fronts
+returns-in-Report-clause-fronts g c = (c.report.ensures.front, ([], Consumes-nil (g.T.Source.left c.args.text.now)))
+
+pub returns-in-Format-clause-fronts : goal.returns-in-Format-clause-fronts
+returns-in-Format-clause-fronts g c = (
+  ([], Consumes-nil (g.S.Source.left c.args.capture.now)),
+  ([], Consumes-nil (g.T.Source.left c.args.text.now)),
+)
+
+pub returns-in-Make-clause-fronts : goal.returns-in-Make-clause-fronts
+returns-in-Make-clause-fronts g c = (
+  ([], Consumes-nil (g.S.Source.left c.args.capture.now)),
+  ([], Consumes-nil (g.T.Source.left c.args.text.now)),
+)
+
+pub returns-in-Demo-clause-fronts : goal.returns-in-Demo-clause-fronts
+returns-in-Demo-clause-fronts g c = (
+  ([], Consumes-nil (g.S.Source.left c.args.capture.now)),
+  ([], Consumes-nil (g.T.Source.left c.args.text.now)),
+)
+
+pub returns-in-Audit-clause-fronts : goal.returns-in-Audit-clause-fronts
+returns-in-Audit-clause-fronts g c = (c.audit.ensures.capture_front, c.audit.ensures.text_front)

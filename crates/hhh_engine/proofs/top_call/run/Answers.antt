@@ -25,6 +25,7 @@ returns g c =
       reads = c.answer.ensures.reads;
       unread = c.answer.ensures.unread;
       text_unread = c.answer.ensures.text_unread;
+      fronts = c.answer.ensures.fronts;
       formats = c.answer.ensures.formats;
     })
 
