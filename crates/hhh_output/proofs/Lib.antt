@@ -2,6 +2,10 @@ pub mod StrictOrderLemmas
 pub mod NearLineLemmas
 pub mod OneReportLemmas
 pub mod SoundReportLemmas
+pub mod SortedPrefixLemmas
+pub mod ChosenLineLemmas
+pub mod MonitoredPrefixLemmas
+pub mod ExistingReportLemmas
 pub mod NodeLineLemmas
 pub mod LevelSearchLemmas
 pub mod LevelDescentLemmas

@@ -125,7 +125,7 @@ sound_report_light_below phi capacity total threshold high wide is light = elim 
 ]
 
 -- whether a key is among some keys
-sound_report_key_or_not : (key : ℕ) (keys : List ℕ) → Contains keys key ⊎ ¬ Contains keys key
+pub sound_report_key_or_not : (key : ℕ) (keys : List ℕ) → Contains keys key ⊎ ¬ Contains keys key
 sound_report_key_or_not key [] = inr (Contains-empty_list key)
 sound_report_key_or_not key (first ∷ keys) = by (eqb first key) refl (sound_report_key_or_not key keys)
   where

@@ -11,8 +11,10 @@ ghost use Rattle.hhh_report.specs.declared.report.Report.{Report};
 ghost use Rattle.hhh_output.specs.Reporting.{IsReportOf, IsWideShare};
 
 use conditioned_bounds::{bounds_hold, only_prefixes_are_asked};
-use cut_merge::{merged_intervals_are_narrow, merged_intervals_hold_weights};
-use prefix_lattice::{prefixes_are_ordered, report_order_is_total};
+use cut_merge::{
+    merged_intervals_are_narrow, merged_intervals_hold_weights, monitored_keys_are_few,
+};
+use prefix_lattice::{keys_are_of_their_node, prefixes_are_ordered, report_order_is_total};
 use shard_state::{runs_stand, snapshots_hold_weights, standing_cuts_are_equal};
 
 /// A cut has one report: two reports that meet the definition show the same.
@@ -22,6 +24,17 @@ pub fn a_cut_has_one_report()
 {
     prefixes_are_ordered();
     report_order_is_total();
+}
+
+/// Each cut has a report: its lines exist, whether or not there is memory to make it.
+pub fn each_cut_has_a_report()
+    ensures { (cut : CutValue) (phi : ℕ) → IsCut cut → (report : Report) × IsReportOf cut phi report }
+{
+    prefixes_are_ordered();
+    report_order_is_total();
+    keys_are_of_their_node();
+    monitored_keys_are_few();
+    merged_intervals_are_narrow();
 }
 
 /// Two cuts of one capacity, at the same positions, that represent the same lists have one report: the report at
