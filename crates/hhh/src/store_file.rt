@@ -3,11 +3,13 @@
 ghost use Rattle.std.specs.Prelude.{ℕ, List, Option, None, IfOk, OnOk};
 ghost use Rattle.hhh.specs.StoreFile.{CountsSync, KeepsSyncs};
 
+use std::alloc::AllocError;
 use std::fs;
 use std::fs::{File, OpenOptions};
 use std::io::{Error, ErrorKind, Result as IoResult};
 use std::os::fd::AsRawFd;
 use std::os::unix::fs::FileExt;
+use std::path::{AsPath, Path};
 
 // Standard input, standard output and standard error have the numbers below this one.
 const STANDARD_STREAMS: i32 = 3;
@@ -51,16 +53,48 @@ impl StoreFile for File {
     }
 }
 
-/// Opens regular files of the system.
-impl StoreOpener<File> for &HostRuntime {
+/// Opens the regular file of a store, and syncs its name.
+///
+/// The directory that has the name is opened before a run begins: to look it up takes memory, and of a disk a run can say
+/// only that a call failed.
+#[derive(Drop)]
+pub struct SystemStore<'a> {
+    rt: &'a HostRuntime,
+    directory: Option<File>,
+}
+
+impl<'a> SystemStore<'a> {
+    /// What opens the file at this path. If its directory can't be opened, the first sync tries again. The only error is
+    /// that memory runs out.
+    pub fn at(rt: &'a HostRuntime, path: &str) -> Result<Self, AllocError> {
+        match open_directory(rt, path) {
+            Ok(directory) => Ok(SystemStore {
+                rt,
+                directory: Some(directory),
+            }),
+            Err(error) if error.kind() == ErrorKind::OutOfMemory => Err(AllocError),
+            Err(_) => Ok(SystemStore {
+                rt,
+                directory: None,
+            }),
+        }
+    }
+}
+
+impl StoreOpener<File> for SystemStore<'_> {
     ghost syncs = { λ _ _. None };
 
     fn open_file(&self, path: &str) -> IoResult<File> {
-        open(*self, path)
+        open(self.rt, path)
     }
 
+    // Fails where no file has the name any more.
     fn sync_name(&self, path: &str) -> IoResult<()> {
-        sync_directory(*self, path)
+        fs::metadata(self.rt, path)?;
+        match &self.directory {
+            Some(directory) => directory.sync_all(),
+            None => open_directory(self.rt, path)?.sync_all(),
+        }
     }
 }
 
@@ -91,11 +125,24 @@ fn open_once(rt: &HostRuntime, path: &str) -> IoResult<File> {
     Ok(file)
 }
 
-// Syncs the directory that has the file's name: where the path leads through links, that of the file itself.
-fn sync_directory(rt: &HostRuntime, path: &str) -> IoResult<()> {
-    let whole = fs::canonicalize(rt, path)?;
-    match whole.parent() {
-        Some(directory) => File::open(rt, directory)?.sync_all(),
+// Opens the directory that has the file's name: where the path leads through links, that of the file itself. The name of
+// a file that isn't there yet is the path's own, unless this is a link.
+fn open_directory(rt: &HostRuntime, path: &str) -> IoResult<File> {
+    match fs::canonicalize(rt, path) {
+        Ok(whole) => open_parent(rt, whole.as_path()),
+        Err(error) => {
+            if error.kind() != ErrorKind::NotFound || fs::symlink_metadata(rt, path).is_ok() {
+                return Err(error);
+            }
+            open_parent(rt, Path::new(path))
+        }
+    }
+}
+
+fn open_parent(rt: &HostRuntime, path: Path<'_>) -> IoResult<File> {
+    match path.parent() {
+        Some(parent) if parent.path_text() == "" => File::open(rt, "."),
+        Some(parent) => File::open(rt, parent),
         None => Err(Error::from(ErrorKind::NotFound)),
     }
 }

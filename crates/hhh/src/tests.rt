@@ -1,7 +1,7 @@
 ghost use Rattle.std.specs.Prelude.{◌≤◌, IfOk, None};
 
 use super::file_disk::{read_on, write_on};
-use super::store_file::{StoreFile, StoreOpener};
+use super::store_file::{StoreFile, StoreOpener, SystemStore};
 use super::{FileDisk, LateFile, NamedInput, StdSink, StdSource, StoreDisk, code_of, finish};
 use hhh_engine::Status;
 use outside_io::{Failed, PathText, Sink, Source};
@@ -278,13 +278,18 @@ fn fails_in_two_calls(file: &FailsSecond) -> bool {
     no_read && write_on(file, 0, b"abc").is_err() && file.calls.get() == 2
 }
 
+fn disk_at<'a>(rt: &'a HostRuntime, path: &str) -> Result<StoreDisk<'a>, Fail> {
+    let alloc = rt.alloc();
+    let store = SystemStore::at(rt, path)?;
+    Ok(StoreDisk::new(alloc, store, PathText::of(alloc, path)?)?)
+}
+
 #[test]
 fn another_disk_reads_what_was_written(rt: HostRuntime) -> Result<(), Fail> {
-    let alloc = rt.alloc();
     let name = "hhh_file_disk_test";
     let _ = fs::remove_file(&rt, name);
-    assert!(rt; is_written(&mut StoreDisk::new(alloc, &rt, PathText::of(alloc, name)?)?));
-    assert!(rt; reads_as_written(&mut StoreDisk::new(alloc, &rt, PathText::of(alloc, name)?)?));
+    assert!(rt; is_written(&mut disk_at(&rt, name)?));
+    assert!(rt; reads_as_written(&mut disk_at(&rt, name)?));
     fs::remove_file(&rt, name)?;
     Ok(())
 }
@@ -309,9 +314,8 @@ fn reads_as_written<D: Disk>(disk: &mut D) -> bool {
 // A first sync fails where the file has no name by then, and so does each later one.
 #[test]
 fn a_failed_sync_is_lasting(rt: HostRuntime) -> Result<(), Fail> {
-    let alloc = rt.alloc();
     let name = "hhh_file_disk_sync_test";
-    let mut disk = StoreDisk::new(alloc, &rt, PathText::of(alloc, name)?)?;
+    let mut disk = disk_at(&rt, name)?;
     assert!(rt; disk.write_at(0, b"a") == Ok(()));
     fs::remove_file(&rt, name)?;
     assert!(rt; disk.sync() == Err(Failed));
@@ -323,9 +327,8 @@ fn a_failed_sync_is_lasting(rt: HostRuntime) -> Result<(), Fail> {
 
 #[test]
 fn no_call_succeeds_without_a_regular_file(rt: HostRuntime) -> Result<(), Fail> {
-    let alloc = rt.alloc();
     for path in ["no such directory/file", ".", "/dev/full", ""] {
-        let mut disk = StoreDisk::new(alloc, &rt, PathText::of(alloc, path)?)?;
+        let mut disk = disk_at(&rt, path)?;
         assert!(rt; each_call_fails(&mut disk), "{path}");
     }
     Ok(())
@@ -416,7 +419,8 @@ fn syncs_to_length<D: Disk>(disk: &mut D, length: u64) -> bool {
 fn a_sync_of_the_system_is_asked_for(rt: HostRuntime) -> Result<(), Fail> {
     let mut device = File::open(&rt, "/dev/null")?;
     assert!(rt; device.sync().is_err());
-    assert!(rt; (&rt).sync_name("/proc/version").is_err());
+    let version = "/proc/version";
+    assert!(rt; SystemStore::at(&rt, version)?.sync_name(version).is_err());
     Ok(())
 }
 
