@@ -21,9 +21,9 @@ LineHoldsWeight records line = HoldsWeight line.lo line.hi (prefix_weight line.p
 abbrev pub IsNarrowLine : ℕ → ℕ → Line → Type 0
 IsNarrowLine capacity total line = IsNarrow line.lo line.hi capacity total
 
--- the conditioned weight of a line is at least the threshold less the total divided by the capacity, the greatest width,
--- once for each interval by which the line was judged: its own, those of its closest lines, and those of the meets of their
--- kept pairs. So it may be far below the threshold
+-- the conditioned weight of a line is at least the threshold, less one greatest width (the total divided by the capacity)
+-- for each interval by which the line was judged: its own, those of its closest lines, and those of the meets of their kept
+-- pairs. So it may be far below the threshold
 abbrev pub IsJustified : ℕ → ℕ → List PrefixValue → List RecordValue → Line → Type 0
 IsJustified capacity threshold lines records line =
     capacity * threshold ≤ capacity * conditioned_weight line.prefix lines records
@@ -33,12 +33,14 @@ IsJustified capacity threshold lines records line =
 abbrev pub IsHeavyLine : ℕ → Line → Type 0
 IsHeavyLine threshold line = threshold ≤ line.hi
 
--- each prefix without a line has a conditioned weight below the threshold, given the prefixes of the lines
+-- given the prefixes of the lines, each prefix without a line, whether or not a table monitors it, has a conditioned weight
+-- below the threshold
 abbrev pub AreComplete : ℕ → List PrefixValue → List RecordValue → Type 0
 AreComplete threshold lines records = (prefix : PrefixValue) → IsPrefix prefix → ¬ Contains lines prefix
     → conditioned_weight prefix lines records < threshold
 
--- a report is sound over lists of records, for tables of this capacity: eight tests hold
+-- a report is sound over lists of records, for tables of this capacity: eight tests hold. That its lines are in strict
+-- order, so that none comes twice, is the invariant of the type `Report`, `AreReportLines`
 pub record IsSound (report : Report) (lists : List (List RecordValue)) (capacity phi : ℕ) : Type 0 where
   pub positions : AreWithinLists report.positions lists
   pub total : report.total ≡ total_weight (records_before lists report.positions)

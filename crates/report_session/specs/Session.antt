@@ -55,8 +55,8 @@ pub record GoesOnFrom (settings : Settings) (lists : List (List RecordValue)) (s
   pub fits : IfSome base (IsBaseFor (saves_settings settings) lists)
   pub opens : settings.store ≡ true → IfImageKnown store (λ image. OpensToBase (saves_settings settings) lists image base)
 
--- a report that a session shows: it is that of the tables at its own positions; and it is sound over the records
--- themselves, provided that the tables with which the shards began are those of their records
+-- a report that a session shows: it is the report of the tables at its own positions; and it is sound over the records
+-- themselves, if the shards began with the tables of their records
 pub record IsShownInSession (opening : List ShardValue) (settings : Settings) (reported : Reported) : Type 0 where
   pub is_report : IsReportAtCall opening settings.phi reported.report
   pub is_sound : BasesRepresent opening → IsSound reported.report (core_lists opening) settings.capacity settings.phi
@@ -89,8 +89,8 @@ abbrev pub reports_in : SessionReports → List Reported
 reports_in reports = caller_reports reports ++ flat_map (λ made. made) reports.callers
 
 -- the reports that the settings ask for: the calling thread makes its rounds and the last report, which counts all
--- records, and each other caller makes the same number of rounds. Where a round is made isn't said, only that its caller's
--- positions never fall
+-- records, and each other caller makes the same number of rounds. At which positions a round reports isn't said, only that
+-- the positions of one caller never fall
 pub record AreReports (opening : List ShardValue) (settings : Settings) (reports : SessionReports)
     : Type 0 where
   pub calling : AreOfCaller opening settings (settings.rounds + 1) (caller_reports reports)
@@ -165,7 +165,7 @@ BreaksOffAround before after cut Kept front =
     ⊎ (((front ≡ before) × Kept [] cut)
     ⊎ ((more : List ℕ) × IsStrictBeginning more after × (front ≡ before ++ more) × Kept cut []))
 
--- what became of the cuts of a session whose first ones are those of these reports, and were saved
+-- what became of a session's cuts, the first of which are those of these reports and were saved
 abbrev pub rest_after_saves : Bool → List ShardValue → List Reported → SessionSaving → SessionSaving
 rest_after_saves store opening reports Kept saved unfinished = Kept (saved_cuts store opening reports ++ saved) unfinished
 

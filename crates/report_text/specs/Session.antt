@@ -104,7 +104,7 @@ pub record ArePositions (shards : ℕ) (positions : List ℕ) : Type 0 where
   pub are_positions : ShowsPositions positions
   pub as_many : length positions ≡ shards
 
--- a report of a session over this many shards. The lines of every report are in the strict order of a report, each with
+-- a report of a session over this many shards. By the invariant of the type `Report` its lines are in the strict order of a report, each with
 -- its low at most its high, and fewer than 2^24
 pub record IsReported (shards : ℕ) (reported : Reported) : Type 0 where
   pub positions : ArePositions shards reported.report.positions

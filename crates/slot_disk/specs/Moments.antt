@@ -36,7 +36,7 @@ CrashLeaves-call moment image_since old new P time each = record {
   earlier = λ t image le was. ⊎_elim (λ before. inl before) (λ now. inr (each image now)) (time.earlier t image le was);
 }
 
--- one call more
+-- two spans, one after the other
 pub CrashLeaves-trans : {D : Type 0} (moment : D → ℕ) (image_since : D → ℕ → List ℕ → Type 0) (old mid new : D)
     (P : List ℕ → Type 0) → CrashLeaves moment image_since old mid P → CrashLeaves moment image_since mid new P
     → CrashLeaves moment image_since old new P
@@ -47,7 +47,7 @@ CrashLeaves-trans moment image_since old mid new P first second = record {
       ⊎_elim (first.earlier t image le) (λ p. inr p) (second.earlier t image (omega (arith, le, first.later)) was);
 }
 
--- less is said
+-- the same with a weaker property
 pub CrashLeaves-weaker : {D : Type 0} (moment : D → ℕ) (image_since : D → ℕ → List ℕ → Type 0) (old new : D)
     (P Q : List ℕ → Type 0) → CrashLeaves moment image_since old new P → ((image : List ℕ) → P image → Q image)
     → CrashLeaves moment image_since old new Q

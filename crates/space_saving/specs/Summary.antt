@@ -70,7 +70,7 @@ abbrev pub least_count : List Entry → ℕ
 least_count [] = 0
 least_count (head ∷ rest) = head.count
 
--- the interval of a key by its entry; the high of a missing key is the least count if the table is full, else 0
+-- the interval of a key by its entry; the high of a key without an entry is the least count if the table is full, else 0
 abbrev pub interval_from : Option Entry → TableValue → TableInterval
 interval_from None table = record {
   low = 0;
