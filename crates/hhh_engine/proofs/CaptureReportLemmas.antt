@@ -66,6 +66,7 @@ capture_report_writes_in_part settings rules keeping left store lists tail old n
     base = writes.base;
     begins = writes.begins;
     represents = writes.represents;
+    shards = writes.shards;
     begun =
         subst (λ t. BeginsSession (session_opening settings.capacity lists writes.base) settings
         (λ saved unfinished. settings.store ≡ true → keeping (saves_settings settings) lists saved unfinished) t

@@ -9,6 +9,7 @@ pub mod AuditEndLemmas
 pub mod SoundSessionLemmas
 pub mod RunEndLemmas
 pub mod StorePromiseLemmas
+pub mod SessionPromiseLemmas
 pub mod WiderRulesLemmas
 pub mod DemoTextLemmas
 pub mod OwnSessionLemmas

@@ -91,6 +91,7 @@ wider_rules_allow_partial_session narrow wide keeping settings store file front 
   base = session.base;
   begins = session.begins;
   represents = session.represents;
+  shards = session.shards;
   begun = session.begun;
 }
 

@@ -1,11 +1,12 @@
 //! Laws of what commands write, each the contract of a function that does nothing.
 
-ghost use Rattle.std.specs.Prelude.{◌≡◌, ℕ, ◌+◌, ◌*◌, ◌≤◌, true, List, length, All, Option, Some, IfSome};
+ghost use Rattle.std.specs.Prelude.{◌≡◌, ◌⊎◌, ℕ, ◌+◌, ◌*◌, ◌≤◌, true, List, length, All, Option, Some, IfSome};
 ghost use Rattle.prefix_lattice.specs.{RecordValue};
 ghost use Rattle.deal_rules.specs.{dealer_of};
 ghost use Rattle.deal_rules.specs.declared.deal_kind.DealKind.{DealKind};
 ghost use Rattle.session_audit.specs.{IsSoundAudit, sound_audit};
 ghost use Rattle.hhh_engine.specs.Demo.{IsDemoText};
+ghost use Rattle.hhh_engine.specs.SessionPromise.{BeginsItsSession};
 ghost use Rattle.hhh_engine.specs.StorePromise.{KeepsItsStore};
 ghost use Rattle.hhh_engine.specs.TopCall.{RunEnds, Streams};
 ghost use Rattle.run_status.specs.declared.status.Status.{Status};
@@ -30,7 +31,8 @@ use dealt_capture::captures_are_dealt_in_one_way;
 use exact_audit::a_report_has_one_verdict;
 use outside_io::{Sink, Source};
 use report_session::{
-    own_reports_are_sound, sessions_keep_their_store, sessions_read_back, whole_reports_are_one,
+    own_reports_are_sound, sessions_in_part_begin_whole_ones, sessions_keep_their_store,
+    sessions_read_back, whole_reports_are_one,
 };
 use slot_disk::Disk;
 
@@ -107,4 +109,17 @@ pub fn runs_keep_their_store<S: Source, T: Source, K: Sink, D: Disk>(dealers: &D
 {
     arguments_ask_for_one_command();
     sessions_keep_their_store::<D>(dealers);
+}
+
+/// Whatever the status of a run of `report`: nothing was written, or bytes with which a whole session over the capture
+/// begins. So where a run breaks off, the reports that it didn't write exist, whether or not there was memory for them.
+pub fn runs_write_what_begins_a_session<S: Source, T: Source, K: Sink, D: Disk>(dealers: &Dealers)
+    ensures { (old new : Streams S T K D) (words : List (List ℕ)) (status : Status) (settings : Settings)
+        → AskForCommand words (Report settings)
+        → RunEnds S.Source T.Source K.Sink D.Disk old new words (λ kind. ⟦<Dealer as Deals>⟧.may_answer (dealer_of kind dealers.now)) status
+        → (new.sink ≡ old.sink) ⊎ BeginsItsSession S.Source K.Sink D.Disk old new settings
+        (λ kind. ⟦<Dealer as Deals>⟧.may_answer (dealer_of kind dealers.now)) }
+{
+    arguments_ask_for_one_command();
+    sessions_in_part_begin_whole_ones::<D>(dealers);
 }

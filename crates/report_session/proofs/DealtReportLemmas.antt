@@ -14,7 +14,7 @@ use Rattle.recovery.specs.{RefusesOpening}
 use Rattle.recovery.specs.declared.fault.OpenFault.{OpenFault}
 use Rattle.recovery.specs.declared.fault.OpenFault.TheVariants as opening
 use Rattle.command_words.specs.declared.settings.Settings.{Settings}
-use Rattle.report_session.specs.Session.{WritesAnswer, BeginsSession, GoesOnFrom, SessionKeeping}
+use Rattle.report_session.specs.Session.{AreSessionShards, WritesAnswer, BeginsSession, GoesOnFrom, SessionKeeping}
 use Rattle.report_session.specs.Session.{GoesOnSoundly, SessionSaving, IsOverShards, session_opening}
 use Rattle.report_session.specs.DealtFeed.{FeedEnds, HasNoBase, IsFeedFault, IsFeedSaver}
 use Rattle.report_session.specs.DealtFeed.{FeedRefuses, FeedWrites, FeedWritesPart}
@@ -26,7 +26,7 @@ use Rattle.run_status.specs.declared.status.Status.{Status}
 use Rattle.run_status.specs.declared.status.Status.TheVariants.{Done, BadWords, BadCapture, ReadFault, WriteFault}
 use Rattle.run_status.specs.declared.status.Status.TheVariants.{DiskFault, NotFormatted, Damaged, OtherSettings}
 use Rattle.run_status.specs.declared.status.Status.TheVariants.{OtherCapture, AuditNo, BadReport, OutOfMemory}
-use Rattle.report_session.proofs.SessionTextLemmas.{session_text_begins_weaker, session_text_without_a_byte}
+use Rattle.report_session.proofs.SessionTextLemmas.{session_text_begins_weaker}
 use Rattle.report_session.proofs.SessionTextLemmas.{spelled_session_text_says_less}
 use Rattle.outside_io.specs.declared.sink.Sink.{Ghosts as SinkOf}
 use Rattle.report_session.specs.DealtFeed.{feed_faults}
@@ -126,12 +126,14 @@ dealt_report_in_part : (settings : Settings) (lists : List (List RecordValue)) (
     → GoesOnFrom settings lists store base → GoesOnSoundly lists base (session_opening settings.capacity lists base)
     → ((saved unfinished : List CutValue) → Kept saved unfinished → settings.store ≡ true
     → keeping (saves_settings settings) lists saved unfinished)
-    → WritesAnswer (BeginsSession (session_opening settings.capacity lists base) settings Kept tail) old new
+    → AreSessionShards settings.capacity (session_opening settings.capacity lists base)
+    × WritesAnswer (BeginsSession (session_opening settings.capacity lists base) settings Kept tail) old new
     → FeedWritesPart settings lists tail keeping store old new
-dealt_report_in_part settings lists tail keeping store base Kept old new begins represents keeps part = record {
+dealt_report_in_part settings lists tail keeping store base Kept old new begins represents keeps (shards, part) = record {
   base = base;
   begins = begins;
   represents = represents;
+  shards = shards;
   writes = record {
     text = part.text;
     is_text = session_text_begins_weaker (session_opening settings.capacity lists base) settings Kept
@@ -148,30 +150,26 @@ pub dealt_report_ends_broken_off : {K D : Type 0} (k : SinkOf K) (d : DiskOf D) 
     → GoesOnSoundly lists base (session_opening settings.capacity lists base)
     → ((saved unfinished : List CutValue) → Kept saved unfinished → settings.store ≡ true
     → AreKeptOnDisk d old new (saves_settings settings) lists saved unfinished)
-    → (Same → IsAsBefore d old new × Kept [] [])
-    → ((written ≡ sink) × Same)
-    ⊎ WritesAnswer (BeginsSession (session_opening settings.capacity lists base) settings Kept tail) (k.taken sink) (k.taken written)
+    → (Same → IsAsBefore d old new)
+    → (((written ≡ sink) × Same) × (status ≡ OutOfMemory))
+    ⊎ (AreSessionShards settings.capacity (session_opening settings.capacity lists base)
+    × WritesAnswer (BeginsSession (session_opening settings.capacity lists base) settings Kept tail) (k.taken sink) (k.taken written))
     → IsFeedFault (feed_faults k d sink old) (feed_faults k d written new) status
     → FeedEnds k d settings lists tail sink written old new status
 dealt_report_ends_broken_off k d settings lists tail base Kept Same sink written old new WriteFault begins represents keeps unmoved part fault = (
-  ⊎_elim
-      (λ same. dealt_report_in_part settings lists tail (AreKeptOnDisk d old new) (d.reads old) base Kept
-      (k.taken sink) (k.taken written) begins represents keeps
-      (session_text_without_a_byte (session_opening settings.capacity lists base) settings Kept tail
-      (k.taken sink) (k.taken written)
-      (ap k.taken same.0) (unmoved same.1).1))
+  ⊎_elim (λ same. absurd (cc same.1))
       (λ some. dealt_report_in_part settings lists tail (AreKeptOnDisk d old new) (d.reads old) base Kept
       (k.taken sink) (k.taken written) begins represents keeps some) part,
   fault,
 )
 dealt_report_ends_broken_off k d settings lists tail base Kept Same sink written old new DiskFault begins represents keeps unmoved part fault = (
-  ⊎_elim (λ same. inl (same.0, (unmoved same.1).0))
+  ⊎_elim (λ same. inl (same.0.0, unmoved same.0.1))
       (λ some. inr (dealt_report_in_part settings lists tail (AreKeptOnDisk d old new) (d.reads old) base Kept
       (k.taken sink) (k.taken written) begins represents keeps some)) part,
   fault,
 )
 dealt_report_ends_broken_off k d settings lists tail base Kept Same sink written old new OutOfMemory begins represents keeps unmoved part fault = (
-  ⊎_elim (λ same. inl (same.0, (unmoved same.1).0))
+  ⊎_elim (λ same. inl (same.0.0, unmoved same.0.1))
       (λ some. inr (dealt_report_in_part settings lists tail (AreKeptOnDisk d old new) (d.reads old) base Kept
       (k.taken sink) (k.taken written) begins represents keeps some)) part,
   fault,

@@ -30,7 +30,8 @@ use Rattle.report_session.proofs.OpeningShardLemmas.{new_opening_shards_before_e
 use Rattle.report_session.proofs.Examples.{header, two_lists, two_shards}
 use Rattle.report_session.proofs.ExamplesOfSessions.{dealt_from_the_header, in_turn, last, lists, nothing_is_sound}
 use Rattle.report_session.proofs.ExamplesOfSessions.{no_reports, once_more, one_number, one_report_with, opening}
-use Rattle.report_session.proofs.ExamplesOfSessions.{records, report, report_at_the_ends, running, settings, shard}
+use Rattle.report_session.proofs.ExamplesOfSessions.{records, report, report_at_the_ends, running, session_shards}
+use Rattle.report_session.proofs.ExamplesOfSessions.{settings, shard}
 
 -- what the calling thread knows before its first round
 abbrev first : View
@@ -379,6 +380,7 @@ opened seat = record {
 pub opened_shards : (seat : SeatValue) → IsFeedOpening opening (opened seat)
 opened_shards seat = record {
   opening = refl;
+  kept = session_shards.core.kept;
   pass = record { seat = record { id = refl; opening = refl; trails = refl; live = refl; slot = refl }; free = refl };
   view = refl;
   shape = record { as_many = refl; alike = refl };

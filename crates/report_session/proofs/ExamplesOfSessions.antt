@@ -29,7 +29,7 @@ use Rattle.frame_records.specs.declared.weigh.Weigh.TheVariants.{Bytes}
 use Rattle.report_text.specs.{tail_text}
 use Rattle.command_words.specs.declared.settings.Settings.{Settings}
 use Rattle.dealt_capture.specs.{AreDealtRecords, DealingRules}
-use Rattle.report_session.specs.Session.{AreOfCaller, AreReports, BeginsSession}
+use Rattle.report_session.specs.Session.{AreOfCaller, AreReports, AreSessionShards, BeginsSession, BeginsWholeSession}
 use Rattle.report_session.specs.Session.{BreaksOffInRounds, BreaksOffAround, BreaksOffLater}
 use Rattle.report_session.specs.Session.{GoesOnFrom, IsSession, IsSessionInPart, IsShownInSession}
 use Rattle.report_session.specs.Session.{IsStrictBeginning, SessionKeeping, rest_after_saves}
@@ -109,7 +109,7 @@ empty_tables = record {
   };
 }
 
-empty_shard : IsShard shard
+pub empty_shard : IsShard shard
 unfolding no_entries
 empty_shard = record {
   few = omega arith;
@@ -500,6 +500,20 @@ pub most_bytes_of_the_session : BeginsSession opening settings saves_nothing (ta
     (codes "opened 0 0 0 0\nreport\nat 0 0 0 0\ntotal 0\nthreshold 1\ndone\nframes")
 most_bytes_of_the_session = inr (inr broken_off_in_the_last_lines)
 
+-- its shards: four of one capacity, without a record
+pub session_shards : AreSessionShards 512 opening
+session_shards = record {
+  core = record {
+    are_shards = record {
+      some = omega arith;
+      few = omega arith;
+      alike = All-replicate (λ (shard : ShardValue). shard.base.capacity ≡ 512) 4 shard refl;
+    };
+    kept = All-replicate IsShard 4 shard empty_shard;
+  };
+  alike = refl;
+}
+
 pub session_in_part : (keeping : SessionKeeping) (store : Option (List ℕ))
     → IsSessionInPart settings in_turn keeping store (Some header) (codes "opened 0 0 0")
 unfolding digits
@@ -511,8 +525,27 @@ session_in_part keeping store = record {
   base = None;
   begins = begins_anew store;
   represents = new_shards_represent;
+  shards = session_shards;
   begun = inl (((codes " 0\n", refl), omega arith), λ used. absurd (cc used));
 }
+
+-- it begins the whole session
+pub session_in_part_begins_it : BeginsWholeSession settings in_turn None (Some header) (codes "opened 0 0 0")
+unfolding digits
+session_in_part_begins_it = (
+  text,
+  (codes " 0\nreport\nat 0 0 0 0\ntotal 0\nthreshold 1\ndone\nframes 0\nskipped 0 0 0\nend\n", refl),
+  record {
+    records = records;
+    lists = lists;
+    dealt = dealt_from_the_header;
+    as_many = refl;
+    base = None;
+    begins = begins_anew None;
+    represents = new_shards_represent;
+    spelled = spelled_where (λ cuts. settings.store ≡ true → ⊤) (λ used. tt);
+  },
+)
 
 -- ---- the text of a session, as it is read
 

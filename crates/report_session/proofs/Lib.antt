@@ -16,6 +16,8 @@ pub mod KeptStoreLemmas
 pub mod BelongingSessionLemmas
 pub mod BoundedReportLemmas
 pub mod ShownSessionLemmas
+pub mod FinalReportLemmas
+pub mod WholeSessionLemmas
 pub mod Examples
 pub mod ExamplesOfSessions
 pub mod ExamplesOfRounds

@@ -260,6 +260,7 @@ reopened_store_after_breaking_off one d rules settings old new file front limite
       base = base;
       begins = session.begins;
       represents = session.represents;
+      shards = session.shards;
       begun = session_text_begins_saying_less opening settings Kept Less (tail_text session.records) front
           (record {
             none = finished [];

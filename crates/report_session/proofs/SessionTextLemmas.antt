@@ -1,12 +1,10 @@
 -- The bytes of a session, as they are written.
-use Rattle.std.proofs.Common.{◌≡◌, ◌∙◌, ◌≤◌, ◌<◌, ◌+◌, ◌-◌, inl, inr, ℕ, zero, suc, List, [], ◌∷◌, ◌++◌, Option, All}
+use Rattle.std.proofs.Common.{◌≡◌, ◌∙◌, ◌≤◌, ◌+◌, ◌-◌, inl, inr, ℕ, zero, suc, List, [], ◌∷◌, ◌++◌, Option, All}
 use Rattle.std.proofs.Common.{refl, sym, ap, ap₂, subst, arith, length, map, append_assoc, get_or}
-use Rattle.std.specs.Prelude.{codes, decimal, slice_index}
-use Rattle.std.specs.List.{join_with_byte}
-use Rattle.prefix_lattice.specs.{text_space}
+use Rattle.std.specs.Prelude.{slice_index}
 use Rattle.std.specs.List.Sorted.{IsNonDecreasing}
 use Rattle.std.specs.Io.KnownBytes.{Appends}
-use Rattle.std.proofs.KnownBytes.{Appends-nil, Appends-trans}
+use Rattle.std.proofs.KnownBytes.{Appends-trans}
 use Rattle.std.proofs.lemmas.List.{length-append, length-map, map-append}
 use Rattle.std.proofs.lemmas.List.Elements.{All-append, All-cons, All-head, All-map, All-nil, All-tail}
 use Rattle.std.proofs.lemmas.List.Sorted.{IsNonDecreasingBy-push}
@@ -88,7 +86,7 @@ session_text_numbers_never_fall numbers last up below =
     IsNonDecreasingBy-push (λ x. x) numbers last up (λ d some. below (length numbers - 1) d (omega (arith, some)))
 
 -- the rounds of the calling thread, and the last report
-session_text_with_last : (opening : List ShardValue) (settings : Settings) (count : ℕ) (reports : List Reported) (last : Reported)
+pub session_text_with_last : (opening : List ShardValue) (settings : Settings) (count : ℕ) (reports : List Reported) (last : Reported)
     → StartsBefore opening → AreOfCaller opening settings count reports → IsShownInSession opening settings last
     → last.report.positions ≡ session_ends opening → AreOfCaller opening settings (count + 1) (reports ++ last ∷ [])
 session_text_with_last opening settings count reports last starts are shown ends = record {
@@ -337,17 +335,3 @@ session_text_begins_weaker opening settings Kept Less tail front less =
       unfinished = λ count rounds next are. less (cuts rounds ++ []) (cuts (next ∷ []));
       saved = λ count rounds next are. less (cuts rounds ++ cuts (next ∷ [])) [];
     })
-
--- the first line of a session isn't empty
-session_text_line_is_some : (positions : List ℕ) → 0 < length (mark_text Opened positions)
-session_text_line_is_some positions =
-    omega (arith, length-append (join_with_byte text_space (codes "opened" ∷ map decimal positions)) (codes "\n"))
-
--- no byte was written
-pub session_text_without_a_byte : (opening : List ShardValue) (settings : Settings) (Kept : SessionSaving) (tail : List ℕ)
-    (old new : Option (List ℕ)) → new ≡ old → Kept [] [] → WritesAnswer (BeginsSession opening settings Kept tail) old new
-session_text_without_a_byte opening settings Kept tail old new same kept = record {
-  text = [];
-  is_text = inl (((mark_text Opened (session_start opening), refl), session_text_line_is_some (session_start opening)), kept);
-  written = subst (λ o. Appends old o []) (sym same) (Appends-nil old);
-}

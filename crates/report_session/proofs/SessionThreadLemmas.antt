@@ -492,6 +492,11 @@ pub session_thread_on_err_implies : {T E : Type 0} (result : Result T E) (P Q : 
 session_thread_on_err_implies (Ok value) P Q follows holds = tt
 session_thread_on_err_implies (Err error) P Q follows holds = follows holds
 
+pub session_thread_err_implies_each : {T E : Type 0} (result : Result T E) (P : Type 0) (Q : E → Type 0) → ((e : E) → P → Q e)
+    → OnErr result P → IfErr result Q
+session_thread_err_implies_each (Ok value) P Q follows holds = tt
+session_thread_err_implies_each (Err error) P Q follows holds = follows error holds
+
 pub session_thread_if_ok_implies : {T E : Type 0} (result : Result T E) (P Q : T → Type 0) → ((x : T) → P x → Q x) → IfOk result P
     → IfOk result Q
 session_thread_if_ok_implies (Ok value) P Q follows holds = follows value holds

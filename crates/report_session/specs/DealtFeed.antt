@@ -4,7 +4,7 @@ use Rattle.std.specs.Prelude.{slice_index, is_some}
 use Rattle.std.specs.Io.KnownBytes.{Appends}
 use Rattle.prefix_lattice.specs.{RecordValue}
 use Rattle.hhh_report.specs.{AreNotPast}
-use Rattle.shard_state.specs.{CutValue, HasCoreShape, ShardValue, core_capacity, cut_positions}
+use Rattle.shard_state.specs.{CutValue, HasCoreShape, IsShard, ShardValue, core_capacity, cut_positions}
 use Rattle.hhh_report.specs.declared.reports.Reported.{Reported}
 use Rattle.gate_workers.specs.declared.gathered.Called.{Called}
 use Rattle.gate_workers.specs.declared.gathered.Gathered.{Gathered}
@@ -21,7 +21,7 @@ use Rattle.recovery.specs.declared.fault.OpenFault.TheVariants as opening
 use Rattle.command_words.specs.declared.settings.Settings.{Settings}
 use Rattle.report_session.specs.LiveRounds.{DiskFailed, RoundFaults, SinkFailed}
 use Rattle.report_session.specs.Saving.{saves_settings}
-use Rattle.report_session.specs.Session.{AreOfCaller, BeginsSession, BreaksOffInRounds}
+use Rattle.report_session.specs.Session.{AreOfCaller, AreSessionShards, BeginsSession, BreaksOffInRounds}
 use Rattle.report_session.specs.Session.{GoesOnFrom, IsShownInSession, SessionKeeping, GoesOnSoundly}
 use Rattle.report_session.specs.Session.{SessionSaving, IsOverShards, caller_parts, session_ends}
 use Rattle.report_session.specs.Session.{session_opening, session_parts, saved_cuts, save_line}
@@ -101,6 +101,7 @@ pub record FeedWritesPart (settings : Settings) (lists : List (List RecordValue)
   pub base : Option CutValue
   pub begins : GoesOnFrom settings lists store base
   pub represents : GoesOnSoundly lists base (session_opening settings.capacity lists base)
+  pub shards : AreSessionShards settings.capacity (session_opening settings.capacity lists base)
   pub writes : WritesAnswer (BeginsSession (session_opening settings.capacity lists base) settings
       (λ saved unfinished. settings.store ≡ true → keeping (saves_settings settings) lists saved unfinished) tail) old new
 
@@ -150,9 +151,11 @@ module _ {K D : Type 0} (k : SinkOf K) (d : DiskOf D) (settings : Settings) (lis
   FeedEnds OutOfMemory = ((Unwritten × IsAsBefore d old new) ⊎ WritesInPart) × Faultless
   FeedEnds _ = ⊥
 
--- shards on a board whose records are not counted further yet, its first pass, and a cut of its shape
+-- shards on a board, within their limits, whose records are not counted further yet, its first pass, and a cut of its
+-- shape
 pub record IsFeedOpening (shards : List ShardValue) (opened : Opened) : Type 0 where
   pub opening : opened.board.opening ≡ shards
+  pub kept : All IsShard shards
   pub pass : IsPassOf opened.board opened.reader.pass
   pub view : view opened.reader.pass ≡ first_view shards
   pub shape : HasCoreShape (length shards) (core_capacity shards) opened.reader.cut

@@ -6,7 +6,8 @@ pub mod DealtFeed
 -- the face: what contracts of other crates cite
 pub use Rattle.report_session.specs.Saving.{IsAsBefore, IsAsBefore-untouched, AreKeptOnDisk}
 pub use Rattle.report_session.specs.Saving.{saves_settings, saves_settings-allowed}
-pub use Rattle.report_session.specs.Session.{BeginsSession, IsWholeReport, IsSession, IsSessionInPart}
+pub use Rattle.report_session.specs.Session.{BeginsSession, BeginsWholeSession, IsWholeReport, IsSession}
+pub use Rattle.report_session.specs.Session.{IsSessionInPart}
 pub use Rattle.report_session.specs.Session.{IsOverShards, GoesOnFrom, SessionKeeping, WritesAnswer}
 pub use Rattle.report_session.specs.Session.{session_opening, reports_in}
 pub use Rattle.report_session.specs.LiveRounds.{RoundFaults}

@@ -1,12 +1,12 @@
 -- The session that `report` writes: reports made while records are counted, and a last one over all records of a capture.
 use Rattle.std.specs.Prelude.{ℕ, ◌≡◌, ◌+◌, ◌<◌, ◌≤◌, ◌⊎◌, Bool, true, false, List, [], ◌∷◌, ◌++◌, length, map, All}
-use Rattle.std.specs.Prelude.{Option, None, Some, IfSome, if◌then◌else◌, slice_index}
+use Rattle.std.specs.Prelude.{Option, None, Some, IfSome, if◌then◌else◌, slice_index, ⊤}
 use Rattle.std.specs.List.{flat_map}
 use Rattle.std.specs.List.Sorted.{IsNonDecreasing}
 use Rattle.outside_io.specs.{IsBeginning}
 use Rattle.prefix_lattice.specs.{RecordValue}
 use Rattle.shard_state.specs.{BasesRepresent, CutRepresents, CutValue, ShardValue, SnapshotValue, empty_snapshot}
-use Rattle.shard_state.specs.{core_lists}
+use Rattle.shard_state.specs.{IsCore, core_capacity, core_lists}
 use Rattle.hhh_report.specs.{IsSound}
 use Rattle.hhh_report.specs.declared.report.Report.{Report}
 use Rattle.hhh_report.specs.declared.reports.Reported.{Reported}
@@ -54,6 +54,12 @@ pub record GoesOnFrom (settings : Settings) (lists : List (List RecordValue)) (s
   pub unused : settings.store ≡ false → base ≡ None
   pub fits : IfSome base (IsBaseFor (saves_settings settings) lists)
   pub opens : settings.store ≡ true → IfImageKnown store (λ image. OpensToBase (saves_settings settings) lists image base)
+
+-- what always holds of the shards with which a session begins: there are 1 to 16 of them, of the capacity asked for, each
+-- within its limits
+pub record AreSessionShards (capacity : ℕ) (opening : List ShardValue) : Type 0 where
+  pub core : IsCore opening
+  pub alike : core_capacity opening ≡ capacity
 
 -- a report that a session shows: it is the report of the tables at its own positions; and it is sound over the records
 -- themselves, if the shards began with the tables of their records
@@ -251,8 +257,14 @@ pub record IsSessionInPart (settings : Settings) (rules : DealingRules) (keeping
   pub base : Option CutValue
   pub begins : GoesOnFrom settings lists store base
   pub represents : GoesOnSoundly lists base (session_opening settings.capacity lists base)
+  pub shards : AreSessionShards settings.capacity (session_opening settings.capacity lists base)
   pub begun : BeginsSession (session_opening settings.capacity lists base) settings
       (λ saved unfinished. settings.store ≡ true → keeping (saves_settings settings) lists saved unfinished) (tail_text records) front
+
+-- these bytes begin a whole session; nothing is said of the disk
+abbrev pub BeginsWholeSession : Settings → DealingRules → (store file : Option (List ℕ)) → List ℕ → Type 0
+BeginsWholeSession settings rules store file front =
+    (text : List ℕ) × IsBeginning front text × IsSession settings rules (λ of lists saved unfinished. ⊤) store file text
 
 -- the report over all records of dealt lists, which new tables counted; it is sound
 pub record IsWholeReport (settings : Settings) (lists : List (List RecordValue)) (report : Report) : Type 0 where

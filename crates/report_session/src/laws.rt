@@ -6,7 +6,7 @@ ghost use Rattle.prefix_lattice.specs.{RecordValue};
 ghost use Rattle.deal_rules.specs.{dealer_of};
 ghost use Rattle.deal_rules.specs.declared.deal_kind.DealKind.{DealKind};
 ghost use Rattle.hhh_report.specs.declared.reports.Reported.{Reported};
-ghost use Rattle.command_words.specs.{AreLimited};
+ghost use Rattle.command_words.specs.{AreLimited, HaveWideShare};
 ghost use Rattle.command_words.specs.declared.settings.Settings.{Settings};
 ghost use Rattle.report_text.specs.{IsSessionText, mark_text, report_text};
 ghost use Rattle.report_text.specs.declared.mark.Mark.TheVariants.{Opened};
@@ -17,6 +17,7 @@ ghost use Rattle.checkpoint.specs.declared.settings.StoreSettings.{StoreSettings
 ghost use Rattle.checkpoint.specs.{StoreBelongs, IsStoreOf, StoreOpensTo, SavedValue};
 ghost use Rattle.checkpoint.specs.{store_sequence};
 ghost use Rattle.report_session.specs.Session.{AreReports, IsSession, IsSessionInPart, IsShownInSession};
+ghost use Rattle.report_session.specs.Session.{BeginsWholeSession};
 ghost use Rattle.report_session.specs.Session.{SessionReports, caller_reports, session_ends};
 ghost use Rattle.report_session.specs.Session.{new_shards, session_part, reports_in, saves_of};
 ghost use Rattle.report_session.specs.Session.{text_of_reports, session_start, IsWholeReport};
@@ -30,8 +31,11 @@ ghost use Rattle.hhh_report.specs.declared.report.Report.{Report};
 use checkpoint::stores_open_to_one;
 use deal_rules::{Dealer, Dealers, Deals};
 use gate_workers::reported_cuts_represent;
-use hhh_output::{a_cut_has_one_report, standing_cuts_have_one_report};
+use hhh_output::{
+    a_cut_has_one_report, each_cut_has_a_report, reports_are_sound, standing_cuts_have_one_report,
+};
 use report_text::{printed_sessions_read_back, same_reports_have_one_text, texts_show_saves};
+use shard_state::shards_keep_their_limits;
 use slot_disk::Disk;
 
 /// The text of the last report of a session depends on the dealt lists, the capacity and the share alone: whatever the
@@ -183,4 +187,18 @@ pub fn sessions_keep_their_store<D: Disk>(dealers: &Dealers)
 {
     stores_open_to_one();
     texts_show_saves();
+}
+
+/// What was written of a session that broke off begins a whole session, so the reports that it lacks exist, whether or
+/// not there was memory to make them. Nothing is said of the disk.
+pub fn sessions_in_part_begin_whole_ones<D: Disk>(dealers: &Dealers)
+    ensures { (old new : D) (settings : Settings) (store file : Option (List ℕ)) (front : List ℕ) → HaveWideShare settings
+        → IsSessionInPart settings (λ kind. ⟦<Dealer as Deals>⟧.may_answer (dealer_of kind dealers.now)) (AreKeptOnDisk D.Disk old new)
+        store file front
+        → BeginsWholeSession settings (λ kind. ⟦<Dealer as Deals>⟧.may_answer (dealer_of kind dealers.now)) store file front }
+{
+    each_cut_has_a_report();
+    reports_are_sound();
+    reported_cuts_represent();
+    shards_keep_their_limits();
 }

@@ -15,9 +15,9 @@ mod writing;
 pub use base::store_settings;
 pub use laws::{
     last_reports_are_one, last_saves_are_at_the_ends, own_reports_are_sound,
-    resumed_sessions_end_alike, saves_belong, sessions_keep_their_store, sessions_lose_no_save,
-    sessions_read_back, sessions_without_rounds_have_one_report, stores_belong_throughout,
-    whole_reports_are_one,
+    resumed_sessions_end_alike, saves_belong, sessions_in_part_begin_whole_ones,
+    sessions_keep_their_store, sessions_lose_no_save, sessions_read_back,
+    sessions_without_rounds_have_one_report, stores_belong_throughout, whole_reports_are_one,
 };
 pub use live_rounds::LiveRounds;
 pub use report::{DealtFeed, report_dealt};

@@ -6,7 +6,7 @@ ghost use Rattle.std.specs.List.{AllZip};
 ghost use Rattle.std.specs.Io.KnownBytes.{Appends};
 ghost use Rattle.deal_rules.specs.{AreDealings};
 ghost use Rattle.space_saving.specs.{least_capacity, most_capacity};
-ghost use Rattle.shard_state.specs.{AreCoreShards, HasCoreShape, core_capacity};
+ghost use Rattle.shard_state.specs.{AreCoreShards, HasCoreShape, IsShard, core_capacity};
 ghost use Rattle.pass_tokens.specs.{IsPassOf, first_view, view};
 ghost use Rattle.gate_workers.specs.{HasSeenEnds};
 ghost use Rattle.checkpoint.specs.{DiskMatches};
@@ -14,7 +14,7 @@ ghost use Rattle.recovery.specs.{ContinuesList};
 ghost use Rattle.report_text.specs.{ShowsPositions, mark_text};
 ghost use Rattle.report_text.specs.declared.mark.Mark.TheVariants.{Opened as OpenedMark};
 ghost use Rattle.command_words.specs.{AreLimited, HaveWideShare};
-ghost use Rattle.report_session.specs.Session.{WritesAnswer, AreOfCaller, BeginsSession};
+ghost use Rattle.report_session.specs.Session.{WritesAnswer, AreOfCaller, AreSessionShards, BeginsSession};
 ghost use Rattle.report_session.specs.Session.{BreaksOffAround, GoesOnSoundly, IsOverShards};
 ghost use Rattle.report_session.specs.Session.{caller_parts, session_opening, session_parts};
 ghost use Rattle.report_session.specs.Session.{resumed_shards, new_shards, session_start};
@@ -22,6 +22,7 @@ ghost use Rattle.report_session.specs.DealtFeed.{CanSaveCut, FeedGoesOn, IsFeedB
 ghost use Rattle.report_session.specs.DealtFeed.{IsFeedFault, IsFeedOpening, IsFeedRest};
 ghost use Rattle.report_session.specs.DealtFeed.{StartsBefore, other_reports};
 ghost use Rattle.report_session.specs.Saving.{CanMakeSaves, Saves, SavesInPart, SavesInTurn};
+ghost use Rattle.run_status.specs.declared.status.Status.TheVariants.{OutOfMemory};
 
 use crate::base::Base;
 use crate::feed::{Fed, Reader, Setup, feed};
@@ -81,9 +82,10 @@ pub(crate) fn write_session<R: Threads + Wait + Sync, K: Sink, D: Disk, G: Gate 
     ensures whole { OnOk result (WritesAnswer (IsOverShards (session_opening setup.now.settings.now.capacity dealt base.cut) setup.now.settings.now
         (λ cuts. Saves D.Disk base.saver cuts disk.old disk.new) tail.now) (K.taken sink.old) (K.taken sink.new)) }
     ensures faults { OnOk result ((K.faults sink.new ≡ K.faults sink.old) × (D.faults disk.new ≡ D.faults disk.old)) }
-    ensures part { OnErr result (((sink.new ≡ sink.old) × (disk.new ≡ disk.old))
-        ⊎ WritesAnswer (BeginsSession (session_opening setup.now.settings.now.capacity dealt base.cut) setup.now.settings.now
-        (SavesInPart D.Disk base.saver disk.old disk.new) tail.now) (K.taken sink.old) (K.taken sink.new)) }
+    ensures part { IfErr result (λ status. (((sink.new ≡ sink.old) × (disk.new ≡ disk.old)) × (status ≡ OutOfMemory))
+        ⊎ (AreSessionShards setup.now.settings.now.capacity (session_opening setup.now.settings.now.capacity dealt base.cut)
+        × WritesAnswer (BeginsSession (session_opening setup.now.settings.now.capacity dealt base.cut) setup.now.settings.now
+        (SavesInPart D.Disk base.saver disk.old disk.new) tail.now) (K.taken sink.old) (K.taken sink.new))) }
     ensures fault { IfErr result (IsFeedFault (record { sink = K.faults sink.old; disk = D.faults disk.old })
         (record { sink = K.faults sink.new; disk = D.faults disk.new })) }
     ensures unused { base.saver ≡ None → disk.new ≡ disk.old }
@@ -151,7 +153,8 @@ fn states_of(
     requires least { least_capacity ≤ capacity }
     requires most { capacity ≤ most_capacity }
     requires fits { IfSome base (FeedGoesOn capacity dealt) }
-    ensures { IfOk result (λ states. states.items ≡ session_opening capacity dealt base) }
+    ensures states { IfOk result (λ states. states.items ≡ session_opening capacity dealt base) }
+    ensures kept { IfOk result (λ states. All IsShard states.items) }
 {
     match base {
         None => new_states(alloc, dealt, capacity),
@@ -164,11 +167,14 @@ fn new_states(alloc: Global, dealt: Dealt, capacity: u32) -> Result<Vec<ShardSta
     requires least { least_capacity ≤ capacity }
     requires most { capacity ≤ most_capacity }
     ensures states { IfOk result (λ states. states.items ≡ new_shards capacity dealt) }
+    ensures kept { IfOk result (λ states. All IsShard states.items) }
     ensures shards { AreDealings dealt }
 {
     let mut states = Vec::new(alloc);
     for list in dealt.into_lists() {
-        states.push(ShardState::start(alloc, list, capacity)?)?;
+        let state = ShardState::start(alloc, list, capacity)?;
+        let _kept = state.position();
+        states.push(state)?;
     }
     Ok(states)
 }
@@ -176,11 +182,14 @@ fn new_states(alloc: Global, dealt: Dealt, capacity: u32) -> Result<Vec<ShardSta
 // The states of shards that go on from the snapshots of a cut.
 fn resumed_states(alloc: Global, dealt: Dealt, cut: Cut) -> Result<Vec<ShardState>, AllocError>
     requires { AllZip ContinuesList cut.shards dealt }
-    ensures { IfOk result (λ states. states.items ≡ resumed_shards dealt cut.shards) }
+    ensures states { IfOk result (λ states. states.items ≡ resumed_shards dealt cut.shards) }
+    ensures kept { IfOk result (λ states. All IsShard states.items) }
 {
     let mut states = Vec::new(alloc);
     for (list, base) in dealt.into_lists().into_iter().zip(cut.into_shards()) {
-        states.push(ShardState::resume(alloc, list, base)?)?;
+        let state = ShardState::resume(alloc, list, base)?;
+        let _kept = state.position();
+        states.push(state)?;
     }
     Ok(states)
 }

@@ -1,21 +1,22 @@
 //! What the tables of shards say of weights, each law the contract of a function that does nothing.
 
-ghost use Rattle.std.specs.Prelude.{◌≡◌, ◌≤◌, ℕ, List, All, Some, length, slice_get, take};
+ghost use Rattle.std.specs.Prelude.{◌≡◌, ◌^◌, ◌<◌, ◌≤◌, ℕ, List, All, Some, length, slice_get, take};
 ghost use Rattle.prefix_lattice.specs.{RecordValue, NodeValue, PrefixValue, IsPrefix, prefix_weight, total_weight};
-ghost use Rattle.space_saving.specs.{table_total};
+ghost use Rattle.prefix_lattice.specs.{record_limit};
+ghost use Rattle.space_saving.specs.{least_capacity, most_capacity, table_total};
 ghost use Rattle.hhh_report.specs.{records_before};
 ghost use Rattle.shard_state.specs.Snapshot.{records_table, SnapshotValue, empty_snapshot, snapshot_total};
-ghost use Rattle.shard_state.specs.Snapshot.{SnapshotRepresents};
+ghost use Rattle.shard_state.specs.Snapshot.{IsSnapshot, SnapshotRepresents};
 ghost use Rattle.shard_state.specs.Cut.{CutValue, IsCut, cut_positions, total_of_cut, CutRepresents};
-ghost use Rattle.shard_state.specs.ShardState.{ShardValue, snapshot_of};
+ghost use Rattle.shard_state.specs.ShardState.{IsShard, ShardValue, shard_state_at, snapshot_of};
 ghost use Rattle.shard_state.specs.WeightIntervals.{HoldsNarrowly, HoldsNarrowlyOver};
 ghost use Rattle.shard_state.specs.WeightIntervals.{interval_of};
 ghost use Rattle.shard_state.specs.ShardCore.{CoreValue, HasCoreShape, IsCore, core_capacity, core_after_run};
 ghost use Rattle.shard_state.specs.ShardCore.{BasesRepresent, ReadsEachShard, core_lists};
 ghost use Rattle.shard_state.specs.declared.event.Event.{Event};
 
-use prefix_lattice::keys_tell_covering;
-use space_saving::{adds_leave_a_table, intervals_hold};
+use prefix_lattice::{keys_are_of_their_node, keys_tell_covering};
+use space_saving::{adds_leave_a_table, intervals_hold, steps_leave_a_table};
 
 /// In the table of records at a prefix's node, the interval of the prefix holds its exact weight and is no wider
 /// than the total divided by the capacity (Metwally, Agrawal, El Abbadi 2005), and the counts add up to the total
@@ -52,6 +53,23 @@ pub fn shards_stand()
     ensures goes_on { (shard : ShardValue) → SnapshotRepresents shard.base shard.list → shard.base.position ≤ shard.position
         → shard.position ≤ length shard.list → SnapshotRepresents (snapshot_of shard) shard.list }
 {}
+
+/// A shard with empty tables, or with tables that counted the weight of the first records of its list, is within its limits,
+/// if its list and its tables are; and then it is so at each later position, up to the end of its list.
+pub fn shards_keep_their_limits()
+    ensures begins { (capacity : ℕ) (list : List RecordValue) → least_capacity ≤ capacity → capacity ≤ most_capacity → length list ≤ record_limit
+        → All (λ rec. 1 ≤ rec.weight) list → All (λ rec. rec.weight < 2 ^ 32) list
+        → IsShard (record { list = list; base = empty_snapshot capacity; position = 0 }) }
+    ensures resumes { (base : SnapshotValue) (list : List RecordValue) → IsSnapshot base → base.position ≤ length list → length list ≤ record_limit
+        → All (λ rec. 1 ≤ rec.weight) list → All (λ rec. rec.weight < 2 ^ 32) list
+        → snapshot_total base ≡ total_weight (take base.position list)
+        → IsShard (record { list = list; base = base; position = base.position }) }
+    ensures goes_on { (shard : ShardValue) (position : ℕ) → IsShard shard → shard.position ≤ position → position ≤ length shard.list
+        → IsShard (shard_state_at position shard) }
+{
+    steps_leave_a_table();
+    keys_are_of_their_node();
+}
 
 /// Two cuts of one capacity, at the same positions, that represent the same lists are equal.
 pub fn standing_cuts_are_equal()

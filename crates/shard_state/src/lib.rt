@@ -16,7 +16,8 @@ pub use cut::Cut;
 pub use event::Event;
 pub use hhh_report::Positions;
 pub use laws::{
-    runs_stand, shards_stand, snapshots_hold_weights, standing_cuts_are_equal, tables_hold_weights,
+    runs_stand, shards_keep_their_limits, shards_stand, snapshots_hold_weights,
+    standing_cuts_are_equal, tables_hold_weights,
 };
 pub use shard_core::{Core, states_are_kept};
 pub use shard_state::{Folded, ShardState};

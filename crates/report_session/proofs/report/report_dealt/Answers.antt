@@ -1,12 +1,13 @@
 use Rattle.std.proofs.Common.{◌≡◌, ◌∙◌, ◌⊎◌, [], ap, ap₂, sym, subst}
-use Rattle.report_session.specs.Session.{WritesAnswer, BeginsSession, IsOverShards, session_opening}
+use Rattle.report_session.specs.Session.{AreSessionShards, WritesAnswer, BeginsSession, IsOverShards, session_opening}
 use Rattle.report_session.specs.DealtFeed.{IsFeedBase}
 use Rattle.report_session.specs.Saving.{IsAsBefore, Saves, SavesInPart}
 use Rattle.report_session.proofs.BaseLemmas.{base_goes_on}
 use Rattle.report_session.proofs.DealtReportLemmas.{dealt_report_ends_without_base, dealt_report_keeps_saves}
 use Rattle.report_session.proofs.DealtReportLemmas.{dealt_report_ends_broken_off, dealt_report_is_written}
 use Rattle.report_session.proofs.FeedFaultLemmas.{feed_fault_after_good_steps}
-use Rattle.report_session.proofs.SaveLemmas.{no_save_into_untouched_disk, part_of_saves}
+use Rattle.report_session.proofs.SaveLemmas.{part_of_saves}
+use Rattle.run_status.specs.declared.status.Status.TheVariants.{OutOfMemory}
 use Rattle.report_session.proofs.report.report_dealt.Goals as goal
 
 pub openings_stand-requires : goal.openings_stand-requires
@@ -59,18 +60,17 @@ returns-clause-ends g c =
     c.args.settings.now c.args.fed.dealt c.in-Ok.base.positions c.in-Ok.base.saver saved unfinished c.args.disk.now
     c.open_base.new.disk c.write_session.new.disk base.used base.saver c.open_base.ensures.any_moment
     c.open_base.ensures.reads saves used)
-    (λ same. (
-      subst (IsAsBefore g.D.Disk c.args.disk.now) (sym same)
-          (record { same_reads = c.open_base.ensures.reads; any_moment = c.open_base.ensures.any_moment }),
-      no_save_into_untouched_disk g.D.Disk c.in-Ok.base.saver
-          c.open_base.new.disk c.write_session.new.disk g.met.D.Disk.only_now c.in-Ok.ensures.stands same,
-    ))
-    (subst (λ tail. ((c.write_session.new.sink ≡ c.args.sink.now) × (c.write_session.new.disk ≡ c.open_base.new.disk))
-    ⊎ WritesAnswer (BeginsSession (session_opening c.args.settings.now.capacity c.args.fed.dealt c.in-Ok.base.cut)
+    (λ same. subst (IsAsBefore g.D.Disk c.args.disk.now) (sym same)
+    (record { same_reads = c.open_base.ensures.reads; any_moment = c.open_base.ensures.any_moment }))
+    (subst (λ tail. (((c.write_session.new.sink ≡ c.args.sink.now) × (c.write_session.new.disk ≡ c.open_base.new.disk))
+    × (c.in-Err-write_session.status ≡ OutOfMemory))
+    ⊎ (AreSessionShards c.args.settings.now.capacity
+    (session_opening c.args.settings.now.capacity c.args.fed.dealt c.in-Ok.base.cut)
+    × WritesAnswer (BeginsSession (session_opening c.args.settings.now.capacity c.args.fed.dealt c.in-Ok.base.cut)
     c.args.settings.now
     (SavesInPart g.D.Disk c.in-Ok.base.saver
     c.open_base.new.disk c.write_session.new.disk) tail) (g.K.Sink.taken c.args.sink.now)
-    (g.K.Sink.taken c.write_session.new.sink))
+    (g.K.Sink.taken c.write_session.new.sink)))
     c.deref.ensures.value c.in-Err-write_session.ensures.part)
     (feed_fault_after_good_steps _ _ _ c.in-Err-write_session.status
     (ap (λ n. record { sink = g.K.Sink.faults c.args.sink.now; disk = n }) c.in-Ok.ensures.no_fault)

@@ -2,7 +2,8 @@ use Rattle.std.proofs.Common.{sym, ◌≤◌, ◌^◌, ◌++◌, [], ◌∷◌, 
 use Rattle.std.specs.List.{All}
 use Rattle.std.specs.Vec.Iter.{into_iter_items}
 use Rattle.std.proofs.lemmas.List.{nil_from_length}
-use Rattle.std.proofs.lemmas.List.Elements.{All-drop}
+use Rattle.std.proofs.lemmas.List.Elements.{All-append, All-cons, All-drop, All-nil}
+use Rattle.shard_state.specs.{IsShard}
 use Rattle.report_session.specs.Session.{new_shards}
 use Rattle.report_session.proofs.OpeningShardLemmas.{opening_shards_have_few_records, opening_shards_grow_by_one}
 use Rattle.report_session.proofs.session.new_states.Goals as goal
@@ -13,6 +14,7 @@ loop-list-init c =
     record {
       parted = sym items;
       states = c.new-states.ensures.items;
+      kept = subst (All IsShard) (sym c.new-states.ensures.items) (All-nil IsShard);
       small =
           subst (All (λ list. length list ≤ 2 ^ 24)) (sym c.into_iter-list-iterator.ensures.into_iter_gives.0)
           (opening_shards_have_few_records (2 ^ 24) c.into_lists-list-items.result.items c.into_lists-list-items.ensures.bounded.small);
@@ -29,8 +31,11 @@ loop-list-preserved c =
           ∙ sym (append_assoc done (c.in-Some.list ∷ []) (into_iter_items c.next.new.self));
       states =
           c.in_ok-push.ensures.items
-          ∙ ap₂ (λ states state. states ++ state ∷ []) kept.states c.in_ok-start.ensures
+          ∙ ap₂ (λ states state. states ++ state ∷ []) kept.states c.in_ok-state.ensures
           ∙ sym (opening_shards_grow_by_one c.args.capacity done c.in-Some.list);
+      kept = subst (All IsShard) (sym c.in_ok-push.ensures.items)
+          (All-append IsShard c.loop-list.states.items (c.in_ok-state.state ∷ []) kept.kept
+          (All-cons IsShard c.in_ok-state.state [] c.position-kept.ensures.kept (All-nil IsShard)));
       small =
           All-drop (λ list. length list ≤ 2 ^ 24) 1 (c.in-Some.list ∷ into_iter_items c.next.new.self)
           (subst (All (λ list. length list ≤ 2 ^ 24)) parted kept.small);

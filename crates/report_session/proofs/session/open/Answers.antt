@@ -1,17 +1,18 @@
-use Rattle.std.proofs.Common.{◌∙◌, sym, ap, subst, length}
+use Rattle.std.proofs.Common.{◌∙◌, All, sym, ap, subst, length}
 use Rattle.std.proofs.lemmas.List.{length-replicate}
 use Rattle.pass_tokens.specs.{first_view}
-use Rattle.shard_state.specs.{AreCoreShards, CutValue, empty_snapshot}
+use Rattle.shard_state.specs.{AreCoreShards, CutValue, IsShard, empty_snapshot}
 use Rattle.report_session.proofs.session.open.Goals as goal
 
 pub start-requires : goal.start-requires
-start-requires c = subst AreCoreShards (sym c.in_ok-states.ensures) c.openings_stand.ensures.shards
+start-requires c = subst AreCoreShards (sym c.in_ok-states.ensures.states) c.openings_stand.ensures.shards
 
 pub returns : goal.returns
 returns c =
-    let states = c.in_ok-states.ensures in
+    let states = c.in_ok-states.ensures.states in
     record {
       opening = c.in_ok-board.ensures.opening ∙ states;
+      kept = subst (All IsShard) states c.in_ok-states.ensures.kept;
       pass = c.in_ok-board.ensures.pass;
       view = c.in_ok-board.ensures.view ∙ ap first_view states;
       shape = record {

@@ -6,7 +6,7 @@ use Rattle.report_session.specs.Session.{WritesAnswer, BeginsSession, IsOverShar
 use Rattle.report_session.specs.DealtFeed.{IsFeedOpening, StartsBefore}
 use Rattle.report_session.specs.Saving.{Saves, SavesInPart}
 use Rattle.report_session.proofs.BaseLemmas.{base_goes_on, base_saver_is_ready}
-use Rattle.report_session.proofs.SessionThreadLemmas.{session_thread_on_err_implies, session_thread_on_ok_implies}
+use Rattle.report_session.proofs.SessionThreadLemmas.{session_thread_err_implies_each, session_thread_on_ok_implies}
 use Rattle.report_session.proofs.session.write_session.Goals as goal
 
 pub openings_stand-requires : goal.openings_stand-requires
@@ -57,9 +57,15 @@ returns-clause-whole g c =
 
 pub returns-clause-part : goal.returns-clause-part
 returns-clause-part g c =
-    session_thread_on_err_implies c.write_feed.result _ _
-    (λ part. inr (subst (λ shards. WritesAnswer (BeginsSession shards c.args.setup.now.settings.now
-    (SavesInPart g.D.Disk c.args.base.saver c.args.disk.now
-    c.write_feed.new.disk) c.args.tail.now)
-    (g.K.Sink.taken c.args.sink.now) (g.K.Sink.taken c.write_feed.new.sink)) c.in_ok-opened.ensures.opening part))
+    session_thread_err_implies_each c.write_feed.result _ _
+    (λ status part. inr (
+      record {
+        core = record { are_shards = c.openings_stand.ensures.shards; kept = c.in_ok-opened.ensures.kept };
+        alike = c.openings_stand.ensures.alike;
+      },
+      subst (λ shards. WritesAnswer (BeginsSession shards c.args.setup.now.settings.now
+          (SavesInPart g.D.Disk c.args.base.saver c.args.disk.now
+          c.write_feed.new.disk) c.args.tail.now)
+          (g.K.Sink.taken c.args.sink.now) (g.K.Sink.taken c.write_feed.new.sink)) c.in_ok-opened.ensures.opening part,
+    ))
     c.write_feed.ensures.part
