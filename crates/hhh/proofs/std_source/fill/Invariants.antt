@@ -1,8 +1,0 @@
-use Rattle.std.specs.Io.KnownBytes.{Keeps}
-use Rattle.hhh.proofs.std_source.fill.Given as goal
-
--- calls that were broken off took no byte
-abbrev pub invariant-loop : goal.invariant-loop
-invariant-loop g l = record {
-  kept : Keeps (g.R.Read.remaining l.fn.reader) (g.R.Read.remaining l.reader);
-}
