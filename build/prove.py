@@ -13,8 +13,8 @@ Nothing is made of a crate unless it is proved: then a library, which holds what
 of `hhh` an object file. What the prover says goes to crates/hhh/out/logs/CRATE.log. The file `seconds` there gets a line
 for each crate that is proved: its name, the seconds that it took by the clock and of processors, and the memory of its
 largest process in kilobytes. build/seconds has these lines of a build that was measured: by it the minutes that are
-left are reckoned, and the crates found that go first: those on a long chain. The environment has KIT, the folder of the
-toolchain, and JOBS, how many crates are proved at a time.
+left are reckoned, and the crates found that go first. The environment has KIT, the folder of the toolchain, and JOBS, how
+many crates are proved at a time.
 """
 
 import hashlib
@@ -91,7 +91,7 @@ def prove(crate):
     (libraries / f"{crate}.sum").unlink(missing_ok=True)
     shutil.rmtree(libraries / f"{crate}.rlib", ignore_errors=True)
     begun = time.monotonic()
-    nicely = [] if crate in urgent() else ["nice"]
+    nicely = [] if crate in longest_chain() else ["nice"]
     run_in(crate, [*nicely, kit / "bin/rattle", "build", *words_of(crate)])
     clock, used = time.monotonic() - begun, resource.getrusage(resource.RUSAGE_CHILDREN)
     if sums_of(crates_of_the_program())[crate] != stale[crate][0]:
@@ -174,15 +174,13 @@ def chains(seconds):
     return found
 
 
-def urgent():
-    """The crates for which the program may wait: those on a chain of crates that is nearly as long as the longest."""
-    crates, seconds = crates_of_the_program(), measured_seconds(0)
-    until, after = chains(seconds), dict.fromkeys(crates, 0)
-    for crate in reversed(crates):
-        for name in crates[crate]:
-            if name in crates:
-                after[name] = max(after[name], seconds[crate] + after[crate])
-    return {crate for crate in crates if until[crate] + after[crate] >= 0.93 * until["hhh"]}
+def longest_chain():
+    """The crates for which the program waits longest, each of which waits for the next."""
+    crates, lengths = crates_of_the_program(), chains(measured_seconds(0))
+    chain = ["hhh"]
+    while below := [name for name in crates[chain[-1]] if name in crates]:
+        chain.append(max(below, key=lengths.get))
+    return chain
 
 
 def about(minutes):
