@@ -100,6 +100,15 @@ address_front-from_begins_with (x ∷ bytes) (b ∷ front) begins =
     ap (λ d. d ∷ take (length front) bytes) (eqb-true x b both.0)
     ∙ ap (λ l. b ∷ l) (address_front-from_begins_with bytes front both.1)
 
+-- the unit of what an address keeps of its first bytes, in bits and in bytes
+pub address_unit_in_bits : (n : ℕ) → n ≤ 4 → 2 ^ (32 - 8 * n) ≡ 256 ^ (4 - n)
+address_unit_in_bits zero few = refl
+address_unit_in_bits (suc zero) few = refl
+address_unit_in_bits (suc (suc zero)) few = refl
+address_unit_in_bits (suc (suc (suc zero))) few = refl
+address_unit_in_bits (suc (suc (suc (suc zero)))) few = refl
+address_unit_in_bits (suc (suc (suc (suc (suc n))))) few = absurd (omega arith)
+
 -- setting the last bytes to zero leaves the first ones
 pub address_front-masked : (n address : ℕ) → n ≤ 4
     → take n (address_bytes (address / 256 ^ (4 - n) * 256 ^ (4 - n))) ≡ take n (address_bytes address)

@@ -103,16 +103,20 @@ impl KeptBytes {
     }
 }
 
-// The address with all bytes after the first `bytes` set to zero.
+// The address with all bytes after the first `bytes` bytes set to zero.
 fn masked(address: u32, bytes: u8) -> u32
     requires { bytes ≤ address_length }
     ensures { result ≡ address / 256 ^ (address_length - bytes) * 256 ^ (address_length - bytes) }
 {
-    match bytes {
-        0 => 0,
-        1 => address & 0xff00_0000,
-        2 => address & 0xffff_0000,
-        3 => address & 0xffff_ff00,
-        _ => address,
-    }
+    address & mask_of(8 * bytes)
+}
+
+// The first `bits` bits of an address set, and all after them clear. There is no choice in it, so that a loop over records
+// computes it once.
+fn mask_of(bits: u8) -> u32
+    requires { bits ≤ 32 }
+    ensures { result ≡ 2 ^ 32 - 2 ^ (32 - bits) }
+{
+    let rest = 0xffff_ffff_u64 >> bits;
+    !(rest as u32)
 }

@@ -1,0 +1,10 @@
+use Rattle.std.proofs.Common.{◌-◌, ◌*◌, ◌/◌, bit_and, ap, ◌∙◌, arith}
+use Rattle.std.proofs.lemmas.Nat.Bits.{and_high_mask}
+use Rattle.prefix_lattice.proofs.AddressLemmas.{address_unit_in_bits}
+use Rattle.prefix_lattice.proofs.kept_bytes.masked.Goals as goal
+
+pub returns : goal.returns
+returns c =
+    ap (bit_and c.args.address) c.mask_of.ensures
+    ∙ and_high_mask 32 (32 - 8 * c.args.bytes) (omega arith) c.args.address (omega arith)
+    ∙ ap (λ unit. c.args.address / unit * unit) (address_unit_in_bits c.args.bytes c.requires)
