@@ -9,6 +9,7 @@ use Rattle.rank_table.specs.SlotOrder.{put_in_order, in_rank_order, ordered_entr
 use Rattle.rank_table.specs.Slot.{AreApart, AreDistinct}
 use Rattle.rank_table.specs.Slot.{Slots}
 use Rattle.rank_table.specs.Words.{rank_word, IsExactWord}
+use Rattle.rank_table.specs.Times.{AreTimeMarks, renumbered_slot, renumbered_slots, slots_before_time, time_mark}
 use Rattle.rank_table.specs.Ranks.{HasLeast, AreLeaves, AreRanked}
 use Rattle.rank_table.specs.Marks.{mark_of, marks_from, rank_of_mark, without_mark, slot_of_mark}
 use Rattle.rank_table.specs.Marks.{numbered}
@@ -64,23 +65,38 @@ pub slot_of_now : AreOrdered 2 (slot 1 5 0 2 ∷ []) → ⊥
 slot_of_now are = omega (arith, are.timed.0)
 
 -- excess 2 over base 3, time 2, place 1
-pub word_of_a_rank : rank_word 3 (slot 1 5 0 2) 1 ≡ 2 * 2 ^ 36 + 2 * 4096 + 1
+pub word_of_a_rank : rank_word 3 (slot 1 5 0 2) 1 ≡ 2 * 2 ^ 30 + 2 * 4096 + 1
 unfolding rank_word
 word_of_a_rank = refl
 
--- an excess of 2^28 and one of 2^29 have the same word
-pub far_counts_have_one_word : rank_word 0 (slot 1 268435456 0 2) 1 ≡ rank_word 0 (slot 1 536870912 0 2) 1
+-- an excess of 2^34 and one of 2^35 have the same word
+pub far_counts_have_one_word : rank_word 0 (slot 1 17179869184 0 2) 1 ≡ rank_word 0 (slot 1 34359738368 0 2) 1
 unfolding rank_word
 far_counts_have_one_word = refl
 
 pub small_rank_is_exact : IsExactWord 3 (slot 1 5 0 2)
-small_rank_is_exact = (omega arith, omega arith)
+small_rank_is_exact = omega arith
 
-pub cut_off_count_is_not : IsExactWord 0 (slot 1 268435455 0 2) → ⊥
-cut_off_count_is_not exact = omega (arith, exact.0)
+pub cut_off_count_is_not : IsExactWord 0 (slot 1 17179869183 0 2) → ⊥
+cut_off_count_is_not exact = omega (arith, exact)
 
-pub cut_off_time_is_not : IsExactWord 0 (slot 1 5 0 16777215) → ⊥
-cut_off_time_is_not exact = omega (arith, exact.1)
+-- two slots have times before 6: key 2 since 0, key 3 since 4
+pub slots_before_a_time : slots_before_time 6 (slot 1 5 0 7 ∷ slot 2 3 0 0 ∷ slot 3 5 0 4 ∷ []) ≡ 2
+slots_before_a_time = refl
+
+pub renumbered_one : renumbered_slot (slot 1 5 0 7 ∷ slot 2 3 0 0 ∷ []) (slot 1 5 0 7) ≡ slot 1 5 0 1
+renumbered_one = refl
+
+-- times 7, 0 and 4 become 2, 0 and 1, in their places
+pub renumbered_three : renumbered_slots (slot 1 5 0 7 ∷ slot 2 3 0 0 ∷ slot 3 5 0 4 ∷ []) ≡ slot 1 5 0 2 ∷ slot 2 3 0 0 ∷ slot 3 5 0 1 ∷ []
+renumbered_three = refl
+
+pub mark_of_a_time : time_mark 1 (slot 2 3 0 7) ≡ 7 * 4096 + 1
+mark_of_a_time = refl
+
+-- a leaf that an empty place has by mistake: it would sort as the slot of time 0 there
+pub empty_place_has_a_mark : AreTimeMarks 2 (7 * 4096 ∷ 1 ∷ []) (slot 1 5 0 7 ∷ []) → ⊥
+empty_place_has_a_mark marks = omega (arith, marks.empty 1 (omega arith) (omega arith))
 
 pub least_of_two : HasLeast (slot 1 5 0 2 ∷ slot 2 3 0 0 ∷ []) 1
 unfolding slot_rank
@@ -168,5 +184,6 @@ empty_table = record {
   };
 }
 
-pub more_adds_than_weight : IsRankTable 2 1 0 (record { room = 2; keys = [] }) (record { capacity = 2; slots = [] }) → ⊥
-more_adds_than_weight table = omega (arith, table.clocked)
+-- a clock of 2^18 + 1 is past the times that fit into a word
+pub clock_past_its_end : IsRankTable 2 262145 0 (record { room = 2; keys = [] }) (record { capacity = 2; slots = [] }) → ⊥
+clock_past_its_end table = omega (arith, table.clocked)

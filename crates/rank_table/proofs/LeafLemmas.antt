@@ -4,21 +4,26 @@ use Rattle.std.proofs.Common.{sym, ap, ◌∙◌}
 use Rattle.std.proofs.Common.{subst, ⊎_elim, arith, All, Contains, sum, length-set, get_or-set_same, get_or-set_other}
 use Rattle.std.specs.List.{range_with_len}
 use Rattle.std.proofs.lemmas.Bool.{cases_eq, cases_lt}
-use Rattle.std.proofs.lemmas.List.{get_or_default, get_or_append_left, length_push}
+use Rattle.std.proofs.lemmas.List.{get_or_default, get_or_append_left, get_or_push, get_or-map, length-map, length_push}
 use Rattle.std.proofs.lemmas.List.FromFn.{length-range_with_len, get_or-range_with_len}
 use Rattle.std.proofs.lemmas.List.Sums.{sum_by-set, sum_by-le}
 use Rattle.rank_table.specs.declared.slot.Slot.{Slot}
 use Rattle.rank_table.specs.Ranks.{slot_rank}
 use Rattle.rank_table.specs.Words.{rank_word, IsExactWord}
 use Rattle.rank_table.specs.Ranks.{AreLeaves, AreRanked, HasLeast}
+use Rattle.rank_table.specs.SlotOrder.{AreOrdered}
+use Rattle.rank_table.specs.Times.{renumbered_slot, renumbered_slots}
+use Rattle.rank_table.proofs.RankedSlotLemmas.{all-ranked_slot_at}
+use Rattle.rank_table.proofs.RenumberedSlotLemmas.{AreOrdered-renumbered_slots}
 use Rattle.rank_table.proofs.RankWordLemmas.{rank_word_names_place, rank_word_not_below_place, rank_word_fits}
 use Rattle.rank_table.proofs.RankWordLemmas.{rank_word_rises, exact_rank_word_is_least}
 
 -- leaves that are their own indices are lower bounds of the slots' words
 pub leaf_starts_as_its_place : (capacity base : ℕ) (slots : List Slot) → capacity ≤ 4096 → length slots ≤ capacity
     → ((place : ℕ) (d : Slot) → place < length slots → base ≤ (get_or slots place d).entry.count)
+    → ((place : ℕ) (d : Slot) → place < length slots → (get_or slots place d).time < 2 ^ 18)
     → AreLeaves capacity base (range_with_len 0 capacity) slots
-leaf_starts_as_its_place capacity base slots most fits based =
+leaf_starts_as_its_place capacity base slots most fits based timed =
     let number : (place : ℕ) → place < capacity
     → get_or (range_with_len 0 capacity) place 0 ≡ place = λ place within. get_or-range_with_len 0 capacity place 0 within
     ∙ (let e : 0 + place ≡ place = omega arith in e) in
@@ -30,6 +35,7 @@ leaf_starts_as_its_place capacity base slots most fits based =
       early = λ place _ within. number place within;
       below = λ place d within. omega (arith, number place (omega arith), rank_word_not_below_place base (get_or slots place d) place);
       based = based;
+      timed = timed;
     }
 
 -- the place that a leaf names has that leaf
@@ -70,15 +76,16 @@ leaf_is_mended_to_word capacity base leaves slots place slot are within read =
           (λ (apart : other ≢ place). subst (λ n. n ≤ rank_word base (get_or slots other d) other) (sym (there other apart)) (are.below other d inside))
           (cases_eq other place);
       based = are.based;
+      timed = are.timed;
     }
 
 -- the leaves stay lower bounds when a slot changes to one of no smaller count and time
 pub leaf_stays_below_raised_slot : (capacity base : ℕ) (leaves : List ℕ) (slots : List Slot) (place : ℕ) (slot : Slot)
     → AreLeaves capacity base leaves slots
     → place < length slots
-    → (get_or slots place slot).entry.count ≤ slot.entry.count → (get_or slots place slot).time ≤ slot.time
+    → (get_or slots place slot).entry.count ≤ slot.entry.count → (get_or slots place slot).time ≤ slot.time → slot.time < 2 ^ 18
     → AreLeaves capacity base leaves (set slots place slot)
-leaf_stays_below_raised_slot capacity base leaves slots place slot are within more later =
+leaf_stays_below_raised_slot capacity base leaves slots place slot are within more later early =
     let same_length : length (set slots place slot) ≡ length slots = length-set slots place slot in
     record {
       most = are.most;
@@ -99,13 +106,19 @@ leaf_stays_below_raised_slot capacity base leaves slots place slot are within mo
           (λ (apart : other ≢ place). subst (λ (s : Slot). base ≤ s.entry.count) (sym (get_or-set_other slots place other slot d apart))
           (are.based other d (omega (arith, same_length))))
           (cases_eq other place);
+      timed = λ other d inside. ⊎_elim
+          (λ (same : other ≡ place). subst (λ n. (get_or (set slots place slot) n d).time < 2 ^ 18) (sym same)
+          (subst (λ (s : Slot). s.time < 2 ^ 18) (sym (get_or-set_same slots place slot d within)) early))
+          (λ (apart : other ≢ place). subst (λ (s : Slot). s.time < 2 ^ 18) (sym (get_or-set_other slots place other slot d apart))
+          (are.timed other d (omega (arith, same_length))))
+          (cases_eq other place);
     }
 
 -- the leaves stay lower bounds when a slot is appended, if the base is 0
 pub leaf_stays_after_push : (capacity base : ℕ) (leaves : List ℕ) (slots : List Slot) (slot : Slot) → AreLeaves capacity base leaves slots
-    → length slots < capacity → base ≡ 0
+    → length slots < capacity → base ≡ 0 → slot.time < 2 ^ 18
     → AreLeaves capacity base leaves (slots ++ slot ∷ [])
-leaf_stays_after_push capacity base leaves slots slot are room unbased =
+leaf_stays_after_push capacity base leaves slots slot are room unbased early =
     let one_more : length (slots ++ slot ∷ []) ≡ length slots + 1 = length_push slots slot in
     record {
       most = are.most;
@@ -124,6 +137,12 @@ leaf_stays_after_push capacity base leaves slots slot are room unbased =
           ))
           (cases_lt other (length slots));
       based = λ other d inside. omega arith;
+      timed = λ other d inside. ⊎_elim
+          (λ (old : other < length slots). subst (λ (s : Slot). s.time < 2 ^ 18) (sym (get_or_append_left slots (slot ∷ []) d other old))
+          (are.timed other d old))
+          (λ (new : length slots ≤ other). subst (λ (s : Slot). s.time < 2 ^ 18)
+          (sym (get_or_push slots slot d other (let last : length slots ≡ other = omega (arith, one_more) in last))) early)
+          (cases_lt other (length slots));
     }
 
 -- the sum by which leaves can still rise falls when a leaf that differs from its slot's word is mended
@@ -141,7 +160,8 @@ leaf_rises_when_mended capacity base leaves slots place slot are full within rea
     let small : All (λ leaf. leaf ≤ 2 ^ 64) (set leaves place new) = λ other d inside.
     let inner : other < capacity = omega (arith, length-set leaves place new) in
     let low = after.below other slot (omega arith) in
-    omega (arith, get_or_default (set leaves place new) other d 0 inside, low, rank_word_fits base (get_or slots other slot) other (omega arith)) in
+    omega (arith, get_or_default (set leaves place new) other d 0 inside, low, rank_word_fits base (get_or slots other slot) other
+        (after.timed other slot (omega arith)) (omega arith)) in
     omega (arith, length-set leaves place new, sum_by-set (λ x. x) leaves place new 0 (omega arith), sum_by-le (λ x. x) (2 ^ 64) (set leaves place new) small)
 
 -- a winner whose word is exact comes first
@@ -160,7 +180,7 @@ exact_leaf_is_least capacity base leaves slots place slot are within read exact 
           subst (λ (s : Slot). slot_rank s ≤ slot_rank (get_or slots other d)) at
           (exact_rank_word_is_least base slot (get_or slots other d) place other exact (subst (λ (s : Slot). base ≤ s.entry.count) (sym read)
           (are.based place slot within)) (are.based other d inside)
-          (omega arith) (omega arith) (subst (λ (s : Slot). rank_word base s place ≤ rank_word base (get_or slots other d) other) (sym at)
+          (subst (λ (s : Slot). s.time < 2 ^ 18) (sym read) (are.timed place slot within)) (are.timed other d inside) (omega arith) (omega arith) (subst (λ (s : Slot). rank_word base s place ≤ rank_word base (get_or slots other d) other) (sym at)
           (least other d inside)));
     }
 
@@ -175,6 +195,25 @@ leaf_restarts_at_least_count capacity reserved base leaves slots place slot are 
   has_room = are.has_room;
   are_leaves = leaf_starts_as_its_place capacity slot.entry.count slots are.are_leaves.most are.are_leaves.fits
       (λ other d inside. subst (λ (s : Slot). s.entry.count ≤ (get_or slots other d).entry.count) (sym (read
-      ∙ get_or_default slots place slot d within)) (least other d inside));
+      ∙ get_or_default slots place slot d within)) (least other d inside)) are.are_leaves.timed;
   unbased = λ room. absurd (omega arith);
 }
+
+-- the leaves of a tree that restarts once its slots are renumbered
+pub leaf_restarts_when_renumbered : (capacity reserved base : ℕ) (leaves : List ℕ) (slots : List Slot)
+    → AreRanked capacity reserved base leaves slots → AreOrdered (2 ^ 18) slots
+    → AreRanked capacity reserved base (range_with_len 0 capacity) (renumbered_slots slots)
+leaf_restarts_when_renumbered capacity reserved base leaves slots are ordered =
+    let same : length (renumbered_slots slots) ≡ length slots = length-map slots (renumbered_slot slots) in
+    let fits : length slots ≤ capacity = are.are_leaves.fits in
+    let most : capacity ≤ 4096 = are.are_leaves.most in
+    let again = AreOrdered-renumbered_slots (2 ^ 18) slots ordered in
+    record {
+      some = are.some;
+      has_room = are.has_room;
+      are_leaves = leaf_starts_as_its_place capacity base (renumbered_slots slots) most (omega arith)
+          (λ place d within. subst (λ (s : Slot). base ≤ s.entry.count) (sym (get_or-map (renumbered_slot slots) slots place d d (omega arith)))
+          (are.are_leaves.based place d (omega arith)))
+          (λ place d within. omega (arith, all-ranked_slot_at (λ slot. slot.time < length slots) place (renumbered_slots slots) d again.timed within));
+      unbased = λ room. are.unbased (omega arith);
+    }

@@ -4,6 +4,7 @@ pub mod LeafLemmas
 pub mod SlotChangeLemmas
 pub mod SlotKeyLemmas
 pub mod SlotRiseLemmas
+pub mod RenumberedSlotLemmas
 pub mod MarkLemmas
 pub mod NumberedEntryLemmas
 pub mod RankTableLemmas

@@ -3,11 +3,8 @@ use Rattle.std.proofs.Common.{◌≡◌, ℕ, ◌+◌, ◌<◌, ◌≤◌, true,
 use Rattle.std.proofs.Common.{Some, refl, sym, ap, ◌∙◌, arith}
 use Rattle.std.specs.List.{AllByRecursion}
 use Rattle.std.proofs.lemmas.Bool.{eqb-false}
-use Rattle.std.proofs.lemmas.List.Elements.{recursion_from_All}
-use Rattle.std.proofs.lemmas.List.Sums.{sum_by-cons}
 use Rattle.space_saving.specs.declared.entry.Entry.{Entry}
-use Rattle.space_saving.specs.{table_entry, table_total, RisesFrom, KeysApart, HasSmallError}
-use Rattle.space_saving.specs.{AreTableEntries}
+use Rattle.space_saving.specs.{table_entry, RisesFrom, KeysApart}
 use Rattle.rank_table.specs.declared.slot.Slot.{Slot}
 use Rattle.rank_table.specs.Marks.{numbered}
 use Rattle.rank_table.specs.Ranks.{slot_rank}
@@ -93,16 +90,3 @@ AreOrdered-numbered_entries time now (entry ∷ rest) apart fits =
 
 pub AreOrdered-all_numbered_entries : (entries : List Entry) → KeysApart entries → AreOrdered (length entries) (numbered 0 entries)
 AreOrdered-all_numbered_entries entries apart = AreOrdered-numbered_entries 0 (length entries) entries apart (omega arith)
-
--- a table has no more entries than its total, since each count is at least 1
-numbered_entries_count_something : (capacity total : ℕ) (entries : List Entry) → AllByRecursion (HasSmallError capacity total) entries
-    → length entries ≤ table_total entries
-numbered_entries_count_something capacity total [] small = omega arith
-numbered_entries_count_something capacity total (entry ∷ rest) small =
-    let below : entry.error < entry.count = small.0.0 in
-    omega (arith, sum_by-cons (λ (e : Entry). e.count) entry rest, numbered_entries_count_something capacity total rest small.1)
-
-pub numbered_entries_fit_total : (capacity : ℕ) (entries : List Entry) → AreTableEntries capacity entries → length entries ≤ table_total entries
-numbered_entries_fit_total capacity entries are =
-    numbered_entries_count_something capacity (table_total entries) entries (recursion_from_All (HasSmallError capacity
-    (table_total entries)) entries are.is_table.small_errors)

@@ -19,20 +19,21 @@ use Rattle.rank_table.proofs.SlotChangeLemmas.{AreOrdered-change_of_time, least_
 use Rattle.rank_table.proofs.SlotChangeLemmas.{slot_change_entry_count}
 use Rattle.rank_table.proofs.SlotKeyLemmas.{slot_key}
 use Rattle.rank_table.proofs.NumberedEntryLemmas.{ordered_entries-numbered, keys-numbered_entries}
-use Rattle.rank_table.proofs.NumberedEntryLemmas.{AreOrdered-all_numbered_entries, numbered_entries_fit_total}
+use Rattle.rank_table.proofs.NumberedEntryLemmas.{AreOrdered-all_numbered_entries}
 use Rattle.rank_table.proofs.SlotRiseLemmas.{all_slots_from_rise_order}
 
--- a table after an add
-pub IsRankTable-add : (capacity clock total weight : ℕ) (index index_after : IndexedKeys) (ranked ranked_after : Slots) (add : TableAdd)
+-- a table after an add at this time
+pub IsRankTable-add : (capacity clock now total weight : ℕ) (index index_after : IndexedKeys) (ranked ranked_after : Slots) (add : TableAdd)
     → IsRankTable capacity clock total index ranked
     → add.weight ≡ weight → 1 ≤ weight → table_total (ordered_entries ranked.slots) + weight < 2 ^ 56
     → ((entries : List Entry) → IsTable capacity entries → IsTable capacity (after_step capacity entries add))
     → ((entries : List Entry) → table_total (after_step capacity entries add) ≡ table_total entries + add.weight)
     → ranked_after.capacity ≡ ranked.capacity → AreParts ranked_after.capacity index_after ranked_after
-    → AreOrdered (clock + 1) ranked_after.slots
+    → now < 2 ^ 18 → AreOrdered (now + 1) ranked_after.slots
     → ordered_entries ranked_after.slots ≡ after_step capacity (ordered_entries ranked.slots) add
-    → IsRankTable capacity (clock + 1) (total + weight) index_after ranked_after
-IsRankTable-add capacity clock total weight index index_after ranked ranked_after add table is weighs fits stays_table adds same together slots stepped =
+    → IsRankTable capacity (now + 1) (total + weight) index_after ranked_after
+IsRankTable-add capacity clock now total weight index index_after ranked ranked_after add table is weighs fits stays_table adds same together early slots
+    stepped =
     let grew : table_total (ordered_entries ranked_after.slots) ≡ table_total (ordered_entries ranked.slots) + weight = ap table_total stepped
     ∙ adds (ordered_entries ranked.slots) ∙ ap (λ n. table_total (ordered_entries ranked.slots) + n) is in
     let width : ranked_after.capacity ≡ capacity = same ∙ table.together.as_many in
@@ -41,18 +42,13 @@ IsRankTable-add capacity clock total weight index index_after ranked ranked_afte
       most = table.most;
       together = subst (λ n. AreParts n index_after ranked_after) width together;
       slots = slots;
-      clocked = omega (arith, table.clocked);
+      clocked = omega arith;
       adds_up = omega (arith, table.adds_up, grew);
       are_entries = record {
         is_table = subst (IsTable capacity) (sym stepped) (stays_table (ordered_entries ranked.slots) table.are_entries.is_table);
         bounded = omega (arith, grew);
       };
     }
-
--- the clock is below 2^56
-pub rank_table_clock_is_small : (capacity clock total : ℕ) (index : IndexedKeys) (ranked : Slots) → IsRankTable capacity clock total index ranked
-    → clock < 2 ^ 56
-rank_table_clock_is_small capacity clock total index ranked table = omega (arith, table.clocked, table.adds_up, table.are_entries.bounded)
 
 -- each slot's error is below its count
 rank_table_all_from_map : (P : Entry → Type 0) (slots : List Slot) → AllByRecursion P (map ranked_slot_entry slots)
@@ -99,7 +95,7 @@ rank_table_length_as_seen capacity seen slots table same view = ap length same �
 pub rank_table_times_are_small : (capacity clock total : ℕ) (index : IndexedKeys) (ranked : Slots) → IsRankTable capacity clock total index ranked
     → AreOrdered (2 ^ 64) ranked.slots
 rank_table_times_are_small capacity clock total index ranked table =
-    AreOrdered-change_of_time clock (2 ^ 64) ranked.slots (omega (arith, rank_table_clock_is_small capacity clock total index ranked table)) table.slots
+    AreOrdered-change_of_time clock (2 ^ 64) ranked.slots (omega (arith, table.clocked)) table.slots
 
 -- a table of entries that were inserted one after the other
 pub IsRankTable-loaded : (capacity total : ℕ) (entries : List Entry) (index : IndexedKeys) (ranked : Slots) → 2 ≤ capacity → capacity ≤ 4096
@@ -113,7 +109,7 @@ IsRankTable-loaded capacity total entries index ranked least most are counted ro
       most = most;
       together = record { roomy = roomy; as_many = as_many; keyed = keys ∙ keys-numbered_entries 0 entries ∙ ap (map slot_key) (sym slots) };
       slots = subst (AreOrdered (length entries)) (sym slots) (AreOrdered-all_numbered_entries entries are.is_table.distinct);
-      clocked = omega (arith, counted, numbered_entries_fit_total capacity entries are);
+      clocked = omega (arith, are.is_table.fits);
       adds_up = counted ∙ ap table_total (sym same);
       are_entries = subst (AreTableEntries capacity) (sym same) are;
     }

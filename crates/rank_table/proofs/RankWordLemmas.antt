@@ -10,10 +10,9 @@ use Rattle.rank_table.specs.Words.{rank_word, IsExactWord}
 pub rank_word_names_place : (base : ℕ) (slot : Slot) (place : ℕ) → place < 4096 → rank_word base slot place % 4096 ≡ place
 unfolding rank_word
 rank_word_names_place base slot place within =
-    let excess = min (slot.entry.count - base) (2 ^ 28 - 1) in
-    let time = min slot.time (2 ^ 24 - 1) in
-    let split : excess * 2 ^ 36 + time * 4096 + place ≡ (excess * 2 ^ 24 + time) * 4096 + place = omega arith in
-    ap (λ n. n % 4096) split ∙ mod-mul-add (excess * 2 ^ 24 + time) 4096 place within
+    let excess = min (slot.entry.count - base) (2 ^ 34 - 1) in
+    let split : excess * 2 ^ 30 + slot.time * 4096 + place ≡ (excess * 2 ^ 18 + slot.time) * 4096 + place = omega arith in
+    ap (λ n. n % 4096) split ∙ mod-mul-add (excess * 2 ^ 18 + slot.time) 4096 place within
 
 -- and is at least that place
 pub rank_word_not_below_place : (base : ℕ) (slot : Slot) (place : ℕ) → place ≤ rank_word base slot place
@@ -21,9 +20,9 @@ unfolding rank_word
 rank_word_not_below_place base slot place = omega arith
 
 -- and fits into 64 bits
-pub rank_word_fits : (base : ℕ) (slot : Slot) (place : ℕ) → place < 4096 → rank_word base slot place < 2 ^ 64
+pub rank_word_fits : (base : ℕ) (slot : Slot) (place : ℕ) → slot.time < 2 ^ 18 → place < 4096 → rank_word base slot place < 2 ^ 64
 unfolding rank_word
-rank_word_fits base slot place within = omega arith
+rank_word_fits base slot place early within = omega arith
 
 -- a word doesn't fall where count and time don't
 pub rank_word_rises : (base : ℕ) (slot after : Slot) (place : ℕ) → slot.entry.count ≤ after.entry.count → slot.time ≤ after.time
@@ -33,12 +32,11 @@ rank_word_rises base slot after place more later = omega arith
 
 -- a slot whose word is exact and no greater than another's has a rank that is no greater
 pub exact_rank_word_is_least : (base : ℕ) (slot other : Slot) (place at : ℕ) → IsExactWord base slot → base ≤ slot.entry.count → base ≤ other.entry.count
-    → place < 4096 → at < 4096
+    → slot.time < 2 ^ 18 → other.time < 2 ^ 18 → place < 4096 → at < 4096
     → rank_word base slot place ≤ rank_word base other at → slot_rank slot ≤ slot_rank other
 unfolding slot_rank rank_word
-exact_rank_word_is_least base slot other place at exact above over within inside no_greater =
-    let few : slot.entry.count - base < 2 ^ 28 - 1 = exact.0 in
-    let soon : slot.time < 2 ^ 24 - 1 = exact.1 in
+exact_rank_word_is_least base slot other place at exact above over early before within inside no_greater =
+    let few : slot.entry.count - base < 2 ^ 34 - 1 = exact in
     ⊎_elim
     (λ (same : slot.entry.count ≡ other.entry.count). omega arith)
     (λ rest. ⊎_elim

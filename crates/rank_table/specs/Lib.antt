@@ -3,6 +3,7 @@ pub mod SlotOrder
 pub mod Slot
 pub mod Words
 pub mod Ranks
+pub mod Times
 pub mod Marks
 pub mod Steps
 pub mod RankTable

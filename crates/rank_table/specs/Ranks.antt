@@ -12,7 +12,8 @@ pub record HasLeast (slots : List Slot) (place : ℕ) : Type 0 where
   pub within : place < length slots
   pub least : (other : ℕ) (d : Slot) → other < length slots → slot_rank (slice_index_or slots place d) ≤ slot_rank (slice_index_or slots other d)
 
--- each leaf names its place in its low 12 bits, and is a lower bound of the word of the slot at that place
+-- each leaf names its place in its low 12 bits, and is a lower bound of the word of the slot at that place, whose time
+-- fits into a word
 pub record AreLeaves (capacity base : ℕ) (leaves : List ℕ) (slots : List Slot) : Type 0 where
   pub most : capacity ≤ 4096
   pub shape : length leaves ≡ capacity
@@ -21,6 +22,7 @@ pub record AreLeaves (capacity base : ℕ) (leaves : List ℕ) (slots : List Slo
   pub early : (place : ℕ) → length slots ≤ place → place < capacity → slice_index leaves place ≡ place
   pub below : (place : ℕ) (d : Slot) → place < length slots → slice_index leaves place ≤ rank_word base (slice_index_or slots place d) place
   pub based : (place : ℕ) (d : Slot) → place < length slots → base ≤ (slice_index_or slots place d).entry.count
+  pub timed : (place : ℕ) (d : Slot) → place < length slots → (slice_index_or slots place d).time < 2 ^ 18
 
 -- memory for all slots, such leaves, and a base of 0 as long as there is room for one more slot
 pub record AreRanked (capacity reserved base : ℕ) (leaves : List ℕ) (slots : List Slot) : Type 0 where

@@ -5,6 +5,7 @@
 mod copying;
 mod rank_table;
 mod ranked_slots;
+mod renumbering;
 mod scanning;
 mod slot;
 mod steps;

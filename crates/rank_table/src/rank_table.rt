@@ -1,6 +1,6 @@
 //! The table.
 
-ghost use Rattle.std.specs.Prelude.{◌≡◌, [], map};
+ghost use Rattle.std.specs.Prelude.{◌≡◌, ◌≤◌, [], map};
 ghost use Rattle.rank_table.specs.Marks.{numbered};
 
 use crate::copying::write_in_order;
@@ -21,7 +21,8 @@ pub struct RankTable {
     capacity: u32,
     index: KeyIndex,
     ranked: RankedSlots,
-    // The time of the next add, later than that of each slot, so that no two slots have the same time.
+    // The time of the next add, later than that of each slot, so that no two slots have the same time. It is 2^18 at
+    // most: an add that finds it so sets it back.
     clock: u64,
     total: u64,
 }
@@ -69,8 +70,9 @@ impl Summary for RankTable {
     fn add(&mut self, key: u64, weight: u32) {
         steps_leave_a_table();
         let weight = u64::from(weight);
-        add_weight(&mut self.index, &mut self.ranked, key, weight, self.clock);
-        self.clock += 1;
+        let now = self.ranked.time_of_add(self.clock);
+        add_weight(&mut self.index, &mut self.ranked, key, weight, now);
+        self.clock = now + 1;
         self.total += weight;
     }
 
@@ -125,6 +127,7 @@ impl EntrySource for RankTable {
 // Puts the entries of a flat table into empty parts of its capacity, in their order.
 fn load(index: &mut KeyIndex, ranked: &mut RankedSlots, flat: &Flat)
     requires room { index.old.room ≡ flat.now.capacity }
+    requires few { flat.now.capacity ≤ 4096 }
     requires capacity { ranked.old.capacity ≡ flat.now.capacity }
     requires no_keys { index.old.keys ≡ [] }
     requires no_slots { ranked.old.slots ≡ [] }

@@ -1,14 +1,17 @@
 //! Slots, and a tree that shows which one comes first.
 
-ghost use Rattle.std.specs.Prelude.{◌≡◌, ◌+◌, ◌<◌, ◌≤◌, ◌++◌, ◌∷◌, [], ℕ, IfOk, IsTrue, false, ◌↔◌, length};
-ghost use Rattle.std.specs.Prelude.{slice_index_or, slice_set};
+ghost use Rattle.std.specs.Prelude.{◌≡◌, ◌+◌, ◌^◌, ◌<◌, ◌≤◌, ◌++◌, ◌∷◌, [], ℕ, IfOk, IsTrue, false, ◌↔◌, length};
+ghost use Rattle.std.specs.Prelude.{map, slice_index_or, slice_set};
 ghost use Rattle.rank_table.specs.declared.slot.Slot.{Slot};
 ghost use Rattle.rank_table.specs.Ranks.{AreLeaves, HasLeast};
+ghost use Rattle.rank_table.specs.SlotOrder.{AreOrdered, ordered_entries};
+ghost use Rattle.rank_table.specs.Times.{renumbered_slots};
 ghost use Rattle.rank_table.specs.Words.{rank_word};
 
+use crate::renumbering::renumber;
 use crate::scanning::least_of;
 use crate::slot::Slot;
-use crate::words::{MOST_EXCESS, PLACES, is_exact, word_of};
+use crate::words::{PLACES, TIMES, is_exact, word_of};
 use std::alloc::{AllocError, Global};
 use std::marker::Model;
 use winner_tree::WinnerTree;
@@ -68,7 +71,8 @@ impl RankedSlots {
 
     /// Appends a slot. It allocates no memory.
     pub(crate) fn push(&mut self, slot: Slot)
-        requires { length self.old.slots < self.old.capacity }
+        requires room { length self.old.slots < self.old.capacity }
+        requires early { slot.time < 2 ^ 18 }
         ensures { self.new ≡ record self.old { slots = self.old.slots ++ slot ∷ [] } }
     {
         self.slots.push(slot).unwrap();
@@ -79,6 +83,7 @@ impl RankedSlots {
         requires within { place < length self.old.slots }
         requires count { (d : Slot) → (slice_index_or self.old.slots place d).entry.count ≤ slot.entry.count }
         requires time { (d : Slot) → (slice_index_or self.old.slots place d).time ≤ slot.time }
+        requires early { slot.time < 2 ^ 18 }
         ensures { self.new ≡ record self.old { slots = slice_set self.old.slots place slot } }
     {
         self.slots[place] = slot;
@@ -105,13 +110,40 @@ impl RankedSlots {
         if is_exact(self.base, &self.slots[place]) {
             return place;
         }
+        // No slot's excess fits. The least count as the base leaves room for 2^34 more.
         let place = least_of(&self.slots);
-        let least = self.slots[place].entry.count;
-        if least - self.base >= MOST_EXCESS {
-            self.tree.restart();
-            self.base = least;
-        }
+        self.base = self.slots[place].entry.count;
+        self.tree.restart();
         place
+    }
+
+    /// The time of the next add, by a clock that is later than all slots: the clock's, as long as that fits into a
+    /// word. Then the slots get the times from 0 on, in the order of their times, and the next one is their number.
+    pub(crate) fn time_of_add(&mut self, clock: u64) -> u64
+        requires slots { AreOrdered clock self.old.slots }
+        requires early { clock ≤ 2 ^ 18 }
+        ensures capacity { self.new.capacity ≡ self.old.capacity }
+        ensures keys { map (λ slot. slot.entry.key) self.new.slots ≡ map (λ slot. slot.entry.key) self.old.slots }
+        ensures entries { ordered_entries self.new.slots ≡ ordered_entries self.old.slots }
+        ensures slots { AreOrdered result self.new.slots }
+        ensures early { result < 2 ^ 18 }
+    {
+        if clock < TIMES {
+            return clock;
+        }
+        self.renumber();
+        self.slots.len() as u64
+    }
+
+    // Gives the slots the times from 0 on, in the order of their times. A leaf is a lower bound of the new word too
+    // once it is its place alone.
+    fn renumber(&mut self)
+        requires { AreOrdered (2 ^ 18) self.old.slots }
+        ensures slots { self.new ≡ record self.old { slots = renumbered_slots self.old.slots } }
+        ensures fits { length self.new.slots ≤ 4096 }
+    {
+        renumber(&mut self.tree, &mut self.slots, self.capacity);
+        self.tree.restart();
     }
 }
 

@@ -7,7 +7,6 @@ use space_saving::Entry;
 pub(crate) struct Slot {
     /// The entry of the key that has the slot.
     pub entry: Entry,
-    /// The number of the add that changed the entry last, counted over the whole table. A restored table counts one
-    /// add for each of its entries.
+    /// When the entry was changed last: greater than the times of all slots that were changed before, and below 2^18.
     pub time: u64,
 }

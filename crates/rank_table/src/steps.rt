@@ -25,7 +25,7 @@ pub(crate) fn add_weight(
     requires together { AreParts ranked.old.capacity index.old ranked.old }
     requires slots { AreOrdered now ranked.old.slots }
     requires weighs { 1 ≤ weight }
-    requires early { now < 2 ^ 56 }
+    requires early { now < 2 ^ 18 }
     requires room { table_total (ordered_entries ranked.old.slots) + weight < 2 ^ 56 }
     ensures capacity { ranked.new.capacity ≡ ranked.old.capacity }
     ensures together { AreParts ranked.new.capacity index.new ranked.new }
@@ -44,7 +44,7 @@ pub(crate) fn add_weight(
 fn grow(ranked: &mut RankedSlots, place: usize, weight: u64, now: u64)
     requires within { place < length ranked.old.slots }
     requires slots { AreOrdered now ranked.old.slots }
-    requires early { now < 2 ^ 56 }
+    requires early { now < 2 ^ 18 }
     requires room { table_total (ordered_entries ranked.old.slots) + weight < 2 ^ 56 }
     ensures { (d : Slot) → ranked.new ≡ record ranked.old {
       slots = slice_set ranked.old.slots place (raised_slot weight now (slice_index_or ranked.old.slots place d));
@@ -62,6 +62,7 @@ fn grow(ranked: &mut RankedSlots, place: usize, weight: u64, now: u64)
 // Gives a new key a slot of its own.
 fn take_room(index: &mut KeyIndex, ranked: &mut RankedSlots, key: u64, weight: u64, now: u64)
     requires room { length ranked.old.slots < ranked.old.capacity }
+    requires early { now < 2 ^ 18 }
     requires together { AreParts ranked.old.capacity index.old ranked.old }
     ensures index { index.new ≡ record index.old { keys = index.old.keys ++ key ∷ [] } }
     ensures ranked { ranked.new ≡ record ranked.old { slots = ranked.old.slots ++ entered_slot key weight now ∷ [] } }
@@ -80,7 +81,7 @@ fn take_over(index: &mut KeyIndex, ranked: &mut RankedSlots, key: u64, weight: u
     requires full { length ranked.old.slots ≡ ranked.old.capacity }
     requires together { AreParts ranked.old.capacity index.old ranked.old }
     requires slots { AreOrdered now ranked.old.slots }
-    requires early { now < 2 ^ 56 }
+    requires early { now < 2 ^ 18 }
     requires room { table_total (ordered_entries ranked.old.slots) + weight < 2 ^ 56 }
     ensures { IsTakenOver key weight now index.old ranked.old index.new ranked.new }
 {

@@ -9,8 +9,8 @@ use Rattle.rank_table.specs.Marks.{numbered}
 use Rattle.rank_table.proofs.NumberedEntryLemmas.{length-numbered_entries, numbered-push_entry}
 use Rattle.rank_table.proofs.rank_table.load.Goals as goal
 
-pub push-requires-in-loop-place : goal.push-requires-in-loop-place
-push-requires-in-loop-place c =
+pub push-requires-in-loop-place-clause-room : goal.push-requires-in-loop-place-clause-room
+push-requires-in-loop-place-clause-room c =
     let entries = c.args.flat.now.entries in
     subst (λ (r : Slots). length r.slots < r.capacity) (sym c.loop-place.invariant.ranked)
     (omega (arith, length-numbered_entries 0 (take c.loop-place.place entries), length-take-le c.loop-place.place entries (omega arith)))

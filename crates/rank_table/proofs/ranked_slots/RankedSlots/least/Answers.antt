@@ -20,8 +20,8 @@ returns-then-is_exact-clause-least c =
     rw (← c.self.view_is) (exact_leaf_is_least (length items) c.self.inside.base c.winner-place.new.tree items c.winner-place.result c.index.result.now
     leaves within c.index.ensures exact least)
 
-pub invariant_of-self-then-least-self-ge-MOST_EXCESS : goal.invariant_of-self-then-least-self-ge-MOST_EXCESS
-invariant_of-self-then-least-self-ge-MOST_EXCESS c =
+pub invariant_of-self-2 : goal.invariant_of-self-2
+invariant_of-self-2 c =
     let items = c.self.inside.slots.items in
     let full : length items ≡ c.self.inside.capacity = subst (λ (r : Slots). length r.slots ≡ r.capacity) (sym c.self.view_is) c.requires in
     let leaves = subst (λ (l : List Slot). AreLeaves

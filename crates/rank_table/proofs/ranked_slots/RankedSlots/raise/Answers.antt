@@ -14,6 +14,6 @@ invariant_of-self c =
       some = c.self.invariant.some;
       has_room = c.self.invariant.has_room;
       are_leaves = leaf_stays_below_raised_slot c.self.inside.capacity c.self.inside.base c.self.inside.tree items c.args.place c.args.slot
-          c.self.invariant.are_leaves within more later;
+          c.self.invariant.are_leaves within more later c.requires.early;
       unbased = λ room. c.self.invariant.unbased (omega (arith, length-set items c.args.place c.args.slot));
     }
