@@ -1,5 +1,5 @@
 -- Worked examples of the definitions, most by computing.
-use Rattle.std.proofs.Common.{◌≡◌, ◌<◌, ◌≤◌, ◌^◌, ◌*◌, ◌+◌, ℕ, List, [], ◌∷◌, zero, suc, slice_index_or, lit<, refl}
+use Rattle.std.proofs.Common.{◌≡◌, ◌<◌, ◌≤◌, ◌^◌, ◌*◌, ◌+◌, ◌-◌, ℕ, List, [], ◌∷◌, zero, suc, slice_index_or, lit<, refl}
 use Rattle.std.proofs.Common.{arith}
 use Rattle.space_saving.specs.declared.entry.Entry.{Entry}
 use Rattle.key_index.specs.{IndexedKeys}
@@ -94,6 +94,19 @@ renumbered_three = refl
 pub mark_of_a_time : time_mark 1 (slot 2 3 0 7) ≡ 7 * 4096 + 1
 mark_of_a_time = refl
 
+-- place 1 has no slot
+pub marks_of_times : AreTimeMarks 2 (7 * 4096 ∷ 18446744073709551615 ∷ []) (slot 1 5 0 7 ∷ [])
+marks_of_times = record { shape = refl; marked = marked; empty = empty }
+  where
+    marked : (place : ℕ) (d : Slot) → place < 1
+        → slice_index_or (7 * 4096 ∷ 18446744073709551615 ∷ []) place 0 ≡ time_mark place (slice_index_or (slot 1 5 0 7 ∷ []) place d)
+    marked zero d within = refl
+    marked (suc place) d within = absurd (omega arith)
+    empty : (place : ℕ) → 1 ≤ place → place < 2 → slice_index_or (7 * 4096 ∷ 18446744073709551615 ∷ []) place 0 ≡ 2 ^ 64 - 1
+    empty zero behind inside = absurd (omega arith)
+    empty (suc zero) behind inside = refl
+    empty (suc (suc place)) behind inside = absurd (omega arith)
+
 -- a leaf that an empty place has by mistake: it would sort as the slot of time 0 there
 pub empty_place_has_a_mark : AreTimeMarks 2 (7 * 4096 ∷ 1 ∷ []) (slot 1 5 0 7 ∷ []) → ⊥
 empty_place_has_a_mark marks = omega (arith, marks.empty 1 (omega arith) (omega arith))
@@ -118,6 +131,10 @@ leaf_is_missing leaves = omega (arith, leaves.shape)
 -- a leaf of place 1 at place 0
 pub leaf_of_another_place : AreLeaves 2 0 (1 ∷ 1 ∷ []) [] → ⊥
 leaf_of_another_place leaves = omega (arith, leaves.early 0 (omega arith) (omega arith))
+
+-- a time of 2^18 doesn't fit into a word
+pub slot_of_a_late_time : AreLeaves 1 0 (0 ∷ []) (slot 1 5 0 262144 ∷ []) → ⊥
+slot_of_a_late_time leaves = omega (arith, leaves.timed 0 without_mark (omega arith))
 
 pub grown_slot : raised_slot 4 7 (slot 1 5 2 2) ≡ slot 1 9 2 7
 grown_slot = refl

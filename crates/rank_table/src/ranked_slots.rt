@@ -135,15 +135,13 @@ impl RankedSlots {
         self.slots.len() as u64
     }
 
-    // Gives the slots the times from 0 on, in the order of their times. A leaf is a lower bound of the new word too
-    // once it is its place alone.
+    // Gives the slots the times from 0 on, in the order of their times.
     fn renumber(&mut self)
         requires { AreOrdered (2 ^ 18) self.old.slots }
         ensures slots { self.new ≡ record self.old { slots = renumbered_slots self.old.slots } }
         ensures fits { length self.new.slots ≤ 4096 }
     {
         renumber(&mut self.tree, &mut self.slots, self.capacity);
-        self.tree.restart();
     }
 }
 

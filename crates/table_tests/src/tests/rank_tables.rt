@@ -118,7 +118,7 @@ fn follow_plain_tables(alloc: Global, weights: u64) -> Result<bool, AllocError> 
 
 #[test]
 fn random_adds_follow_the_plain_table(rt: HostRuntime) -> Result<(), Fail> {
-    // Few weights make many ties; many make counts so far apart that they don't fit into a word.
+    // Few weights make many ties; many make counts that outgrow a word, in the smaller tables again and again.
     for weights in [2, 1500, u64::from(u32::MAX)] {
         assert!(rt;
             follow_plain_tables(rt.alloc(), weights)?,
@@ -149,14 +149,49 @@ fn end_as_the_plain_table(
 }
 
 #[test]
-fn ranks_that_do_not_fit_are_never_wrong(rt: HostRuntime) -> Result<(), Fail> {
+fn counts_that_outgrow_a_word_are_never_wrong(rt: HostRuntime) -> Result<(), Fail> {
     let alloc = rt.alloc();
-    // Counts as far apart as weights allow, in the largest table.
+    // Counts as far apart as weights allow, in the largest table. In the next the least count passes 2^34 twice.
     let far = adds_of(9000, u64::from(u32::MAX));
     assert!(rt; end_as_the_plain_table(alloc, 4096, 10_000, far)?);
-    // More adds than times fit into a word.
-    assert!(rt; end_as_the_plain_table(alloc, 2, (1 << 24) + 5000, adds_of(8, 9))?);
-    assert!(rt; end_as_the_plain_table(alloc, 3, (1 << 24) + 5000, adds_of(5, 1))?);
+    let far = adds_of(1200, u64::from(u32::MAX));
+    assert!(rt; end_as_the_plain_table(alloc, 512, 10_000, far)?);
+    Ok(())
+}
+
+/// Whether both tables are equal after nearly as many adds as times fit into a word, and after each of 1,000 more,
+/// which are for other keys too.
+fn follow_while_times_begin_anew(
+    alloc: Global,
+    capacity: u32,
+    first_keys: u64,
+    keys: u64,
+) -> Result<bool, AllocError>
+    requires least { 2 ≤ capacity }
+    requires most { capacity ≤ 4096 }
+{
+    let mut adds = adds_of(first_keys, 3);
+    let mut plain = PlainTable::with_capacity(alloc, capacity)?;
+    let mut table = RankTable::with_capacity(alloc, capacity)?;
+    for _turn in 0..(1 << 18) - 500 {
+        if !add_to_both(&mut plain, &mut table, &mut adds) {
+            return Ok(false);
+        }
+    }
+    let mut more = adds_of(keys, 3);
+    follow(alloc, &mut plain, &mut table, &mut more, 1000)
+}
+
+#[test]
+fn times_that_begin_anew_keep_the_order(rt: HostRuntime) -> Result<(), Fail> {
+    let alloc = rt.alloc();
+    assert!(rt; follow_while_times_begin_anew(alloc, 2, 8, 8)?);
+    assert!(rt; follow_while_times_begin_anew(alloc, 3, 5, 9)?);
+    // Places without a slot, which take keys later.
+    assert!(rt; follow_while_times_begin_anew(alloc, 40, 7, 90)?);
+    // Twice, and in a larger table.
+    assert!(rt; end_as_the_plain_table(alloc, 16, (1 << 19) + 5000, adds_of(40, 9))?);
+    assert!(rt; end_as_the_plain_table(alloc, 512, (1 << 18) + 5000, adds_of(1200, 9))?);
     Ok(())
 }
 
