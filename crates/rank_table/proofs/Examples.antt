@@ -102,6 +102,7 @@ marks_of_times = record { shape = refl; marked = marked; empty = empty }
         → slice_index_or (7 * 4096 ∷ 18446744073709551615 ∷ []) place 0 ≡ time_mark place (slice_index_or (slot 1 5 0 7 ∷ []) place d)
     marked zero d within = refl
     marked (suc place) d within = absurd (omega arith)
+
     empty : (place : ℕ) → 1 ≤ place → place < 2 → slice_index_or (7 * 4096 ∷ 18446744073709551615 ∷ []) place 0 ≡ 2 ^ 64 - 1
     empty zero behind inside = absurd (omega arith)
     empty (suc zero) behind inside = refl

@@ -160,8 +160,13 @@ leaf_rises_when_mended capacity base leaves slots place slot are full within rea
     let small : All (λ leaf. leaf ≤ 2 ^ 64) (set leaves place new) = λ other d inside.
     let inner : other < capacity = omega (arith, length-set leaves place new) in
     let low = after.below other slot (omega arith) in
-    omega (arith, get_or_default (set leaves place new) other d 0 inside, low, rank_word_fits base (get_or slots other slot) other
-        (after.timed other slot (omega arith)) (omega arith)) in
+    omega (
+      arith,
+      get_or_default (set leaves place new) other d 0 inside,
+      low,
+      rank_word_fits base (get_or slots other slot) other
+          (after.timed other slot (omega arith)) (omega arith),
+    ) in
     omega (arith, length-set leaves place new, sum_by-set (λ x. x) leaves place new 0 (omega arith), sum_by-le (λ x. x) (2 ^ 64) (set leaves place new) small)
 
 -- a winner whose word is exact comes first
@@ -180,7 +185,8 @@ exact_leaf_is_least capacity base leaves slots place slot are within read exact 
           subst (λ (s : Slot). slot_rank s ≤ slot_rank (get_or slots other d)) at
           (exact_rank_word_is_least base slot (get_or slots other d) place other exact (subst (λ (s : Slot). base ≤ s.entry.count) (sym read)
           (are.based place slot within)) (are.based other d inside)
-          (subst (λ (s : Slot). s.time < 2 ^ 18) (sym read) (are.timed place slot within)) (are.timed other d inside) (omega arith) (omega arith) (subst (λ (s : Slot). rank_word base s place ≤ rank_word base (get_or slots other d) other) (sym at)
+          (subst (λ (s : Slot). s.time < 2 ^ 18) (sym read) (are.timed place slot within)) (are.timed other d inside) (omega arith)
+          (omega arith) (subst (λ (s : Slot). rank_word base s place ≤ rank_word base (get_or slots other d) other) (sym at)
           (least other d inside)));
     }
 

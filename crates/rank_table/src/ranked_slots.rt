@@ -8,7 +8,7 @@ ghost use Rattle.rank_table.specs.SlotOrder.{AreOrdered, ordered_entries};
 ghost use Rattle.rank_table.specs.Times.{renumbered_slots};
 ghost use Rattle.rank_table.specs.Words.{rank_word};
 
-use crate::renumbering::renumber;
+use crate::renumbering::renumber_slots;
 use crate::scanning::least_of;
 use crate::slot::Slot;
 use crate::words::{PLACES, TIMES, is_exact, word_of};
@@ -100,7 +100,7 @@ impl RankedSlots {
     }
 
     /// The place of the slot that comes before all others, among as many slots as the capacity. It looks at all slots
-    /// if the rank of this one doesn't fit into a word.
+    /// if the excess of this one doesn't fit into its word.
     pub(crate) fn least(&mut self) -> usize
         requires { length self.old.slots ≡ self.old.capacity }
         ensures same { self.new ≡ self.old }
@@ -118,7 +118,7 @@ impl RankedSlots {
     }
 
     /// The time of the next add, by a clock that is later than all slots: the clock's, as long as that fits into a
-    /// word. Then the slots get the times from 0 on, in the order of their times, and the next one is their number.
+    /// word. Once it doesn't, the slots get the times from 0 on, in the order of the old ones, and the add the next.
     pub(crate) fn time_of_add(&mut self, clock: u64) -> u64
         requires slots { AreOrdered clock self.old.slots }
         requires early { clock ≤ 2 ^ 18 }
@@ -135,13 +135,13 @@ impl RankedSlots {
         self.slots.len() as u64
     }
 
-    // Gives the slots the times from 0 on, in the order of their times.
+    // Gives the slots the times from 0 on, in the order of the old ones.
     fn renumber(&mut self)
         requires { AreOrdered (2 ^ 18) self.old.slots }
         ensures slots { self.new ≡ record self.old { slots = renumbered_slots self.old.slots } }
         ensures fits { length self.new.slots ≤ 4096 }
     {
-        renumber(&mut self.tree, &mut self.slots, self.capacity);
+        renumber_slots(&mut self.tree, &mut self.slots, self.capacity);
     }
 }
 

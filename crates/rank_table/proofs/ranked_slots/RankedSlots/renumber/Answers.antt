@@ -14,14 +14,14 @@ pub invariant_of-self : goal.invariant_of-self
 invariant_of-self c =
     let items = c.self.inside.slots.items in
     let was = c.deref_mut.result.now in
-    let now = c.renumber.new.slots in
+    let now = c.renumber_slots.new.slots in
     let behind = drop (length now) items in
-    let many : length now ≡ c.self.inside.slots.len = ap length c.renumber.ensures.slots ∙ length-map was (renumbered_slot was) ∙ c.deref_mut.ensures.len in
+    let many : length now ≡ c.self.inside.slots.len = ap length c.renumber_slots.ensures.slots ∙ length-map was (renumbered_slot was) ∙ c.deref_mut.ensures.len in
     let slots : take c.self.inside.slots.len (now ++ behind) ≡ renumbered_slots items = ap (λ n. take n (now ++ behind)) (sym many)
-    ∙ take-append_seam now behind ∙ c.renumber.ensures.slots ∙ ap renumbered_slots c.deref_mut.ensures.value in
+    ∙ take-append_seam now behind ∙ c.renumber_slots.ensures.slots ∙ ap renumbered_slots c.deref_mut.ensures.value in
     let ordered : AreOrdered (2 ^ 18) items = subst (λ (r : Slots). AreOrdered (2 ^ 18) r.slots) (sym c.self.view_is) c.requires in
     subst (λ (l : List ℕ). AreRanked c.self.inside.capacity c.self.inside.slots.cap c.self.inside.base l (take c.self.inside.slots.len (now ++ behind)))
-    (sym c.renumber.ensures.restarted)
+    (sym c.renumber_slots.ensures.restarted)
     (subst (λ (l : List Slot). AreRanked c.self.inside.capacity c.self.inside.slots.cap c.self.inside.base (range_with_len 0 c.self.inside.capacity) l)
     (sym slots)
     (leaf_restarts_when_renumbered c.self.inside.capacity c.self.inside.slots.cap c.self.inside.base c.self.inside.tree items c.self.invariant ordered))

@@ -14,6 +14,7 @@ invariant_of-result c =
     (record {
       some = omega arith;
       has_room = omega (arith, c.in_ok-with_capacity.ensures.exact);
-      are_leaves = leaf_starts_as_its_place c.args.capacity 0 [] (omega arith) (omega arith) (λ place d within. absurd (omega arith)) (λ place d within. absurd (omega arith));
+      are_leaves = leaf_starts_as_its_place c.args.capacity 0 [] (omega arith) (omega arith) (λ place d within. absurd (omega arith))
+          (λ place d within. absurd (omega arith));
       unbased = λ room. refl;
     }))
