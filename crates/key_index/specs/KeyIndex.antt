@@ -1,31 +1,31 @@
--- A list of keys with room for more, and the cells that lead to their places.
-use Rattle.std.specs.Prelude.{ℕ, List, ◌≡◌, ◌≢◌, ◌^◌, ◌<◌, ◌≤◌, length, slice_index}
-use Rattle.key_index.specs.Cells.{Cells, AreCellsBelow}
-use Rattle.key_index.specs.Homes.{Finds}
+-- A list of keys with room for more, and where its places are entered.
+use Rattle.std.specs.Prelude.{ℕ, List, ◌≡◌, ◌^◌, ◌<◌, ◌≤◌, length}
+use Rattle.key_index.specs.Entries.{Entries, AreEntered, LeadBelow}
 
 -- how many keys an index has memory for, and its keys by place
 pub record IndexedKeys : Type 0 where
   pub room : ℕ
   pub keys : List ℕ
 
--- cells of this room, filled with places of these keys, in which a search for each key comes to its place
-pub record HoldsKeys (room : ℕ) (keys : List ℕ) (cells : Cells) : Type 0 where
-  pub roomy : cells.room ≡ room
-  pub places : AreCellsBelow (length keys) cells.marks
-  pub found : (place : ℕ) → place < length keys → Finds room cells.marks (slice_index keys place) place
+-- entries of this room, in which all places of these keys are entered
+pub record HoldsKeys (room : ℕ) (keys : List ℕ) (entries : Entries) : Type 0 where
+  pub roomy : entries.room ≡ room
+  pub leads : LeadBelow (length keys) entries.links entries.listed
+  pub entered : AreEntered (length keys) (length keys) keys entries
 
--- the same, except that nothing is said of the key at one place
-pub record HoldsKeysButOne (but room : ℕ) (keys : List ℕ) (cells : Cells) : Type 0 where
+-- the same, except that one place is entered nowhere
+pub record HoldsKeysButOne (but room : ℕ) (keys : List ℕ) (entries : Entries) : Type 0 where
   pub few : length keys ≤ room
   pub fits : room < 2 ^ 16
-  pub roomy : cells.room ≡ room
-  pub places : AreCellsBelow (length keys) cells.marks
-  pub found : (place : ℕ) → place < length keys → place ≢ but → Finds room cells.marks (slice_index keys place) place
+  pub within : but < length keys
+  pub roomy : entries.room ≡ room
+  pub leads : LeadBelow (length keys) entries.links entries.listed
+  pub entered : AreEntered (length keys) but keys entries
 
--- no more keys than there is room for, memory for that many, and the cells filled with their places
-pub record IsKeyIndex (room reserved : ℕ) (keys : List ℕ) (cells : Cells) : Type 0 where
+-- no more keys than there is room for, memory for that many, and their places entered
+pub record IsKeyIndex (room reserved : ℕ) (keys : List ℕ) (entries : Entries) : Type 0 where
   pub some : 1 ≤ room
   pub few : length keys ≤ room
   pub fits : room < 2 ^ 16
   pub has_room : room ≤ reserved
-  pub filled : HoldsKeys room keys cells
+  pub filled : HoldsKeys room keys entries

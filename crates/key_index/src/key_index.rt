@@ -4,7 +4,7 @@ ghost use Rattle.std.specs.Prelude.{◌≡◌, ◌≢◌, ◌+◌, ◌*◌, ◌^
 ghost use Rattle.std.specs.Prelude.{length, slice_get, slice_set};
 ghost use Rattle.key_index.specs.KeyIndex.{HoldsKeys, HoldsKeysButOne};
 
-use crate::cells::KeyCells;
+use crate::entries::KeyEntries;
 use std::alloc::{AllocError, Global};
 use std::marker::Model;
 
@@ -13,7 +13,7 @@ use std::marker::Model;
 pub struct KeyIndex {
     room: usize,
     keys: Vec<u64>,
-    cells: KeyCells,
+    entries: KeyEntries,
 }
 
 impl Model for KeyIndex {
@@ -24,11 +24,11 @@ impl Model for KeyIndex {
 
     ghost view = { λ i. record { room = i.room; keys = i.keys.items } };
 
-    ghost invariant = { λ i. IsKeyIndex i.room (vec_capacity i.keys) i.keys.items i.cells };
+    ghost invariant = { λ i. IsKeyIndex i.room (vec_capacity i.keys) i.keys.items i.entries };
 }
 
 impl KeyIndex {
-    /// An empty index with memory for `room` keys, 1 to 65,535. It allocates 28 bytes for each and 34 more, and nothing
+    /// An empty index with memory for `room` keys, 1 to 65,535. It allocates 28 bytes for each and 4 more, and nothing
     /// later.
     pub fn with_room(alloc: Global, room: usize) -> Result<KeyIndex, AllocError>
         requires some { 1 ≤ room }
@@ -38,17 +38,17 @@ impl KeyIndex {
         Ok(KeyIndex {
             room,
             keys: Vec::with_capacity(alloc, room)?,
-            cells: KeyCells::with_room(alloc, room)?,
+            entries: KeyEntries::with_room(alloc, room)?,
         })
     }
 
-    /// A place of the key. It passes a few cells, or, for keys that were chosen to share their homes under several
-    /// multipliers, sixteen cells for each of these.
+    /// A place of the key. Whatever the keys are, it passes at most four in each of eight homes, and then halves a
+    /// sorted list of the places that no home took. Nearly always it ends in the first home.
     pub fn find(&self, key: u64) -> Option<usize>
         ensures { MatchOption result (All (λ other. other ≢ key) self.now.keys)
             (λ place. slice_get self.now.keys place ≡ Some key) }
     {
-        self.cells.find(&self.keys, key)
+        self.entries.find(&self.keys, key)
     }
 
     /// Appends a key. It allocates no memory.
@@ -58,7 +58,7 @@ impl KeyIndex {
     {
         let place = self.keys.len();
         self.keys.push(key).unwrap();
-        enter(&mut self.cells, &self.keys, place);
+        enter(&mut self.entries, &self.keys, place);
     }
 
     /// Replaces the key at this place, which is then no longer found there. It allocates no memory.
@@ -66,33 +66,35 @@ impl KeyIndex {
         requires { place < length self.old.keys }
         ensures { self.new ≡ record self.old { keys = slice_set self.old.keys place key } }
     {
+        self.entries.leave(&self.keys, place);
         self.keys[place] = key;
-        enter(&mut self.cells, &self.keys, place);
+        enter(&mut self.entries, &self.keys, place);
     }
 }
 
-// Enters the key at this place. If the cells are used up, they are emptied and all keys are entered again. Only this
-// frees a cell whose place has another key by now.
-fn enter(cells: &mut KeyCells, keys: &[u64], place: usize)
-    requires within { place < length keys.now }
-    requires filled { HoldsKeysButOne place cells.old.room keys.now cells.old }
-    ensures { HoldsKeys cells.old.room keys.now cells.new }
+// Enters the key at this place. Once many keys were turned away, all are taken out and entered again: only this lets
+// searches end again at the homes that turned a key away.
+fn enter(entries: &mut KeyEntries, keys: &[u64], place: usize)
+    requires filled { HoldsKeysButOne place entries.old.room keys.now entries.old }
+    ensures { HoldsKeys entries.old.room keys.now entries.new }
 {
-    if cells.are_used_up() {
-        enter_all(cells, keys);
+    if entries.are_crowded() {
+        enter_all(entries, keys);
     } else {
-        cells.enter(place, keys[place]);
+        entries.enter(keys, place);
     }
 }
 
-// Empties the cells, and enters all keys.
-fn enter_all(cells: &mut KeyCells, keys: &[u64])
-    requires few { length keys.now ≤ cells.old.room }
-    requires room { cells.old.room < 2 ^ 16 }
-    ensures { HoldsKeys cells.old.room keys.now cells.new }
+// Takes all keys out and enters them again. What this turns away isn't counted: else keys that were chosen to meet would
+// have all keys entered again every few calls.
+fn enter_all(entries: &mut KeyEntries, keys: &[u64])
+    requires few { length keys.now ≤ entries.old.room }
+    requires room { entries.old.room < 2 ^ 16 }
+    ensures { HoldsKeys entries.old.room keys.now entries.new }
 {
-    cells.clear();
-    for (place, key) in keys.iter().enumerate() {
-        cells.enter(place, *key);
+    entries.clear();
+    for place in 0..keys.len() {
+        entries.enter(keys, place);
     }
+    entries.calm();
 }

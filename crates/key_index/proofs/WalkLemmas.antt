@@ -1,0 +1,56 @@
+-- Walks along a chain, from the home's head on.
+use Rattle.std.proofs.Common.{◌≡◌, ◌≢◌, ℕ, ◌+◌, ◌-◌, ◌<◌, ◌≤◌, List, get_or}
+use Rattle.std.proofs.Common.{sym, ap, ◌∙◌, subst, ⊎_elim, arith}
+use Rattle.std.proofs.lemmas.Bool.{cases_lt}
+use Rattle.key_index.specs.Chains.{AreChains, IsLinked, IsLive}
+
+-- A walk is at this cell after so many steps. The places of the chain up to the cell have other keys, and behind it are no
+-- more places than there are steps to come
+pub record WalkFinds (room : ℕ) (backs keys : List ℕ) (rank home : ℕ → ℕ) (key head cell step : ℕ) : Type 0 where
+  pub live : IsLive room backs cell
+  pub here : home cell ≡ head
+  pub left : rank cell + step ≤ 4
+  pub others : (place : ℕ) → IsLinked backs place → home place ≡ head → rank cell ≤ rank place → get_or keys place 0 ≢ key
+
+-- so many places of the chain stand up to this cell
+pub record WalkCounts (room : ℕ) (backs : List ℕ) (rank : ℕ → ℕ) (head cell step : ℕ) : Type 0 where
+  pub live : IsLive room backs cell
+  pub steps : rank cell + step ≡ rank head
+
+module _ (room : ℕ) (links backs keys : List ℕ) (rank home : ℕ → ℕ) (key head : ℕ) (chains : AreChains room links backs rank home) where
+
+  pub walk_begins : room ≤ head → WalkFinds room backs keys rank home key head head 0
+  walk_begins high = record {
+    live = λ low. absurd (omega arith);
+    here = chains.heads head high;
+    left = omega (arith, chains.bound head high);
+    others = λ place linked at low same.
+        let top : rank place < rank head = subst (λ n. rank place < rank n) at (chains.top place linked) in omega arith;
+  }
+
+  pub walk_goes_on : (cell step mark : ℕ) → WalkFinds room backs keys rank home key head cell step → get_or links cell 0 ≡ mark → mark ≢ 0
+      → get_or keys (mark - 1) 0 ≢ key → WalkFinds room backs keys rank home key head (mark - 1) (step + 1)
+  walk_goes_on cell step mark walk is some other =
+      let led = chains.leads cell (mark - 1) walk.live (let to : get_or links cell 0 ≡ mark - 1 + 1 = omega arith in to) in
+      record {
+        live = λ _. led.0;
+        here = led.1 ∙ walk.here;
+        left = omega (arith, walk.left, led.2);
+        others = λ place linked at low.
+            ⊎_elim
+            (λ (far : rank place < rank cell).
+            let here : place ≡ mark - 1 = chains.apart place (mark - 1) linked led.0 (at ∙ sym (led.1 ∙ walk.here)) (omega (arith, led.2)) in
+            λ (same : get_or keys place 0 ≡ key). other (ap (λ n. get_or keys n 0) (sym here) ∙ same))
+            (λ (near : rank cell ≤ rank place). walk.others place linked at near)
+            (cases_lt (rank place) (rank cell));
+      }
+
+  pub walk_ends : (cell step : ℕ) → WalkFinds room backs keys rank home key head cell step → rank cell ≡ 0
+      → (place : ℕ) → IsLinked backs place → home place ≡ head → get_or keys place 0 ≢ key
+  walk_ends cell step walk none place linked at = walk.others place linked at (omega arith)
+
+  pub walk_counts_on : (cell step mark : ℕ) → WalkCounts room backs rank head cell step → get_or links cell 0 ≡ mark → mark ≢ 0
+      → WalkCounts room backs rank head (mark - 1) (step + 1)
+  walk_counts_on cell step mark walk is some =
+      let led = chains.leads cell (mark - 1) walk.live (let to : get_or links cell 0 ≡ mark - 1 + 1 = omega arith in to) in
+      record { live = λ _. led.0; steps = omega (arith, walk.steps, led.2) }

@@ -1,0 +1,29 @@
+use Rattle.std.proofs.Common.{◌≡◌, ◌+◌, ◌*◌, ◌≤◌, [], false, length, replicate, refl, ap, sym, subst, ◌∙◌, arith}
+use Rattle.key_index.specs.Entries.{Entries, AreEntered, LeadBelow}
+use Rattle.key_index.proofs.EntryLemmas.{entry_parts, entry_of_nothing, entry_zeros_lead, entry_one_more}
+use Rattle.key_index.proofs.key_index.enter_all.Goals as goal
+
+pub loop-place-init : goal.loop-place-init
+loop-place-init c =
+    let room = c.args.entries.now.room in
+    let is : c.clear.new.self ≡ entry_parts room (replicate (5 * room) 0) (replicate (room + 1) 0) (replicate (4 * room) false) [] = c.clear.ensures in
+    record {
+      roomy = ap (λ (e : Entries). e.room) is;
+      leads = subst (λ (e : Entries). LeadBelow (length c.args.keys.now) e.links e.listed) (sym is)
+          (entry_zeros_lead (length c.args.keys.now) (5 * room) 0 refl);
+      few = subst (λ (e : Entries). length e.listed ≤ 0) (sym is) (omega arith);
+      entered = subst (λ (e : Entries). AreEntered 0 0 c.args.keys.now e) (sym is)
+          (entry_of_nothing room c.args.keys.now (replicate (4 * room) false));
+    }
+
+pub loop-place-preserved : goal.loop-place-preserved
+loop-place-preserved c =
+    let old = c.loop-place.entries in
+    let place = c.loop-place.place in
+    record {
+      roomy = c.enter.ensures.room ∙ c.loop-place.invariant.roomy;
+      leads = c.enter.ensures.leads;
+      few = omega (arith, c.enter.ensures.listed, c.loop-place.invariant.few);
+      entered = c.enter.ensures.entered (place + 1) (omega arith)
+          (entry_one_more place old.room c.args.keys.now old.links old.backs old.listed old.turned c.loop-place.invariant.entered);
+    }
