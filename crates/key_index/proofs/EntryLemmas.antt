@@ -334,33 +334,38 @@ entry_zeros count index none is =
     (λ (past : count ≤ index). get_or_past (replicate count none) index 0 (let e : length (replicate count none) ≤ index = simp length-replicate past in e))
     (cases_lt index count)
 
+-- empty chains
+entry_unlinked : (room place : ℕ) → IsLinked (replicate (room + 1) 0) place → ⊥
+entry_unlinked room place linked = linked (entry_zeros (room + 1) (place + 1) 0 refl)
+
+pub entry_chains_of_nothing : (room : ℕ) → AreChains room (replicate (5 * room) 0) (replicate (room + 1) 0) (λ cell. 0) (λ cell. cell)
+entry_chains_of_nothing room = record {
+  heads = λ cell high. refl;
+  within = λ place linked. absurd (entry_unlinked room place linked);
+  homes = λ place linked. absurd (entry_unlinked room place linked);
+  apart = λ one other linked also homes ranks. absurd (entry_unlinked room one linked);
+  top = λ place linked. absurd (entry_unlinked room place linked);
+  bound = λ cell high. omega arith;
+  ends = λ cell live none. refl;
+  leads = λ cell place live to. absurd (omega (arith, to, entry_zeros (5 * room) cell 0 refl));
+  back = λ place linked. absurd (entry_unlinked room place linked);
+}
+
 -- nothing is entered where all cells and numbers are 0 and the list is empty
 pub entry_of_nothing : (room : ℕ) (keys : List ℕ) (turned : List Bool)
     → AreEntered 0 0 keys (entry_parts room (replicate (5 * room) 0) (replicate (room + 1) 0) turned [])
-entry_of_nothing room keys turned =
-    let unlinked : (place : ℕ) → IsLinked (replicate (room + 1) 0) place → ⊥ = λ place linked. linked (entry_zeros (room + 1) (place + 1) 0 refl) in
-    record {
-      rank = λ cell. 0;
-      home = λ cell. cell;
-      turn = λ place. 0;
-      chains = record {
-        heads = λ cell high. refl;
-        within = λ place linked. absurd (unlinked place linked);
-        homes = λ place linked. absurd (unlinked place linked);
-        apart = λ one other linked also homes ranks. absurd (unlinked one linked);
-        top = λ place linked. absurd (unlinked place linked);
-        bound = λ cell high. omega arith;
-        ends = λ cell live none. refl;
-        leads = λ cell place live to. absurd (omega (arith, to, entry_zeros (5 * room) cell 0 refl));
-        back = λ place linked. absurd (unlinked place linked);
-      };
-      chained = λ place below. absurd (omega arith);
-      ended = λ place below. absurd (omega arith);
-      passed = λ place earlier below. absurd (omega arith);
-      linked = λ place linked. absurd (unlinked place linked);
-      listed = λ place is. absurd (omega (arith, is.1));
-      rises = λ one other apart within. absurd (omega arith);
-    }
+entry_of_nothing room keys turned = record {
+  rank = λ cell. 0;
+  home = λ cell. cell;
+  turn = λ place. 0;
+  chains = entry_chains_of_nothing room;
+  chained = λ place below. absurd (omega arith);
+  ended = λ place below. absurd (omega arith);
+  passed = λ place earlier below. absurd (omega arith);
+  linked = λ place linked. absurd (entry_unlinked room place linked);
+  listed = λ place is. absurd (omega (arith, is.1));
+  rises = λ one other apart within. absurd (omega arith);
+}
 
 -- a place that isn't in the list and those in it are all different
 entry_apart : (end but : ℕ) (keys listed : List ℕ) → Rises keys listed → ((q : ℕ) → IsListed listed q → (q < end) × (q ≢ but))

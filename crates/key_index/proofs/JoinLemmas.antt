@@ -24,8 +24,8 @@ pub record Joins (room : ℕ) (links backs : List ℕ) (rank home : ℕ → ℕ)
   pub other_home : (cell : ℕ) → cell ≢ place → homed cell ≡ home cell
 
 -- whether a number is one of three
-three_ways : {P : Type 0} (one two cell : ℕ) → (cell ≡ one → P) → (cell ≡ two → P) → (cell ≢ one → cell ≢ two → P) → P
-three_ways one two cell first second third =
+joins_three_ways : {P : Type 0} (one two cell : ℕ) → (cell ≡ one → P) → (cell ≡ two → P) → (cell ≢ one → cell ≢ two → P) → P
+joins_three_ways one two cell first second third =
     ⊎_elim first (λ (other : cell ≡ one → ⊥). ⊎_elim second (λ (another : cell ≡ two → ⊥). third other another) (cases_eq cell two)) (cases_eq cell one)
 
 module _ (room : ℕ) (links backs : List ℕ) (rank home : ℕ → ℕ) (after ways : List ℕ) (ranked homed : ℕ → ℕ) (place head : ℕ)
@@ -131,7 +131,7 @@ module _ (room : ℕ) (links backs : List ℕ) (rank home : ℕ → ℕ) (after 
 
   joins_ends : (cell : ℕ) → IsLive room ways cell → get_or after cell 0 ≡ 0 → ranked cell ≡ 0
   joins_ends cell live none =
-      three_ways place head cell
+      joins_three_ways place head cell
       (λ (here : cell ≡ place). ap ranked here ∙ joins.place_rank
           ∙ joins.old.ends head (λ low. absurd (omega arith)) (sym joins.to_next ∙ ap (λ n. get_or after n 0) (sym here) ∙ none))
       (λ (here : cell ≡ head). absurd (omega (arith, sym joins.to_place ∙ ap (λ n. get_or after n 0) (sym here) ∙ none)))
@@ -163,7 +163,7 @@ module _ (room : ℕ) (links backs : List ℕ) (rank home : ℕ → ℕ) (after 
 
   joins_leads : (cell next : ℕ) → IsLive room ways cell → get_or after cell 0 ≡ next + 1 → JoinsTo cell next
   joins_leads cell next live to =
-      three_ways place head cell
+      joins_three_ways place head cell
       (λ (here : cell ≡ place). subst (λ n. JoinsTo n next) (sym here) (joins_from_place next (ap (λ n. get_or after n 0) (sym here) ∙ to)))
       (λ (here : cell ≡ head). subst (λ n. JoinsTo n next) (sym here) (joins_from_head next (ap (λ n. get_or after n 0) (sym here) ∙ to)))
       (λ there too. joins_from_other cell next live there too to)

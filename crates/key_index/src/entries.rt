@@ -19,7 +19,8 @@ struct Free {
     home: usize,
 }
 
-/// The chains of the homes, from which homes a key was turned away, and the places that no home took.
+/// The chains of the homes, from which homes a key was turned away, the places that no home took, and how many more keys
+/// may be turned away before all are entered again.
 #[derive(Drop)]
 pub(crate) struct KeyEntries {
     room: usize,
@@ -136,7 +137,6 @@ impl KeyEntries {
         self.chains.clear();
         self.turned.fill(false);
         self.listed.clear();
-        self.patience = self.room;
     }
 
     /// Begins to count anew the keys that are turned away.

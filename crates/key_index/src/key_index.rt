@@ -93,8 +93,8 @@ fn enter_all(entries: &mut KeyEntries, keys: &[u64])
     ensures { HoldsKeys entries.old.room keys.now entries.new }
 {
     entries.clear();
-    for place in 0..keys.len() {
-        entries.enter(keys, place);
+    for next in 0..keys.len() {
+        entries.enter(keys, next);
     }
     entries.calm();
 }

@@ -3,8 +3,8 @@ use Rattle.key_index.specs.Entries.{Entries, AreEntered, LeadBelow}
 use Rattle.key_index.proofs.EntryLemmas.{entry_parts, entry_of_nothing, entry_zeros_lead, entry_one_more}
 use Rattle.key_index.proofs.key_index.enter_all.Goals as goal
 
-pub loop-place-init : goal.loop-place-init
-loop-place-init c =
+pub loop-next-init : goal.loop-next-init
+loop-next-init c =
     let room = c.args.entries.now.room in
     let is : c.clear.new.self ≡ entry_parts room (replicate (5 * room) 0) (replicate (room + 1) 0) (replicate (4 * room) false) [] = c.clear.ensures in
     record {
@@ -16,14 +16,14 @@ loop-place-init c =
           (entry_of_nothing room c.args.keys.now (replicate (4 * room) false));
     }
 
-pub loop-place-preserved : goal.loop-place-preserved
-loop-place-preserved c =
-    let old = c.loop-place.entries in
-    let place = c.loop-place.place in
+pub loop-next-preserved : goal.loop-next-preserved
+loop-next-preserved c =
+    let old = c.loop-next.entries in
+    let place = c.loop-next.next in
     record {
-      roomy = c.enter.ensures.room ∙ c.loop-place.invariant.roomy;
+      roomy = c.enter.ensures.room ∙ c.loop-next.invariant.roomy;
       leads = c.enter.ensures.leads;
-      few = omega (arith, c.enter.ensures.listed, c.loop-place.invariant.few);
+      few = omega (arith, c.enter.ensures.listed, c.loop-next.invariant.few);
       entered = c.enter.ensures.entered (place + 1) (omega arith)
-          (entry_one_more place old.room c.args.keys.now old.links old.backs old.listed old.turned c.loop-place.invariant.entered);
+          (entry_one_more place old.room c.args.keys.now old.links old.backs old.listed old.turned c.loop-next.invariant.entered);
     }
