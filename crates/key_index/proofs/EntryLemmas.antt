@@ -1,8 +1,10 @@
 -- Where places are entered, after one was entered or taken out.
-use Rattle.std.proofs.Common.{◌≡◌, ◌≢◌, ℕ, ◌+◌, ◌-◌, ◌*◌, ◌^◌, ◌<◌, ◌≤◌, zero, suc, List, [], ◌∷◌, ◌++◌, Bool, true, false, cond, eqb, ltb, length, get_or, replicate}
+use Rattle.std.proofs.Common.{◌≡◌, ◌≢◌, ℕ, ◌+◌, ◌-◌, ◌*◌, ◌^◌, ◌<◌, ◌≤◌, zero, suc, List, [], ◌∷◌, ◌++◌, Bool, true}
+use Rattle.std.proofs.Common.{false, cond, eqb, ltb, length, get_or, replicate}
 use Rattle.std.proofs.Common.{set, refl, sym, ap, ◌∙◌, subst, ⊎_elim, arith, get_or-set_same, get_or-set_other}
 use Rattle.std.specs.List.{All, Contains}
-use Rattle.std.proofs.lemmas.Bool.{cases_eq, cases_lt, cond-true, cond-false, eq-eqb, ne_eqb, lt-ltb, le-ltb, eqb-true, false≢true}
+use Rattle.std.proofs.lemmas.Bool.{cases_eq, cases_lt, cond-true, cond-false, eq-eqb, ne_eqb, lt-ltb, le-ltb}
+use Rattle.std.proofs.lemmas.Bool.{eqb-true, false≢true}
 use Rattle.std.proofs.Math.ListN.{length-set, get_or-append}
 use Rattle.std.proofs.lemmas.List.{get_or_past, get_or-replicate, length-replicate}
 use Rattle.std.proofs.lemmas.Grind.{get_or_default_zero}
@@ -32,13 +34,15 @@ entry_ranks_without rank home place cell = cond (eqb (home cell) (home place)) (
 
 entry_rank_elsewhere : (rank home : ℕ → ℕ) (place cell : ℕ) → home cell ≢ home place → entry_ranks_without rank home place cell ≡ rank cell
 entry_rank_elsewhere rank home place cell there =
-    cond-false (eqb (home cell) (home place)) (cond (ltb (rank place) (rank cell)) (rank cell - 1) (rank cell)) (rank cell) (ne_eqb (home cell) (home place) there)
+    cond-false (eqb (home cell) (home place)) (cond (ltb (rank place) (rank cell)) (rank cell - 1) (rank cell)) (rank cell) (ne_eqb (home cell)
+        (home place) there)
 
 entry_rank_below : (rank home : ℕ → ℕ) (place cell : ℕ) → rank cell ≤ rank place → entry_ranks_without rank home place cell ≡ rank cell
 entry_rank_below rank home place cell low =
     ⊎_elim
     (λ (here : home cell ≡ home place).
-    cond-true (eqb (home cell) (home place)) (cond (ltb (rank place) (rank cell)) (rank cell - 1) (rank cell)) (rank cell) (eq-eqb (home cell) (home place) here)
+    cond-true (eqb (home cell) (home place)) (cond (ltb (rank place) (rank cell)) (rank cell - 1) (rank cell)) (rank cell) (eq-eqb (home cell)
+        (home place) here)
     ∙ cond-false (ltb (rank place) (rank cell)) (rank cell - 1) (rank cell) (le-ltb (rank place) (rank cell) low))
     (λ (there : home cell ≡ home place → ⊥). entry_rank_elsewhere rank home place cell there)
     (cases_eq (home cell) (home place))
@@ -47,7 +51,8 @@ entry_rank_above : (rank home : ℕ → ℕ) (place cell : ℕ) → home cell �
     → entry_ranks_without rank home place cell + 1 ≡ rank cell
 entry_rank_above rank home place cell here high =
     let is : entry_ranks_without rank home place cell ≡ rank cell - 1 =
-        cond-true (eqb (home cell) (home place)) (cond (ltb (rank place) (rank cell)) (rank cell - 1) (rank cell)) (rank cell) (eq-eqb (home cell) (home place) here)
+        cond-true (eqb (home cell) (home place)) (cond (ltb (rank place) (rank cell)) (rank cell - 1) (rank cell)) (rank cell) (eq-eqb (home cell)
+            (home place) here)
         ∙ cond-true (ltb (rank place) (rank cell)) (rank cell - 1) (rank cell) (lt-ltb (rank place) (rank cell) high) in
     omega (arith, is)
 
@@ -151,7 +156,8 @@ entry_free end place room keys links backs listed turned entered =
     (cases_eq (get_or backs (place + 1) 0) 0)
 
 -- a place was entered in the chain of a home
-pub entry_in_chain : (end place room turn head : ℕ) (keys links backs listed : List ℕ) (turned marked : List Bool) (after ways : List ℕ) (ranked homed : ℕ → ℕ)
+pub entry_in_chain : (end place room turn head : ℕ) (keys links backs listed : List ℕ) (turned marked : List Bool) (after ways : List ℕ)
+    (ranked homed : ℕ → ℕ)
     → place < end → turn < 8 → head ≡ room + home_at room turn (get_or keys place 0)
     → (entered : AreEntered end place keys (entry_parts room links backs turned listed))
     → Joins room links backs entered.rank entered.home after ways ranked homed place head
@@ -191,7 +197,8 @@ entry_in_chain end place room turn head keys links backs listed turned marked af
           ⊎_elim
           (λ (here : other ≡ place). (let low : other < end = omega arith in low, (λ same. omega arith), omega (arith, here_turn, ap turns here)))
           (λ (there : other ≡ place → ⊥).
-          let old = entered.linked other (joins_linked room links backs entered.rank entered.home after ways ranked homed place head joins other linked there) in
+          let old = entered.linked other (joins_linked room links backs entered.rank entered.home after ways ranked homed place head joins other
+              linked there) in
           (old.0, (λ same. omega (arith, old.0)), omega (arith, there_turn other there, old.2)))
           (cases_eq other place);
       listed = λ other is.
@@ -434,13 +441,15 @@ entry_turn_is_last end but room place turn home key keys links backs listed turn
 -- zeros and an empty list lead nowhere
 pub entry_zeros_lead : (count size none : ℕ) → none ≡ 0 → LeadBelow count (replicate size none) []
 entry_zeros_lead count size none is = record {
-  marks = λ index default within. omega (arith, is, get_or-replicate size index none default (let e : index < size = subst (λ n. index < n) (length-replicate size none) within in e));
+  marks = λ index default within. omega (arith, is, get_or-replicate size index none default (let e : index < size = subst (λ n. index < n)
+      (length-replicate size none) within in e));
   places = λ index default within. absurd (omega (arith, within));
 }
 
 -- where the places below a number are entered, one place more is to be entered next
 pub entry_one_more : (count room : ℕ) (keys links backs listed : List ℕ) (turned : List Bool)
-    → AreEntered count count keys (entry_parts room links backs turned listed) → AreEntered (count + 1) count keys (entry_parts room links backs turned listed)
+    → AreEntered count count keys (entry_parts room links backs turned listed) → AreEntered (count + 1) count keys
+        (entry_parts room links backs turned listed)
 entry_one_more count room keys links backs listed turned entered =
     entry_for_keys count count (count + 1) count room keys keys links backs listed turned
     (λ place below apart. (omega arith, apart, refl)) (λ place below apart. (omega arith, apart)) entered

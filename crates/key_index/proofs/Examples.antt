@@ -1,5 +1,6 @@
 -- Worked examples of the definitions, most by computing.
-use Rattle.std.proofs.Common.{◌≡◌, ◌<◌, ◌≤◌, ◌^◌, ℕ, List, [], ◌∷◌, false, zero, suc, get_or, replicate, refl, ⊎_elim, arith}
+use Rattle.std.proofs.Common.{◌≡◌, ◌<◌, ◌≤◌, ◌^◌, ℕ, List, [], ◌∷◌, false, zero, suc, get_or, replicate, refl, ⊎_elim}
+use Rattle.std.proofs.Common.{arith}
 use Rattle.std.proofs.lemmas.List.Elements.{All-from_recursion, All-head}
 use Rattle.std.proofs.lemmas.Bool.{cases_lt}
 use Rattle.key_index.specs.KeyIndex.{IndexedKeys, HoldsKeys, HoldsKeysButOne, IsKeyIndex}
@@ -8,7 +9,8 @@ use Rattle.key_index.specs.Chains.{Chains, IsLinked, IsLive, HaveShape, AreChain
 use Rattle.key_index.specs.SortedPlaces.{standing, Rises, IsListed, Splits, HasMore, HasLess}
 use Rattle.key_index.specs.Entries.{Entries, LeadBelow, AreEntered, AreEntries}
 use Rattle.key_index.proofs.JoinLemmas.{chains_after_join}
-use Rattle.key_index.proofs.EntryLemmas.{entry_parts, entry_joins, entry_of_nothing, entry_chains_of_nothing, entry_with, entry_zeros_lead}
+use Rattle.key_index.proofs.EntryLemmas.{entry_parts, entry_joins, entry_of_nothing, entry_chains_of_nothing}
+use Rattle.key_index.proofs.EntryLemmas.{entry_with, entry_zeros_lead}
 use Rattle.key_index.proofs.KeyLemmas.{key_of_nothing, key_of_pushed}
 
 -- the high half of key 1 is empty, so mixing multiplies it

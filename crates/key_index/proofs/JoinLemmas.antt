@@ -44,7 +44,8 @@ module _ (room : ℕ) (links backs : List ℕ) (rank home : ℕ → ℕ) (after 
   joins_kept other linked none =
       ⊎_elim
       (λ (next : get_or links head 0 ≡ other + 1). (let no : ⊥ = omega (arith, joins.from_place other next) in no))
-      (λ (same : get_or links head 0 ≡ other + 1 → ⊥). linked (sym (joins.from_others other (λ here. linked (ap (λ n. get_or backs (n + 1) 0) here ∙ joins.free)) same) ∙ none))
+      (λ (same : get_or links head 0 ≡ other + 1 → ⊥). linked (sym (joins.from_others other (λ here. linked (ap (λ n. get_or backs (n + 1) 0) here
+          ∙ joins.free)) same) ∙ none))
       (cases_eq (get_or links head 0) (other + 1))
 
   joins_apart_from : (other : ℕ) → IsLinked backs other → other ≢ place
@@ -96,7 +97,8 @@ module _ (room : ℕ) (links backs : List ℕ) (rank home : ℕ → ℕ) (after 
           (λ (too : other ≡ place → ⊥).
           let was = joins_linked one linked there in
           let were = joins_linked other also too in
-          joins.old.apart one other was were (sym (joins_home one was) ∙ homes ∙ joins_home other were) (sym (joins_rank one was) ∙ ranks ∙ joins_rank other were))
+          joins.old.apart one other was were (sym (joins_home one was) ∙ homes ∙ joins_home other were) (sym (joins_rank one was) ∙ ranks
+              ∙ joins_rank other were))
           (cases_eq other place))
       (cases_eq one place)
 
@@ -123,7 +125,8 @@ module _ (room : ℕ) (links backs : List ℕ) (rank home : ℕ → ℕ) (after 
   joins_bound cell high =
       ⊎_elim
       (λ (here : cell ≡ head). subst (λ n. ranked n ≤ 4) (sym here) (let up : ranked head ≤ 4 = omega arith in up))
-      (λ (there : cell ≡ head → ⊥). (let same : ranked cell ≤ 4 = omega (arith, joins.old.bound cell high, joins.other_rank cell (λ here. omega arith) there) in same))
+      (λ (there : cell ≡ head → ⊥). (let same : ranked cell ≤ 4 = omega (arith, joins.old.bound cell high, joins.other_rank cell
+          (λ here. omega arith) there) in same))
       (cases_eq cell head)
 
   joins_live : (cell : ℕ) → IsLive room ways cell → cell ≢ place → IsLive room backs cell
@@ -178,7 +181,8 @@ module _ (room : ℕ) (links backs : List ℕ) (rank home : ℕ → ℕ) (after 
   joins_back_of_other other was there apart =
       let led = joins.old.back other was in
       let past_head : led.0 ≢ head = λ here. apart (ap (λ n. get_or links n 0) (sym here) ∙ led.3) in
-      let past_place : led.0 ≢ place = λ here. (led.1 (let low : led.0 < room = omega (arith, here) in low)) (ap (λ n. get_or backs (n + 1) 0) here ∙ joins.free) in
+      let past_place : led.0 ≢ place = λ here. (led.1 (let low : led.0 < room = omega (arith, here) in low)) (ap (λ n. get_or backs (n + 1) 0) here
+          ∙ joins.free) in
       (led.0, joins_kept_live led.0 led.1, joins.from_others other there apart ∙ led.2, joins.to_others led.0 past_place past_head ∙ led.3)
 
   joins_back : (other : ℕ) → IsLinked ways other → JoinsBack other

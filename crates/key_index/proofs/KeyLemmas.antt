@@ -1,5 +1,6 @@
 -- The keys of an index: what a search for one says, and keys that are new.
-use Rattle.std.proofs.Common.{◌≡◌, ◌≢◌, ◌+◌, ◌*◌, ◌^◌, ◌<◌, ◌≤◌, ℕ, List, [], ◌∷◌, ◌++◌, Bool, length, get_or, set, replicate, refl, ap, sym, subst, ◌∙◌, arith}
+use Rattle.std.proofs.Common.{◌≡◌, ◌≢◌, ◌+◌, ◌*◌, ◌^◌, ◌<◌, ◌≤◌, ℕ, List, [], ◌∷◌, ◌++◌, Bool, length, get_or, set}
+use Rattle.std.proofs.Common.{replicate, refl, ap, sym, subst, ◌∙◌, arith}
 use Rattle.std.proofs.Common.{length-append}
 use Rattle.std.proofs.Math.ListN.{length-set}
 use Rattle.std.specs.Prelude.{Option, None, Some, IfNone, IfSome, MatchOption, All, slice_get}
@@ -7,7 +8,8 @@ use Rattle.std.proofs.lemmas.Grind.{get_or_default_zero}
 use Rattle.std.proofs.lemmas.Option.{slice_get-get_or}
 use Rattle.key_index.specs.Entries.{Entries, AreEntered, LeadBelow}
 use Rattle.key_index.specs.KeyIndex.{HoldsKeys, HoldsKeysButOne}
-use Rattle.key_index.proofs.EntryLemmas.{entry_parts, entry_of_nothing, entry_zeros_lead, entry_of_pushed, entry_of_replaced}
+use Rattle.key_index.proofs.EntryLemmas.{entry_parts, entry_of_nothing, entry_zeros_lead, entry_of_pushed}
+use Rattle.key_index.proofs.EntryLemmas.{entry_of_replaced}
 
 -- what an index says of a key, by what its entries say
 pub key_found : (keys : List ℕ) (entries : Entries) (key : ℕ) (found : Option ℕ) → AreEntered (length keys) (length keys) keys entries

@@ -69,11 +69,13 @@ module _ (room : ℕ) (links backs : List ℕ) (rank home : ℕ → ℕ) (after 
   leaves_same_rank one other homes also apart too same =
       ⊎_elim
       (λ (high : rank place < rank one). ⊎_elim
-          (λ (higher : rank place < rank other). (let e : rank one ≡ rank other = omega (arith, leaves.above one homes high, leaves.above other also higher) in e))
+          (λ (higher : rank place < rank other). (let e : rank one ≡ rank other = omega
+              (arith, leaves.above one homes high, leaves.above other also higher) in e))
           (λ (low : rank other ≤ rank place). (let e : rank one ≡ rank other = omega (arith, leaves.above one homes high, leaves.below other low, too) in e))
           (cases_lt (rank place) (rank other)))
       (λ (low : rank one ≤ rank place). ⊎_elim
-          (λ (high : rank place < rank other). (let e : rank one ≡ rank other = omega (arith, leaves.below one low, leaves.above other also high, apart) in e))
+          (λ (high : rank place < rank other). (let e : rank one ≡ rank other = omega
+              (arith, leaves.below one low, leaves.above other also high, apart) in e))
           (λ (lower : rank other ≤ rank place). (let e : rank one ≡ rank other = omega (arith, leaves.below one low, leaves.below other lower) in e))
           (cases_lt (rank place) (rank other)))
       (cases_lt (rank place) (rank one))
@@ -139,7 +141,8 @@ module _ (room : ℕ) (links backs : List ℕ) (rank home : ℕ → ℕ) (after 
   leaves_bound cell high = omega (arith, leaves_lower cell, leaves.old.bound cell high)
 
   leaves_front_rank : ranked front ≡ rank place
-  leaves_front_rank = omega (arith, leaves_front.1, leaves.above front (sym leaves_front.0) (let up : rank place < rank front = omega (arith, leaves_front.1) in up))
+  leaves_front_rank = omega (arith, leaves_front.1, leaves.above front (sym leaves_front.0) (let up : rank place < rank front = omega
+      (arith, leaves_front.1) in up))
 
   leaves_live : (cell : ℕ) → IsLive room ways cell → IsLive room backs cell
   leaves_live cell live low = leaves_linked cell (live low)
@@ -162,10 +165,12 @@ module _ (room : ℕ) (links backs : List ℕ) (rank home : ℕ → ℕ) (after 
       ⊎_elim
       (λ (low : cell < room). ⊎_elim
           (λ (too : front < room). leaves.old.apart cell front (live low) (leaves_front_leads.0 too) homes ranks)
-          (λ (high : room ≤ front). absurd (omega (arith, ranks, subst (λ n. rank cell < rank n) (homes ∙ leaves.old.heads front high) (leaves.old.top cell (live low)))))
+          (λ (high : room ≤ front). absurd (omega (arith, ranks, subst (λ n. rank cell < rank n) (homes ∙ leaves.old.heads front high)
+              (leaves.old.top cell (live low)))))
           (cases_lt front room))
       (λ (high : room ≤ cell). ⊎_elim
-          (λ (low : front < room). absurd (omega (arith, ranks, subst (λ n. rank front < rank n) (sym homes ∙ leaves.old.heads cell high) (leaves.old.top front (leaves_front_leads.0 low)))))
+          (λ (low : front < room). absurd (omega (arith, ranks, subst (λ n. rank front < rank n) (sym homes ∙ leaves.old.heads cell high)
+              (leaves.old.top front (leaves_front_leads.0 low)))))
           (λ (too : room ≤ front). sym (leaves.old.heads cell high) ∙ homes ∙ leaves.old.heads front too)
           (cases_lt front room))
       (cases_lt cell room)
@@ -203,7 +208,8 @@ module _ (room : ℕ) (links backs : List ℕ) (rank home : ℕ → ℕ) (after 
       (front, (λ low. leaves_kept front (leaves_front_leads.0 low) leaves_front_apart), leaves.from_front other there next, leaves.to_next ∙ next))
       (λ (apart : get_or links place 0 ≡ other + 1 → ⊥).
       let led = leaves.old.back other was in
-      let past_front : led.0 ≢ front = λ here. there (let e : other ≡ place = omega (arith, led.3, leaves_front_leads.1, ap (λ n. get_or links n 0) here) in e) in
+      let past_front : led.0 ≢ front = λ here. there (let e : other ≡ place = omega (arith, led.3, leaves_front_leads.1, ap
+          (λ n. get_or links n 0) here) in e) in
       let past_place : led.0 ≢ place = λ here. apart (ap (λ n. get_or links n 0) (sym here) ∙ led.3) in
       (led.0, (λ low. leaves_kept led.0 (led.1 low) past_place), leaves.from_others other there apart ∙ led.2, leaves.to_others led.0 past_front ∙ led.3))
       (cases_eq (get_or links place 0) (other + 1))

@@ -3,7 +3,8 @@ use Rattle.std.proofs.Common.{◌≡◌, ◌≢◌, ℕ, ◌+◌, ◌-◌, ◌^�
 use Rattle.std.proofs.Common.{refl, sym, ap, ◌∙◌, subst, ⊎_elim, arith}
 use Rattle.std.specs.List.{All, insert, remove}
 use Rattle.std.proofs.lemmas.Bool.{cases_eq, cases_lt}
-use Rattle.std.proofs.lemmas.List.Edits.{length-insert, length-remove, get_or-insert_at, get_or-insert_below, get_or-insert_above}
+use Rattle.std.proofs.lemmas.List.Edits.{length-insert, length-remove, get_or-insert_at, get_or-insert_below}
+use Rattle.std.proofs.lemmas.List.Edits.{get_or-insert_above}
 use Rattle.std.proofs.lemmas.List.Edits.{get_or-remove_below, get_or-remove_above}
 use Rattle.std.proofs.lemmas.Grind.{get_or_default_zero}
 use Rattle.key_index.specs.SortedPlaces.{standing, Rises, IsListed, Splits, HasMore, HasLess}
@@ -74,7 +75,8 @@ order_finds_none keys listed key at place rises splits below is same =
     let first : standing key 0 ≤ order_at keys listed at = splits.after at (omega arith) within in
     let small : get_or listed at 0 < 2 ^ 16 = below at 0 within in
     ⊎_elim
-        (λ (here : at ≡ is.0). (within, (let e : get_or keys (get_or listed at 0) 0 ≡ key = ap (λ n. get_or keys (get_or listed n 0) 0) here ∙ ap (λ n. get_or keys n 0) is.2 ∙ same in e)))
+        (λ (here : at ≡ is.0). (within, (let e : get_or keys (get_or listed at 0) 0 ≡ key = ap (λ n. get_or keys (get_or listed n 0) 0) here ∙ ap
+            (λ n. get_or keys n 0) is.2 ∙ same in e)))
         (λ (there : at ≡ is.0 → ⊥).
         let under : order_at keys listed at < order_at keys listed is.0 = rises at is.0 (omega arith) is.1 in
         (within, omega (arith, under, first, small, stands, low)))
@@ -126,7 +128,8 @@ module _ (keys old : List ℕ) (place at : ℕ) (within : at ≤ length old) whe
       let long = length-insert old at place within in
       let past : (index : ℕ) → at ≤ index → index < length old → standing (get_or keys place 0) place < order_at keys old index = λ index after inside.
           let same : order_at keys old index ≢ standing (get_or keys place 0) place =
-              λ is. new (index, inside, order_tells (get_or old index 0) place (get_or keys (get_or old index 0) 0) (get_or keys place 0) (below index 0 inside) low is) in
+              λ is. new (index, inside, order_tells (get_or old index 0) place (get_or keys (get_or old index 0) 0) (get_or keys place 0)
+                  (below index 0 inside) low is) in
           omega (arith, splits.after index after inside) in
       ⊎_elim
       (λ (before : other < at). omega (arith, order_insert_before one (omega arith), order_insert_before other before, rises one other apart (omega arith)))
@@ -138,7 +141,8 @@ module _ (keys old : List ℕ) (place at : ℕ) (within : at ≤ length old) whe
               (λ (ahead : one < at). omega (arith, order_insert_before one ahead, order_insert_after other after, splits.before one ahead,
               past (other - 1) (omega arith) (omega (arith, long))))
               (λ (not_ahead : at ≤ one). ⊎_elim
-                  (λ (here : one ≡ at). omega (arith, order_insert_here one here, order_insert_after other after, past (other - 1) (omega arith) (omega (arith, long))))
+                  (λ (here : one ≡ at). omega (arith, order_insert_here one here, order_insert_after other after, past (other - 1) (omega arith)
+                      (omega (arith, long))))
                   (λ (too : one ≡ at → ⊥). omega (arith, order_insert_after one (omega arith), order_insert_after other after,
                   rises (one - 1) (other - 1) (omega arith) (omega (arith, long))))
                   (cases_eq one at))
@@ -213,8 +217,10 @@ module _ (keys old : List ℕ) (place at : ℕ) (rises : Rises keys old) (within
       ⊎_elim
       (λ (before : other < at). omega (arith, order_remove_before one (omega arith), order_remove_before other before, rises one other apart (omega arith)))
       (λ (after : at ≤ other). ⊎_elim
-          (λ (ahead : one < at). omega (arith, order_remove_before one ahead, order_remove_after other after, rises one (other + 1) (omega arith) (omega (arith, short))))
-          (λ (too : at ≤ one). omega (arith, order_remove_after one too, order_remove_after other after, rises (one + 1) (other + 1) (omega arith) (omega (arith, short))))
+          (λ (ahead : one < at). omega (arith, order_remove_before one ahead, order_remove_after other after, rises one (other + 1) (omega arith)
+              (omega (arith, short))))
+          (λ (too : at ≤ one). omega (arith, order_remove_after one too, order_remove_after other after, rises (one + 1) (other + 1) (omega arith)
+              (omega (arith, short))))
           (cases_lt one at))
       (cases_lt other at)
 
@@ -240,7 +246,8 @@ pub order_all_below_more : (listed : List ℕ) (place at count : ℕ) → at ≤
     → All (λ place. place < count) (insert listed at place)
 order_all_below_more listed place at count within below low = order_all_below (insert listed at place) count
     (λ other is. ⊎_elim (λ (here : other ≡ place). (let e : other < count = omega arith in e))
-    (λ (there : other ≡ place → ⊥). order_below listed count below other (order_insert_only listed listed place at within other is there)) (cases_eq other place))
+    (λ (there : other ≡ place → ⊥). order_below listed count below other (order_insert_only listed listed place at within other is there))
+        (cases_eq other place))
 
 pub order_all_below_less : (listed : List ℕ) (at count : ℕ) → at < length listed → All (λ place. place < count) listed
     → All (λ place. place < count) (remove listed at)
@@ -248,5 +255,6 @@ order_all_below_less listed at count within below index default inside =
     let short = length-remove listed at within in
     ⊎_elim
     (λ (before : index < at). subst (λ n. n < count) (sym (get_or-remove_below listed at default index before within)) (below index default (omega arith)))
-    (λ (after : at ≤ index). subst (λ n. n < count) (sym (get_or-remove_above listed at default index after within)) (below (index + 1) default (omega (arith, short))))
+    (λ (after : at ≤ index). subst (λ n. n < count) (sym (get_or-remove_above listed at default index after within)) (below (index + 1) default (omega
+        (arith, short))))
     (cases_lt index at)

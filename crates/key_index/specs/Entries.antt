@@ -1,5 +1,6 @@
 -- Which places of a list of keys are entered in an index, and where, which no public contract cites.
-use Rattle.std.specs.Prelude.{ℕ, ◌≡◌, ◌≢◌, ◌+◌, ◌*◌, ◌^◌, ◌<◌, ◌≤◌, List, Bool, true, false, All, length, slice_index, slice_index_or}
+use Rattle.std.specs.Prelude.{ℕ, ◌≡◌, ◌≢◌, ◌+◌, ◌*◌, ◌^◌, ◌<◌, ◌≤◌, List, Bool, true, false, All, length, slice_index}
+use Rattle.std.specs.Prelude.{slice_index_or}
 use Rattle.key_index.specs.Homes.{home_at}
 use Rattle.key_index.specs.Chains.{Chains, AreChains, HaveShape, IsLinked}
 use Rattle.key_index.specs.SortedPlaces.{Rises, IsListed}

@@ -3,7 +3,8 @@ use Rattle.key_index.specs.Chains.{AreChains}
 use Rattle.key_index.specs.Homes.{home_at}
 use Rattle.key_index.proofs.JoinLemmas.{Joins}
 use Rattle.key_index.specs.Entries.{Entries, AreEntered}
-use Rattle.key_index.proofs.EntryLemmas.{entry_parts, entry_with, entry_joins, entry_free, entry_in_chain, entry_in_list}
+use Rattle.key_index.proofs.EntryLemmas.{entry_parts, entry_with, entry_joins, entry_free, entry_in_chain}
+use Rattle.key_index.proofs.EntryLemmas.{entry_in_list}
 use Rattle.key_index.proofs.entries.KeyEntries.enter.Goals as goal
 
 pub returns-in-Some-clause-entered : goal.returns-in-Some-clause-entered
@@ -18,7 +19,8 @@ returns-in-Some-clause-entered c = λ end below was.
         subst (λ room. AreChains room i.chains.links i.chains.backs entered.rank entered.home) (sym roomy) entered.chains in
     let few : entered.rank head < 4 = subst (λ room. entered.rank (room + c.in-Some.free.home) < 4) (sym roomy)
         (c.in-Some.ensures.roomy entered.rank entered.home chains) in
-    let free : get_or i.chains.backs (c.args.place + 1) 0 ≡ 0 = entry_free end c.args.place i.room c.args.keys.now i.chains.links i.chains.backs i.listed.items i.turned.items entered in
+    let free : get_or i.chains.backs
+        (c.args.place + 1) 0 ≡ 0 = entry_free end c.args.place i.room c.args.keys.now i.chains.links i.chains.backs i.listed.items i.turned.items entered in
     let within : c.in-Some.free.home < 4 * i.room = c.in-Some.ensures.within in
     let same : i.room ≡ c.args.self.now.room = ap (λ (e : Entries). e.room) c.self.view_is in
     let low : c.args.place < i.chains.room = omega (arith, c.requires.place, c.requires.few, same, roomy) in
@@ -26,9 +28,11 @@ returns-in-Some-clause-entered c = λ end below was.
         shape.cells shape.places shape.marks low (omega arith) (omega arith) few free in
     let at : head ≡ i.room + home_at i.room c.in-Some.free.turn (get_or c.args.keys.now c.args.place 0) =
         ap (λ n. n + c.in-Some.free.home) roomy ∙ ap (λ n. i.room + n) c.in-Some.ensures.home in
-    subst (λ (after : List ℕ). AreEntered end end c.args.keys.now (entry_parts i.room after c.link.new.self.backs c.free_home.new.turned.items i.listed.items)) (sym c.link.ensures.links)
+    subst (λ (after : List ℕ). AreEntered end end c.args.keys.now
+        (entry_parts i.room after c.link.new.self.backs c.free_home.new.turned.items i.listed.items)) (sym c.link.ensures.links)
     (subst (λ (ways : List ℕ). AreEntered end end c.args.keys.now (entry_parts i.room
-    (set (set i.chains.links c.args.place (get_or i.chains.links head 0)) head (c.args.place + 1)) ways c.free_home.new.turned.items i.listed.items)) (sym c.link.ensures.backs)
+    (set (set i.chains.links c.args.place (get_or i.chains.links head 0)) head (c.args.place + 1)) ways c.free_home.new.turned.items i.listed.items))
+        (sym c.link.ensures.backs)
     (entry_in_chain end c.args.place i.room c.in-Some.free.turn head c.args.keys.now i.chains.links i.chains.backs i.listed.items i.turned.items
     c.free_home.new.turned.items
     (set (set i.chains.links c.args.place (get_or i.chains.links head 0)) head (c.args.place + 1))

@@ -51,6 +51,7 @@ returns-clause-missing c =
     let entered : AreEntered end but c.args.keys.now (entry_parts i.room i.chains.links i.chains.backs i.turned.items i.listed.items) =
         subst (λ (e : Entries). AreEntered end but c.args.keys.now e) (sym c.self.view_is) was in
     let late : 8 ≤ entered.turn place = omega (arith, c.loop-turn.invariant.later end but entered place below apart has) in
-    subst (λ (xs : List ℕ). Rises c.args.keys.now xs → (place : ℕ) → IsListed xs place → get_or c.args.keys.now place 0 ≢ c.args.key) c.deref.ensures.value none
+    subst (λ (xs : List ℕ). Rises c.args.keys.now xs → (place : ℕ) → IsListed xs place
+        → get_or c.args.keys.now place 0 ≢ c.args.key) c.deref.ensures.value none
     entered.rises place (entered.ended place below apart late) has)
     c.find.ensures.missing

@@ -4,7 +4,8 @@ use Rattle.std.proofs.lemmas.List.Elements.{All-set}
 use Rattle.key_index.specs.Chains.{AreChains}
 use Rattle.key_index.proofs.LeaveLemmas.{Leaves}
 use Rattle.key_index.specs.Entries.{Entries, AreEntered, LeadBelow}
-use Rattle.key_index.proofs.EntryLemmas.{entry_parts, entry_ranks_without, entry_leaves, entry_out_of_chain, entry_out_of_list}
+use Rattle.key_index.proofs.EntryLemmas.{entry_parts, entry_ranks_without, entry_leaves, entry_out_of_chain}
+use Rattle.key_index.proofs.EntryLemmas.{entry_out_of_list}
 use Rattle.key_index.proofs.entries.KeyEntries.leave.Goals as goal
 
 pub remove-requires-clause-rises : goal.remove-requires-clause-rises
