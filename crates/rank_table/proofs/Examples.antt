@@ -8,7 +8,7 @@ use Rattle.rank_table.specs.Ranks.{slot_rank}
 use Rattle.rank_table.specs.SlotOrder.{put_in_order, in_rank_order, ordered_entries, AreOrdered}
 use Rattle.rank_table.specs.Slot.{AreApart, AreDistinct}
 use Rattle.rank_table.specs.Slot.{Slots}
-use Rattle.rank_table.specs.Words.{rank_word, IsExactWord}
+use Rattle.rank_table.specs.Words.{rank_word, IsExactWord, words_from, slot_of_word}
 use Rattle.rank_table.specs.Times.{AreTimeMarks, renumbered_slot, renumbered_slots, slots_before_time, time_mark}
 use Rattle.rank_table.specs.Ranks.{HasLeast, AreLeaves, AreRanked}
 use Rattle.rank_table.specs.Marks.{mark_of, marks_from, rank_of_mark, without_mark, slot_of_mark}
@@ -162,6 +162,14 @@ slot_of_a_mark = refl
 
 pub slot_of_a_wrong_mark : slot_of_mark slots (entry 9 3 0) ≡ without_mark
 slot_of_a_wrong_mark = refl
+
+-- 5 * 2^30 + 2 * 4,096, then 3 * 2^30 + 1
+pub words_of_slots : words_from 0 (slot 0 5 0 2 ∷ slot 2 3 0 0 ∷ []) ≡ 5368717312 ∷ 3221225473 ∷ []
+unfolding rank_word
+words_of_slots = refl
+
+pub slot_of_a_word : slot_of_word (slot 0 5 0 2 ∷ slot 2 3 0 0 ∷ []) 3221225473 ≡ slot 2 3 0 0
+slot_of_a_word = refl
 
 pub entries_by_their_numbers : numbered 0 (entry 2 3 0 ∷ entry 1 5 0 ∷ []) ≡ slot 2 3 0 0 ∷ slot 1 5 0 1 ∷ []
 entries_by_their_numbers = refl

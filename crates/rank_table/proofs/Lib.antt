@@ -5,6 +5,8 @@ pub mod SlotChangeLemmas
 pub mod SlotKeyLemmas
 pub mod SlotRiseLemmas
 pub mod RenumberedSlotLemmas
+pub mod SortedSlotLemmas
+pub mod SortedWordLemmas
 pub mod MarkLemmas
 pub mod NumberedEntryLemmas
 pub mod RankTableLemmas

@@ -1,6 +1,6 @@
 use Rattle.std.proofs.Common.{◌≡◌, ◌++◌, map, take, drop}
 use Rattle.rank_table.specs.Marks.{slot_of_mark}
-use Rattle.rank_table.proofs.copying.write_entries.Given as goal
+use Rattle.rank_table.proofs.copying.by_marks.write_entries.Given as goal
 
 -- the entries so far, and the remaining marks
 abbrev pub invariant-loop-place : goal.invariant-loop-place

@@ -1,6 +1,6 @@
 use Rattle.std.proofs.Common.{arith}
 use Rattle.rank_table.specs.Marks.{rank_of_mark}
-use Rattle.rank_table.proofs.copying.mark_rank.Goals as goal
+use Rattle.rank_table.proofs.copying.by_marks.mark_rank.Goals as goal
 
 pub returns : goal.returns
 unfolding rank_of_mark

@@ -2,7 +2,7 @@ use Rattle.std.proofs.Common.{List, subst, ◌∙◌}
 use Rattle.std.specs.List.Sorted.{IsPermutation}
 use Rattle.space_saving.specs.declared.entry.Entry.{Entry}
 use Rattle.rank_table.proofs.MarkLemmas.{moved_marks_stay_in_range, sorted_marks_give_table}
-use Rattle.rank_table.proofs.copying.write_in_order.Goals as goal
+use Rattle.rank_table.proofs.copying.by_marks.write_by_marks.Goals as goal
 
 pub write_entries-requires : goal.write_entries-requires
 write_entries-requires c =

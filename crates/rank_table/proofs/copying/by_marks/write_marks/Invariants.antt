@@ -1,7 +1,7 @@
 use Rattle.std.proofs.Common.{◌≡◌, ℕ, ◌<◌, get_or}
 use Rattle.space_saving.specs.declared.entry.Entry.{Entry}
 use Rattle.rank_table.specs.Marks.{mark_of, without_mark}
-use Rattle.rank_table.proofs.copying.write_marks.Given as goal
+use Rattle.rank_table.proofs.copying.by_marks.write_marks.Given as goal
 
 -- the marks so far
 abbrev pub invariant-loop-place : goal.invariant-loop-place
