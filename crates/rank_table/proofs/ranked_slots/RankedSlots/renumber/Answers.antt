@@ -16,7 +16,8 @@ invariant_of-self c =
     let was = c.deref_mut.result.now in
     let now = c.renumber_slots.new.slots in
     let behind = drop (length now) items in
-    let many : length now ≡ c.self.inside.slots.len = ap length c.renumber_slots.ensures.slots ∙ length-map was (renumbered_slot was) ∙ c.deref_mut.ensures.len in
+    let many : length now ≡ c.self.inside.slots.len = ap length c.renumber_slots.ensures.slots ∙ length-map was (renumbered_slot was)
+    ∙ c.deref_mut.ensures.len in
     let slots : take c.self.inside.slots.len (now ++ behind) ≡ renumbered_slots items = ap (λ n. take n (now ++ behind)) (sym many)
     ∙ take-append_seam now behind ∙ c.renumber_slots.ensures.slots ∙ ap renumbered_slots c.deref_mut.ensures.value in
     let ordered : AreOrdered (2 ^ 18) items = subst (λ (r : Slots). AreOrdered (2 ^ 18) r.slots) (sym c.self.view_is) c.requires in
