@@ -35,14 +35,14 @@ entry_ranks_without rank home place cell = cond (eqb (home cell) (home place)) (
 entry_rank_elsewhere : (rank home : ℕ → ℕ) (place cell : ℕ) → home cell ≢ home place → entry_ranks_without rank home place cell ≡ rank cell
 entry_rank_elsewhere rank home place cell there =
     cond-false (eqb (home cell) (home place)) (cond (ltb (rank place) (rank cell)) (rank cell - 1) (rank cell)) (rank cell) (ne_eqb (home cell)
-        (home place) there)
+    (home place) there)
 
 entry_rank_below : (rank home : ℕ → ℕ) (place cell : ℕ) → rank cell ≤ rank place → entry_ranks_without rank home place cell ≡ rank cell
 entry_rank_below rank home place cell low =
     ⊎_elim
     (λ (here : home cell ≡ home place).
     cond-true (eqb (home cell) (home place)) (cond (ltb (rank place) (rank cell)) (rank cell - 1) (rank cell)) (rank cell) (eq-eqb (home cell)
-        (home place) here)
+    (home place) here)
     ∙ cond-false (ltb (rank place) (rank cell)) (rank cell - 1) (rank cell) (le-ltb (rank place) (rank cell) low))
     (λ (there : home cell ≡ home place → ⊥). entry_rank_elsewhere rank home place cell there)
     (cases_eq (home cell) (home place))
@@ -51,9 +51,9 @@ entry_rank_above : (rank home : ℕ → ℕ) (place cell : ℕ) → home cell �
     → entry_ranks_without rank home place cell + 1 ≡ rank cell
 entry_rank_above rank home place cell here high =
     let is : entry_ranks_without rank home place cell ≡ rank cell - 1 =
-        cond-true (eqb (home cell) (home place)) (cond (ltb (rank place) (rank cell)) (rank cell - 1) (rank cell)) (rank cell) (eq-eqb (home cell)
-            (home place) here)
-        ∙ cond-true (ltb (rank place) (rank cell)) (rank cell - 1) (rank cell) (lt-ltb (rank place) (rank cell) high) in
+    cond-true (eqb (home cell) (home place)) (cond (ltb (rank place) (rank cell)) (rank cell - 1) (rank cell)) (rank cell) (eq-eqb (home cell)
+    (home place) here)
+    ∙ cond-true (ltb (rank place) (rank cell)) (rank cell - 1) (rank cell) (lt-ltb (rank place) (rank cell) high) in
     omega (arith, is)
 
 -- the cells and numbers after a place joined a chain at its front
@@ -113,9 +113,9 @@ entry_leaves room links backs rank home place chains cells places marks linked =
     let within : place < room = chains.within place linked in
     let low : next ≤ room = marks place 0 (omega arith) in
     let front_within : front < length links = ⊎_elim
-        (λ (inside : front < length links). inside)
-        (λ (outside : length links ≤ front). absurd (omega (arith, to, get_or_past links front 0 outside)))
-        (cases_lt front (length links)) in
+    (λ (inside : front < length links). inside)
+    (λ (outside : length links ≤ front). absurd (omega (arith, to, get_or_past links front 0 outside)))
+    (cases_lt front (length links)) in
     let first = set backs next way in
     let first_length : length first ≡ room + 1 = simp length-set places in
     record {
@@ -177,9 +177,10 @@ entry_in_chain end place room turn head keys links backs listed turned marked af
           (λ (here : other ≡ place). subst (λ n. IsLinked ways n × (homed n ≡ room + home_at room (turns n) (get_or keys n 0))) (sym here)
           ((λ none. omega (arith, joins.from_head)), joins.place_home ∙ at ∙ ap (λ t. room + home_at room t (get_or keys place 0)) (sym here_turn)))
           (λ (there : other ≡ place → ⊥).
-          let old = entered.chained other under there (omega (arith, there_turn other there)) in
-          (joins_kept room links backs entered.rank entered.home after ways ranked homed place head joins other old.0,
-          joins.other_home other there ∙ old.1 ∙ ap (λ t. room + home_at room t (get_or keys other 0)) (sym (there_turn other there))))
+          let old = entered.chained other under there (omega (arith, there_turn other there)) in (
+            joins_kept room links backs entered.rank entered.home after ways ranked homed place head joins other old.0,
+            joins.other_home other there ∙ old.1 ∙ ap (λ t. room + home_at room t (get_or keys other 0)) (sym (there_turn other there)),
+          ))
           (cases_eq other place);
       ended = λ other under apart late.
           ⊎_elim
@@ -198,7 +199,7 @@ entry_in_chain end place room turn head keys links backs listed turned marked af
           (λ (here : other ≡ place). (let low : other < end = omega arith in low, (λ same. omega arith), omega (arith, here_turn, ap turns here)))
           (λ (there : other ≡ place → ⊥).
           let old = entered.linked other (joins_linked room links backs entered.rank entered.home after ways ranked homed place head joins other
-              linked there) in
+          linked there) in
           (old.0, (λ same. omega (arith, old.0)), omega (arith, there_turn other there, old.2)))
           (cases_eq other place);
       listed = λ other is.
@@ -329,7 +330,7 @@ entry_for_keys end but last out room keys others links backs listed turned to fr
   listed = λ place listed_at. let old = entered.listed place listed_at in let is = to place old.0 old.1 in (is.0, is.1, old.2);
   rises = λ one other apart within.
       let same : (index : ℕ) → index < length listed → get_or others (get_or listed index 0) 0 ≡ get_or keys (get_or listed index 0) 0 = λ index inside.
-          let old = entered.listed (get_or listed index 0) (index, inside, refl) in (to (get_or listed index 0) old.0 old.1).2 in
+      let old = entered.listed (get_or listed index 0) (index, inside, refl) in (to (get_or listed index 0) old.0 old.1).2 in
       omega (arith, entered.rises one other apart within, same one (omega arith), same other within);
 }
 
@@ -388,7 +389,7 @@ entry_apart end but keys listed rises member (suc one) (suc other) default apart
     let before : one < other = omega arith in
     ne_eqb (get_or listed one default) (get_or listed other default) (λ same.
     let is : get_or listed one 0 ≡ get_or listed other 0 =
-        sym (get_or_default_zero listed one default (omega arith)) ∙ same ∙ get_or_default_zero listed other default inside in
+    sym (get_or_default_zero listed one default (omega arith)) ∙ same ∙ get_or_default_zero listed other default inside in
     omega (arith, rises one other before inside, ap (λ n. get_or keys n 0 * 2 ^ 16 + n) is))
 
 entry_member_below : (end but : ℕ) (listed : List ℕ) → but < end → ((q : ℕ) → IsListed listed q → (q < end) × (q ≢ but))
@@ -404,9 +405,9 @@ pub entry_list_is_short : (end but room : ℕ) (keys links backs listed : List �
 entry_list_is_short end but room keys links backs listed turned below entered =
     let member : (q : ℕ) → IsListed listed q → (q < end) × (q ≢ but) = λ q is. let old = entered.listed q is in (old.0, old.1) in
     let distinct : (one other default : ℕ) → one < other → other < length (but ∷ listed)
-        → eqb (get_or (but ∷ listed) one default) (get_or (but ∷ listed) other default) ≡ false = entry_apart end but keys listed entered.rises member in
+    → eqb (get_or (but ∷ listed) one default) (get_or (but ∷ listed) other default) ≡ false = entry_apart end but keys listed entered.rises member in
     let short : length (but ∷ listed) ≤ end = length-le_from_distinct_below (but ∷ listed) end (IsDistinct-from_apart eqb (but ∷ listed) distinct)
-        (λ q any. entry_member_below end but listed below member q (Contains-from_any (λ x y same. eqb-true x y same) q (but ∷ listed) any)) in
+    (λ q any. entry_member_below end but listed below member q (Contains-from_any (λ x y same. eqb-true x y same) q (but ∷ listed) any)) in
     omega (arith, short)
 
 -- what an unsuccessful look at the chain of a home says
@@ -441,15 +442,19 @@ entry_turn_is_last end but room place turn home key keys links backs listed turn
 -- zeros and an empty list lead nowhere
 pub entry_zeros_lead : (count size none : ℕ) → none ≡ 0 → LeadBelow count (replicate size none) []
 entry_zeros_lead count size none is = record {
-  marks = λ index default within. omega (arith, is, get_or-replicate size index none default (let e : index < size = subst (λ n. index < n)
-      (length-replicate size none) within in e));
+  marks = λ index default within. omega (
+    arith,
+    is,
+    get_or-replicate size index none default (let e : index < size = subst (λ n. index < n)
+        (length-replicate size none) within in e),
+  );
   places = λ index default within. absurd (omega (arith, within));
 }
 
 -- where the places below a number are entered, one place more is to be entered next
 pub entry_one_more : (count room : ℕ) (keys links backs listed : List ℕ) (turned : List Bool)
     → AreEntered count count keys (entry_parts room links backs turned listed) → AreEntered (count + 1) count keys
-        (entry_parts room links backs turned listed)
+    (entry_parts room links backs turned listed)
 entry_one_more count room keys links backs listed turned entered =
     entry_for_keys count count (count + 1) count room keys keys links backs listed turned
     (λ place below apart. (omega arith, apart, refl)) (λ place below apart. (omega arith, apart)) entered

@@ -126,6 +126,7 @@ place_1_is_before = record { before = before; after = after }
     before : (index : ℕ) → index < 1 → standing (get_or keys (get_or (1 ∷ 2 ∷ []) index 0) 0) (get_or (1 ∷ 2 ∷ []) index 0) < standing 50 0
     before zero low = omega arith
     before (suc index) low = absurd (omega arith)
+
     after : (index : ℕ) → 1 ≤ index → index < 2 → standing 50 0 ≤ standing (get_or keys (get_or (1 ∷ 2 ∷ []) index 0) 0) (get_or (1 ∷ 2 ∷ []) index 0)
     after zero low high = absurd (omega arith)
     after (suc zero) low high = omega arith
@@ -156,6 +157,7 @@ place_is_nowhere entered = nowhere (entered.ended 0 (omega arith) (λ same. omeg
   where
     nowhere : IsListed [] 0 → ⊥
     nowhere is = omega (arith, is.1)
+
     late : (entered : AreEntered 1 1 (40 ∷ []) nothing) → 8 ≤ entered.turn 0
     late entered = ⊎_elim
         (λ (early : entered.turn 0 < 8). absurd ((entered.chained 0 (omega arith) (λ same. omega arith) early).0 refl))

@@ -30,7 +30,6 @@ joins_three_ways one two cell first second third =
 
 module _ (room : ℕ) (links backs : List ℕ) (rank home : ℕ → ℕ) (after ways : List ℕ) (ranked homed : ℕ → ℕ) (place head : ℕ)
     (joins : Joins room links backs rank home after ways ranked homed place head) where
-
   -- a place in a chain after is the new one, or was in it before
   pub joins_linked : (other : ℕ) → IsLinked ways other → other ≢ place → IsLinked backs other
   joins_linked other linked apart =
@@ -45,7 +44,7 @@ module _ (room : ℕ) (links backs : List ℕ) (rank home : ℕ → ℕ) (after 
       ⊎_elim
       (λ (next : get_or links head 0 ≡ other + 1). (let no : ⊥ = omega (arith, joins.from_place other next) in no))
       (λ (same : get_or links head 0 ≡ other + 1 → ⊥). linked (sym (joins.from_others other (λ here. linked (ap (λ n. get_or backs (n + 1) 0) here
-          ∙ joins.free)) same) ∙ none))
+      ∙ joins.free)) same) ∙ none))
       (cases_eq (get_or links head 0) (other + 1))
 
   joins_apart_from : (other : ℕ) → IsLinked backs other → other ≢ place
@@ -89,17 +88,17 @@ module _ (room : ℕ) (links backs : List ℕ) (rank home : ℕ → ℕ) (after 
   joins_apart one other linked also homes ranks =
       ⊎_elim
       (λ (here : one ≡ place). ⊎_elim
-          (λ (too : other ≡ place). here ∙ sym too)
-          (λ (there : other ≡ place → ⊥). absurd (joins_alone other (joins_linked other also there) (sym homes ∙ ap homed here) (sym ranks ∙ ap ranked here)))
-          (cases_eq other place))
+      (λ (too : other ≡ place). here ∙ sym too)
+      (λ (there : other ≡ place → ⊥). absurd (joins_alone other (joins_linked other also there) (sym homes ∙ ap homed here) (sym ranks ∙ ap ranked here)))
+      (cases_eq other place))
       (λ (there : one ≡ place → ⊥). ⊎_elim
-          (λ (here : other ≡ place). absurd (joins_alone one (joins_linked one linked there) (homes ∙ ap homed here) (ranks ∙ ap ranked here)))
-          (λ (too : other ≡ place → ⊥).
-          let was = joins_linked one linked there in
-          let were = joins_linked other also too in
-          joins.old.apart one other was were (sym (joins_home one was) ∙ homes ∙ joins_home other were) (sym (joins_rank one was) ∙ ranks
-              ∙ joins_rank other were))
-          (cases_eq other place))
+      (λ (here : other ≡ place). absurd (joins_alone one (joins_linked one linked there) (homes ∙ ap homed here) (ranks ∙ ap ranked here)))
+      (λ (too : other ≡ place → ⊥).
+      let was = joins_linked one linked there in
+      let were = joins_linked other also too in
+      joins.old.apart one other was were (sym (joins_home one was) ∙ homes ∙ joins_home other were) (sym (joins_rank one was) ∙ ranks
+      ∙ joins_rank other were))
+      (cases_eq other place))
       (cases_eq one place)
 
   -- a head's rank doesn't fall
@@ -114,19 +113,27 @@ module _ (room : ℕ) (links backs : List ℕ) (rank home : ℕ → ℕ) (after 
   joins_top other linked =
       ⊎_elim
       (λ (here : other ≡ place). subst (λ n. ranked n < ranked (homed n)) (sym here)
-          (subst (λ n. ranked place < ranked n) (sym joins.place_home) (let up : ranked place < ranked head = omega arith in up)))
+      (subst (λ n. ranked place < ranked n) (sym joins.place_home) (let up : ranked place < ranked head = omega arith in up)))
       (λ (there : other ≡ place → ⊥). let was = joins_linked other linked there in
-          subst (λ n. ranked other < ranked n) (sym (joins_home other was))
-          (let up : ranked other < ranked (home other) = omega (arith, joins_rank other was, joins.old.top other was,
-              joins_head_rank (home other) (joins.old.homes other was)) in up))
+      subst (λ n. ranked other < ranked n) (sym (joins_home other was))
+      (let up : ranked other < ranked (home other) = omega (
+        arith,
+        joins_rank other was,
+        joins.old.top other was,
+        joins_head_rank (home other) (joins.old.homes other was),
+      ) in up))
       (cases_eq other place)
 
   joins_bound : (cell : ℕ) → room ≤ cell → ranked cell ≤ 4
   joins_bound cell high =
       ⊎_elim
       (λ (here : cell ≡ head). subst (λ n. ranked n ≤ 4) (sym here) (let up : ranked head ≤ 4 = omega arith in up))
-      (λ (there : cell ≡ head → ⊥). (let same : ranked cell ≤ 4 = omega (arith, joins.old.bound cell high, joins.other_rank cell
-          (λ here. omega arith) there) in same))
+      (λ (there : cell ≡ head → ⊥). (let same : ranked cell ≤ 4 = omega (
+        arith,
+        joins.old.bound cell high,
+        joins.other_rank cell
+            (λ here. omega arith) there,
+      ) in same))
       (cases_eq cell head)
 
   joins_live : (cell : ℕ) → IsLive room ways cell → cell ≢ place → IsLive room backs cell
@@ -136,7 +143,7 @@ module _ (room : ℕ) (links backs : List ℕ) (rank home : ℕ → ℕ) (after 
   joins_ends cell live none =
       joins_three_ways place head cell
       (λ (here : cell ≡ place). ap ranked here ∙ joins.place_rank
-          ∙ joins.old.ends head (λ low. absurd (omega arith)) (sym joins.to_next ∙ ap (λ n. get_or after n 0) (sym here) ∙ none))
+      ∙ joins.old.ends head (λ low. absurd (omega arith)) (sym joins.to_next ∙ ap (λ n. get_or after n 0) (sym here) ∙ none))
       (λ (here : cell ≡ head). absurd (omega (arith, sym joins.to_place ∙ ap (λ n. get_or after n 0) (sym here) ∙ none)))
       (λ there too. joins.other_rank cell there too ∙ joins.old.ends cell (joins_live cell live there) (sym (joins.to_others cell there too) ∙ none))
 
@@ -146,10 +153,11 @@ module _ (room : ℕ) (links backs : List ℕ) (rank home : ℕ → ℕ) (after 
 
   joins_from_place : (next : ℕ) → get_or after place 0 ≡ next + 1 → JoinsTo place next
   joins_from_place next to =
-      let led = joins.old.leads head next (λ low. absurd (omega arith)) (sym joins.to_next ∙ to) in
-      (joins_kept next led.0,
-      joins_home next led.0 ∙ led.1 ∙ joins.old.heads head joins.behind ∙ sym joins.place_home,
-      omega (arith, joins_rank next led.0, led.2))
+      let led = joins.old.leads head next (λ low. absurd (omega arith)) (sym joins.to_next ∙ to) in (
+        joins_kept next led.0,
+        joins_home next led.0 ∙ led.1 ∙ joins.old.heads head joins.behind ∙ sym joins.place_home,
+        omega (arith, joins_rank next led.0, led.2),
+      )
 
   joins_from_head : (next : ℕ) → get_or after head 0 ≡ next + 1 → JoinsTo head next
   joins_from_head next to =
@@ -159,10 +167,11 @@ module _ (room : ℕ) (links backs : List ℕ) (rank home : ℕ → ℕ) (after 
 
   joins_from_other : (cell next : ℕ) → IsLive room ways cell → cell ≢ place → cell ≢ head → get_or after cell 0 ≡ next + 1 → JoinsTo cell next
   joins_from_other cell next live there too to =
-      let led = joins.old.leads cell next (joins_live cell live there) (sym (joins.to_others cell there too) ∙ to) in
-      (joins_kept next led.0,
-      joins_home next led.0 ∙ led.1 ∙ sym (joins.other_home cell there),
-      omega (arith, joins_rank next led.0, led.2, joins.other_rank cell there too))
+      let led = joins.old.leads cell next (joins_live cell live there) (sym (joins.to_others cell there too) ∙ to) in (
+        joins_kept next led.0,
+        joins_home next led.0 ∙ led.1 ∙ sym (joins.other_home cell there),
+        omega (arith, joins_rank next led.0, led.2, joins.other_rank cell there too),
+      )
 
   joins_leads : (cell next : ℕ) → IsLive room ways cell → get_or after cell 0 ≡ next + 1 → JoinsTo cell next
   joins_leads cell next live to =
@@ -182,7 +191,7 @@ module _ (room : ℕ) (links backs : List ℕ) (rank home : ℕ → ℕ) (after 
       let led = joins.old.back other was in
       let past_head : led.0 ≢ head = λ here. apart (ap (λ n. get_or links n 0) (sym here) ∙ led.3) in
       let past_place : led.0 ≢ place = λ here. (led.1 (let low : led.0 < room = omega (arith, here) in low)) (ap (λ n. get_or backs (n + 1) 0) here
-          ∙ joins.free) in
+      ∙ joins.free) in
       (led.0, joins_kept_live led.0 led.1, joins.from_others other there apart ∙ led.2, joins.to_others led.0 past_place past_head ∙ led.3)
 
   joins_back : (other : ℕ) → IsLinked ways other → JoinsBack other
@@ -190,9 +199,9 @@ module _ (room : ℕ) (links backs : List ℕ) (rank home : ℕ → ℕ) (after 
       ⊎_elim
       (λ (here : other ≡ place). subst JoinsBack (sym here) (head, (λ low. absurd (omega arith)), joins.from_head, joins.to_place))
       (λ (there : other ≡ place → ⊥). ⊎_elim
-          (λ (next : get_or links head 0 ≡ other + 1). (place, (λ low none. omega arith), joins.from_place other next, joins.to_next ∙ next))
-          (λ (apart : get_or links head 0 ≡ other + 1 → ⊥). joins_back_of_other other (joins_linked other linked there) there apart)
-          (cases_eq (get_or links head 0) (other + 1)))
+      (λ (next : get_or links head 0 ≡ other + 1). (place, (λ low none. omega arith), joins.from_place other next, joins.to_next ∙ next))
+      (λ (apart : get_or links head 0 ≡ other + 1 → ⊥). joins_back_of_other other (joins_linked other linked there) there apart)
+      (cases_eq (get_or links head 0) (other + 1)))
       (cases_eq other place)
 
   pub chains_after_join : AreChains room after ways ranked homed

@@ -20,7 +20,6 @@ pub record Leaves (room : ℕ) (links backs : List ℕ) (rank home : ℕ → ℕ
 
 module _ (room : ℕ) (links backs : List ℕ) (rank home : ℕ → ℕ) (after ways : List ℕ) (ranked : ℕ → ℕ) (place front : ℕ)
     (leaves : Leaves room links backs rank home after ways ranked place front) where
-
   leaves_front_leads : IsLive room backs front × (get_or links front 0 ≡ place + 1)
   leaves_front_leads =
       let led = leaves.old.back place leaves.linked in
@@ -69,15 +68,15 @@ module _ (room : ℕ) (links backs : List ℕ) (rank home : ℕ → ℕ) (after 
   leaves_same_rank one other homes also apart too same =
       ⊎_elim
       (λ (high : rank place < rank one). ⊎_elim
-          (λ (higher : rank place < rank other). (let e : rank one ≡ rank other = omega
-              (arith, leaves.above one homes high, leaves.above other also higher) in e))
-          (λ (low : rank other ≤ rank place). (let e : rank one ≡ rank other = omega (arith, leaves.above one homes high, leaves.below other low, too) in e))
-          (cases_lt (rank place) (rank other)))
+      (λ (higher : rank place < rank other). (let e : rank one ≡ rank other = omega
+      (arith, leaves.above one homes high, leaves.above other also higher) in e))
+      (λ (low : rank other ≤ rank place). (let e : rank one ≡ rank other = omega (arith, leaves.above one homes high, leaves.below other low, too) in e))
+      (cases_lt (rank place) (rank other)))
       (λ (low : rank one ≤ rank place). ⊎_elim
-          (λ (high : rank place < rank other). (let e : rank one ≡ rank other = omega
-              (arith, leaves.below one low, leaves.above other also high, apart) in e))
-          (λ (lower : rank other ≤ rank place). (let e : rank one ≡ rank other = omega (arith, leaves.below one low, leaves.below other lower) in e))
-          (cases_lt (rank place) (rank other)))
+      (λ (high : rank place < rank other). (let e : rank one ≡ rank other = omega
+      (arith, leaves.below one low, leaves.above other also high, apart) in e))
+      (λ (lower : rank other ≤ rank place). (let e : rank one ≡ rank other = omega (arith, leaves.below one low, leaves.below other lower) in e))
+      (cases_lt (rank place) (rank other)))
       (cases_lt (rank place) (rank one))
 
   leaves_apart_still : (one other : ℕ) → IsLinked ways one → IsLinked ways other → home one ≡ home other → ranked one ≡ ranked other → one ≡ other
@@ -97,14 +96,23 @@ module _ (room : ℕ) (links backs : List ℕ) (rank home : ℕ → ℕ) (after 
   leaves_steps one cell was there homes step =
       ⊎_elim
       (λ (here : home one ≡ home place). ⊎_elim
-          (λ (high : rank place < rank one). (let e : ranked one + 1 ≡ ranked cell = omega (arith, leaves.above one here high,
-              leaves.above cell (sym homes ∙ here) (let higher : rank place < rank cell = omega arith in higher)) in e))
-          (λ (low : rank one ≤ rank place). let apart = leaves_alone one was there here in
-              (let e : ranked one + 1 ≡ ranked cell = omega (arith, leaves.below one low,
-              leaves.below cell (let lower : rank cell ≤ rank place = omega (arith, apart) in lower)) in e))
-          (cases_lt (rank place) (rank one)))
-      (λ (elsewhere : home one ≡ home place → ⊥). (let e : ranked one + 1 ≡ ranked cell = omega (arith, leaves.elsewhere one elsewhere,
-          leaves.elsewhere cell (λ here. elsewhere (homes ∙ here))) in e))
+      (λ (high : rank place < rank one). (let e : ranked one + 1 ≡ ranked cell = omega (
+        arith,
+        leaves.above one here high,
+        leaves.above cell (sym homes ∙ here) (let higher : rank place < rank cell = omega arith in higher),
+      ) in e))
+      (λ (low : rank one ≤ rank place). let apart = leaves_alone one was there here in
+      (let e : ranked one + 1 ≡ ranked cell = omega (
+        arith,
+        leaves.below one low,
+        leaves.below cell (let lower : rank cell ≤ rank place = omega (arith, apart) in lower),
+      ) in e))
+      (cases_lt (rank place) (rank one)))
+      (λ (elsewhere : home one ≡ home place → ⊥). (let e : ranked one + 1 ≡ ranked cell = omega (
+        arith,
+        leaves.elsewhere one elsewhere,
+        leaves.elsewhere cell (λ here. elsewhere (homes ∙ here)),
+      ) in e))
       (cases_eq (home one) (home place))
 
   -- and a place below its head stays below it
@@ -119,11 +127,14 @@ module _ (room : ℕ) (links backs : List ℕ) (rank home : ℕ → ℕ) (after 
       let lowered : ranked (home other) + 1 ≡ rank (home other) = leaves.above (home other) (at_head ∙ here) under in
       let apart = leaves_alone other was (leaves_apart other linked) here in
       ⊎_elim
-          (λ (high : rank place < rank other). (let e : ranked other < ranked (home other) = omega (arith, leaves.above other here high) in e))
-          (λ (low : rank other ≤ rank place). (let e : ranked other < ranked (home other) = omega (arith, leaves.below other low, apart) in e))
-          (cases_lt (rank place) (rank other)))
-      (λ (there : home other ≡ home place → ⊥). (let e : ranked other < ranked (home other) = omega (arith, leaves.elsewhere other there,
-          leaves.elsewhere (home other) (λ here. there (sym at_head ∙ here))) in e))
+      (λ (high : rank place < rank other). (let e : ranked other < ranked (home other) = omega (arith, leaves.above other here high) in e))
+      (λ (low : rank other ≤ rank place). (let e : ranked other < ranked (home other) = omega (arith, leaves.below other low, apart) in e))
+      (cases_lt (rank place) (rank other)))
+      (λ (there : home other ≡ home place → ⊥). (let e : ranked other < ranked (home other) = omega (
+        arith,
+        leaves.elsewhere other there,
+        leaves.elsewhere (home other) (λ here. there (sym at_head ∙ here)),
+      ) in e))
       (cases_eq (home other) (home place))
 
   -- no rank rises
@@ -131,9 +142,9 @@ module _ (room : ℕ) (links backs : List ℕ) (rank home : ℕ → ℕ) (after 
   leaves_lower cell =
       ⊎_elim
       (λ (here : home cell ≡ home place). ⊎_elim
-          (λ (high : rank place < rank cell). (let e : ranked cell ≤ rank cell = omega (arith, leaves.above cell here high) in e))
-          (λ (low : rank cell ≤ rank place). (let e : ranked cell ≤ rank cell = omega (arith, leaves.below cell low) in e))
-          (cases_lt (rank place) (rank cell)))
+      (λ (high : rank place < rank cell). (let e : ranked cell ≤ rank cell = omega (arith, leaves.above cell here high) in e))
+      (λ (low : rank cell ≤ rank place). (let e : ranked cell ≤ rank cell = omega (arith, leaves.below cell low) in e))
+      (cases_lt (rank place) (rank cell)))
       (λ (there : home cell ≡ home place → ⊥). (let e : ranked cell ≤ rank cell = omega (arith, leaves.elsewhere cell there) in e))
       (cases_eq (home cell) (home place))
 
@@ -141,8 +152,12 @@ module _ (room : ℕ) (links backs : List ℕ) (rank home : ℕ → ℕ) (after 
   leaves_bound cell high = omega (arith, leaves_lower cell, leaves.old.bound cell high)
 
   leaves_front_rank : ranked front ≡ rank place
-  leaves_front_rank = omega (arith, leaves_front.1, leaves.above front (sym leaves_front.0) (let up : rank place < rank front = omega
-      (arith, leaves_front.1) in up))
+  leaves_front_rank = omega (
+    arith,
+    leaves_front.1,
+    leaves.above front (sym leaves_front.0) (let up : rank place < rank front = omega
+        (arith, leaves_front.1) in up),
+  )
 
   leaves_live : (cell : ℕ) → IsLive room ways cell → IsLive room backs cell
   leaves_live cell live low = leaves_linked cell (live low)
@@ -152,8 +167,11 @@ module _ (room : ℕ) (links backs : List ℕ) (rank home : ℕ → ℕ) (after 
       ⊎_elim
       (λ (here : cell ≡ front). ap ranked here ∙ leaves_front_rank
       ∙ leaves.old.ends place (λ _. leaves.linked) (sym leaves.to_next ∙ ap (λ n. get_or after n 0) (sym here) ∙ none))
-      (λ (there : cell ≡ front → ⊥). (let e : ranked cell ≡ 0 = omega (arith, leaves_lower cell,
-          leaves.old.ends cell (leaves_live cell live) (sym (leaves.to_others cell there) ∙ none)) in e))
+      (λ (there : cell ≡ front → ⊥). (let e : ranked cell ≡ 0 = omega (
+        arith,
+        leaves_lower cell,
+        leaves.old.ends cell (leaves_live cell live) (sym (leaves.to_others cell there) ∙ none),
+      ) in e))
       (cases_eq cell front)
 
   -- one cell alone leads to the place
@@ -164,15 +182,23 @@ module _ (room : ℕ) (links backs : List ℕ) (rank home : ℕ → ℕ) (after 
       let ranks : rank cell ≡ rank front = sym led.2 ∙ leaves_front.1 in
       ⊎_elim
       (λ (low : cell < room). ⊎_elim
-          (λ (too : front < room). leaves.old.apart cell front (live low) (leaves_front_leads.0 too) homes ranks)
-          (λ (high : room ≤ front). absurd (omega (arith, ranks, subst (λ n. rank cell < rank n) (homes ∙ leaves.old.heads front high)
-              (leaves.old.top cell (live low)))))
-          (cases_lt front room))
+      (λ (too : front < room). leaves.old.apart cell front (live low) (leaves_front_leads.0 too) homes ranks)
+      (λ (high : room ≤ front). absurd (omega (
+        arith,
+        ranks,
+        subst (λ n. rank cell < rank n) (homes ∙ leaves.old.heads front high)
+            (leaves.old.top cell (live low)),
+      )))
+      (cases_lt front room))
       (λ (high : room ≤ cell). ⊎_elim
-          (λ (low : front < room). absurd (omega (arith, ranks, subst (λ n. rank front < rank n) (sym homes ∙ leaves.old.heads cell high)
-              (leaves.old.top front (leaves_front_leads.0 low)))))
-          (λ (too : room ≤ front). sym (leaves.old.heads cell high) ∙ homes ∙ leaves.old.heads front too)
-          (cases_lt front room))
+      (λ (low : front < room). absurd (omega (
+        arith,
+        ranks,
+        subst (λ n. rank front < rank n) (sym homes ∙ leaves.old.heads cell high)
+            (leaves.old.top front (leaves_front_leads.0 low)),
+      )))
+      (λ (too : room ≤ front). sym (leaves.old.heads cell high) ∙ homes ∙ leaves.old.heads front too)
+      (cases_lt front room))
       (cases_lt cell room)
 
   abbrev LeavesTo : ℕ → ℕ → Type 0
@@ -181,9 +207,11 @@ module _ (room : ℕ) (links backs : List ℕ) (rank home : ℕ → ℕ) (after 
   leaves_from_front : (next : ℕ) → get_or after front 0 ≡ next + 1 → LeavesTo front next
   leaves_from_front next to =
       let led = leaves.old.leads place next (λ _. leaves.linked) (sym leaves.to_next ∙ to) in
-      let there : next ≢ place = λ here. omega (arith, led.2, ap rank here) in
-      (leaves_kept next led.0 there, led.1 ∙ leaves_front.0,
-      omega (arith, leaves_front_rank, led.2, leaves.below next (let low : rank next ≤ rank place = omega (arith, led.2) in low)))
+      let there : next ≢ place = λ here. omega (arith, led.2, ap rank here) in (
+        leaves_kept next led.0 there,
+        led.1 ∙ leaves_front.0,
+        omega (arith, leaves_front_rank, led.2, leaves.below next (let low : rank next ≤ rank place = omega (arith, led.2) in low)),
+      )
 
   leaves_leads : (cell next : ℕ) → IsLive room ways cell → get_or after cell 0 ≡ next + 1 → LeavesTo cell next
   leaves_leads cell next live to =
@@ -208,8 +236,13 @@ module _ (room : ℕ) (links backs : List ℕ) (rank home : ℕ → ℕ) (after 
       (front, (λ low. leaves_kept front (leaves_front_leads.0 low) leaves_front_apart), leaves.from_front other there next, leaves.to_next ∙ next))
       (λ (apart : get_or links place 0 ≡ other + 1 → ⊥).
       let led = leaves.old.back other was in
-      let past_front : led.0 ≢ front = λ here. there (let e : other ≡ place = omega (arith, led.3, leaves_front_leads.1, ap
-          (λ n. get_or links n 0) here) in e) in
+      let past_front : led.0 ≢ front = λ here. there (let e : other ≡ place = omega (
+        arith,
+        led.3,
+        leaves_front_leads.1,
+        ap
+            (λ n. get_or links n 0) here,
+      ) in e) in
       let past_place : led.0 ≢ place = λ here. apart (ap (λ n. get_or links n 0) (sym here) ∙ led.3) in
       (led.0, (λ low. leaves_kept led.0 (led.1 low) past_place), leaves.from_others other there apart ∙ led.2, leaves.to_others led.0 past_front ∙ led.3))
       (cases_eq (get_or links place 0) (other + 1))

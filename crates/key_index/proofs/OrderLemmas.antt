@@ -26,11 +26,11 @@ order_before_half keys listed number from half next rises some within look befor
     (λ (stays : (next ≡ from) × (number ≤ order_at keys listed (from + half - 1))). before index (omega (arith, stays.0)))
     (λ (goes : (next ≡ from + half) × (order_at keys listed (from + half - 1) < number)).
     ⊎_elim
-        (λ (here : index ≡ from + half - 1). subst (λ n. order_at keys listed n < number) (sym here) goes.1)
-        (λ (there : index ≡ from + half - 1 → ⊥).
-        let apart : index < from + half - 1 = omega (arith, goes.0) in
-        omega (arith, goes.1, rises index (from + half - 1) apart (omega arith)))
-        (cases_eq index (from + half - 1)))
+    (λ (here : index ≡ from + half - 1). subst (λ n. order_at keys listed n < number) (sym here) goes.1)
+    (λ (there : index ≡ from + half - 1 → ⊥).
+    let apart : index < from + half - 1 = omega (arith, goes.0) in
+    omega (arith, goes.1, rises index (from + half - 1) apart (omega arith)))
+    (cases_eq index (from + half - 1)))
     look
 
 pub order_after_half : (keys listed : List ℕ) (number from half rest next : ℕ) → Rises keys listed → 1 ≤ half → half ≤ rest + 1
@@ -41,11 +41,11 @@ order_after_half keys listed number from half rest next rises some short look af
     ⊎_elim
     (λ (stays : (next ≡ from) × (number ≤ order_at keys listed (from + half - 1))).
     ⊎_elim
-        (λ (here : index ≡ from + half - 1). subst (λ n. number ≤ order_at keys listed n) (sym here) stays.1)
-        (λ (there : index ≡ from + half - 1 → ⊥).
-        let apart : from + half - 1 < index = omega (arith, stays.0) in
-        omega (arith, stays.1, rises (from + half - 1) index apart within))
-        (cases_eq index (from + half - 1)))
+    (λ (here : index ≡ from + half - 1). subst (λ n. number ≤ order_at keys listed n) (sym here) stays.1)
+    (λ (there : index ≡ from + half - 1 → ⊥).
+    let apart : from + half - 1 < index = omega (arith, stays.0) in
+    omega (arith, stays.1, rises (from + half - 1) index apart within))
+    (cases_eq index (from + half - 1)))
     (λ (goes : (next ≡ from + half) × (order_at keys listed (from + half - 1) < number)). after index (omega (arith, goes.0)) within)
     look
 
@@ -75,16 +75,18 @@ order_finds_none keys listed key at place rises splits below is same =
     let first : standing key 0 ≤ order_at keys listed at = splits.after at (omega arith) within in
     let small : get_or listed at 0 < 2 ^ 16 = below at 0 within in
     ⊎_elim
-        (λ (here : at ≡ is.0). (within, (let e : get_or keys (get_or listed at 0) 0 ≡ key = ap (λ n. get_or keys (get_or listed n 0) 0) here ∙ ap
-            (λ n. get_or keys n 0) is.2 ∙ same in e)))
-        (λ (there : at ≡ is.0 → ⊥).
-        let under : order_at keys listed at < order_at keys listed is.0 = rises at is.0 (omega arith) is.1 in
-        (within, omega (arith, under, first, small, stands, low)))
-        (cases_eq at is.0))
+    (λ (here : at ≡ is.0). (
+      within,
+      (let e : get_or keys (get_or listed at 0) 0 ≡ key = ap (λ n. get_or keys (get_or listed n 0) 0) here ∙ ap
+          (λ n. get_or keys n 0) is.2 ∙ same in e),
+    ))
+    (λ (there : at ≡ is.0 → ⊥).
+    let under : order_at keys listed at < order_at keys listed is.0 = rises at is.0 (omega arith) is.1 in
+    (within, omega (arith, under, first, small, stands, low)))
+    (cases_eq at is.0))
     (cases_lt is.0 at)
 
 module _ (keys old : List ℕ) (place at : ℕ) (within : at ≤ length old) where
-
   abbrev Inserted : List ℕ
   Inserted = insert old at place
 
@@ -102,12 +104,14 @@ module _ (keys old : List ℕ) (place at : ℕ) (within : at ≤ length old) whe
       ⊎_elim
       (λ (before : is.0 < at). (is.0, omega (arith, is.1, long), sym (get_or-insert_below old at place 0 is.0 before within) ∙ is.2))
       (λ (after : at ≤ is.0). ⊎_elim
-          (λ (here : is.0 ≡ at). absurd (apart (sym is.2 ∙ ap (λ n. get_or Inserted n 0) here ∙ get_or-insert_at old at place 0 within)))
-          (λ (there : is.0 ≡ at → ⊥).
-          let index : is.0 - 1 + 1 ≡ is.0 = omega arith in
-          (is.0 - 1, omega (arith, is.1, long),
-          sym (get_or-insert_above old at place 0 (is.0 - 1) (omega arith) within) ∙ ap (λ n. get_or Inserted n 0) index ∙ is.2))
-          (cases_eq is.0 at))
+      (λ (here : is.0 ≡ at). absurd (apart (sym is.2 ∙ ap (λ n. get_or Inserted n 0) here ∙ get_or-insert_at old at place 0 within)))
+      (λ (there : is.0 ≡ at → ⊥).
+      let index : is.0 - 1 + 1 ≡ is.0 = omega arith in (
+        is.0 - 1,
+        omega (arith, is.1, long),
+        sym (get_or-insert_above old at place 0 (is.0 - 1) (omega arith) within) ∙ ap (λ n. get_or Inserted n 0) index ∙ is.2,
+      ))
+      (cases_eq is.0 at))
       (cases_lt is.0 at)
 
   -- where the places of the longer list stand
@@ -127,27 +131,45 @@ module _ (keys old : List ℕ) (place at : ℕ) (within : at ≤ length old) whe
   order_insert_rises rises new splits below low one other apart last =
       let long = length-insert old at place within in
       let past : (index : ℕ) → at ≤ index → index < length old → standing (get_or keys place 0) place < order_at keys old index = λ index after inside.
-          let same : order_at keys old index ≢ standing (get_or keys place 0) place =
-              λ is. new (index, inside, order_tells (get_or old index 0) place (get_or keys (get_or old index 0) 0) (get_or keys place 0)
-                  (below index 0 inside) low is) in
-          omega (arith, splits.after index after inside) in
+      let same : order_at keys old index ≢ standing (get_or keys place 0) place =
+      λ is. new (
+        index,
+        inside,
+        order_tells (get_or old index 0) place (get_or keys (get_or old index 0) 0) (get_or keys place 0)
+            (below index 0 inside) low is,
+      ) in
+      omega (arith, splits.after index after inside) in
       ⊎_elim
       (λ (before : other < at). omega (arith, order_insert_before one (omega arith), order_insert_before other before, rises one other apart (omega arith)))
       (λ (not_before : at ≤ other). ⊎_elim
-          (λ (here : other ≡ at). omega (arith, order_insert_before one (omega arith), order_insert_here other here, splits.before one (omega arith)))
-          (λ (behind : other ≡ at → ⊥).
-          let after : at < other = omega arith in
-          ⊎_elim
-              (λ (ahead : one < at). omega (arith, order_insert_before one ahead, order_insert_after other after, splits.before one ahead,
-              past (other - 1) (omega arith) (omega (arith, long))))
-              (λ (not_ahead : at ≤ one). ⊎_elim
-                  (λ (here : one ≡ at). omega (arith, order_insert_here one here, order_insert_after other after, past (other - 1) (omega arith)
-                      (omega (arith, long))))
-                  (λ (too : one ≡ at → ⊥). omega (arith, order_insert_after one (omega arith), order_insert_after other after,
-                  rises (one - 1) (other - 1) (omega arith) (omega (arith, long))))
-                  (cases_eq one at))
-              (cases_lt one at))
-          (cases_eq other at))
+      (λ (here : other ≡ at). omega (arith, order_insert_before one (omega arith), order_insert_here other here, splits.before one (omega arith)))
+      (λ (behind : other ≡ at → ⊥).
+      let after : at < other = omega arith in
+      ⊎_elim
+      (λ (ahead : one < at). omega (
+        arith,
+        order_insert_before one ahead,
+        order_insert_after other after,
+        splits.before one ahead,
+        past (other - 1) (omega arith) (omega (arith, long)),
+      ))
+      (λ (not_ahead : at ≤ one). ⊎_elim
+      (λ (here : one ≡ at). omega (
+        arith,
+        order_insert_here one here,
+        order_insert_after other after,
+        past (other - 1) (omega arith)
+            (omega (arith, long)),
+      ))
+      (λ (too : one ≡ at → ⊥). omega (
+        arith,
+        order_insert_after one (omega arith),
+        order_insert_after other after,
+        rises (one - 1) (other - 1) (omega arith) (omega (arith, long)),
+      ))
+      (cases_eq one at))
+      (cases_lt one at))
+      (cases_eq other at))
       (cases_lt other at)
 
   pub order_after_insert : (Rises keys old → Splits keys old (standing (get_or keys place 0) place) at)
@@ -160,7 +182,6 @@ module _ (keys old : List ℕ) (place at : ℕ) (within : at ≤ length old) whe
   }
 
 module _ (keys old : List ℕ) (place at : ℕ) (rises : Rises keys old) (within : at < length old) (is : get_or old at 0 ≡ place) where
-
   abbrev Removed : List ℕ
   Removed = remove old at
 
@@ -171,9 +192,9 @@ module _ (keys old : List ℕ) (place at : ℕ) (rises : Rises keys old) (within
       ⊎_elim
       (λ (before : index < at). absurd (omega (arith, stands, rises index at before within)))
       (λ (after : at ≤ index). ⊎_elim
-          (λ (behind : at < index). absurd (omega (arith, stands, rises at index behind inside)))
-          (λ (here : index ≤ at). (let e : index ≡ at = omega arith in e))
-          (cases_lt at index))
+      (λ (behind : at < index). absurd (omega (arith, stands, rises at index behind inside)))
+      (λ (here : index ≤ at). (let e : index ≡ at = omega arith in e))
+      (cases_lt at index))
       (cases_lt index at)
 
   order_remove_kept : (other : ℕ) → IsListed old other → other ≢ place → IsListed Removed other
@@ -182,12 +203,14 @@ module _ (keys old : List ℕ) (place at : ℕ) (rises : Rises keys old) (within
       ⊎_elim
       (λ (before : was.0 < at). (was.0, omega (arith, was.1, short), get_or-remove_below old at 0 was.0 before within ∙ was.2))
       (λ (after : at ≤ was.0). ⊎_elim
-          (λ (here : was.0 ≡ at). absurd (apart (sym was.2 ∙ ap (λ n. get_or old n 0) here ∙ is)))
-          (λ (there : was.0 ≡ at → ⊥).
-          let index : was.0 - 1 + 1 ≡ was.0 = omega arith in
-          (was.0 - 1, omega (arith, was.1, short),
-          get_or-remove_above old at 0 (was.0 - 1) (omega arith) within ∙ ap (λ n. get_or old n 0) index ∙ was.2))
-          (cases_eq was.0 at))
+      (λ (here : was.0 ≡ at). absurd (apart (sym was.2 ∙ ap (λ n. get_or old n 0) here ∙ is)))
+      (λ (there : was.0 ≡ at → ⊥).
+      let index : was.0 - 1 + 1 ≡ was.0 = omega arith in (
+        was.0 - 1,
+        omega (arith, was.1, short),
+        get_or-remove_above old at 0 (was.0 - 1) (omega arith) within ∙ ap (λ n. get_or old n 0) index ∙ was.2,
+      ))
+      (cases_eq was.0 at))
       (cases_lt was.0 at)
 
   -- where it stood before
@@ -217,11 +240,21 @@ module _ (keys old : List ℕ) (place at : ℕ) (rises : Rises keys old) (within
       ⊎_elim
       (λ (before : other < at). omega (arith, order_remove_before one (omega arith), order_remove_before other before, rises one other apart (omega arith)))
       (λ (after : at ≤ other). ⊎_elim
-          (λ (ahead : one < at). omega (arith, order_remove_before one ahead, order_remove_after other after, rises one (other + 1) (omega arith)
-              (omega (arith, short))))
-          (λ (too : at ≤ one). omega (arith, order_remove_after one too, order_remove_after other after, rises (one + 1) (other + 1) (omega arith)
-              (omega (arith, short))))
-          (cases_lt one at))
+      (λ (ahead : one < at). omega (
+        arith,
+        order_remove_before one ahead,
+        order_remove_after other after,
+        rises one (other + 1) (omega arith)
+            (omega (arith, short)),
+      ))
+      (λ (too : at ≤ one). omega (
+        arith,
+        order_remove_after one too,
+        order_remove_after other after,
+        rises (one + 1) (other + 1) (omega arith)
+            (omega (arith, short)),
+      ))
+      (cases_lt one at))
       (cases_lt other at)
 
   pub order_after_remove : HasLess keys old Removed place
@@ -236,9 +269,9 @@ order_leads_to_place keys listed place at rises is splits below =
     ⊎_elim
     (λ (before : is.0 < at). absurd (omega (arith, stands, splits.before is.0 before)))
     (λ (after : at ≤ is.0). ⊎_elim
-        (λ (behind : at < is.0). absurd (omega (arith, stands, rises at is.0 behind is.1, splits.after at (omega arith) (omega (arith, is.1)))))
-        (λ (here : is.0 ≤ at). let e : at ≡ is.0 = omega arith in (omega (arith, is.1), ap (λ n. get_or listed n 0) e ∙ is.2))
-        (cases_lt at is.0))
+    (λ (behind : at < is.0). absurd (omega (arith, stands, rises at is.0 behind is.1, splits.after at (omega arith) (omega (arith, is.1)))))
+    (λ (here : is.0 ≤ at). let e : at ≡ is.0 = omega arith in (omega (arith, is.1), ap (λ n. get_or listed n 0) e ∙ is.2))
+    (cases_lt at is.0))
     (cases_lt is.0 at)
 
 -- the longer and the shorter list stay below a limit
@@ -247,7 +280,7 @@ pub order_all_below_more : (listed : List ℕ) (place at count : ℕ) → at ≤
 order_all_below_more listed place at count within below low = order_all_below (insert listed at place) count
     (λ other is. ⊎_elim (λ (here : other ≡ place). (let e : other < count = omega arith in e))
     (λ (there : other ≡ place → ⊥). order_below listed count below other (order_insert_only listed listed place at within other is there))
-        (cases_eq other place))
+    (cases_eq other place))
 
 pub order_all_below_less : (listed : List ℕ) (at count : ℕ) → at < length listed → All (λ place. place < count) listed
     → All (λ place. place < count) (remove listed at)
@@ -256,5 +289,5 @@ order_all_below_less listed at count within below index default inside =
     ⊎_elim
     (λ (before : index < at). subst (λ n. n < count) (sym (get_or-remove_below listed at default index before within)) (below index default (omega arith)))
     (λ (after : at ≤ index). subst (λ n. n < count) (sym (get_or-remove_above listed at default index after within)) (below (index + 1) default (omega
-        (arith, short))))
+    (arith, short))))
     (cases_lt index at)

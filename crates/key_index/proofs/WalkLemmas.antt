@@ -18,7 +18,6 @@ pub record WalkCounts (room : ℕ) (backs : List ℕ) (rank : ℕ → ℕ) (head
   pub steps : rank cell + step ≡ rank head
 
 module _ (room : ℕ) (links backs keys : List ℕ) (rank home : ℕ → ℕ) (key head : ℕ) (chains : AreChains room links backs rank home) where
-
   pub walk_begins : room ≤ head → WalkFinds room backs keys rank home key head head 0
   walk_begins high = record {
     live = λ low. absurd (omega arith);

@@ -46,8 +46,13 @@ impl KeyEntries {
     pub(crate) fn with_room(alloc: Global, room: usize) -> Result<KeyEntries, AllocError>
         requires some { 1 ≤ room }
         requires few { room < 2 ^ 16 }
-        ensures { IfOk result (λ entries. entries ≡ record { room = room; links = replicate (5 * room) 0;
-            backs = replicate (room + 1) 0; turned = replicate (4 * room) false; listed = [] }) }
+        ensures { IfOk result (λ entries. entries ≡ record {
+          room = room;
+          links = replicate (5 * room) 0;
+          backs = replicate (room + 1) 0;
+          turned = replicate (4 * room) false;
+          listed = [];
+        }) }
     {
         let chains = KeyChains::with_room(alloc, room)?;
         let turned = vec![in alloc; false; HOMES_A_KEY * room]?;
@@ -131,8 +136,13 @@ impl KeyEntries {
 
     /// Takes out all places.
     pub(crate) fn clear(&mut self)
-        ensures { self.new ≡ record { room = self.old.room; links = replicate (5 * self.old.room) 0;
-            backs = replicate (self.old.room + 1) 0; turned = replicate (4 * self.old.room) false; listed = [] } }
+        ensures { self.new ≡ record {
+          room = self.old.room;
+          links = replicate (5 * self.old.room) 0;
+          backs = replicate (self.old.room + 1) 0;
+          turned = replicate (4 * self.old.room) false;
+          listed = [];
+        } }
     {
         self.chains.clear();
         self.turned.fill(false);

@@ -20,9 +20,9 @@ fn next_from(listed: &[u16], keys: &[u64], number: u128, from: usize, half: usiz
     requires some { 1 ≤ half }
     requires within { from + half ≤ length listed.now }
     ensures { ((result ≡ from) × (number ≤ standing (slice_index keys.now (slice_index listed.now (from + half - 1)))
-            (slice_index listed.now (from + half - 1))))
+        (slice_index listed.now (from + half - 1))))
         ⊎ ((result ≡ from + half) × (standing (slice_index keys.now (slice_index listed.now (from + half - 1)))
-            (slice_index listed.now (from + half - 1)) < number)) }
+        (slice_index listed.now (from + half - 1)) < number)) }
 {
     let place = usize::from(listed[from + half - 1]);
     if standing_of(keys[place], place) < number {

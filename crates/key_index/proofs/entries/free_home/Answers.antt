@@ -32,7 +32,7 @@ loop-turn-preserved c =
           (λ (here : earlier ≡ c.loop-turn.turn).
           ap (λ t. get_or (set turned home true) (home_at c.args.room t c.args.key) false) here
           ∙ ap (λ n. get_or (set turned home true) n false) (sym
-              (home_of_mixed c.args.room c.loop-turn.turn c.args.key c.loop-turn.number c.mix-number.result home
+          (home_of_mixed c.args.room c.loop-turn.turn c.args.key c.loop-turn.number c.mix-number.result home
           c.loop-turn.invariant.number c.mix-number.ensures c.home_of-home.ensures.home))
           ∙ get_or-set_same turned home true false within)
           (λ (there : earlier ≡ c.loop-turn.turn → ⊥). mark_stays turned home (home_at c.args.room earlier c.args.key) within

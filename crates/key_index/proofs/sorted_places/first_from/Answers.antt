@@ -12,7 +12,7 @@ loop-size-preserved c =
     let rest = c.loop-size.size - c.loop-size.size / 2 in
     let next = c.next_from-from.result in
     let look : OrderLook keys listed (standing c.args.key c.args.place) from half next =
-        subst (λ n. OrderLook keys listed n from half next) c.standing_of-number.ensures c.next_from-from.ensures in
+    subst (λ n. OrderLook keys listed n from half next) c.standing_of-number.ensures c.next_from-from.ensures in
     record {
       within = search (rules, c.next_from-from.ensures);
       before = λ rises. order_before_half keys listed (standing c.args.key c.args.place) from half next rises (omega arith) (omega arith) look

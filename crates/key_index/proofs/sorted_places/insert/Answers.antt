@@ -12,8 +12,8 @@ returns-clause-more c =
     let is : c.insert.new.self.items ≡ insert old at c.args.place = search (rules, c.insert.ensures.items) in
     let within : at ≤ length old = search rules in
     let splits : Rises keys old → Splits keys old (standing (get_or keys c.args.place 0) c.args.place) at =
-        subst (λ (xs : List ℕ). Rises keys xs → Splits keys xs (standing (get_or keys c.args.place 0) c.args.place) at) c.deref.ensures.value
-        c.first_from-at.ensures.splits in
+    subst (λ (xs : List ℕ). Rises keys xs → Splits keys xs (standing (get_or keys c.args.place 0) c.args.place) at) c.deref.ensures.value
+    c.first_from-at.ensures.splits in
     subst (λ (xs : List ℕ). HasMore keys old xs c.args.place) (sym is)
     (order_after_insert keys old c.args.place at within splits
     (λ k d inside. omega (arith, c.requires.places k d inside)) (omega arith))

@@ -10,8 +10,8 @@ remove-requires c =
     let old = c.args.listed.now.items in
     let at = c.first_from-at.result in
     let splits : Splits keys old (standing (get_or keys c.args.place 0) c.args.place) at =
-        subst (λ (xs : List ℕ). Rises keys xs → Splits keys xs (standing (get_or keys c.args.place 0) c.args.place) at) c.deref.ensures.value
-        c.first_from-at.ensures.splits c.requires.rises in
+    subst (λ (xs : List ℕ). Rises keys xs → Splits keys xs (standing (get_or keys c.args.place 0) c.args.place) at) c.deref.ensures.value
+    c.first_from-at.ensures.splits c.requires.rises in
     let here = order_leads_to_place keys old c.args.place at c.requires.rises c.requires.listed splits
     (λ k d inside. omega (arith, c.requires.places k d inside)) in
     search (rules, here.0)
@@ -23,8 +23,8 @@ returns-clause-less c =
     let at = c.first_from-at.result in
     let is : c.remove.new.self.items ≡ remove old at = c.remove.ensures.items in
     let splits : Splits keys old (standing (get_or keys c.args.place 0) c.args.place) at =
-        subst (λ (xs : List ℕ). Rises keys xs → Splits keys xs (standing (get_or keys c.args.place 0) c.args.place) at) c.deref.ensures.value
-        c.first_from-at.ensures.splits c.requires.rises in
+    subst (λ (xs : List ℕ). Rises keys xs → Splits keys xs (standing (get_or keys c.args.place 0) c.args.place) at) c.deref.ensures.value
+    c.first_from-at.ensures.splits c.requires.rises in
     let here = order_leads_to_place keys old c.args.place at c.requires.rises c.requires.listed splits
     (λ k d inside. omega (arith, c.requires.places k d inside)) in
     subst (λ (xs : List ℕ). HasLess keys old xs c.args.place) (sym is)
@@ -37,8 +37,8 @@ returns-clause-places c =
     let at = c.first_from-at.result in
     let is : c.remove.new.self.items ≡ remove old at = c.remove.ensures.items in
     let splits : Splits keys old (standing (get_or keys c.args.place 0) c.args.place) at =
-        subst (λ (xs : List ℕ). Rises keys xs → Splits keys xs (standing (get_or keys c.args.place 0) c.args.place) at) c.deref.ensures.value
-        c.first_from-at.ensures.splits c.requires.rises in
+    subst (λ (xs : List ℕ). Rises keys xs → Splits keys xs (standing (get_or keys c.args.place 0) c.args.place) at) c.deref.ensures.value
+    c.first_from-at.ensures.splits c.requires.rises in
     let here = order_leads_to_place keys old c.args.place at c.requires.rises c.requires.listed splits
     (λ k d inside. omega (arith, c.requires.places k d inside)) in
     subst (λ (xs : List ℕ). All (λ place. place < length keys) xs) (sym is)

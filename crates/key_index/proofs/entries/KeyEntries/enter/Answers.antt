@@ -11,28 +11,28 @@ pub returns-in-Some-clause-entered : goal.returns-in-Some-clause-entered
 returns-in-Some-clause-entered c = λ end below was.
     let i = c.self.inside in
     let entered : AreEntered end c.args.place c.args.keys.now (entry_parts i.room i.chains.links i.chains.backs i.turned.items i.listed.items) =
-        subst (λ (e : Entries). AreEntered end c.args.place c.args.keys.now e) (sym c.self.view_is) was in
+    subst (λ (e : Entries). AreEntered end c.args.place c.args.keys.now e) (sym c.self.view_is) was in
     let shape = c.self.invariant.shape in
     let roomy : i.chains.room ≡ i.room = c.self.invariant.roomy in
     let head = i.chains.room + c.in-Some.free.home in
     let chains : AreChains i.chains.room i.chains.links i.chains.backs entered.rank entered.home =
-        subst (λ room. AreChains room i.chains.links i.chains.backs entered.rank entered.home) (sym roomy) entered.chains in
+    subst (λ room. AreChains room i.chains.links i.chains.backs entered.rank entered.home) (sym roomy) entered.chains in
     let few : entered.rank head < 4 = subst (λ room. entered.rank (room + c.in-Some.free.home) < 4) (sym roomy)
-        (c.in-Some.ensures.roomy entered.rank entered.home chains) in
+    (c.in-Some.ensures.roomy entered.rank entered.home chains) in
     let free : get_or i.chains.backs
-        (c.args.place + 1) 0 ≡ 0 = entry_free end c.args.place i.room c.args.keys.now i.chains.links i.chains.backs i.listed.items i.turned.items entered in
+    (c.args.place + 1) 0 ≡ 0 = entry_free end c.args.place i.room c.args.keys.now i.chains.links i.chains.backs i.listed.items i.turned.items entered in
     let within : c.in-Some.free.home < 4 * i.room = c.in-Some.ensures.within in
     let same : i.room ≡ c.args.self.now.room = ap (λ (e : Entries). e.room) c.self.view_is in
     let low : c.args.place < i.chains.room = omega (arith, c.requires.place, c.requires.few, same, roomy) in
     let joins = entry_joins i.chains.room i.chains.links i.chains.backs entered.rank entered.home c.args.place head chains
-        shape.cells shape.places shape.marks low (omega arith) (omega arith) few free in
+    shape.cells shape.places shape.marks low (omega arith) (omega arith) few free in
     let at : head ≡ i.room + home_at i.room c.in-Some.free.turn (get_or c.args.keys.now c.args.place 0) =
-        ap (λ n. n + c.in-Some.free.home) roomy ∙ ap (λ n. i.room + n) c.in-Some.ensures.home in
+    ap (λ n. n + c.in-Some.free.home) roomy ∙ ap (λ n. i.room + n) c.in-Some.ensures.home in
     subst (λ (after : List ℕ). AreEntered end end c.args.keys.now
-        (entry_parts i.room after c.link.new.self.backs c.free_home.new.turned.items i.listed.items)) (sym c.link.ensures.links)
+    (entry_parts i.room after c.link.new.self.backs c.free_home.new.turned.items i.listed.items)) (sym c.link.ensures.links)
     (subst (λ (ways : List ℕ). AreEntered end end c.args.keys.now (entry_parts i.room
     (set (set i.chains.links c.args.place (get_or i.chains.links head 0)) head (c.args.place + 1)) ways c.free_home.new.turned.items i.listed.items))
-        (sym c.link.ensures.backs)
+    (sym c.link.ensures.backs)
     (entry_in_chain end c.args.place i.room c.in-Some.free.turn head c.args.keys.now i.chains.links i.chains.backs i.listed.items i.turned.items
     c.free_home.new.turned.items
     (set (set i.chains.links c.args.place (get_or i.chains.links head 0)) head (c.args.place + 1))
@@ -50,6 +50,6 @@ pub returns-in-None-clause-entered : goal.returns-in-None-clause-entered
 returns-in-None-clause-entered c = λ end below was.
     let i = c.self.inside in
     let entered : AreEntered end c.args.place c.args.keys.now (entry_parts i.room i.chains.links i.chains.backs i.turned.items i.listed.items) =
-        subst (λ (e : Entries). AreEntered end c.args.place c.args.keys.now e) (sym c.self.view_is) was in
+    subst (λ (e : Entries). AreEntered end c.args.place c.args.keys.now e) (sym c.self.view_is) was in
     entry_in_list end c.args.place i.room c.args.keys.now i.chains.links i.chains.backs i.listed.items i.turned.items c.free_home.new.turned.items
     c.insert.new.listed.items below entered c.insert.ensures.more c.in-None.ensures.passed_all c.in-None.ensures.kept

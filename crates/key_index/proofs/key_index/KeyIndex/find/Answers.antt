@@ -11,6 +11,6 @@ returns c =
     let entries = c.self.inside.entries in
     let is : keys ≡ c.args.self.now.keys = c.deref.ensures.value ∙ ap (λ (i : IndexedKeys). i.keys) c.self.view_is in
     let entered : AreEntered (length keys) (length keys) keys entries =
-        subst (λ (xs : List ℕ). AreEntered (length xs) (length xs) xs entries) (sym c.deref.ensures.value) c.self.invariant.filled.entered in
+    subst (λ (xs : List ℕ). AreEntered (length xs) (length xs) xs entries) (sym c.deref.ensures.value) c.self.invariant.filled.entered in
     subst (λ (xs : List ℕ). MatchOption c.find.result (All (λ other. other ≢ c.args.key) xs) (λ place. slice_get xs place ≡ Some c.args.key)) is
     (key_found keys entries c.args.key c.find.result entered c.find.ensures.within c.find.ensures.found c.find.ensures.missing)

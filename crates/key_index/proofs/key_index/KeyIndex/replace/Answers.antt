@@ -11,9 +11,9 @@ enter-requires c =
     let left = c.leave.new.self in
     let within : c.args.place < length keys = subst (λ (v : IndexedKeys). c.args.place < length v.keys) (sym c.self.view_is) c.requires in
     let leads : LeadBelow (length keys) left.links left.listed =
-        subst (λ (xs : List ℕ). LeadBelow (length xs) left.links left.listed) c.deref.ensures.value c.leave.ensures.leads in
+    subst (λ (xs : List ℕ). LeadBelow (length xs) left.links left.listed) c.deref.ensures.value c.leave.ensures.leads in
     let entered : AreEntered (length keys) c.args.place keys left =
-        subst (λ (xs : List ℕ). AreEntered (length xs) c.args.place xs left) c.deref.ensures.value c.leave.ensures.left in
+    subst (λ (xs : List ℕ). AreEntered (length xs) c.args.place xs left) c.deref.ensures.value c.leave.ensures.left in
     record {
       filled = subst (λ (xs : List ℕ). HoldsKeysButOne c.args.place left.room xs left) (sym c.deref-2.ensures.value)
           (key_of_replaced i.room c.args.place c.args.key keys left c.self.invariant.few c.self.invariant.fits within
