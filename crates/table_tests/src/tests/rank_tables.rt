@@ -189,9 +189,8 @@ fn times_that_begin_anew_keep_the_order(rt: HostRuntime) -> Result<(), Fail> {
     assert!(rt; follow_while_times_begin_anew(alloc, 3, 5, 9)?);
     // Places without a slot, which take keys later.
     assert!(rt; follow_while_times_begin_anew(alloc, 40, 7, 90)?);
-    // Twice, and in a larger table.
+    // Twice.
     assert!(rt; end_as_the_plain_table(alloc, 16, (1 << 19) + 5000, adds_of(40, 9))?);
-    assert!(rt; end_as_the_plain_table(alloc, 512, (1 << 18) + 5000, adds_of(1200, 9))?);
     Ok(())
 }
 
