@@ -19,7 +19,7 @@ use Rattle.hhh_report.specs.declared.reports.Reported.{Reported}
 use Rattle.position_words.specs.declared.view.Trail.{Trail}
 use Rattle.position_words.specs.declared.view.View.{View}
 use Rattle.pass_tokens.specs.{IsOddWord, ReadsCut, ShardRead, after_reads, seen_in, states_of}
-use Rattle.gate_workers.specs.Calling.{Calls, IsCutAtCall, IsReportAtCall, after_calls, cut_at}
+use Rattle.gate_workers.specs.Calling.{Calls, IsCoreCut, IsCoreReport, after_calls, cut_at}
 use Rattle.gate_workers.specs.Calling.{ReadsInRounds, ReadsOnce, shard_positions, positions_read, states_at}
 
 call_states_at_positions : (opening : List ShardValue) (reads : List ShardRead)
@@ -39,7 +39,7 @@ call_states_keep_positions (shard ∷ rest) (position ∷ positions) many =
 -- the cut that was read is that of the pure core at the positions of the reads
 call_makes_cut_at_positions : (opening : List ShardValue) (before now : View) (cut changed : CutValue)
     (reads : ReadsCut opening before cut now changed) → HasCoreShape (length opening) (core_capacity opening) cut
-    → IsCutAtCall opening (positions_read reads.reads) changed
+    → IsCoreCut opening (positions_read reads.reads) changed
 call_makes_cut_at_positions opening before now cut changed reads shape = record {
   as_many = length-map reads.reads (λ read. read.position) ∙ reads.as_many;
   kept = subst (All IsShard) (call_states_at_positions opening reads.reads) reads.kept;
@@ -49,17 +49,17 @@ call_makes_cut_at_positions opening before now cut changed reads shape = record 
       (call_states_at_positions opening reads.reads);
 }
 
-call_cut_has_positions : (opening : List ShardValue) (positions : List ℕ) (cut : CutValue) → IsCutAtCall opening positions cut
+call_cut_has_positions : (opening : List ShardValue) (positions : List ℕ) (cut : CutValue) → IsCoreCut opening positions cut
     → cut_positions cut ≡ positions
 call_cut_has_positions opening positions cut at = ap cut_positions at.is ∙ call_states_keep_positions opening positions at.as_many
 
 pub call_cut_at_its_positions : (opening : List ShardValue) (before now : View) (cut changed : CutValue)
     → ReadsCut opening before cut now changed → HasCoreShape (length opening) (core_capacity opening) cut
-    → IsCutAtCall opening (cut_positions changed) changed
+    → IsCoreCut opening (cut_positions changed) changed
 call_cut_at_its_positions opening before now cut changed reads shape =
-    let at : IsCutAtCall opening (positions_read reads.reads) changed =
+    let at : IsCoreCut opening (positions_read reads.reads) changed =
     call_makes_cut_at_positions opening before now cut changed reads shape in
-    subst (λ ps. IsCutAtCall opening ps changed) (sym (call_cut_has_positions opening (positions_read reads.reads) changed at)) at
+    subst (λ ps. IsCoreCut opening ps changed) (sym (call_cut_has_positions opening (positions_read reads.reads) changed at)) at
 
 -- such a cut represents the lists if the bases do
 call_snapshots_represent_records : (opening : List ShardValue) (positions : List ℕ) → length positions ≡ length opening
@@ -94,7 +94,7 @@ call_snapshots_have_capacity (shard ∷ rest) (position ∷ positions) capacity 
     (All-tail (λ (s : ShardValue). s.base.capacity ≡ capacity) shard rest alike))
 
 pub call_cut_represents_records : (opening : List ShardValue) (positions : List ℕ) (cut : CutValue) → AreCoreShards opening
-    → IsCutAtCall opening positions cut
+    → IsCoreCut opening positions cut
     → ((shard : ShardValue) → SnapshotRepresents shard.base shard.list → shard.base.position ≤ shard.position
     → shard.position ≤ length shard.list → SnapshotRepresents (snapshot_of shard) shard.list)
     → BasesRepresent opening → CutRepresents cut (core_lists opening)
@@ -119,8 +119,8 @@ call_weights_are_positive (shard ∷ rest) (position ∷ positions) many kept =
 
 -- the report of such a cut is one at its own positions
 pub call_report_at_its_positions : (opening : List ShardValue) (positions : List ℕ) (cut : CutValue) (phi : ℕ) (report : Report)
-    → IsCutAtCall opening positions cut → cut_positions cut ≡ positions
-    → IsReportOf cut phi report → IsReportAtCall opening phi report
+    → IsCoreCut opening positions cut → cut_positions cut ≡ positions
+    → IsReportOf cut phi report → IsCoreReport opening phi report
 call_report_at_its_positions opening positions cut phi report at here is =
     let same : report.positions ≡ positions = is.positions ∙ here in
     record {
@@ -199,7 +199,7 @@ calls_see_last_position trails (first ∷ rounds) shards shard inside many whole
 -- each round read each shard
 calls_reach_each_shard : (opening : List ShardValue) (phi : ℕ) (reports : List Reported) (rounds : List (List ShardRead))
     → map (λ (reported : Reported). reported.report.positions) reports ≡ map positions_read rounds
-    → All (λ (reported : Reported). IsReportAtCall opening phi reported.report) reports
+    → All (λ (reported : Reported). IsCoreReport opening phi reported.report) reports
     → All (λ (round : List ShardRead). length round ≡ length opening) rounds
 calls_reach_each_shard opening phi reports [] same each = All-nil (λ (round : List ShardRead). length round ≡ length opening)
 calls_reach_each_shard opening phi [] (round ∷ rounds) same each = cc same
@@ -208,12 +208,12 @@ calls_reach_each_shard opening phi (reported ∷ reports) (round ∷ rounds) sam
     ap (λ all. get_or all 0 []) same in
     let rest : map (λ (reported : Reported). reported.report.positions) reports ≡ map positions_read rounds =
     ap (λ all. drop 1 all) same in
-    let at : IsReportAtCall opening phi reported.report =
-    All-head (λ (reported : Reported). IsReportAtCall opening phi reported.report) reported reports each in
+    let at : IsCoreReport opening phi reported.report =
+    All-head (λ (reported : Reported). IsCoreReport opening phi reported.report) reported reports each in
     All-cons (λ (round : List ShardRead). length round ≡ length opening) round rounds
     (sym (length-map round (λ read. read.position)) ∙ ap length (sym first) ∙ at.as_many)
     (calls_reach_each_shard opening phi reports rounds rest
-    (All-tail (λ (reported : Reported). IsReportAtCall opening phi reported.report) reported reports each))
+    (All-tail (λ (reported : Reported). IsCoreReport opening phi reported.report) reported reports each))
 
 pub no_calls : (opening : List ShardValue) (phi : ℕ) (view : View) → Calls opening phi 0 view view []
 no_calls opening phi view = record {
@@ -223,14 +223,14 @@ no_calls opening phi view = record {
   view = refl;
   positions = refl;
   never_fall = λ shard inside. IsNonDecreasingBy-short (λ x. x) (seen_in shard view ∷ []) (omega arith);
-  each = All-nil (λ (reported : Reported). IsReportAtCall opening phi reported.report);
+  each = All-nil (λ (reported : Reported). IsCoreReport opening phi reported.report);
   unsaved = All-nil (λ (reported : Reported). reported.saved ≡ None);
 }
 
 -- one round
 pub one_call : (opening : List ShardValue) (phi : ℕ) (before after : View) (cut changed : CutValue) (report : Report)
     → ReadsCut opening before cut after changed → HasCoreShape (length opening) (core_capacity opening) cut
-    → report.positions ≡ cut_positions changed → IsReportAtCall opening phi report
+    → report.positions ≡ cut_positions changed → IsCoreReport opening phi report
     → Calls opening phi 1 before after (record { report = report; saved = None } ∷ [])
 one_call opening phi before after cut changed report round shape here is_report =
     let reads : List ShardRead = round.reads in
@@ -253,8 +253,8 @@ one_call opening phi before after cut changed report round shape here is_report 
           call_position_may_come_first (seen_in shard before) position [] later
           (IsNonDecreasingBy-short (λ x. x) (position ∷ []) (omega arith));
       each =
-          All-cons (λ (reported : Reported). IsReportAtCall opening phi reported.report) reported [] is_report
-          (All-nil (λ (reported : Reported). IsReportAtCall opening phi reported.report));
+          All-cons (λ (reported : Reported). IsCoreReport opening phi reported.report) reported [] is_report
+          (All-nil (λ (reported : Reported). IsCoreReport opening phi reported.report));
       unsaved = All-cons (λ (reported : Reported). reported.saved ≡ None) reported [] refl
           (All-nil (λ (reported : Reported). reported.saved ≡ None));
     }
@@ -288,7 +288,7 @@ more_calls opening phi rounds more before middle now reports later many one two 
       (one.never_fall shard inside)
       (subst (λ seen. IsNonDecreasing (seen ∷ shard_positions shard two.reads)) (sym last)
       (two.never_fall shard inside)));
-  each = All-append (λ (reported : Reported). IsReportAtCall opening phi reported.report) reports later one.each two.each;
+  each = All-append (λ (reported : Reported). IsCoreReport opening phi reported.report) reports later one.each two.each;
   unsaved = All-append (λ (reported : Reported). reported.saved ≡ None) reports later one.unsaved two.unsaved;
 }
 

@@ -11,7 +11,7 @@ use Rattle.position_words.specs.declared.view.View.{View}
 use Rattle.pass_tokens.specs.{IsFoldOf, IsOddWord, ShardRead, after_reads, first_view, folded_once}
 use Rattle.pass_tokens.specs.{after_losses}
 use Rattle.gate_workers.specs.Feeding.{IsFed, Feeds, HasSeenEnd, HasSeenEnds}
-use Rattle.gate_workers.specs.Calling.{Calls, IsCutAtCall, ReadsOnce, after_calls, cut_at}
+use Rattle.gate_workers.specs.Calling.{Calls, IsCoreCut, ReadsOnce, after_calls, cut_at}
 use Rattle.gate_workers.specs.Calling.{shard_positions}
 use Rattle.gate_workers.specs.Calling.{positions_read, states_at}
 use Rattle.gate_workers.proofs.FeedingLemmas.{feeding_of_same_view}
@@ -88,10 +88,10 @@ pub cut_of_the_core : cut_at shards (1 ∷ 0 ∷ [])
     ≡ record { capacity = 4; shards = snapshot_of (shard_state_at 1 pair) ∷ snapshot_of single ∷ [] }
 cut_of_the_core = refl
 
-pub empty_cut_is_at_no_position : IsCutAtCall [] [] (cut_at [] [])
+pub empty_cut_is_at_no_position : IsCoreCut [] [] (cut_at [] [])
 empty_cut_is_at_no_position = record { as_many = refl; kept = All-nil IsShard; is = refl }
 
-pub cut_with_a_position_too_many : IsCutAtCall [] (1 ∷ []) (cut_at [] []) → ⊥
+pub cut_with_a_position_too_many : IsCoreCut [] (1 ∷ []) (cut_at [] []) → ⊥
 cut_with_a_position_too_many at = cc at.as_many
 
 -- how two shards were read: the second after a take that lost

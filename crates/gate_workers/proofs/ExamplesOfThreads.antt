@@ -7,7 +7,7 @@ use Rattle.position_words.specs.declared.view.Trail.{Trail}
 use Rattle.position_words.specs.declared.view.View.{View}
 use Rattle.pass_tokens.specs.{WordsValue, first_view, newcomer_view, after_join}
 use Rattle.hhh_report.specs.declared.report.Report.{Report}
-use Rattle.gate_workers.specs.Calling.{IsReportAtCall}
+use Rattle.gate_workers.specs.Calling.{IsCoreReport}
 use Rattle.gate_workers.specs.Feeding.{HasSeenEnds}
 use Rattle.gate_workers.specs.Running.{AreSoundReports, MakesRounds, HasFed}
 use Rattle.gate_workers.specs.Running.{EachByNumber, after_splits}
@@ -122,5 +122,5 @@ no_report_is_sound place default below = absurd (omega (arith, below))
 
 -- a report with a position for one of two shards
 pub report_with_a_position_missing : (report : Report) → length report.positions ≡ 1
-    → IsReportAtCall shards 500000 report → ⊥
+    → IsCoreReport shards 500000 report → ⊥
 report_with_a_position_missing report one at = cc (sym one ∙ at.as_many)

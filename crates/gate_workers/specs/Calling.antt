@@ -23,13 +23,13 @@ cut_at opening positions = record {
 }
 
 -- a cut is that of the pure core at these positions
-pub record IsCutAtCall (opening : List ShardValue) (positions : List ℕ) (cut : CutValue) : Type 0 where
+pub record IsCoreCut (opening : List ShardValue) (positions : List ℕ) (cut : CutValue) : Type 0 where
   pub as_many : length positions ≡ length opening
   pub kept : All IsShard (states_at opening positions)
   pub is : cut ≡ cut_at opening positions
 
 -- a report at its own positions: that of the cut that the pure core has there
-pub record IsReportAtCall (opening : List ShardValue) (phi : ℕ) (report : Report) : Type 0 where
+pub record IsCoreReport (opening : List ShardValue) (phi : ℕ) (report : Report) : Type 0 where
   pub as_many : length report.positions ≡ length opening
   pub kept : All IsShard (states_at opening report.positions)
   pub is : IsReportOf (cut_at opening report.positions) phi report
@@ -57,7 +57,7 @@ pub record Calls (opening : List ShardValue) (phi rounds : ℕ) (before now : Vi
   pub positions : map (λ reported. reported.report.positions) reports ≡ map positions_read reads
   pub never_fall : (shard : ℕ) → shard < length opening
       → IsNonDecreasing (seen_in shard before ∷ shard_positions shard reads)
-  pub each : All (λ reported. IsReportAtCall opening phi reported.report) reports
+  pub each : All (λ reported. IsCoreReport opening phi reported.report) reports
   pub unsaved : All (λ reported. reported.saved ≡ None) reports
 
 -- one read of each shard, and no other step

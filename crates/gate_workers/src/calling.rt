@@ -5,7 +5,7 @@ ghost use Rattle.shard_state.specs.{BasesRepresent, HasCoreShape, core_capacity,
 ghost use Rattle.hhh_report.specs.{IsSound, million};
 ghost use Rattle.hhh_output.specs.{IsWideShare};
 ghost use Rattle.pass_tokens.specs.{IsPassOf, view};
-ghost use Rattle.gate_workers.specs.Calling.{Calls, IsCutAtCall, IsReportAtCall, ReadsInRounds};
+ghost use Rattle.gate_workers.specs.Calling.{Calls, IsCoreCut, IsCoreReport, ReadsInRounds};
 ghost use Rattle.gate_workers.specs.Calling.{ReadsOnce, cut_at};
 
 use crate::{Gate, Turn};
@@ -108,7 +108,7 @@ pub fn report_once<R: Wait, G: Gate>(
         (record { report = report; saved = None } ∷ [])) }
     ensures sound { IfOk result (λ report. BasesRepresent board.now.opening
         → IsSound report (core_lists board.now.opening) (core_capacity board.now.opening) phi) }
-    ensures read { IsCutAtCall board.now.opening (cut_positions cut.new) cut.new }
+    ensures read { IsCoreCut board.now.opening (cut_positions cut.new) cut.new }
     ensures cut { IfOk result (λ report. cut.new ≡ cut_at board.now.opening report.positions) }
     ensures shape { HasCoreShape (length board.now.opening) (core_capacity board.now.opening) cut.new }
     ensures pass { IsPassOf board.now pass.new }
@@ -122,12 +122,12 @@ pub fn report_once<R: Wait, G: Gate>(
 
 // The report of a cut that was read.
 fn report_at(alloc: Global, board: &Board, cut: &Cut, phi: u32) -> Result<Report, AllocError>
-    requires cut { IsCutAtCall board.now.opening (cut_positions cut.now) cut.now }
+    requires cut { IsCoreCut board.now.opening (cut_positions cut.now) cut.now }
     requires some { 1 ≤ phi }
     requires most { phi ≤ million }
     requires wide { IsWideShare phi (core_capacity board.now.opening) }
     ensures positions { IfOk result (λ report. report.positions ≡ cut_positions cut.now) }
-    ensures report { IfOk result (IsReportAtCall board.now.opening phi) }
+    ensures report { IfOk result (IsCoreReport board.now.opening phi) }
     ensures sound { IfOk result (λ report. BasesRepresent board.now.opening
         → IsSound report (core_lists board.now.opening) (core_capacity board.now.opening) phi) }
 {

@@ -5,14 +5,14 @@ ghost use Rattle.shard_state.specs.{AreCoreShards, BasesRepresent, CutRepresents
 ghost use Rattle.hhh_report.specs.declared.report.Report.{Report};
 ghost use Rattle.hhh_report.specs.declared.reports.Reported.{Reported};
 ghost use Rattle.position_words.specs.declared.view.View.{View};
-ghost use Rattle.gate_workers.specs.Calling.{Calls, IsReportAtCall, cut_at};
+ghost use Rattle.gate_workers.specs.Calling.{Calls, IsCoreReport, cut_at};
 
 use shard_state::shards_stand;
 
 /// The cut of a report at its own positions represents the shards' lists, if the base of each shard represents its
 /// list.
 pub fn reported_cuts_represent()
-    ensures { (opening : List ShardValue) (phi : ℕ) (report : Report) → AreCoreShards opening → IsReportAtCall opening phi report
+    ensures { (opening : List ShardValue) (phi : ℕ) (report : Report) → AreCoreShards opening → IsCoreReport opening phi report
         → BasesRepresent opening → CutRepresents (cut_at opening report.positions) (core_lists opening) }
 {
     shards_stand();

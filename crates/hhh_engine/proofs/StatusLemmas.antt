@@ -10,7 +10,7 @@ use Rattle.pcap_frames.specs.{FrameValue}
 use Rattle.frame_records.specs.{FileHasFrames, IsRefusedFile}
 use Rattle.frame_records.specs.declared.records.Records.{Records}
 use Rattle.pcap_frames.specs.declared.fault.CaptureFault.{CaptureFault}
-use Rattle.recovery.specs.{BelongingOpen, RefusesOpening, IsShown, AreDecided}
+use Rattle.recovery.specs.{BelongingOpen, RefusesOpening, IsShownByBytes, AreDecided}
 use Rattle.recovery.specs.declared.fault.OpenFault.{OpenFault}
 use Rattle.recovery.specs.declared.fault.OpenFault.TheVariants as opening
 use Rattle.shard_state.specs.{CutValue}
@@ -163,7 +163,7 @@ status_of_known_capture rules (Demo seed frames settings) given file fault never
 status_is_never_refusal : AreDecided → BelongingOpen → (rules : DealingRules) (settings : Settings)
     (given : InputBytes) (AsBefore : Type 0) (fault : OpenFault) → AreLimited settings
     → HasCapture given.capture → (settings.store ≡ true → HasStore settings rules given)
-    → IsShown fault → EndsRefusing settings rules given.capture given.store AsBefore fault → ⊥
+    → IsShownByBytes fault → EndsRefusing settings rules given.capture given.store AsBefore fault → ⊥
 status_is_never_refusal decided opened rules settings given AsBefore fault limited capture can shown refuses =
     let is_store = can refuses.0 in
     let is = status_of_known_file given.capture capture.file (λ f. IsRefusedStore settings rules given.store f fault) capture.told refuses.2 in
@@ -174,7 +174,7 @@ status_is_never_refusal decided opened rules settings given AsBefore fault limit
 
 command_status_is_never_refusal : AreDecided → BelongingOpen → (rules : DealingRules) (command : Command)
     (given : InputBytes) (AsBefore : Type 0) (fault : OpenFault) → IsLimitedCommand command
-    → CanBeAnswered rules command given → IsShown fault
+    → CanBeAnswered rules command given → IsShownByBytes fault
     → Refuses command rules given AsBefore fault → ⊥
 command_status_is_never_refusal decided opened rules (Weigh prefix settings) given AsBefore fault limited can shown refuses =
     refuses
@@ -231,7 +231,7 @@ status_found_answers rules (Audit settings) given old new report verdict finds =
 -- the session over a capture whose store is refused however its records are dealt
 status_never_of_begun_session : AreDecided → (rules : DealingRules) (settings : Settings) (store : Option (List ℕ))
     (file image : List ℕ) (fault : OpenFault) (records : Records) (lists : List (List RecordValue))
-    (base : Option CutValue) → AreLimited settings → settings.store ≡ true → store ≡ Some image → IsShown fault
+    (base : Option CutValue) → AreLimited settings → settings.store ≡ true → store ≡ Some image → IsShownByBytes fault
     → ((records : Records) (lists : List (List RecordValue)) → AreDealtRecords settings rules file records lists
     → RefusesOpening (saves_settings settings) lists image fault)
     → AreDealtRecords settings rules file records lists → GoesOnFrom settings lists store base → ⊥
@@ -243,7 +243,7 @@ status_never_of_begun_session decided rules settings store file image fault reco
 -- the fault for which such a store is refused
 status_names_same_refusal : AreDecided → (rules : DealingRules) (settings : Settings) (given : InputBytes) (AsBefore : Type 0)
     (file image : List ℕ) (fault other : OpenFault) → AreLimited settings → given.capture ≡ Some file → given.store ≡ Some image
-    → IsShown fault → IsShown other
+    → IsShownByBytes fault → IsShownByBytes other
     → ((records : Records) (lists : List (List RecordValue)) → AreDealtRecords settings rules file records lists
     → RefusesOpening (saves_settings settings) lists image fault)
     → EndsRefusing settings rules given.capture given.store AsBefore other → other ≡ fault
@@ -254,7 +254,7 @@ status_names_same_refusal decided rules settings given AsBefore file image fault
     shown (is.refused image is_store) (refused is.records is.lists is.dealt)
 
 -- arguments that are refused name no fault of a store
-pub argument_status_is_no_refusal : {A : Type 0} (refusal : WordsRefusal) (status : Status) (fault : OpenFault) → IsShown fault
+pub argument_status_is_no_refusal : {A : Type 0} (refusal : WordsRefusal) (status : Status) (fault : OpenFault) → IsShownByBytes fault
     → status ≡ status_of_words refusal → status ≡ status_of_opening fault → A
 argument_status_is_no_refusal (words.Bad kind) status opening.NotFormatted shown is was = cc (is, was)
 argument_status_is_no_refusal words.OutOfMemory status opening.NotFormatted shown is was = cc (is, was)
@@ -415,7 +415,7 @@ module _ {S T K D : Type 0} (s : SourceOf S) (t : SourceOf T) (k : SinkOf K) (d 
 
   -- what a status that names a fault of a store says
   pub status_names_refusal : (words : List (List ℕ)) (command : Command) (status : Status) (fault : OpenFault)
-      → AskForCommand words command → IsShown fault → status ≡ status_of_opening fault → Ended command status
+      → AskForCommand words command → IsShownByBytes fault → status ≡ status_of_opening fault → Ended command status
       → RefusesStore s t k d old new words rules fault
   status_names_refusal words command status opening.NotFormatted asked shown is ends =
       let now = subst (Ended command) is ends in
@@ -436,7 +436,7 @@ module _ {S T K D : Type 0} (s : SourceOf S) (t : SourceOf T) (k : SinkOf K) (d 
   pub status_is_store_refusal : CaptureStatusIsFaultless → AreDecided
       → (settings : Settings) (status : Status)
       (file image : List ℕ) (frames : List FrameValue) (fault : OpenFault) → AreLimited settings → settings.store ≡ true
-      → given.capture ≡ Some file → FileHasFrames file frames → given.store ≡ Some image → IsShown fault
+      → given.capture ≡ Some file → FileHasFrames file frames → given.store ≡ Some image → IsShownByBytes fault
       → ((records : Records) (lists : List (List RecordValue)) → AreDealtRecords settings rules file records lists
       → RefusesOpening (saves_settings settings) lists image fault)
       → Ended (Report settings) status

@@ -10,7 +10,7 @@ use Rattle.pcap_frames.specs.declared.fault.CaptureFault.{CaptureFault}
 use Rattle.frame_records.specs.{FileHasFrames, IsRefusedFile}
 use Rattle.frame_records.specs.declared.records.Records.{Records}
 use Rattle.slot_disk.specs.declared.disk.Disk.{Ghosts as DiskOf}
-use Rattle.recovery.specs.{RefusesOpening, IsShown}
+use Rattle.recovery.specs.{RefusesOpening, IsShownByBytes}
 use Rattle.recovery.specs.declared.fault.OpenFault.{OpenFault}
 use Rattle.report_text.specs.{HasSessionFault, IsSessionText, longest_session}
 use Rattle.report_text.specs.declared.session.Session.{Session}
@@ -172,7 +172,7 @@ module _ {S T K D : Type 0} (s : SourceOf S) (t : SourceOf T) (k : SinkOf K) (d 
       MustRefuseStore status =
           (settings : Settings) (file image : List ℕ) (frames : List FrameValue) (fault : OpenFault)
           → AskForCommand words (command.Report settings) → settings.store ≡ true → s.left old.capture ≡ Some file
-          → FileHasFrames file frames → d.reads old.disk ≡ Some image → IsShown fault
+          → FileHasFrames file frames → d.reads old.disk ≡ Some image → IsShownByBytes fault
           → ((records : Records) (lists : List (List RecordValue)) → AreDealtRecords settings rules file records lists
           → RefusesOpening (saves_settings settings) lists image fault)
           → (status ≡ status_of_opening fault) ⊎ ((status ≡ ReadFault) ⊎ ((status ≡ DiskFault) ⊎ (status ≡ OutOfMemory)))
@@ -222,7 +222,7 @@ module _ {S T K D : Type 0} (s : SourceOf S) (t : SourceOf T) (k : SinkOf K) (d 
         -- a capture, a store and the text of a session are refused for their first fault, and nothing is written
         pub bad_capture : (fault : CaptureFault) → status ≡ BadCapture fault → RefusesCapture fault
         pub refuses_capture : MustRefuseCapture status
-        pub bad_store : (fault : OpenFault) → IsShown fault → status ≡ status_of_opening fault → RefusesStore fault
+        pub bad_store : (fault : OpenFault) → IsShownByBytes fault → status ≡ status_of_opening fault → RefusesStore fault
         pub refuses_store : MustRefuseStore status
         pub bad_text : (fault : TextFault) → status ≡ BadReport fault → RefusesText fault
         pub refuses_text : MustRefuseText status

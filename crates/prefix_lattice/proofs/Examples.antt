@@ -13,7 +13,7 @@ use Rattle.prefix_lattice.specs.KeptBytes.{begins_with, AreLeadingBytes}
 use Rattle.prefix_lattice.specs.Address.{address_length}
 use Rattle.prefix_lattice.specs.Lattice.{under, same_as, strictly_under}
 use Rattle.prefix_lattice.specs.Meets.{meet_side, meet_of_sides, meet}
-use Rattle.prefix_lattice.specs.Meets.{AreMeet}
+use Rattle.prefix_lattice.specs.Meets.{AreOverlapping}
 use Rattle.prefix_lattice.specs.ReportOrder.{report_order}
 use Rattle.prefix_lattice.proofs.UnderMeetLemmas.{meet-some}
 use Rattle.prefix_lattice.specs.Limits.{record_limit, shard_limit, total_limit}
@@ -200,7 +200,7 @@ pub other_sources_do_not_meet : meet from_ten from_eleven ≡ None
 other_sources_do_not_meet = refl
 
 -- both cover the packet's pair of addresses
-pub addresses_are_shared : AreMeet from_ten to_twenty
+pub addresses_are_shared : AreOverlapping from_ten to_twenty
 addresses_are_shared = record {
   pair = packet;
   is_source = omega arith;
@@ -209,7 +209,7 @@ addresses_are_shared = record {
   covered_by_other = refl;
 }
 
-pub no_address_is_shared : AreMeet from_ten from_eleven → ⊥
+pub no_address_is_shared : AreOverlapping from_ten from_eleven → ⊥
 no_address_is_shared shares =
     let valid : (byte : ℕ) → byte < 256 → IsPrefix (record { source = byte ∷ []; dest = [] }) = λ byte small. record {
       source = record { few = omega arith; bytes = λ place. one_byte byte place small };

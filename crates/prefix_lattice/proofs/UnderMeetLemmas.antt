@@ -11,7 +11,7 @@ use Rattle.prefix_lattice.specs.Record.{RecordValue}
 use Rattle.prefix_lattice.specs.Prefix.{PrefixValue, IsPrefix, covers, node_of_prefix}
 use Rattle.prefix_lattice.specs.Lattice.{under, same_as, strictly_under}
 use Rattle.prefix_lattice.specs.Meets.{meet_side, meet_of_sides, meet}
-use Rattle.prefix_lattice.specs.Meets.{AreMeet}
+use Rattle.prefix_lattice.specs.Meets.{AreOverlapping}
 use Rattle.prefix_lattice.proofs.AddressLemmas.{address_unit_is_positive, address_front_is_leading}
 use Rattle.prefix_lattice.proofs.AddressLemmas.{address_front-length, address_of-small}
 use Rattle.prefix_lattice.proofs.AddressLemmas.{address_of-leading, address_tells_leading_bytes}
@@ -281,10 +281,10 @@ under_meet-address_begins front leading =
 
 -- two prefixes share a pair of addresses exactly where they meet
 pub meet-some : (prefix other : PrefixValue) → IsPrefix prefix → IsPrefix other
-    → (is_some (meet prefix other) ≡ true) ↔ AreMeet prefix other
+    → (is_some (meet prefix other) ≡ true) ↔ AreOverlapping prefix other
 meet-some prefix other valid other_valid = (shared (meet prefix other) refl, found)
   where
-    shared : (o : Option PrefixValue) → meet prefix other ≡ o → is_some o ≡ true → AreMeet prefix other
+    shared : (o : Option PrefixValue) → meet prefix other ≡ o → is_some o ≡ true → AreOverlapping prefix other
     shared None is some = absurd (false≢true some)
     shared (Some lowest) is some =
         let lowest_valid = meet-IsPrefix prefix other lowest valid other_valid is in
@@ -301,5 +301,5 @@ meet-some prefix other valid other_valid = (shared (meet prefix other) refl, fou
           covered_by_other = covers-up_from_under lowest other own both.1 covered;
         }
 
-    found : AreMeet prefix other → is_some (meet prefix other) ≡ true
+    found : AreOverlapping prefix other → is_some (meet prefix other) ≡ true
     found shares = ap is_some (meet-covers prefix other shares.pair shares.covered shares.covered_by_other).1.is

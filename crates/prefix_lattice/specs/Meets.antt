@@ -20,7 +20,7 @@ abbrev pub meet : PrefixValue → PrefixValue → Option PrefixValue
 meet prefix other = meet_of_sides (meet_side prefix.source other.source) (meet_side prefix.dest other.dest)
 
 -- some pair of addresses is covered by both prefixes
-pub record AreMeet (prefix other : PrefixValue) : Type 0 where
+pub record AreOverlapping (prefix other : PrefixValue) : Type 0 where
   pub pair : RecordValue
   pub is_source : pair.src < 2 ^ 32
   pub is_dest : pair.dst < 2 ^ 32

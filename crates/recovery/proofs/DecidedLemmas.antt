@@ -12,7 +12,7 @@ use Rattle.recovery.specs.declared.fault.OpenFault.TheVariants.{DiskFault, NotFo
 use Rattle.recovery.specs.declared.fault.OpenFault.TheVariants.{OtherCapture, OutOfMemory}
 use Rattle.recovery.specs.Reopening.{HasHeader, IsFirstDamaged, RefusesOpening, MatchesLists}
 use Rattle.recovery.specs.Reopening.{OpensToBase}
-use Rattle.recovery.specs.Reopening.{IsShown, AreDecided}
+use Rattle.recovery.specs.Reopening.{IsShownByBytes, AreDecided}
 use Rattle.recovery.proofs.OpenSlotLemmas.{store_open_slot_is_sound}
 
 module _ (spell : HeadersAreOne) (hold : SlotsHoldOne) (settings : StoreSettings) (lists : List (List RecordValue))
@@ -90,7 +90,7 @@ module _ (spell : HeadersAreOne) (hold : SlotsHoldOne) (settings : StoreSettings
       ap (λ (s : StoreSettings). OtherSettings s asked) (decided_header_is_same stored stored_again one.0 two.0)
       ∙ ap (λ (s : StoreSettings). OtherSettings stored_again s) (one.1 ∙ sym two.1)
 
-  one_fault : (fault other : OpenFault) → IsShown fault → IsShown other → RefusesOpening settings lists image fault
+  one_fault : (fault other : OpenFault) → IsShownByBytes fault → IsShownByBytes other → RefusesOpening settings lists image fault
       → RefusesOpening settings lists image other → fault ≡ other
   one_fault DiskFault other shown too refused again = absurd (shown.not_of_disk refl)
   one_fault OutOfMemory other shown too refused again = absurd (shown.not_of_memory refl)
@@ -138,7 +138,7 @@ module _ (spell : HeadersAreOne) (hold : SlotsHoldOne) (settings : StoreSettings
       sym opens ∙ ap (λ (held : Option SavedValue). newest_in held second) same.0
       ∙ ap (λ (held : Option SavedValue). newest_in has.first held) same.1 ∙ has.newest_is
 
-  not_both : (base : Option CutValue) (fault : OpenFault) → OpensToBase settings lists image base → IsShown fault
+  not_both : (base : Option CutValue) (fault : OpenFault) → OpensToBase settings lists image base → IsShownByBytes fault
       → RefusesOpening settings lists image fault → ⊥
   not_both base DiskFault opens shown refused = shown.not_of_disk refl
   not_both base OutOfMemory opens shown refused = shown.not_of_memory refl

@@ -18,7 +18,7 @@ use Rattle.recovery.specs.Reopening.{HasHeader, IsDamaged, IsFirstDamaged, Conti
 use Rattle.recovery.specs.Reopening.{ContinuesLists, ContinuesFrom, RefusesOpening}
 use Rattle.recovery.specs.Reopening.{MatchesLists, OpensToBase, IsBaseFor, CanGoOn}
 use Rattle.recovery.specs.Reopening.{base_positions, greatest_opened}
-use Rattle.recovery.specs.Reopening.{IsShown}
+use Rattle.recovery.specs.Reopening.{IsShownByBytes}
 use Rattle.recovery.specs.Found.{IsFrontFault, IsBodyFault, IsFoundFault}
 use Rattle.recovery.specs.Found.{IsListFault, MatchesDigest, HoldsFound}
 use Rattle.recovery.specs.Found.{base_in_parts}
@@ -152,10 +152,10 @@ module _ (any : StoreSettings) where
     early = omega arith;
   }
 
-  pub damage_is_shown : IsShown (Damaged 0)
+  pub damage_is_shown : IsShownByBytes (Damaged 0)
   damage_is_shown = record { not_of_disk = λ same. cc same; not_of_memory = λ same. cc same }
 
-  pub disk_fault_is_not_shown : IsShown DiskFault → ⊥
+  pub disk_fault_is_not_shown : IsShownByBytes DiskFault → ⊥
   disk_fault_is_not_shown shown = shown.not_of_disk refl
 
   -- faults of the parts

@@ -6,4 +6,4 @@ pub mod Found
 pub use Rattle.recovery.specs.Reopening.{CanGoOn, ContinuesList, ContinuesLists, IsBaseFor}
 pub use Rattle.recovery.specs.Reopening.{RefusesOpening, OpensToBase}
 pub use Rattle.recovery.specs.Reopening.{base_positions, greatest_opened}
-pub use Rattle.recovery.specs.Reopening.{BelongingOpen, IsShown, AreDecided}
+pub use Rattle.recovery.specs.Reopening.{BelongingOpen, IsShownByBytes, AreDecided}

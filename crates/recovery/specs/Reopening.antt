@@ -97,7 +97,7 @@ pub record CanGoOn (settings : StoreSettings) (lists : List (List RecordValue)) 
   pub early : opened.saver.sequence ≤ greatest_opened
 
 -- a fault that bytes show: none of the disk, and not that memory ran out
-pub record IsShown (fault : OpenFault) : Type 0 where
+pub record IsShownByBytes (fault : OpenFault) : Type 0 where
   pub not_of_disk : fault ≢ DiskFault
   pub not_of_memory : fault ≢ OutOfMemory
 
@@ -105,9 +105,9 @@ pub record IsShown (fault : OpenFault) : Type 0 where
 pub record IsDecided (settings : StoreSettings) (lists : List (List RecordValue)) (image : List ℕ) : Type 0 where
   pub one_base : (base other : Option CutValue) → OpensToBase settings lists image base
       → OpensToBase settings lists image other → base ≡ other
-  pub one_fault : (fault other : OpenFault) → IsShown fault → IsShown other → RefusesOpening settings lists image fault
+  pub one_fault : (fault other : OpenFault) → IsShownByBytes fault → IsShownByBytes other → RefusesOpening settings lists image fault
       → RefusesOpening settings lists image other → fault ≡ other
-  pub not_both : (base : Option CutValue) (fault : OpenFault) → OpensToBase settings lists image base → IsShown fault
+  pub not_both : (base : Option CutValue) (fault : OpenFault) → OpensToBase settings lists image base → IsShownByBytes fault
       → RefusesOpening settings lists image fault → ⊥
 
 -- all bytes are so decided, over any dealt lists

@@ -9,7 +9,7 @@ use Rattle.shard_state.specs.{CutValue, ShardValue}
 use Rattle.hhh_report.specs.{IsSound}
 use Rattle.hhh_report.specs.declared.reports.Reported.{Reported}
 use Rattle.pass_tokens.specs.{IsOddWord, SeatValue, ShardRead, WordsValue, after_reads, first_view}
-use Rattle.gate_workers.specs.{Calls, HasSeenEnds, IsReportAtCall, ReadsOnce, View, cut_at}
+use Rattle.gate_workers.specs.{Calls, HasSeenEnds, IsCoreReport, ReadsOnce, View, cut_at}
 use Rattle.gate_workers.specs.declared.gathered.Gathered.{Gathered}
 use Rattle.report_text.specs.{tail_text}
 use Rattle.report_session.specs.Session.{AreOfCaller, BreaksOffInRounds, SessionSaving}
@@ -130,7 +130,7 @@ one_call = record {
   positions = refl;
   never_fall = λ place inside. once_more _ [] (one_number _);
   each =
-      All-cons (λ (reported : Reported). IsReportAtCall opening 10000 reported.report) last [] report_at_the_ends
+      All-cons (λ (reported : Reported). IsCoreReport opening 10000 reported.report) last [] report_at_the_ends
       (All-nil _);
   unsaved = All-cons (λ (reported : Reported). reported.saved ≡ None) last [] refl (All-nil _);
 }

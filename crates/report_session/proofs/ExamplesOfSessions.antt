@@ -20,7 +20,7 @@ use Rattle.hhh_output.specs.{IsLineOf, IsReportOf}
 use Rattle.hhh_report.specs.declared.line.Line.{Line}
 use Rattle.hhh_report.specs.declared.report.Report.{Report}
 use Rattle.hhh_report.specs.declared.reports.Reported.{Reported}
-use Rattle.gate_workers.specs.{IsReportAtCall, cut_at}
+use Rattle.gate_workers.specs.{IsCoreReport, cut_at}
 use Rattle.pcap_frames.specs.declared.file_order.FileOrder.TheVariants.{Little}
 use Rattle.pcap_frames.specs.{number_in_order, order_of_magic}
 use Rattle.frame_records.specs.{FileHasFrames}
@@ -33,7 +33,7 @@ use Rattle.report_session.specs.Session.{AreOfCaller, AreReports, AreSessionShar
 use Rattle.report_session.specs.Session.{BreaksOffInRounds, BreaksOffAround, BreaksOffLater}
 use Rattle.report_session.specs.Session.{GoesOnFrom, IsSession, IsSessionInPart, IsShownInSession}
 use Rattle.report_session.specs.Session.{IsStrictBeginning, SessionKeeping, rest_after_saves}
-use Rattle.report_session.specs.Session.{saved_cuts, NeverFall, GoesOnSoundly, SessionSaving}
+use Rattle.report_session.specs.Session.{saved_cuts, ReportsNeverFall, GoesOnSoundly, SessionSaving}
 use Rattle.report_session.specs.Session.{SessionReports, IsOverShards, caller_reports}
 use Rattle.report_session.specs.Session.{caller_parts, new_shards, session_opening, session_part}
 use Rattle.report_session.specs.Session.{session_parts, session_rest, save_line, text_of_reports}
@@ -182,7 +182,7 @@ nothing_is_sound = record {
   complete = λ prefix is_prefix no_line. omega arith;
 }
 
-pub report_at_the_ends : IsReportAtCall opening 10000 report
+pub report_at_the_ends : IsCoreReport opening 10000 report
 report_at_the_ends = record { as_many = refl; kept = All-replicate IsShard 4 shard empty_shard; is = report_of_nothing }
 
 -- with this many rounds and other callers
@@ -251,16 +251,16 @@ once_more x xs up (suc i) (suc j) d le inside = up i j d (omega (arith, le)) (om
 pub one_number : (x : ℕ) → IsNonDecreasing (x ∷ [])
 one_number x = IsNonDecreasingBy-short (λ x. x) (x ∷ []) (omega arith)
 
-pub one_report_does_not_fall : NeverFall (session_start opening) (last ∷ [])
+pub one_report_does_not_fall : ReportsNeverFall (session_start opening) (last ∷ [])
 one_report_does_not_fall place inside = once_more _ [] (one_number _)
 
-two_reports_do_not_fall : NeverFall (session_start opening) (last ∷ last ∷ [])
+two_reports_do_not_fall : ReportsNeverFall (session_start opening) (last ∷ last ∷ [])
 two_reports_do_not_fall place inside =
     let position = slice_index (session_start opening) place in
     once_more position (position ∷ []) (once_more position [] (one_number position))
 
 -- the first shard began at 1
-pub report_before_the_start : NeverFall (1 ∷ 0 ∷ 0 ∷ 0 ∷ []) (last ∷ []) → ⊥
+pub report_before_the_start : ReportsNeverFall (1 ∷ 0 ∷ 0 ∷ 0 ∷ []) (last ∷ []) → ⊥
 report_before_the_start never =
     let later : 1 ≤ 0 = never 0 (omega arith) 0 1 0 (omega arith) (omega arith) in omega (arith, later)
 

@@ -11,7 +11,7 @@ use Rattle.hhh_report.specs.{AreReportLines, IsSound}
 use Rattle.hhh_report.specs.declared.report.Report.{Report}
 use Rattle.hhh_report.specs.declared.reports.Reported.{Reported}
 use Rattle.hhh_output.specs.{IsReportOf, IsWideShare}
-use Rattle.gate_workers.specs.{IsReportAtCall, cut_at, states_at}
+use Rattle.gate_workers.specs.{IsCoreReport, cut_at, states_at}
 use Rattle.command_words.specs.{HaveWideShare}
 use Rattle.command_words.specs.declared.settings.Settings.{Settings}
 use Rattle.report_session.specs.DealtFeed.{StartsBefore}
@@ -29,7 +29,7 @@ pub record FinalReportLaws : Type 0 where
       → IsWideShare phi cut.capacity → AreReportLines report.lines → IsReportOf cut phi report
       → IsSound report lists cut.capacity phi
   pub represent : (opening : List ShardValue) (phi : ℕ) (report : Report) → AreCoreShards opening
-      → IsReportAtCall opening phi report → BasesRepresent opening
+      → IsCoreReport opening phi report → BasesRepresent opening
       → CutRepresents (cut_at opening report.positions) (core_lists opening)
   pub goes_on : (shard : ShardValue) (position : ℕ) → IsShard shard → shard.position ≤ position
       → position ≤ length shard.list → IsShard (shard_state_at position shard)
@@ -100,7 +100,7 @@ final_report_exists laws opening settings wide are =
     let many : length (session_ends opening) ≡ length opening = length-map opening _ in
     let ends : report.positions ≡ session_ends opening =
     made.1.positions ∙ seen_positions_of_cut opening (session_ends opening) many in
-    let at_call : IsReportAtCall opening settings.phi report = record {
+    let at_call : IsCoreReport opening settings.phi report = record {
       as_many = ap length ends ∙ many;
       kept = subst (λ ps. All IsShard (states_at opening ps)) (sym ends)
           (final_report_shards laws opening are.core.kept);

@@ -8,7 +8,7 @@ use Rattle.hhh_report.specs.{AreNotPast}
 use Rattle.shard_state.specs.{CutValue, HasCoreShape, ShardValue, core_capacity, cut_positions}
 use Rattle.hhh_report.specs.declared.reports.Reported.{Reported}
 use Rattle.pass_tokens.specs.{WordsValue, first_view}
-use Rattle.gate_workers.specs.{IsReportAtCall, View, cut_at}
+use Rattle.gate_workers.specs.{IsCoreReport, View, cut_at}
 use Rattle.gate_workers.specs.declared.gathered.Called.{Called}
 use Rattle.checkpoint.specs.{AreSettings, SaverState, OpenToOne, saver_after}
 use Rattle.checkpoint.specs.{greatest_sequence}
@@ -48,7 +48,7 @@ last_save_starts_within_ends opening positions starts past =
     let second : slice_index (session_start opening) shard ≤ slice_index (session_ends opening) shard = starts shard in
     omega (arith, first, second))
 
-last_save_reported_within_ends : (opening : List ShardValue) (phi : ℕ) (reported : Reported) → IsReportAtCall opening phi reported.report
+last_save_reported_within_ends : (opening : List ShardValue) (phi : ℕ) (reported : Reported) → IsCoreReport opening phi reported.report
     → AreNotPast reported.report.positions (session_ends opening)
 last_save_reported_within_ends opening phi reported at =
     let many : length reported.report.positions ≡ length opening = at.as_many in

@@ -18,7 +18,7 @@ use Rattle.prefix_lattice.specs.{record_limit}
 use Rattle.hhh_report.specs.{IsSound}
 use Rattle.hhh_report.specs.declared.report.Report.{Report}
 use Rattle.hhh_report.specs.declared.reports.Reported.{Reported}
-use Rattle.gate_workers.specs.{Calls, IsReportAtCall, ReadsOnce, View, states_at}
+use Rattle.gate_workers.specs.{Calls, IsCoreReport, ReadsOnce, View, states_at}
 use Rattle.report_text.specs.{ShowsPositions}
 use Rattle.report_session.specs.DealtFeed.{IsSaveFault}
 use Rattle.report_session.specs.LiveRounds.{RoundsBreakOff, BreaksRound, EndRounds, RoundFaults, IsInVain}
@@ -46,7 +46,7 @@ round_positions_are_within (shard ∷ rest) (position ∷ positions) many kept =
     (All-tail IsShard (shard_state_at position shard) (states_at rest positions) kept))
 
 pub round_report_has_positions : (opening : List ShardValue) (phi : ℕ) (report : Report) → AreCoreShards opening
-    → IsReportAtCall opening phi report → ShowsPositions report.positions
+    → IsCoreReport opening phi report → ShowsPositions report.positions
 round_report_has_positions opening phi report shards at = record {
   some = subst (λ n. 1 ≤ n) (sym at.as_many) shards.some;
   few = subst (λ n. n ≤ 16) (sym at.as_many) shards.few;
@@ -55,9 +55,9 @@ round_report_has_positions opening phi report shards at = record {
 
 -- the report of one round
 pub round_makes_report : (opening : List ShardValue) (phi : ℕ) (before now : View) (report : Report)
-    → Calls opening phi 1 before now (record { report = report; saved = None } ∷ []) → IsReportAtCall opening phi report
+    → Calls opening phi 1 before now (record { report = report; saved = None } ∷ []) → IsCoreReport opening phi report
 round_makes_report opening phi before now report calls =
-    All-head (λ (reported : Reported). IsReportAtCall opening phi reported.report)
+    All-head (λ (reported : Reported). IsCoreReport opening phi reported.report)
     (record { report = report; saved = None }) [] calls.each
 
 -- the text of a list of one report

@@ -12,7 +12,7 @@ use Rattle.hhh_report.specs.{AreReportLines, IsSameReport}
 use Rattle.hhh_output.specs.{IsReportOf}
 use Rattle.hhh_report.specs.declared.report.Report.{Report}
 use Rattle.hhh_report.specs.declared.reports.Reported.{Reported}
-use Rattle.gate_workers.specs.{IsReportAtCall, cut_at}
+use Rattle.gate_workers.specs.{IsCoreReport, cut_at}
 use Rattle.checkpoint.specs.{StoreBelongs, IsStoreOf, SavedValue, lists_digest, store_sequence}
 use Rattle.checkpoint.specs.declared.settings.StoreSettings.{StoreSettings}
 use Rattle.command_words.specs.declared.settings.Settings.{Settings}
@@ -26,7 +26,7 @@ use Rattle.report_session.proofs.SeenPositionLemmas.{seen_positions_of_cut}
 
 -- the cut of a report of the pure core represents the lists, if the bases do
 abbrev pub SavedStoreCutsRepresent : Type 0
-SavedStoreCutsRepresent = (opening : List ShardValue) (phi : ℕ) (report : Report) → AreCoreShards opening → IsReportAtCall opening phi report
+SavedStoreCutsRepresent = (opening : List ShardValue) (phi : ℕ) (report : Report) → AreCoreShards opening → IsCoreReport opening phi report
     → BasesRepresent opening → CutRepresents (cut_at opening report.positions) (core_lists opening)
 
 -- cuts that represent the same lists have one report

@@ -5,7 +5,7 @@ use Rattle.shard_state.specs.{ShardValue}
 use Rattle.hhh_report.specs.{IsSameReport}
 use Rattle.hhh_output.specs.{IsReportOf}
 use Rattle.hhh_report.specs.declared.report.Report.{Report}
-use Rattle.gate_workers.specs.{IsReportAtCall, cut_at}
+use Rattle.gate_workers.specs.{IsCoreReport, cut_at}
 use Rattle.command_words.specs.declared.settings.Settings.{Settings}
 use Rattle.report_session.specs.Session.{session_ends, new_shards, IsWholeReport, IsShownInSession}
 use Rattle.report_session.proofs.LastReportLemmas.{LastReportIsUnique}
@@ -20,7 +20,7 @@ pub whole_report_counts_all_records : (settings : Settings) (lists : List (List 
     → IsShownInSession opening settings (record { report = report; saved = None }) → report.positions ≡ session_ends opening
     → IsWholeReport settings lists report
 whole_report_counts_all_records settings lists opening report same bases shown at_ends = record {
-  is_report = subst (λ o. IsReportAtCall o settings.phi report) same shown.is_report;
+  is_report = subst (λ o. IsCoreReport o settings.phi report) same shown.is_report;
   at_ends = at_ends ∙ ap session_ends same;
   is_sound =
       subst (λ l. IsSound report l settings.capacity settings.phi)
@@ -31,8 +31,8 @@ whole_report_counts_all_records settings lists opening report same bases shown a
 -- the report at the ends of shards
 pub whole_reports_agree : LastReportIsUnique → (opening other_opening : List ShardValue) (phi other_phi : ℕ) (report other : Report)
     → opening ≡ other_opening → phi ≡ other_phi
-    → IsReportAtCall opening phi report → report.positions ≡ session_ends opening
-    → IsReportAtCall other_opening other_phi other → other.positions ≡ session_ends other_opening → IsSameReport report other
+    → IsCoreReport opening phi report → report.positions ≡ session_ends opening
+    → IsCoreReport other_opening other_phi other → other.positions ≡ session_ends other_opening → IsSameReport report other
 whole_reports_agree one opening other_opening phi other_phi report other same_opening same_phi is at_ends is_other
     other_at_ends =
     let same_cut : cut_at other_opening other.positions ≡ cut_at opening report.positions =

@@ -10,7 +10,7 @@ use Rattle.shard_state.specs.{IsCore, core_capacity, core_lists}
 use Rattle.hhh_report.specs.{IsSound}
 use Rattle.hhh_report.specs.declared.report.Report.{Report}
 use Rattle.hhh_report.specs.declared.reports.Reported.{Reported}
-use Rattle.gate_workers.specs.{IsReportAtCall, cut_at}
+use Rattle.gate_workers.specs.{IsCoreReport, cut_at}
 use Rattle.frame_records.specs.declared.records.Records.{Records}
 use Rattle.slot_disk.specs.{IfImageKnown}
 use Rattle.checkpoint.specs.declared.settings.StoreSettings.{StoreSettings}
@@ -64,12 +64,12 @@ pub record AreSessionShards (capacity : ℕ) (opening : List ShardValue) : Type 
 -- a report that a session shows: it is the report of the tables at its own positions; and it is sound over the records
 -- themselves, if the shards began with the tables of their records
 pub record IsShownInSession (opening : List ShardValue) (settings : Settings) (reported : Reported) : Type 0 where
-  pub is_report : IsReportAtCall opening settings.phi reported.report
+  pub is_report : IsCoreReport opening settings.phi reported.report
   pub is_sound : BasesRepresent opening → IsSound reported.report (core_lists opening) settings.capacity settings.phi
 
 -- from these positions on, the positions of one caller's reports never fall. They may stay the same
-abbrev pub NeverFall : List ℕ → List Reported → Type 0
-NeverFall opened reports = (shard : ℕ) → shard < length opened
+abbrev pub ReportsNeverFall : List ℕ → List Reported → Type 0
+ReportsNeverFall opened reports = (shard : ℕ) → shard < length opened
     → IsNonDecreasing
     (slice_index opened shard ∷ map (λ reported. slice_index reported.report.positions shard) reports)
 
@@ -78,7 +78,7 @@ pub record AreOfCaller (opening : List ShardValue) (settings : Settings) (count 
     : Type 0 where
   pub as_many : length reports ≡ count
   pub shown : All (IsShownInSession opening settings) reports
-  pub never_fall : NeverFall (session_start opening) reports
+  pub never_fall : ReportsNeverFall (session_start opening) reports
 
 -- the reports of a session: those of the calling thread's rounds, those of each other caller, and the last one
 pub record SessionReports : Type 0 where
@@ -268,7 +268,7 @@ BeginsWholeSession settings rules store file front =
 
 -- the report over all records of dealt lists, which new tables counted; it is sound
 pub record IsWholeReport (settings : Settings) (lists : List (List RecordValue)) (report : Report) : Type 0 where
-  pub is_report : IsReportAtCall (new_shards settings.capacity lists) settings.phi report
+  pub is_report : IsCoreReport (new_shards settings.capacity lists) settings.phi report
   pub at_ends : report.positions ≡ session_ends (new_shards settings.capacity lists)
   pub is_sound : IsSound report lists settings.capacity settings.phi
 

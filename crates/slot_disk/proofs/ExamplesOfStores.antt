@@ -3,7 +3,7 @@ use Rattle.std.proofs.Common.{◌≡◌, ◌⊎◌, ℕ, List, [], ◌∷◌, �
 use Rattle.std.proofs.Common.{inl, inr, arith}
 use Rattle.slot_disk.specs.Recorded.{no_bytes}
 use Rattle.slot_disk.specs.StoreLayout.{is_gate_open, slot_header, place_of_body, number_at}
-use Rattle.slot_disk.specs.StoreLayout.{IsNumber}
+use Rattle.slot_disk.specs.StoreLayout.{IsNumberRead}
 use Rattle.slot_disk.specs.StoreLayout.{slot_body, Closed, Broken, Whole, slot_content}
 use Rattle.slot_disk.specs.Slots.{KnownSlotsState, known_slot_open, after_opening, known_slots_of}
 use Rattle.slot_disk.specs.Slots.{closed_known_slots, MatchesKnown}
@@ -134,11 +134,11 @@ pub other_gate_stays : PutMayLeave 16 0 body (store 0 0) (store 1 1) → ⊥
 unfolding number_at
 other_gate_stays may = let broken : Broken ≡ Closed = may.beside.other_slot in cc broken
 
-pub number_is_read : IsNumber 64 (Some 9) (store 1 0)
+pub number_is_read : IsNumberRead 64 (Some 9) (store 1 0)
 unfolding number_at
 number_is_read = (omega arith, refl)
 
-pub number_past_the_end : IsNumber 80 None (store 1 0)
+pub number_past_the_end : IsNumberRead 80 None (store 1 0)
 number_past_the_end = omega arith
 
 -- the parts of that put: a gate that is closed already, a body that was written, a gate that is opened

@@ -29,8 +29,8 @@ unfoldable pub number_at : ℕ → List ℕ → ℕ
 number_at place image = big_from 0 8 (drop place image)
 
 -- what is read at an offset: the number there, or nothing where the bytes end before or inside it
-abbrev pub IsNumber : ℕ → Option ℕ → List ℕ → Type 0
-IsNumber place read image =
+abbrev pub IsNumberRead : ℕ → Option ℕ → List ℕ → Type 0
+IsNumberRead place read image =
     MatchOption read (length image < place + 8) (λ number. (place + 8 ≤ length image) × (number ≡ number_at place image))
 
 -- the bytes at an offset are a whole body: 8 bytes are there, and the length in them is from 8 to the span and doesn't

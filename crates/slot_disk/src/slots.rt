@@ -9,7 +9,7 @@ ghost use Rattle.slot_disk.specs.Slots.{known_slot_open, after_opening, known_sl
 ghost use Rattle.slot_disk.specs.Slots.{MatchesKnown};
 ghost use Rattle.slot_disk.specs.Putting.{FitsSlot, IsReadyForPut, IsPut, PutMayLeave};
 ghost use Rattle.slot_disk.specs.StoreLayout.{front_bytes, place_of_body, slot_body, body_is_whole};
-ghost use Rattle.slot_disk.specs.StoreLayout.{number_at, IsNumber};
+ghost use Rattle.slot_disk.specs.StoreLayout.{number_at, IsNumberRead};
 
 use crate::putting::{close_gate, open_gate, write_body};
 use crate::{BeginFault, BodyFault, Disk};
@@ -207,7 +207,7 @@ fn read_length<D: Disk>(disk: &mut D, place: u64, span: u64) -> Result<usize, Bo
 
 // The number in the 8 bytes at an offset, unless the disk ends before or inside them.
 fn read_number<D: Disk>(disk: &mut D, place: u64) -> Result<Option<u64>, Failed>
-    ensures number { IfOk result (λ number. IfImageKnown (D.reads disk.old) (IsNumber place number)) }
+    ensures number { IfOk result (λ number. IfImageKnown (D.reads disk.old) (IsNumberRead place number)) }
     ensures unchanged { IsUnchangedAt D.reads D.image_now disk.old disk.new }
     ensures any_moment { CrashLeaves D.moment D.image_since disk.old disk.new (D.image_now disk.old) }
     ensures cause { FailsByCount (D.faults disk.old) (D.faults disk.new) result }

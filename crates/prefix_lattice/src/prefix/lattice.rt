@@ -4,7 +4,7 @@ ghost use Rattle.std.specs.Prelude.{◌≡◌, ◌≢◌, ◌↔◌, true, IsTru
 ghost use Rattle.prefix_lattice.specs.Node.{IsNode};
 ghost use Rattle.prefix_lattice.specs.Prefix.{PrefixValue, IsPrefix};
 ghost use Rattle.prefix_lattice.specs.Lattice.{under, strictly_under};
-ghost use Rattle.prefix_lattice.specs.Meets.{meet, AreMeet};
+ghost use Rattle.prefix_lattice.specs.Meets.{meet, AreOverlapping};
 ghost use Rattle.prefix_lattice.specs.ReportOrder.{report_order};
 ghost use Rattle.prefix_lattice.specs.Uppers.{upper_at};
 
@@ -62,7 +62,7 @@ impl Prefix {
         ensures under_both { IfSome result (λ m. (under m self.now ≡ true) × (under m other.now ≡ true)) }
         ensures greatest { (lower : PrefixValue) → under lower self.now ≡ true → under lower other.now ≡ true
             → IsSomeAnd result (λ m. under lower m ≡ true) }
-        ensures some { IsSome result ↔ AreMeet self.now other.now }
+        ensures some { IsSome result ↔ AreOverlapping self.now other.now }
     {
         lowest(self, other)
     }

@@ -1,7 +1,7 @@
 use Rattle.std.proofs.Common.{◌≡◌, ◌↔◌, true, Option, is_some, IsSomeAnd, sym, subst}
 use Rattle.prefix_lattice.specs.Prefix.{PrefixValue}
 use Rattle.prefix_lattice.specs.Lattice.{under}
-use Rattle.prefix_lattice.specs.Meets.{AreMeet}
+use Rattle.prefix_lattice.specs.Meets.{AreOverlapping}
 use Rattle.prefix_lattice.proofs.UnderMeetLemmas.{meet_under_both, meet-greatest, meet-some}
 use Rattle.prefix_lattice.proofs.prefix.Prefix.meet.Goals as goal
 
@@ -15,6 +15,6 @@ returns-clause-greatest c = λ lower is_under under_other.
 
 pub returns-clause-some : goal.returns-clause-some
 returns-clause-some c =
-    subst (λ (o : Option PrefixValue). (is_some o ≡ true) ↔ AreMeet c.args.self.now c.args.other.now)
+    subst (λ (o : Option PrefixValue). (is_some o ≡ true) ↔ AreOverlapping c.args.self.now c.args.other.now)
     (sym c.lowest.ensures.value)
     (meet-some c.args.self.now c.args.other.now c.lowest.ensures.prefix c.lowest.ensures.other)
