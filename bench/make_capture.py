@@ -1,14 +1,20 @@
 #!/usr/bin/env python3
 """Writes a capture of random IPv4 traffic: make_capture.py SEED FRAMES KIND > FILE
 
-KIND is `short`, `whole`, `skewed`, `met`, `crossed`, `nested`, `paired`, `heavy`, `forged` or `listed`. Addresses come
-from a linear congruential generator; of each side a quarter is one host, a quarter falls into a /22, and the rest spreads
-over a /8. Lengths on the wire go 100, 200, 300, 400 in turn. `short` frames hold the 34 bytes up to the end of the IPv4
-header, `whole` frames all their bytes.
+KIND is `short`, `whole`, `skewed`, `zipf`, `distinct`, `met`, `crossed`, `nested`, `paired`, `heavy`, `forged` or
+`listed`. Addresses come from a linear congruential generator; of each side a quarter is one host, a quarter falls into a
+/22, and the rest spreads over a /8. Lengths on the wire go 100, 200, 300, 400 in turn. `short` frames hold the 34 bytes
+up to the end of the IPv4 header, `whole` frames all their bytes.
 
 `skewed` frames are as short, and of each side three quarters fall to 255 hosts, which are strewn over the /8:
 as often to host 1 as to 2 and 3 together, to 4 up to 7, and so on up to 128 to 255. So a host has about
 half of what the host of half its number has. The last quarter spreads over the /8.
+
+`zipf` frames are as short, and each side has 1,048,576 hosts, which are strewn over all addresses: the host of number n
+has a share of about 1 / n. So few hosts have much, many have little, and there is no end to new ones.
+
+`distinct` frames are as short, have random pairs of addresses, and a length of 100 bytes on the wire each. No pair comes
+twice, so all tables but the coarsest take a new key with each frame.
 
 `met` frames are as short, and made against the index of the tables at their default capacity: no two have one pair
 of addresses, and all pairs share their first home in each of the nine tables that keep two bytes or more of
@@ -45,6 +51,7 @@ MULTIPLIER = 6364136223846793005
 INCREMENT = 1442695040888963407
 STATES = 1 << 64
 STREWING = 0x9E3779
+ZIPF_STREWING = 0x9E3779B1
 # The multiplier of the first turn of a search, and how many homes the index of a table of 512 entries has.
 FIRST_TURN = 0x9E3779B97F4A7C15
 HOMES = 8 * 512
@@ -73,6 +80,12 @@ def skewed_address(first_byte, draw):
     return first_byte << 24 | low
 
 
+def zipf_address(first_byte, draw):
+    """The address of a host whose share falls with its number, from 1 to 2^20, whatever the first byte."""
+    host = int(2 ** (20 * draw / 2**32))
+    return (host * ZIPF_STREWING + (first_byte << 24)) & 0xFFFFFFFF
+
+
 def random_pairs(seed, pick):
     """Pairs of addresses without end."""
     state = seed
@@ -81,6 +94,9 @@ def random_pairs(seed, pick):
         source = pick(10, state >> 32)
         state = (MULTIPLIER * state + INCREMENT) % STATES
         yield source, pick(20, state >> 32)
+
+
+ADDRESSES = {"skewed": skewed_address, "forged": skewed_address, "zipf": zipf_address}
 
 
 def met_pairs():
@@ -137,7 +153,7 @@ def paired_pairs(count):
         yield source, destination
 
 
-def heavy_pairs(seed):
+def any_pairs(seed):
     """Pairs of any addresses, without end."""
     source = random.Random(seed)
     while True:
@@ -161,18 +177,18 @@ def pairs_of(seed, count, kind):
         return nested_pairs(seed, count)
     if kind == "paired":
         return paired_pairs(count)
-    if kind == "heavy":
-        return heavy_pairs(seed)
+    if kind in ("heavy", "distinct"):
+        return any_pairs(seed)
     if kind == "listed":
         return listed_pairs()
-    return random_pairs(seed, skewed_address if kind in ("skewed", "forged") else address)
+    return random_pairs(seed, ADDRESSES.get(kind, address))
 
 
 def wire_lengths(seed, count, kind):
     if kind == "heavy":
         source = random.Random(seed + 1)
         return (source.randrange(1 << 31, 1 << 32) for _ in range(count))
-    if kind == "listed":
+    if kind in ("listed", "distinct"):
         return itertools.repeat(100, count)
     lengths = [100 * (1 + place % 4) for place in range(count)]
     if kind == "forged":
