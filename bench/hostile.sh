@@ -1,7 +1,8 @@
 #!/bin/sh
 # Measures the program over input that is made against it: hostile.sh [TURNS [PART...]]. For each input it prints the
-# processor time in seconds, and the ratio to an ordinary (`skewed`) capture of as many frames with the same options, both
-# the least of three turns, or of TURNS. No aim is judged. PART is `index`, `ranks`, `forged`, `query`, `keys`, `lines` or
+# processor time in seconds, and the ratio to an ordinary capture of as many frames with the same options, both the
+# least of three turns, or of TURNS. The ordinary one is `distinct` for the tables (`index`, `ranks`), where each frame
+# has a new key, and else `skewed`. No aim is judged. PART is `index`, `ranks`, `forged`, `query`, `keys`, `lines` or
 # `large`; without one all but `large` are measured, in some five minutes. Needs cc, python3 and /usr/bin/time.
 set -eu
 here=$(dirname "$(readlink -f "$0")")
@@ -21,12 +22,12 @@ compare() {
     }'
 }
 
-# `report` over a hostile capture: NAME KIND FRAMES OPTION...
+# `report` over a hostile capture, beside an ordinary one: NAME ORDINARY KIND FRAMES OPTION...
 compare_reports() {
     name=$1
-    hostile=$2.$3
-    ordinary=skewed.$3
-    shift 3
+    ordinary=$2.$4
+    hostile=$3.$4
+    shift 4
     printf '%s\n' "$hhh report --capture $work/$ordinary $*" "$hhh report --capture $work/$hostile $*" | compare "$name"
 }
 
@@ -46,22 +47,37 @@ audit_line() {
     echo "$hhh audit --capture $work/$capture --report $work/$session $*"
 }
 
-# The index of the tables: the windows of one key are full of other keys, and then that key comes again and again.
+# A `report` over frames of `hostile_keys`, beside as many with a new key each: NAME FRAMES KIND CAPACITY SHARDS WORD...
+compare_tables() {
+    name="$1, capacity $4, shards $5"
+    frames=$2
+    shift 2
+    [ -e "$work/distinct.$frames" ] || make_frames distinct "$frames"
+    "$work/hostile_keys" "$@" | make_frames listed "$frames"
+    compare_reports "$name" distinct listed "$frames" --capacity "$2" --shards "$3" --phi 31251
+}
+
+# The index of the tables: keys that full homes turn away. Marks are set by twenty frames for each slot.
 index() {
-    make_frames skewed 60000
-    for tables in "512 1" "512 4" "4096 1"; do
+    for tables in "64 1" "512 1" "512 4" "4096 1"; do
         set -- $tables
-        "$work/hostile_keys" deep "$1" "$2" | make_frames listed 60000
-        compare_reports "a deep key, capacity $1, shards $2" listed 60000 --capacity "$1" --shards "$2"
+        marking=$((20 * $1 * $2))
+        compare_tables "a deep key again and again" 60000 deep "$@"
+        compare_tables "keys behind three full homes" 60000 filled "$@" 60000
+        compare_tables "new keys behind four full homes" 60000 turned "$@" 60000
+        compare_tables "keys behind eight full homes" 60000 listed "$@" 60000
+        compare_tables "new keys, and each home is marked" $((marking + 60000)) marked "$@" 60000
     done
 }
 
-# The ranks of the tables: weights near 2^32, by which counts outgrow a rank.
+# The ranks of the tables: counts that are nearly equal, and weights near 2^32, by which counts outgrow a rank.
 ranks() {
-    make_frames skewed 60000
     make_frames heavy 60000
-    for capacity in 512 4096; do
-        compare_reports "weights near 2^32, capacity $capacity" heavy 60000 --capacity $capacity
+    for capacity in 64 512 4096; do
+        compare_tables "nearly equal counts" 60000 even $capacity 1 60000 100
+        compare_tables "nearly equal counts, weights near 2^32" 60000 even $capacity 1 60000 4294967288
+        compare_reports "weights from 2^31 to 2^32, capacity $capacity, shards 1" distinct heavy 60000 \
+            --capacity $capacity --shards 1 --phi 31251
     done
 }
 
@@ -69,7 +85,7 @@ ranks() {
 forged() {
     make_frames skewed 60000
     make_frames forged 60000
-    compare_reports "a forged length" forged 60000
+    compare_reports "a forged length" skewed forged 60000
     for weigh in bytes packets; do
         make_session skewed.60000 ordinary.$weigh --weigh $weigh
         make_session forged.60000 forged.$weigh --weigh $weigh
@@ -85,7 +101,7 @@ query() {
     make_frames skewed 20000
     for kind in crossed nested; do
         make_frames $kind 20000
-        compare_reports "$kind, 2,000 a side" $kind 20000 --shards 1 --weigh packets --capacity 4096 --phi 500
+        compare_reports "$kind, 2,000 a side" skewed $kind 20000 --shards 1 --weigh packets --capacity 4096 --phi 500
     done
 }
 

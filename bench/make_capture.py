@@ -13,8 +13,8 @@ half of what the host of half its number has. The last quarter spreads over the 
 `zipf` frames are as short, and each side has 1,048,576 hosts, which are strewn over all addresses: the host of number n
 has a share of about 1 / n. So few hosts have much, many have little, and there is no end to new ones.
 
-`distinct` frames are as short, have random pairs of addresses, and a length of 100 bytes on the wire each. No pair comes
-twice, so all tables but the coarsest take a new key with each frame.
+`distinct` frames are as short, have random pairs of addresses, and a length of 100 bytes on the wire each. Hardly a pair
+comes twice, so nearly all tables take a new key with each frame.
 
 `met` frames are as short, and made against the index of the tables at their default capacity: no two have one pair
 of addresses, and all pairs share their first home in each of the nine tables that keep two bytes or more of
@@ -37,8 +37,9 @@ counts outgrow the ranks of a table.
 
 `forged` frames are `skewed` ones, but for the middle one, which claims a length of 4,093,509,168 bytes on the wire.
 
-`listed` frames are as short, have a length of 100 bytes on the wire each, and the pairs of addresses that standard input
-lists: a source and a destination, as numbers, in each line. The last pair is repeated up to the number of frames.
+`listed` frames are as short, and have the pairs of addresses that standard input lists: a source and a destination, as
+numbers, in each line, and after them the length on the wire, or 100 bytes. The last line is repeated up to the number
+of frames.
 """
 
 import bisect
@@ -160,12 +161,13 @@ def any_pairs(seed):
         yield source.getrandbits(32), source.getrandbits(32)
 
 
-def listed_pairs():
-    """The pairs that standard input lists, and the last of them without end."""
+def listed():
+    """The lengths and pairs that standard input lists, and the last of them without end."""
     for line in sys.stdin:
-        source, destination = map(int, line.split())
-        yield source, destination
-    yield from itertools.repeat((source, destination))
+        source, destination, *length = map(int, line.split())
+        wire = length[0] if length else 100
+        yield wire, (source, destination)
+    yield from itertools.repeat((wire, (source, destination)))
 
 
 def pairs_of(seed, count, kind):
@@ -179,8 +181,6 @@ def pairs_of(seed, count, kind):
         return paired_pairs(count)
     if kind in ("heavy", "distinct"):
         return any_pairs(seed)
-    if kind == "listed":
-        return listed_pairs()
     return random_pairs(seed, ADDRESSES.get(kind, address))
 
 
@@ -188,7 +188,7 @@ def wire_lengths(seed, count, kind):
     if kind == "heavy":
         source = random.Random(seed + 1)
         return (source.randrange(1 << 31, 1 << 32) for _ in range(count))
-    if kind in ("listed", "distinct"):
+    if kind == "distinct":
         return itertools.repeat(100, count)
     lengths = [100 * (1 + place % 4) for place in range(count)]
     if kind == "forged":
@@ -197,7 +197,10 @@ def wire_lengths(seed, count, kind):
 
 
 def frames(seed, count, kind):
-    pairs = zip(wire_lengths(seed, count, kind), pairs_of(seed, count, kind))
+    if kind == "listed":
+        pairs = itertools.islice(listed(), count)
+    else:
+        pairs = zip(wire_lengths(seed, count, kind), pairs_of(seed, count, kind))
     for place, (wire, (source, destination)) in enumerate(pairs):
         captured = wire if kind == "whole" else 34
         yield struct.pack("<IIII", place, 0, captured, wire) + ETHERNET + struct.pack(
