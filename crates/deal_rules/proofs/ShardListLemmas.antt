@@ -1,7 +1,7 @@
 -- The lists of the shards as one more record is dealt.
 use Rattle.std.proofs.Common.{◌≡◌, ℕ, suc, zero, ◌+◌, ◌<◌, ◌≤◌, eqb, Bool, true, false, cond, List, [], ◌∷◌, ◌++◌}
-use Rattle.std.proofs.Common.{length, map, filter, take, get_or, set, refl, sym, ap, ◌∙◌, subst, inl, inr, ◌⊎◌}
-use Rattle.std.proofs.Common.{arith, length-set, length-append}
+use Rattle.std.proofs.Common.{length, map, filter, take, drop, get_or, set, refl, sym, ap, ◌∙◌, subst, inl, inr, ◌⊎◌}
+use Rattle.std.proofs.Common.{arith, length-set, length-append, length-drop}
 use Rattle.std.specs.List.{zip, slice_get}
 use Rattle.std.specs.Prelude.{Some}
 use Rattle.std.proofs.lemmas.Bool.{eqb-true, eqb-false, cond_both}
@@ -163,10 +163,20 @@ shard_lists_take_next_record kind may_answer shards records place lists r n old 
     (shard_lists_take_record kind may_answer shards (take place records) lists r n dealing
     (subst (λ p. MayDeal kind may_answer p r shards n) (sym long) last)))
 
--- all records are dealt
-pub shard_lists_hold_all_records : (kind : DealKind) (may_answer : ℕ → RecordValue → ℕ → ℕ → Type 0) (shards : ℕ)
+-- what is left begins with the next record: the record at this place, and those after it
+pub shard_lists_leave_next_record : (records : List RecordValue) (place : ℕ) (r : RecordValue) (left : List RecordValue)
+    → r ∷ left ≡ drop place records → (slice_get records place ≡ Some r) × (left ≡ drop (suc place) records)
+shard_lists_leave_next_record [] zero r left is = cc
+shard_lists_leave_next_record [] (suc place) r left is = cc
+shard_lists_leave_next_record (q ∷ records) zero r left is = (cc, cc)
+shard_lists_leave_next_record (q ∷ records) (suc place) r left is = shard_lists_leave_next_record records place r left is
+
+-- once none is left, all records are dealt
+pub shard_lists_leave_none : (kind : DealKind) (may_answer : ℕ → RecordValue → ℕ → ℕ → Type 0) (shards : ℕ)
     (records : List RecordValue) (place : ℕ) (lists : List (List RecordValue))
-    → length records ≤ place → IsDealing kind may_answer shards (take place records) lists
+    → [] ≡ drop place records → IsDealing kind may_answer shards (take place records) lists
     → IsDealing kind may_answer shards records lists
-shard_lists_hold_all_records kind may_answer shards records place lists past dealing =
+shard_lists_leave_none kind may_answer shards records place lists none dealing =
+    let left : length (drop place records) ≡ 0 = ap length (sym none) in
+    let past : length records ≤ place = omega (arith, length-drop place records, left) in
     subst (λ (rs : List RecordValue). IsDealing kind may_answer shards rs lists) (take_all place records past) dealing

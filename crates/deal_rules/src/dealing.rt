@@ -14,7 +14,7 @@ use std::alloc::{AllocError, Global};
 
 /// Deals the records, at most 16,777,216, to 1 to 16 shards. Each record goes to the shard that the dealer returns
 /// for its index, counted from 0, and keeps its order there. On an error, which means that memory ran out, the dealt
-/// lists are dropped.
+/// lists are dropped. The list stays as it is: a copy of it is dealt.
 pub fn deal(
     alloc: Global,
     list: &RecordList,
@@ -27,11 +27,30 @@ pub fn deal(
     ensures { IfOk result (λ dealt. IsDealing (⟦<Dealer as Deals>⟧.kind_of dealer.now)
         (⟦<Dealer as Deals>⟧.may_answer dealer.now) shards list.now dealt) }
 {
+    deal_out(alloc, list.copy(alloc)?, dealer, shards)
+}
+
+/// Deals the records of a list as `deal` does, and gives back the memory of the list as they go over to those of the
+/// shards, so that each record is in memory once.
+pub fn deal_out(
+    alloc: Global,
+    list: RecordList,
+    dealer: &Dealer,
+    shards: u32,
+) -> Result<Dealt, AllocError>
+    requires some { 1 ≤ shards }
+    requires few { shards ≤ shard_limit }
+    requires small { length list ≤ record_limit }
+    ensures { IfOk result (λ dealt. IsDealing (⟦<Dealer as Deals>⟧.kind_of dealer.now)
+        (⟦<Dealer as Deals>⟧.may_answer dealer.now) shards list dealt) }
+{
     let mut lists = empty_lists(alloc, shards)?;
-    for place in 0..list.len() {
-        let rec = list.at(place);
-        let shard = dealer.shard(place as u64, rec, shards);
-        lists[shard as usize].push(*rec)?;
+    let mut left = list.into_queue();
+    let mut place = 0;
+    while let Some(rec) = left.take_first() {
+        let shard = dealer.shard(place, &rec, shards);
+        lists[shard as usize].push(rec)?;
+        place += 1;
     }
     Ok(Dealt::of(lists))
 }

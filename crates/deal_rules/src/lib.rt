@@ -11,5 +11,5 @@ mod dealt;
 pub use deal_kind::DealKind;
 pub use dealer::{DealRule, Dealer, Deals};
 pub use dealers::Dealers;
-pub use dealing::{a_formula_deals_in_one_way, deal, dealing_loses_nothing};
+pub use dealing::{a_formula_deals_in_one_way, deal, deal_out, dealing_loses_nothing};
 pub use dealt::Dealt;

@@ -10,6 +10,7 @@ mod prefix_fault;
 mod prefixes;
 mod record;
 mod record_list;
+mod record_queue;
 mod side_reading;
 mod side_writing;
 
@@ -27,3 +28,4 @@ pub use prefix_fault::{PrefixFault, Side};
 pub use prefixes::Prefixes;
 pub use record::Record;
 pub use record_list::RecordList;
+pub use record_queue::RecordQueue;

@@ -3,7 +3,7 @@
 ghost use Rattle.std.specs.Prelude.{◌≡◌, ◌==◌, ◌<◌, ◌++◌, [], ◌∷◌, ◌≤◌, ◌^◌, length, All, IfOk, OnOk, OnErr, slice_get};
 ghost use Rattle.std.specs.Prelude.{Some};
 
-use crate::Record;
+use crate::{Record, RecordQueue};
 use std::alloc::{AllocError, Global};
 use std::marker::Model;
 
@@ -81,5 +81,11 @@ impl RecordList {
         Ok(RecordList {
             records: Vec::from_slice(alloc, &self.records)?,
         })
+    }
+    /// The records as a queue. It takes no memory.
+    pub fn into_queue(self) -> RecordQueue
+        ensures { result ≡ self }
+    {
+        RecordQueue::of(self.records)
     }
 }

@@ -84,6 +84,6 @@ fn read_audited<S: Source, T: Source>(
     let records = read_records(alloc, capture, settings.weigh)?;
     let bytes = read_text(alloc, text)?;
     let session = read_session(alloc, &bytes)?;
-    let dealt = deal_records(alloc, &records.list, settings, dealers)?;
+    let dealt = deal_records(alloc, records.list, settings, dealers)?;
     Ok(Audited { dealt, session })
 }

@@ -78,12 +78,13 @@ fn demo_text<R: Threads + Wait + Sync, G: Gate + Sync>(
 {
     let alloc = runner.alloc;
     let records = made_records(alloc, seed, frames, settings.weigh)?;
-    let dealt = deal_records(alloc, &records.list, settings, runner.dealers)?;
+    let count = records.list.len() as u64;
+    let dealt = deal_records(alloc, records.list, settings, runner.dealers)?;
     // What is audited is a copy, so that the audit shares nothing with the shards.
     let plain = dealt.copy(alloc)?;
     let report = report_all(runner.rt, alloc, dealt, settings, runner.gate)?;
     match verdict_on(alloc, &plain, &report, settings)? {
-        Verdict::Good => summary(alloc, seed, frames, records.list.len() as u64, &report),
+        Verdict::Good => summary(alloc, seed, frames, count, &report),
         _ => unreachable!(),
     }
 }

@@ -81,6 +81,6 @@ fn read_dealt<S: Source>(
     let records = read_records(alloc, capture, settings.weigh)?;
     let mut tail = Vec::new(alloc);
     print_tail(&records, &mut tail)?;
-    let dealt = deal_records(alloc, &records.list, settings, dealers)?;
+    let dealt = deal_records(alloc, records.list, settings, dealers)?;
     Ok(DealtFeed { dealt, tail })
 }

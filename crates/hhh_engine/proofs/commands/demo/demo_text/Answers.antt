@@ -18,5 +18,5 @@ returns g c =
       report = c.in_ok-report.report;
       is_report = c.in_ok-report.ensures;
       spelled =
-          spelled ∙ ap (λ count. demo_text c.args.seed c.args.frames count c.in_ok-report.report) c.len.ensures;
+          spelled ∙ ap (λ count. demo_text c.args.seed c.args.frames count c.in_ok-report.report) c.len-count.ensures;
     }) c.summary.ensures
