@@ -1,10 +1,10 @@
 -- Where places are entered, after one was entered or taken out.
-use Rattle.std.proofs.Common.{◌≡◌, ◌≢◌, ℕ, ◌+◌, ◌-◌, ◌*◌, ◌^◌, ◌<◌, ◌≤◌, zero, suc, List, [], ◌∷◌, ◌++◌, Bool, true}
+use Rattle.std.proofs.Common.{◌≡◌, ◌≢◌, ℕ, ◌+◌, ◌-◌, ◌*◌, ◌^◌, ◌<◌, ◌≤◌, zero, suc, List, [], ◌∷◌, ◌++◌}
 use Rattle.std.proofs.Common.{false, cond, eqb, ltb, length, get_or, replicate}
 use Rattle.std.proofs.Common.{set, refl, sym, ap, ◌∙◌, subst, ⊎_elim, arith, get_or-set_same, get_or-set_other}
 use Rattle.std.specs.List.{All, Contains}
 use Rattle.std.proofs.lemmas.Bool.{cases_eq, cases_lt, cond-true, cond-false, eq-eqb, ne_eqb, lt-ltb, le-ltb}
-use Rattle.std.proofs.lemmas.Bool.{eqb-true, false≢true}
+use Rattle.std.proofs.lemmas.Bool.{eqb-true}
 use Rattle.std.proofs.Math.ListN.{length-set, get_or-append}
 use Rattle.std.proofs.lemmas.List.{get_or_past, get_or-replicate, length-replicate}
 use Rattle.std.proofs.lemmas.Grind.{get_or_default_zero}
@@ -12,9 +12,10 @@ use Rattle.std.proofs.lemmas.Map.Keys.{IsDistinct-from_apart}
 use Rattle.std.proofs.lemmas.Map.Steps.{length-le_from_distinct_below}
 use Rattle.std.proofs.lemmas.Map.Views.{Contains-from_any}
 use Rattle.key_index.specs.Homes.{home_at}
+use Rattle.key_index.specs.HomeMarks.{IsMarked}
 use Rattle.key_index.specs.Chains.{AreChains, IsLinked}
 use Rattle.key_index.specs.SortedPlaces.{Rises, IsListed, HasMore, HasLess}
-use Rattle.key_index.specs.Entries.{Entries, AreEntered, LeadBelow}
+use Rattle.key_index.specs.Entries.{KeyEntries, AreEntered, LeadBelow}
 use Rattle.key_index.proofs.JoinLemmas.{Joins, chains_after_join, joins_linked, joins_kept}
 use Rattle.key_index.proofs.LeaveLemmas.{Leaves, chains_after_leave, leaves_linked, leaves_kept, leaves_apart}
 
@@ -135,19 +136,19 @@ entry_leaves room links backs rank home place chains cells places marks linked =
     }
 
 -- entries of these parts
-abbrev pub entry_parts : ℕ → List ℕ → List ℕ → List Bool → List ℕ → Entries
+abbrev pub entry_parts : ℕ → List ℕ → List ℕ → List ℕ → List ℕ → KeyEntries
 entry_parts room links backs turned listed = record { room = room; links = links; backs = backs; turned = turned; listed = listed }
 
 -- keys were turned away from each of these homes of a key
-abbrev pub EntryPassed : ℕ → List Bool → ℕ → ℕ → Type 0
-EntryPassed room turned key turns = (earlier : ℕ) → earlier < turns → get_or turned (home_at room earlier key) false ≡ true
+abbrev pub EntryPassed : ℕ → List ℕ → ℕ → ℕ → Type 0
+EntryPassed room turned key turns = (earlier : ℕ) → earlier < turns → IsMarked turned (home_at room earlier key)
 
 -- a home from which a key was turned away stays marked
-abbrev pub EntryMarksStay : List Bool → List Bool → Type 0
-EntryMarksStay turned marked = (home : ℕ) → get_or turned home false ≡ true → get_or marked home false ≡ true
+abbrev pub EntryMarksStay : List ℕ → List ℕ → Type 0
+EntryMarksStay turned marked = (home : ℕ) → IsMarked turned home → IsMarked marked home
 
 -- a place that isn't entered is in no chain
-pub entry_free : (end place room : ℕ) (keys links backs listed : List ℕ) (turned : List Bool)
+pub entry_free : (end place room : ℕ) (keys links backs listed : List ℕ) (turned : List ℕ)
     → AreEntered end place keys (entry_parts room links backs turned listed) → get_or backs (place + 1) 0 ≡ 0
 entry_free end place room keys links backs listed turned entered =
     ⊎_elim
@@ -156,7 +157,7 @@ entry_free end place room keys links backs listed turned entered =
     (cases_eq (get_or backs (place + 1) 0) 0)
 
 -- a place was entered in the chain of a home
-pub entry_in_chain : (end place room turn head : ℕ) (keys links backs listed : List ℕ) (turned marked : List Bool) (after ways : List ℕ)
+pub entry_in_chain : (end place room turn head : ℕ) (keys links backs listed : List ℕ) (turned marked : List ℕ) (after ways : List ℕ)
     (ranked homed : ℕ → ℕ)
     → place < end → turn < 8 → head ≡ room + home_at room turn (get_or keys place 0)
     → (entered : AreEntered end place keys (entry_parts room links backs turned listed))
@@ -189,8 +190,8 @@ entry_in_chain end place room turn head keys links backs listed turned marked af
           (cases_eq other place);
       passed = λ other earlier under apart before early.
           ⊎_elim
-          (λ (here : other ≡ place). ap (λ n. get_or marked (home_at room earlier (get_or keys n 0)) false) here
-          ∙ passed earlier (omega (arith, here_turn, ap turns here)))
+          (λ (here : other ≡ place). subst (λ n. IsMarked marked (home_at room earlier (get_or keys n 0))) (sym here)
+          (passed earlier (omega (arith, here_turn, ap turns here))))
           (λ (there : other ≡ place → ⊥). stay (home_at room earlier (get_or keys other 0))
           (entered.passed other earlier under there (omega (arith, there_turn other there)) early))
           (cases_eq other place);
@@ -209,7 +210,7 @@ entry_in_chain end place room turn head keys links backs listed turned marked af
     }
 
 -- or in the list
-pub entry_in_list : (end place room : ℕ) (keys links backs listed : List ℕ) (turned marked : List Bool) (longer : List ℕ)
+pub entry_in_list : (end place room : ℕ) (keys links backs listed : List ℕ) (turned marked : List ℕ) (longer : List ℕ)
     → place < end → AreEntered end place keys (entry_parts room links backs turned listed) → HasMore keys listed longer place
     → EntryPassed room marked (get_or keys place 0) 8 → EntryMarksStay turned marked
     → AreEntered end end keys (entry_parts room links backs marked longer)
@@ -236,7 +237,7 @@ entry_in_list end place room keys links backs listed turned marked longer below 
           (cases_eq other place);
       passed = λ other earlier under apart before early.
           ⊎_elim
-          (λ (here : other ≡ place). ap (λ n. get_or marked (home_at room earlier (get_or keys n 0)) false) here ∙ passed earlier early)
+          (λ (here : other ≡ place). subst (λ n. IsMarked marked (home_at room earlier (get_or keys n 0))) (sym here) (passed earlier early))
           (λ (there : other ≡ place → ⊥). stay (home_at room earlier (get_or keys other 0))
           (entered.passed other earlier under there (omega (arith, there_turn other there)) early))
           (cases_eq other place);
@@ -254,7 +255,7 @@ entry_in_list end place room keys links backs listed turned marked longer below 
     }
 
 -- a place left its chain
-pub entry_out_of_chain : (end place room front : ℕ) (keys links backs listed : List ℕ) (turned : List Bool) (after ways : List ℕ) (ranked : ℕ → ℕ)
+pub entry_out_of_chain : (end place room front : ℕ) (keys links backs listed : List ℕ) (turned : List ℕ) (after ways : List ℕ) (ranked : ℕ → ℕ)
     → (entered : AreEntered end end keys (entry_parts room links backs turned listed))
     → Leaves room links backs entered.rank entered.home after ways ranked place front
     → AreEntered end place keys (entry_parts room after ways turned listed)
@@ -278,7 +279,7 @@ entry_out_of_chain end place room front keys links backs listed turned after way
 }
 
 -- a place in no chain is in the list
-pub entry_is_listed : (end place room : ℕ) (keys links backs listed : List ℕ) (turned : List Bool) → place < end
+pub entry_is_listed : (end place room : ℕ) (keys links backs listed : List ℕ) (turned : List ℕ) → place < end
     → AreEntered end end keys (entry_parts room links backs turned listed) → get_or backs (place + 1) 0 ≡ 0 → IsListed listed place
 entry_is_listed end place room keys links backs listed turned below entered free =
     ⊎_elim
@@ -287,7 +288,7 @@ entry_is_listed end place room keys links backs listed turned below entered free
     (cases_lt (entered.turn place) 8)
 
 -- and left it
-pub entry_out_of_list : (end place room : ℕ) (keys links backs listed : List ℕ) (turned : List Bool) (shorter : List ℕ)
+pub entry_out_of_list : (end place room : ℕ) (keys links backs listed : List ℕ) (turned : List ℕ) (shorter : List ℕ)
     → AreEntered end end keys (entry_parts room links backs turned listed) → get_or backs (place + 1) 0 ≡ 0 → HasLess keys listed shorter place
     → AreEntered end place keys (entry_parts room links backs turned shorter)
 entry_out_of_list end place room keys links backs listed turned shorter entered free less = record {
@@ -308,7 +309,7 @@ entry_out_of_list end place room keys links backs listed turned shorter entered 
 }
 
 -- the same places are entered for other keys that agree on these places
-pub entry_for_keys : (end but last out room : ℕ) (keys others links backs listed : List ℕ) (turned : List Bool)
+pub entry_for_keys : (end but last out room : ℕ) (keys others links backs listed : List ℕ) (turned : List ℕ)
     → ((place : ℕ) → place < end → place ≢ but → (place < last) × (place ≢ out) × (get_or others place 0 ≡ get_or keys place 0))
     → ((place : ℕ) → place < last → place ≢ out → (place < end) × (place ≢ but))
     → AreEntered end but keys (entry_parts room links backs turned listed)
@@ -325,7 +326,7 @@ entry_for_keys end but last out room keys others links backs listed turned to fr
   ended = λ place below apart late. let was = from place below apart in entered.ended place was.0 was.1 late;
   passed = λ place earlier below apart before early.
       let was = from place below apart in
-      ap (λ k. get_or turned (home_at room earlier k) false) (to place was.0 was.1).2 ∙ entered.passed place earlier was.0 was.1 before early;
+      subst (λ k. IsMarked turned (home_at room earlier k)) (sym (to place was.0 was.1).2) (entered.passed place earlier was.0 was.1 before early);
   linked = λ place linked. let old = entered.linked place linked in let is = to place old.0 old.1 in (is.0, is.1, old.2);
   listed = λ place listed_at. let old = entered.listed place listed_at in let is = to place old.0 old.1 in (is.0, is.1, old.2);
   rises = λ one other apart within.
@@ -360,7 +361,7 @@ entry_chains_of_nothing room = record {
 }
 
 -- nothing is entered where all cells and numbers are 0 and the list is empty
-pub entry_of_nothing : (room : ℕ) (keys : List ℕ) (turned : List Bool)
+pub entry_of_nothing : (room : ℕ) (keys : List ℕ) (turned : List ℕ)
     → AreEntered 0 0 keys (entry_parts room (replicate (5 * room) 0) (replicate (room + 1) 0) turned [])
 entry_of_nothing room keys turned = record {
   rank = λ cell. 0;
@@ -400,7 +401,7 @@ entry_member_below end but listed below member q (suc at, within, is) =
     (member q (at, inside, sym (get_or_default_zero listed at q inside) ∙ is)).0
 
 -- the list has fewer places than are entered
-pub entry_list_is_short : (end but room : ℕ) (keys links backs listed : List ℕ) (turned : List Bool) → but < end
+pub entry_list_is_short : (end but room : ℕ) (keys links backs listed : List ℕ) (turned : List ℕ) → but < end
     → AreEntered end but keys (entry_parts room links backs turned listed) → length listed < end
 entry_list_is_short end but room keys links backs listed turned below entered =
     let member : (q : ℕ) → IsListed listed q → (q < end) × (q ≢ but) = λ q is. let old = entered.listed q is in (old.0, old.1) in
@@ -416,7 +417,7 @@ EntryMissing room links backs keys home key = (rank home_of : ℕ → ℕ) → A
     → (place : ℕ) → IsLinked backs place → home_of place ≡ room + home → get_or keys place 0 ≢ key
 
 -- a place of the key that isn't in a home is in one of a later turn, or in the list
-pub entry_turns_on : (end but room place turn home key : ℕ) (keys links backs listed : List ℕ) (turned : List Bool)
+pub entry_turns_on : (end but room place turn home key : ℕ) (keys links backs listed : List ℕ) (turned : List ℕ)
     → (entered : AreEntered end but keys (entry_parts room links backs turned listed)) → place < end → place ≢ but → get_or keys place 0 ≡ key
     → turn ≤ entered.turn place → turn < 8 → home ≡ home_at room turn key → EntryMissing room links backs keys home key
     → turn + 1 ≤ entered.turn place
@@ -430,14 +431,14 @@ entry_turns_on end but room place turn home key keys links backs listed turned e
     (cases_eq (entered.turn place) turn)
 
 -- and none is there if no key was turned away from the home
-pub entry_turn_is_last : (end but room place turn home key : ℕ) (keys links backs listed : List ℕ) (turned : List Bool)
+pub entry_turn_is_last : (end but room place turn home key : ℕ) (keys links backs listed : List ℕ) (turned : List ℕ)
     → (entered : AreEntered end but keys (entry_parts room links backs turned listed)) → place < end → place ≢ but → get_or keys place 0 ≡ key
     → turn ≤ entered.turn place → turn < 8 → home ≡ home_at room turn key → EntryMissing room links backs keys home key
-    → get_or turned home false ≡ false → ⊥
+    → (IsMarked turned home → ⊥) → ⊥
 entry_turn_is_last end but room place turn home key keys links backs listed turned entered below apart has so_far early at missing unmarked =
     let on = entry_turns_on end but room place turn home key keys links backs listed turned entered below apart has so_far early at missing in
-    false≢true (sym unmarked ∙ ap (λ n. get_or turned n false) at ∙ ap (λ k. get_or turned (home_at room turn k) false) (sym has)
-    ∙ entered.passed place turn below apart (omega arith) early)
+    unmarked (subst (IsMarked turned) (sym at) (subst (λ k. IsMarked turned (home_at room turn k)) has
+    (entered.passed place turn below apart (omega arith) early)))
 
 -- zeros and an empty list lead nowhere
 pub entry_zeros_lead : (count size none : ℕ) → none ≡ 0 → LeadBelow count (replicate size none) []
@@ -452,7 +453,7 @@ entry_zeros_lead count size none is = record {
 }
 
 -- where the places below a number are entered, one place more is to be entered next
-pub entry_one_more : (count room : ℕ) (keys links backs listed : List ℕ) (turned : List Bool)
+pub entry_one_more : (count room : ℕ) (keys links backs listed : List ℕ) (turned : List ℕ)
     → AreEntered count count keys (entry_parts room links backs turned listed) → AreEntered (count + 1) count keys
     (entry_parts room links backs turned listed)
 entry_one_more count room keys links backs listed turned entered =
@@ -460,7 +461,7 @@ entry_one_more count room keys links backs listed turned entered =
     (λ place below apart. (omega arith, apart, refl)) (λ place below apart. (omega arith, apart)) entered
 
 -- a key was appended
-pub entry_of_pushed : (count room key : ℕ) (keys links backs listed : List ℕ) (turned : List Bool) → count ≡ length keys
+pub entry_of_pushed : (count room key : ℕ) (keys links backs listed : List ℕ) (turned : List ℕ) → count ≡ length keys
     → AreEntered count count keys (entry_parts room links backs turned listed)
     → AreEntered (count + 1) count (keys ++ key ∷ []) (entry_parts room links backs turned listed)
 entry_of_pushed count room key keys links backs listed turned is entered =
@@ -468,7 +469,7 @@ entry_of_pushed count room key keys links backs listed turned is entered =
     (λ place below apart. (omega arith, apart, get_or-append keys (key ∷ []) 0 place (omega arith))) (λ place below apart. (omega arith, apart)) entered
 
 -- the key at a place that isn't entered was replaced
-pub entry_of_replaced : (count place room key : ℕ) (keys links backs listed : List ℕ) (turned : List Bool)
+pub entry_of_replaced : (count place room key : ℕ) (keys links backs listed : List ℕ) (turned : List ℕ)
     → AreEntered count place keys (entry_parts room links backs turned listed)
     → AreEntered count place (set keys place key) (entry_parts room links backs turned listed)
 entry_of_replaced count place room key keys links backs listed turned entered =

@@ -1,13 +1,14 @@
 -- Worked examples of the definitions, most by computing.
-use Rattle.std.proofs.Common.{◌≡◌, ◌<◌, ◌≤◌, ◌^◌, ℕ, List, [], ◌∷◌, false, zero, suc, get_or, replicate, refl, ⊎_elim}
+use Rattle.std.proofs.Common.{◌≡◌, ◌<◌, ◌≤◌, ◌^◌, ℕ, List, [], ◌∷◌, zero, suc, get_or, replicate, refl, ⊎_elim}
 use Rattle.std.proofs.Common.{arith}
 use Rattle.std.proofs.lemmas.List.Elements.{All-from_recursion, All-head}
 use Rattle.std.proofs.lemmas.Bool.{cases_lt}
-use Rattle.key_index.specs.KeyIndex.{IndexedKeys, HoldsKeys, HoldsKeysButOne, IsKeyIndex}
+use Rattle.key_index.specs.KeyIndex.{HoldsKeys, HoldsKeysButOne}
 use Rattle.key_index.specs.Homes.{mixed, mixed_after, scaled, home_at}
+use Rattle.key_index.specs.HomeMarks.{IsMarked}
 use Rattle.key_index.specs.Chains.{Chains, IsLinked, IsLive, HaveShape, AreChains}
 use Rattle.key_index.specs.SortedPlaces.{standing, Rises, IsListed, Splits, HasMore, HasLess}
-use Rattle.key_index.specs.Entries.{Entries, LeadBelow, AreEntered, AreEntries}
+use Rattle.key_index.specs.Entries.{KeyEntries, LeadBelow, AreEntered, AreEntries}
 use Rattle.key_index.proofs.JoinLemmas.{chains_after_join}
 use Rattle.key_index.proofs.EntryLemmas.{entry_parts, entry_joins, entry_of_nothing, entry_chains_of_nothing}
 use Rattle.key_index.proofs.EntryLemmas.{entry_with, entry_zeros_lead}
@@ -34,6 +35,15 @@ first_home_of_key_1 = refl
 pub last_home_of_key_1 : home_at 512 7 1 ≡ 1607
 unfolding home_at scaled mixed
 last_home_of_key_1 = refl
+
+-- 260 is 2^8 + 2^2
+pub home_72_is_marked : IsMarked (0 ∷ 260 ∷ []) 72
+unfolding IsMarked
+home_72_is_marked = refl
+
+pub home_73_is_not : IsMarked (0 ∷ 260 ∷ []) 73 → ⊥
+unfolding IsMarked
+home_73_is_not marked = omega (arith, marked)
 
 -- An index for one key has the cell of place 0 and then the heads of four homes. The head of home 2 leads to the place
 abbrev links : List ℕ
@@ -139,8 +149,8 @@ pub nothing_was_removed : HasLess keys (1 ∷ []) (1 ∷ []) 1 → ⊥
 nothing_was_removed less = less.gone (0, omega arith, refl)
 
 -- no key of an index for one key
-abbrev nothing : Entries
-nothing = entry_parts 1 (replicate 5 0) (replicate 2 0) (replicate 4 false) []
+abbrev nothing : KeyEntries
+nothing = entry_parts 1 (replicate 5 0) (replicate 2 0) (replicate 1 0) []
 
 pub nothing_leads_to_a_place : LeadBelow 0 nothing.links nothing.listed
 nothing_leads_to_a_place = entry_zeros_lead 0 5 0 refl
@@ -149,7 +159,7 @@ pub leads_to_place_1 : LeadBelow 1 (2 ∷ []) [] → ⊥
 leads_to_place_1 leads = omega (arith, All-head (λ mark. mark ≤ 1) 2 [] leads.marks)
 
 pub nothing_is_entered : AreEntered 0 0 [] nothing
-nothing_is_entered = entry_of_nothing 1 [] (replicate 4 false)
+nothing_is_entered = entry_of_nothing 1 [] (replicate 1 0)
 
 -- a place that is in no chain and not in the list isn't entered
 pub place_is_nowhere : AreEntered 1 1 (40 ∷ []) nothing → ⊥
@@ -164,30 +174,37 @@ place_is_nowhere entered = nowhere (entered.ended 0 (omega arith) (λ same. omeg
         (λ (late : 8 ≤ entered.turn 0). late)
         (cases_lt (entered.turn 0) 8)
 
-pub memory_for_one_place : AreEntries 1 1 one_chain (replicate 4 false)
-memory_for_one_place = record { some = omega arith; few = omega arith; roomy = refl; shape = shape_of_one_chain; homes = refl; memory = omega arith }
+pub memory_for_one_place : AreEntries 1 1 one_chain (replicate 1 0)
+memory_for_one_place = record { some = omega arith; few = omega arith; roomy = refl; shape = shape_of_one_chain; homes = omega arith; memory = omega arith }
 
-pub memory_for_no_place : AreEntries 1 0 one_chain (replicate 4 false) → ⊥
+pub memory_for_no_place : AreEntries 1 0 one_chain (replicate 1 0) → ⊥
 memory_for_no_place entries = omega (arith, entries.memory)
 
-abbrev three_keys : IndexedKeys
-three_keys = record { room = 4; keys = keys }
+pub no_keys : HoldsKeys [] nothing
+no_keys = key_of_nothing 1 (replicate 1 0)
 
-pub third_key : get_or three_keys.keys 2 0 ≡ 50
-third_key = refl
-
-pub no_keys : HoldsKeys 1 [] nothing
-no_keys = key_of_nothing 1 (replicate 4 false)
-
-pub entries_of_another_room : HoldsKeys 2 [] nothing → ⊥
-entries_of_another_room holds = omega (arith, holds.roomy)
+pub more_keys_than_room : HoldsKeys keys nothing → ⊥
+more_keys_than_room holds = omega (arith, holds.few)
 
 -- the only key is still to be entered
-pub all_but_the_new_key : HoldsKeysButOne 0 1 (40 ∷ []) nothing
-all_but_the_new_key = key_of_pushed 1 40 [] nothing (omega arith) (omega arith) no_keys
+pub all_but_the_new_key : HoldsKeysButOne 0 (40 ∷ []) nothing
+all_but_the_new_key = key_of_pushed [] 40 nothing (omega arith) no_keys
 
-pub index_of_no_keys : IsKeyIndex 1 1 [] nothing
-index_of_no_keys = record { some = omega arith; few = omega arith; fits = omega arith; has_room = omega arith; filled = no_keys }
+-- and isn't yet
+pub new_key_is_not_held : HoldsKeys (40 ∷ []) nothing → ⊥
+new_key_is_not_held holds = place_is_nowhere holds.entered
 
-pub more_keys_than_room : IsKeyIndex 1 3 keys nothing → ⊥
-more_keys_than_room index = omega (arith, index.few)
+-- an index for two keys, with none
+abbrev pub index_for_two : KeyEntries
+index_for_two = entry_parts 2 (replicate 10 0) (replicate 3 0) (replicate 1 0) []
+
+pub index_for_two_is_empty : HoldsKeys [] index_for_two
+index_for_two_is_empty = key_of_nothing 2 (replicate 1 0)
+
+-- it lacks a list of keys of which there is a first
+pub empty_index_lacks_keys : (key : ℕ) (others : List ℕ) → HoldsKeys (key ∷ others) index_for_two → ⊥
+empty_index_lacks_keys key others holds =
+    ⊎_elim
+    (λ (early : holds.entered.turn 0 < 8). (holds.entered.chained 0 (omega arith) (λ same. omega arith) early).0 refl)
+    (λ (late : 8 ≤ holds.entered.turn 0). let is = holds.entered.ended 0 (omega arith) (λ same. omega arith) late in omega (arith, is.1))
+    (cases_lt (holds.entered.turn 0) 8)

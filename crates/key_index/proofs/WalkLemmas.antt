@@ -1,8 +1,13 @@
 -- Walks along a chain, from the home's head on.
-use Rattle.std.proofs.Common.{◌≡◌, ◌≢◌, ℕ, ◌+◌, ◌-◌, ◌<◌, ◌≤◌, List, get_or}
+use Rattle.std.proofs.Common.{◌≡◌, ◌≢◌, ℕ, ◌+◌, ◌-◌, ◌<◌, ◌≤◌, min, eqb, if◌then◌else◌, List, get_or}
 use Rattle.std.proofs.Common.{sym, ap, ◌∙◌, subst, ⊎_elim, arith}
-use Rattle.std.proofs.lemmas.Bool.{cases_lt}
+use Rattle.std.proofs.lemmas.Bool.{cases_eq, cases_lt, eq-eqb}
 use Rattle.key_index.specs.Chains.{AreChains, IsLinked, IsLive}
+
+-- a mark that was taken only for a key, and wasn't, is that of another key, or of none
+pub walk_mark_is_of_another_key : (has key mark taken : ℕ) → taken ≡ (if eqb has key then mark else 0) → taken ≡ 0 → mark ≢ 0 → has ≢ key
+walk_mark_is_of_another_key has key mark taken is none some same =
+    some (sym (is ∙ ap (λ b. if b then mark else 0) (eq-eqb has key same)) ∙ none)
 
 -- A walk is at this cell after so many steps. The places of the chain up to the cell have other keys, and behind it are no
 -- more places than there are steps to come
@@ -47,6 +52,20 @@ module _ (room : ℕ) (links backs keys : List ℕ) (rank home : ℕ → ℕ) (k
   pub walk_ends : (cell step : ℕ) → WalkFinds room backs keys rank home key head cell step → rank cell ≡ 0
       → (place : ℕ) → IsLinked backs place → home place ≡ head → get_or keys place 0 ≢ key
   walk_ends cell step walk none place linked at = walk.others place linked at (omega arith)
+
+  -- a chain of at most one place is passed by one look at it
+  pub walk_of_one_place : (first second : ℕ) → room ≤ head → get_or links head 0 ≡ first → get_or links (first - 1) 0 ≡ second
+      → min first second ≡ 0 → (first ≢ 0 → get_or keys (first - 1) 0 ≢ key)
+      → (place : ℕ) → IsLinked backs place → home place ≡ head → get_or keys place 0 ≢ key
+  walk_of_one_place first second high is next short other =
+      let begins = walk_begins high in
+      ⊎_elim
+      (λ (none : first ≡ 0). walk_ends head 0 begins (chains.ends head begins.live (is ∙ none)))
+      (λ (some : first ≢ 0).
+      let goes_on = walk_goes_on head 0 first begins is some (other some) in
+      let last : second ≡ 0 = omega (arith, short, some) in
+      walk_ends (first - 1) 1 goes_on (chains.ends (first - 1) goes_on.live (next ∙ last)))
+      (cases_eq first 0)
 
   pub walk_counts_on : (cell step mark : ℕ) → WalkCounts room backs rank head cell step → get_or links cell 0 ≡ mark → mark ≢ 0
       → WalkCounts room backs rank head (mark - 1) (step + 1)

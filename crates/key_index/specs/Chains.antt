@@ -2,7 +2,7 @@
 --
 -- A cell leads to the next place of its chain: it holds 0 at the end of the chain, and else a place plus 1. Cell p, below
 -- the room, belongs to place p; the cells from the room on are the heads of the homes' chains.
-use Rattle.std.specs.Prelude.{ℕ, ◌≡◌, ◌≢◌, ◌+◌, ◌*◌, ◌^◌, ◌<◌, ◌≤◌, List, All, length, slice_index}
+use Rattle.std.specs.Prelude.{ℕ, ◌≡◌, ◌≢◌, ◌+◌, ◌*◌, ◌<◌, ◌≤◌, List, All, length, slice_index}
 
 -- for how many places there is room, what each cell leads to, and what leads to each place: 0 for a place in no chain,
 -- else the cell that leads to it, plus 1. The first number of `backs` belongs to no place, so place p has number p + 1
@@ -19,10 +19,11 @@ IsLinked backs place = slice_index backs (place + 1) ≢ 0
 abbrev pub IsLive : ℕ → List ℕ → ℕ → Type 0
 IsLive room backs cell = cell < room → IsLinked backs cell
 
--- a cell for each place and for each of four homes a place, and a way back from each place
+-- a cell for each place and for each of four homes a place, and a way back from each place. The number of a cell fits into
+-- 16 bits
 pub record HaveShape (room : ℕ) (links backs : List ℕ) : Type 0 where
   pub some : 1 ≤ room
-  pub few : room < 2 ^ 16
+  pub few : room ≤ 8192
   pub cells : length links ≡ 5 * room
   pub places : length backs ≡ room + 1
   pub marks : All (λ mark. mark ≤ room) links

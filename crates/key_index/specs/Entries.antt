@@ -1,16 +1,16 @@
--- Which places of a list of keys are entered in an index, and where, which no public contract cites.
-use Rattle.std.specs.Prelude.{ℕ, ◌≡◌, ◌≢◌, ◌+◌, ◌*◌, ◌^◌, ◌<◌, ◌≤◌, List, Bool, true, false, All, length, slice_index}
-use Rattle.std.specs.Prelude.{slice_index_or}
+-- Which places of a list of keys are entered in an index, and where.
+use Rattle.std.specs.Prelude.{ℕ, ◌≡◌, ◌≢◌, ◌+◌, ◌*◌, ◌<◌, ◌≤◌, List, All, length, slice_index}
 use Rattle.key_index.specs.Homes.{home_at}
+use Rattle.key_index.specs.HomeMarks.{IsMarked}
 use Rattle.key_index.specs.Chains.{Chains, AreChains, HaveShape, IsLinked}
 use Rattle.key_index.specs.SortedPlaces.{Rises, IsListed}
 
--- the chains of the homes, whether a key was turned away from each home, and the list of the places that no home took
-pub record Entries : Type 0 where
+-- the chains of the homes, the marks of those from which a key was turned away, and the list of the places that no home took
+pub record KeyEntries : Type 0 where
   pub room : ℕ
   pub links : List ℕ
   pub backs : List ℕ
-  pub turned : List Bool
+  pub turned : List ℕ
   pub listed : List ℕ
 
 -- nothing leads to a place from this one on
@@ -20,7 +20,7 @@ pub record LeadBelow (count : ℕ) (links listed : List ℕ) : Type 0 where
 
 -- The places below `end` are entered, but for one. `turn` says of each in which of its key's eight homes it is, counted
 -- from 0, and 8 if it is in the list. From each earlier home a key was turned away.
-pub record AreEntered (end but : ℕ) (keys : List ℕ) (entries : Entries) : Type 0 where
+pub record AreEntered (end but : ℕ) (keys : List ℕ) (entries : KeyEntries) : Type 0 where
   pub rank : ℕ → ℕ
   pub home : ℕ → ℕ
   pub turn : ℕ → ℕ
@@ -29,16 +29,16 @@ pub record AreEntered (end but : ℕ) (keys : List ℕ) (entries : Entries) : Ty
       → IsLinked entries.backs place × (home place ≡ entries.room + home_at entries.room (turn place) (slice_index keys place))
   pub ended : (place : ℕ) → place < end → place ≢ but → 8 ≤ turn place → IsListed entries.listed place
   pub passed : (place earlier : ℕ) → place < end → place ≢ but → earlier < turn place → earlier < 8
-      → slice_index_or entries.turned (home_at entries.room earlier (slice_index keys place)) false ≡ true
+      → IsMarked entries.turned (home_at entries.room earlier (slice_index keys place))
   pub linked : (place : ℕ) → IsLinked entries.backs place → (place < end) × (place ≢ but) × (turn place < 8)
   pub listed : (place : ℕ) → IsListed entries.listed place → (place < end) × (place ≢ but) × (8 ≤ turn place)
   pub rises : Rises keys entries.listed
 
 -- shape and memory
-pub record AreEntries (room reserved : ℕ) (chains : Chains) (turned : List Bool) : Type 0 where
+pub record AreEntries (room reserved : ℕ) (chains : Chains) (turned : List ℕ) : Type 0 where
   pub some : 1 ≤ room
-  pub few : room < 2 ^ 16
+  pub few : room ≤ 8192
   pub roomy : chains.room ≡ room
   pub shape : HaveShape chains.room chains.links chains.backs
-  pub homes : length turned ≡ 4 * room
+  pub homes : 4 * room ≤ 64 * length turned
   pub memory : room ≤ reserved

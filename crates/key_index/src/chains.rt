@@ -2,10 +2,11 @@
 //! leads to it, so that a place leaves its chain without a search.
 
 ghost use Rattle.std.specs.Prelude.{◌≡◌, ◌≢◌, ◌+◌, ◌-◌, ◌*◌, ◌^◌, ◌<◌, ◌≤◌, ◌↔◌, ℕ, List, All, IfOk, IfSome, IfNone, IsTrue};
-ghost use Rattle.std.specs.Prelude.{length, replicate, slice_index, slice_set, true};
+ghost use Rattle.std.specs.Prelude.{length, map, replicate, slice_index, slice_set, true, if◌then◌else◌};
 ghost use Rattle.key_index.specs.Chains.{AreChains, HaveShape, IsLinked};
 
 use crate::homes::HOMES_A_KEY;
+use crate::keyed::{Keyed, key_at};
 use std::alloc::{AllocError, Global};
 use std::marker::Model;
 
@@ -17,7 +18,7 @@ const PLACES_A_HOME: usize = 4;
 pub(crate) struct KeyChains {
     room: usize,
     links: Vec<u16>,
-    backs: Vec<u32>,
+    backs: Vec<u16>,
 }
 
 impl Model for KeyChains {
@@ -34,27 +35,28 @@ impl KeyChains {
     /// Empty chains for as many places as `room`.
     pub(crate) fn with_room(alloc: Global, room: usize) -> Result<KeyChains, AllocError>
         requires some { 1 ≤ room }
-        requires few { room < 2 ^ 16 }
+        requires few { room ≤ 8192 }
         ensures empty { IfOk result
             (λ chains. chains ≡ record { room = room; links = replicate (5 * room) 0; backs = replicate (room + 1) 0 }) }
         ensures shape { IfOk result (λ chains. HaveShape chains.room chains.links chains.backs) }
     {
         let links = vec![in alloc; 0u16; (1 + HOMES_A_KEY) * room]?;
-        let backs = vec![in alloc; 0u32; room + 1]?;
+        let backs = vec![in alloc; 0u16; room + 1]?;
         Ok(KeyChains { room, links, backs })
     }
 
-    /// A place of the key in the chain of this home. It passes at most four keys.
-    pub(crate) fn place_of(&self, keys: &[u64], key: u64, home: usize) -> Option<usize>
+    /// A place of the key in the chain of this home. It passes at most four keys, the first two perhaps twice.
+    pub(crate) fn place_of<T: Keyed>(&self, slots: &[T], key: u64, home: usize) -> Option<usize>
         requires home { home < 4 * self.now.room }
-        requires few { length keys.now ≤ self.now.room }
-        requires marks { All (λ mark. mark ≤ length keys.now) self.now.links }
-        ensures within { IfSome result (λ place. place < length keys.now) }
-        ensures found { IfSome result (λ place. slice_index keys.now place ≡ key) }
+        requires some { 0 < length slots.now }
+        requires few { length slots.now ≤ self.now.room }
+        requires marks { All (λ mark. mark ≤ length slots.now) self.now.links }
+        ensures within { IfSome result (λ place. place < length slots.now) }
+        ensures found { IfSome result (λ place. slice_index (map T.key_of slots.now) place ≡ key) }
         ensures missing { IfNone result ((rank home_of : ℕ → ℕ) → AreChains self.now.room self.now.links self.now.backs rank home_of
-            → (place : ℕ) → IsLinked self.now.backs place → home_of place ≡ self.now.room + home → slice_index keys.now place ≢ key) }
+            → (place : ℕ) → IsLinked self.now.backs place → home_of place ≡ self.now.room + home → slice_index (map T.key_of slots.now) place ≢ key) }
     {
-        place_in_chain(&self.links, keys, key, self.room + home)
+        place_in_chain(&self.links, slots, key, self.room + home)
     }
 
     /// Whether the chain of this home has four places.
@@ -90,8 +92,8 @@ impl KeyChains {
         self.links[place] = next;
         self.links[head] = (place + 1) as u16;
         // If no place follows, this writes the number that belongs to no place.
-        self.backs[usize::from(next)] = (place + 1) as u32;
-        self.backs[place + 1] = (head + 1) as u32;
+        self.backs[usize::from(next)] = (place + 1) as u16;
+        self.backs[place + 1] = (head + 1) as u16;
     }
 
     /// Takes the place out of its chain.
@@ -107,7 +109,7 @@ impl KeyChains {
     {
         let way = self.backs[place + 1];
         let next = self.links[place];
-        self.links[way as usize - 1] = next;
+        self.links[usize::from(way) - 1] = next;
         // If no place follows, this writes the number that belongs to no place.
         self.backs[usize::from(next)] = way;
         self.backs[place + 1] = 0;
@@ -124,15 +126,53 @@ impl KeyChains {
     }
 }
 
-// A place of the key among the at most four places of a chain.
-fn place_in_chain(links: &[u16], keys: &[u64], key: u64, head: usize) -> Option<usize>
+// A place of the key among the at most four places of a chain. The first two are looked at by numbers in place of conditions,
+// since which of them has the key can't be foreseen: so there is one branch, and not three. Where the chain has ended, another
+// place is looked at, and doesn't count.
+fn place_in_chain<T: Keyed>(links: &[u16], slots: &[T], key: u64, head: usize) -> Option<usize>
     requires head { head < length links.now }
-    requires few { length keys.now ≤ length links.now }
-    requires marks { All (λ mark. mark ≤ length keys.now) links.now }
-    ensures within { IfSome result (λ place. place < length keys.now) }
-    ensures found { IfSome result (λ place. slice_index keys.now place ≡ key) }
+    requires some { 0 < length slots.now }
+    requires few { length slots.now ≤ length links.now }
+    requires marks { All (λ mark. mark ≤ length slots.now) links.now }
+    ensures within { IfSome result (λ place. place < length slots.now) }
+    ensures found { IfSome result (λ place. slice_index (map T.key_of slots.now) place ≡ key) }
     ensures missing { IfNone result ((room : ℕ) (backs : List ℕ) (rank home : ℕ → ℕ) → AreChains room links.now backs rank home
-        → room ≤ head → (place : ℕ) → IsLinked backs place → home place ≡ head → slice_index keys.now place ≢ key) }
+        → room ≤ head → (place : ℕ) → IsLinked backs place → home place ≡ head → slice_index (map T.key_of slots.now) place ≢ key) }
+{
+    let first = usize::from(links[head]);
+    let one = first.saturating_sub(1);
+    let second = usize::from(links[one]);
+    let two = second.saturating_sub(1);
+    let found_first = mark_if(key_at(slots, one) == key, first);
+    let found_second = mark_if(key_at(slots, two) == key, second);
+    let found = found_first.max(found_second);
+    if found != 0 {
+        return Some(found - 1);
+    }
+    if first.min(second) == 0 {
+        return None;
+    }
+    walk_chain(links, slots, key, head)
+}
+
+// The mark, if this holds, and else that of no place.
+fn mark_if(holds: bool, mark: usize) -> usize
+    ensures { result ≡ (if holds then mark else 0) }
+{
+    if holds { mark } else { 0 }
+}
+
+// A place of the key in a chain, found place by place. It stays a function of its own in the binary, since few searches
+// come to it.
+#[inline(never)]
+fn walk_chain<T: Keyed>(links: &[u16], slots: &[T], key: u64, head: usize) -> Option<usize>
+    requires head { head < length links.now }
+    requires few { length slots.now ≤ length links.now }
+    requires marks { All (λ mark. mark ≤ length slots.now) links.now }
+    ensures within { IfSome result (λ place. place < length slots.now) }
+    ensures found { IfSome result (λ place. slice_index (map T.key_of slots.now) place ≡ key) }
+    ensures missing { IfNone result ((room : ℕ) (backs : List ℕ) (rank home : ℕ → ℕ) → AreChains room links.now backs rank home
+        → room ≤ head → (place : ℕ) → IsLinked backs place → home place ≡ head → slice_index (map T.key_of slots.now) place ≢ key) }
 {
     let mut cell = head;
     for _step in 0..PLACES_A_HOME {
@@ -140,7 +180,7 @@ fn place_in_chain(links: &[u16], keys: &[u64], key: u64, head: usize) -> Option<
         if mark == 0 {
             return None;
         }
-        if keys[mark - 1] == key {
+        if key_at(slots, mark - 1) == key {
             return Some(mark - 1);
         }
         cell = mark - 1;
@@ -148,8 +188,25 @@ fn place_in_chain(links: &[u16], keys: &[u64], key: u64, head: usize) -> Option<
     None
 }
 
-// Whether a chain has four places.
+// Whether a chain has four places. Nearly always it has at most one, which is known without a walk.
 fn is_full_chain(links: &[u16], head: usize) -> bool
+    requires head { head < length links.now }
+    requires marks { All (λ mark. mark ≤ length links.now) links.now }
+    ensures { (room : ℕ) (backs : List ℕ) (rank home : ℕ → ℕ) → AreChains room links.now backs rank home
+        → room ≤ head → (IsTrue result ↔ (4 ≤ rank head)) }
+{
+    let first = usize::from(links[head]);
+    let second = usize::from(links[first.saturating_sub(1)]);
+    // The lesser of the two, so that there is one branch.
+    if first.min(second) == 0 {
+        return false;
+    }
+    is_full_walk(links, head)
+}
+
+// Whether a chain has four places, found place by place.
+#[inline(never)]
+fn is_full_walk(links: &[u16], head: usize) -> bool
     requires head { head < length links.now }
     requires marks { All (λ mark. mark ≤ length links.now) links.now }
     ensures { (room : ℕ) (backs : List ℕ) (rank home : ℕ → ℕ) → AreChains room links.now backs rank home

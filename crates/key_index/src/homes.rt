@@ -23,7 +23,7 @@ pub(crate) fn mix(number: u64) -> u64
 
 /// The home that a mixed key names: its high half, scaled to the number of homes.
 pub(crate) fn home_of(number: u64, room: usize) -> usize
-    requires few { room < 2 ^ 16 }
+    requires few { room ≤ 8192 }
     requires some { 1 ≤ room }
     ensures home { result ≡ scaled room number }
     ensures within { result < 4 * room }

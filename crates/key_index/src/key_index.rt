@@ -1,100 +1,269 @@
-//! The index as a list of keys.
+//! The index: where the places of keys are entered, in the chain of one of eight homes or in a sorted list.
 
-ghost use Rattle.std.specs.Prelude.{◌≡◌, ◌≢◌, ◌+◌, ◌*◌, ◌^◌, ◌<◌, ◌≤◌, ◌++◌, ◌∷◌, [], ℕ, All, IfOk, MatchOption, Some};
-ghost use Rattle.std.specs.Prelude.{length, slice_get, slice_set};
+ghost use Rattle.std.specs.Prelude.{◌≡◌, ◌≢◌, ◌+◌, ◌*◌, ◌/◌, ◌<◌, ◌≤◌, ◌++◌, ◌∷◌, [], ℕ, List, All, IfOk, IfSome, IfNone, IsTrue};
+ghost use Rattle.std.specs.Prelude.{MatchOption, Some, length, map, replicate, slice_get, slice_set};
+ghost use Rattle.key_index.specs.Chains.{AreChains};
+ghost use Rattle.key_index.specs.HomeMarks.{IsMarked};
+ghost use Rattle.key_index.specs.Homes.{home_at};
+ghost use Rattle.key_index.specs.Entries.{KeyEntries, AreEntered, LeadBelow};
 ghost use Rattle.key_index.specs.KeyIndex.{HoldsKeys, HoldsKeysButOne};
 
-use crate::entries::KeyEntries;
+use crate::chains::KeyChains;
+use crate::home_marks::HomeMarks;
+use crate::homes::{HOMES_A_KEY, TURNS, home_of, mix};
+use crate::keyed::{Keyed, key_at};
+use crate::sorted_places;
 use std::alloc::{AllocError, Global};
 use std::marker::Model;
 
-/// A list of keys, in which the place of a key is found in a few steps.
+/// The first home of a key that has room for it, and at which turn that is.
+#[derive(Clone, Copy)]
+struct Free {
+    turn: usize,
+    home: usize,
+}
+
+/// Where the place of a key among slots is found in a few steps. It has no keys: each call takes the slots, which have
+/// them.
 #[derive(Drop)]
 pub struct KeyIndex {
     room: usize,
-    keys: Vec<u64>,
-    entries: KeyEntries,
+    chains: KeyChains,
+    // The homes from which a key was turned away.
+    turned: HomeMarks,
+    // The places that no home took.
+    listed: Vec<u16>,
+    // How many more keys may be turned away before all are entered again.
+    patience: usize,
 }
 
 impl Model for KeyIndex {
     ghost use Rattle.std.specs.Prelude.{vec_capacity};
-    ghost use Rattle.key_index.specs.KeyIndex.{IndexedKeys, IsKeyIndex};
+    ghost use Rattle.key_index.specs.Entries.{KeyEntries, AreEntries};
 
-    ghost Value = { IndexedKeys };
+    ghost Value = { KeyEntries };
 
-    ghost view = { λ i. record { room = i.room; keys = i.keys.items } };
+    ghost view = { λ i. record { room = i.room; links = i.chains.links; backs = i.chains.backs; turned = i.turned; listed = i.listed.items } };
 
-    ghost invariant = { λ i. IsKeyIndex i.room (vec_capacity i.keys) i.keys.items i.entries };
+    ghost invariant = { λ i. AreEntries i.room (vec_capacity i.listed) i.chains i.turned };
 }
 
 impl KeyIndex {
-    /// An empty index with memory for `room` keys, 1 to 65,535. It allocates 28 bytes for each and 4 more, and nothing
-    /// later.
+    /// An index of no keys, with memory for the places of `room` keys, 1 to 8,192. It allocates 14.5 bytes for each and
+    /// 10 more, and nothing later.
     pub fn with_room(alloc: Global, room: usize) -> Result<KeyIndex, AllocError>
         requires some { 1 ≤ room }
-        requires few { room < 2 ^ 16 }
-        ensures { IfOk result (λ index. index ≡ record { room = room; keys = [] }) }
+        requires few { room ≤ 8192 }
+        ensures room { IfOk result (λ index. index.room ≡ room) }
+        ensures holds { IfOk result (λ index. HoldsKeys [] index) }
     {
         Ok(KeyIndex {
             room,
-            keys: Vec::with_capacity(alloc, room)?,
-            entries: KeyEntries::with_room(alloc, room)?,
+            chains: KeyChains::with_room(alloc, room)?,
+            turned: HomeMarks::for_homes(alloc, HOMES_A_KEY * room)?,
+            listed: Vec::with_capacity(alloc, room)?,
+            patience: room,
         })
     }
 
-    /// A place of the key. Whatever the keys are, it passes at most four in each of eight homes, and then halves a
-    /// sorted list of the places that no home took. Nearly always it ends in the first home.
-    pub fn find(&self, key: u64) -> Option<usize>
-        ensures { MatchOption result (All (λ other. other ≢ key) self.now.keys)
-            (λ place. slice_get self.now.keys place ≡ Some key) }
+    /// A place of the key among these slots. Whatever the keys are, it passes at most four in each of eight homes, and
+    /// then halves a sorted list of the places that no home took. Nearly always it ends in the first home.
+    pub fn find<T: Keyed>(&self, slots: &[T], key: u64) -> Option<usize>
+        requires holds { HoldsKeys (map T.key_of slots.now) self.now }
+        ensures { MatchOption result (All (λ other. other ≢ key) (map T.key_of slots.now))
+            (λ place. slice_get (map T.key_of slots.now) place ≡ Some key) }
     {
-        self.entries.find(&self.keys, key)
+        if slots.is_empty() {
+            return None;
+        }
+        let home = home_of(mix(key), self.room);
+        if let Some(place) = self.chains.place_of(slots, key, home) {
+            return Some(place);
+        }
+        if !self.turned.has(home) {
+            return None;
+        }
+        self.find_in_turn(slots, key)
     }
 
-    /// Appends a key. It allocates no memory.
-    pub fn push(&mut self, key: u64)
-        requires { length self.old.keys < self.old.room }
-        ensures { self.new ≡ record self.old { keys = self.old.keys ++ key ∷ [] } }
+    /// Enters the place of the one slot whose key isn't held. It allocates no memory. Once many keys were turned away,
+    /// all are taken out and entered again: only this lets searches end again at the homes that turned a key away.
+    pub fn enter<T: Keyed>(&mut self, slots: &[T], place: usize)
+        requires within { place < length slots.now }
+        requires others { HoldsKeysButOne place (map T.key_of slots.now) self.old }
+        ensures room { self.new.room ≡ self.old.room }
+        ensures holds { HoldsKeys (map T.key_of slots.now) self.new }
     {
-        let place = self.keys.len();
-        self.keys.push(key).unwrap();
-        enter(&mut self.entries, &self.keys, place);
+        if self.is_crowded() {
+            enter_all(self, slots);
+        } else {
+            self.enter_one(slots, place);
+        }
     }
 
-    /// Replaces the key at this place, which is then no longer found there. It allocates no memory.
-    pub fn replace(&mut self, place: usize, key: u64)
-        requires { place < length self.old.keys }
-        ensures { self.new ≡ record self.old { keys = slice_set self.old.keys place key } }
+    /// Takes out the place of a slot, whose key may then be any other.
+    pub fn leave<T: Keyed>(&mut self, slots: &[T], place: usize)
+        requires within { place < length slots.now }
+        requires holds { HoldsKeys (map T.key_of slots.now) self.old }
+        ensures room { self.new.room ≡ self.old.room }
+        ensures others { (key : ℕ) → HoldsKeysButOne place (slice_set (map T.key_of slots.now) place key) self.new }
     {
-        self.entries.leave(&self.keys, place);
-        self.keys[place] = key;
-        enter(&mut self.entries, &self.keys, place);
+        if self.chains.has(place) {
+            self.chains.unlink(place);
+        } else {
+            sorted_places::remove(&mut self.listed, slots, place);
+        }
+    }
+
+    // A place of the key, looked for in one home after the other. It stays a function of its own in the binary, since few
+    // searches come to it.
+    #[inline(never)]
+    fn find_in_turn<T: Keyed>(&self, slots: &[T], key: u64) -> Option<usize>
+        requires some { 0 < length slots.now }
+        requires holds { HoldsKeys (map T.key_of slots.now) self.now }
+        ensures { MatchOption result (All (λ other. other ≢ key) (map T.key_of slots.now))
+            (λ place. slice_get (map T.key_of slots.now) place ≡ Some key) }
+    {
+        let mut number = key;
+        for _turn in 0..TURNS {
+            number = mix(number);
+            let home = home_of(number, self.room);
+            if let Some(place) = self.chains.place_of(slots, key, home) {
+                return Some(place);
+            }
+            if !self.turned.has(home) {
+                return None;
+            }
+        }
+        sorted_places::find(&self.listed, slots, key)
+    }
+
+    // Whether as many keys were turned away from homes since all were entered as there is room for.
+    fn is_crowded(&self) -> bool {
+        self.patience == 0
+    }
+
+    // Enters one place.
+    fn enter_one<T: Keyed>(&mut self, slots: &[T], place: usize)
+        requires few { length slots.now ≤ self.old.room }
+        requires within { place < length slots.now }
+        requires leads { LeadBelow (length slots.now) self.old.links self.old.listed }
+        requires memory { length self.old.listed < self.old.room }
+        ensures room { self.new.room ≡ self.old.room }
+        ensures leads { LeadBelow (length slots.now) self.new.links self.new.listed }
+        ensures listed { length self.new.listed ≤ length self.old.listed + 1 }
+        ensures entered { (end : ℕ) → place < end → AreEntered end place (map T.key_of slots.now) self.old
+            → AreEntered end end (map T.key_of slots.now) self.new }
+    {
+        let home = home_of(mix(key_at(slots, place)), self.room);
+        if self.chains.is_full(home) {
+            self.enter_in_turn(slots, place);
+        } else {
+            self.chains.link(place, home);
+        }
+    }
+
+    // Enters one place, in the first of its key's homes that has room. It stays a function of its own in the binary, since few
+    // places come to it.
+    #[inline(never)]
+    fn enter_in_turn<T: Keyed>(&mut self, slots: &[T], place: usize)
+        requires few { length slots.now ≤ self.old.room }
+        requires within { place < length slots.now }
+        requires leads { LeadBelow (length slots.now) self.old.links self.old.listed }
+        requires memory { length self.old.listed < self.old.room }
+        ensures room { self.new.room ≡ self.old.room }
+        ensures leads { LeadBelow (length slots.now) self.new.links self.new.listed }
+        ensures listed { length self.new.listed ≤ length self.old.listed + 1 }
+        ensures entered { (end : ℕ) → place < end → AreEntered end place (map T.key_of slots.now) self.old
+            → AreEntered end end (map T.key_of slots.now) self.new }
+    {
+        match free_home(
+            &self.chains,
+            &mut self.turned,
+            key_at(slots, place),
+            self.room,
+        ) {
+            Some(free) => {
+                self.chains.link(place, free.home);
+                self.patience = self.patience.saturating_sub(usize::from(free.turn > 0));
+            }
+            None => {
+                sorted_places::insert(&mut self.listed, slots, place);
+                self.patience = self.patience.saturating_sub(1);
+            }
+        }
+    }
+
+    // Takes out all places.
+    fn clear(&mut self)
+        ensures { self.new ≡ record {
+          room = self.old.room;
+          links = replicate (5 * self.old.room) 0;
+          backs = replicate (self.old.room + 1) 0;
+          turned = replicate (length self.old.turned) 0;
+          listed = [];
+        } }
+    {
+        self.chains.clear();
+        self.turned.clear();
+        self.listed.clear();
+    }
+
+    // Begins to count anew the keys that are turned away.
+    fn calm(&mut self)
+        ensures { self.new ≡ self.old }
+    {
+        self.patience = self.room;
     }
 }
 
-// Enters the key at this place. Once many keys were turned away, all are taken out and entered again: only this lets
-// searches end again at the homes that turned a key away.
-fn enter(entries: &mut KeyEntries, keys: &[u64], place: usize)
-    requires filled { HoldsKeysButOne place entries.old.room keys.now entries.old }
-    ensures { HoldsKeys entries.old.room keys.now entries.new }
+/// Where all keys are held and one is appended, all but the last are held.
+pub fn appended_key_is_missing()
+    ensures { (keys : List ℕ) (key : ℕ) (index : KeyEntries) → length keys < index.room → HoldsKeys keys index
+        → HoldsKeysButOne (length keys) (keys ++ key ∷ []) index }
+{}
+
+// Takes all places out and enters them again. What this turns away isn't counted: else keys that were chosen to meet
+// would have all places entered again every few calls. It stays a function of its own in the binary, since it is seldom called.
+#[inline(never)]
+fn enter_all<T: Keyed>(index: &mut KeyIndex, slots: &[T])
+    requires few { length slots.now ≤ index.old.room }
+    ensures room { index.new.room ≡ index.old.room }
+    ensures holds { HoldsKeys (map T.key_of slots.now) index.new }
 {
-    if entries.are_crowded() {
-        enter_all(entries, keys);
-    } else {
-        entries.enter(keys, place);
+    index.clear();
+    for next in 0..slots.len() {
+        index.enter_one(slots, next);
     }
+    index.calm();
 }
 
-// Takes all keys out and enters them again. What this turns away isn't counted: else keys that were chosen to meet would
-// have all keys entered again every few calls.
-fn enter_all(entries: &mut KeyEntries, keys: &[u64])
-    requires few { length keys.now ≤ entries.old.room }
-    requires room { entries.old.room < 2 ^ 16 }
-    ensures { HoldsKeys entries.old.room keys.now entries.new }
+// The first home of the key that has room for it. Each full one before it is marked: a key was turned away from there.
+fn free_home(chains: &KeyChains, turned: &mut HomeMarks, key: u64, room: usize) -> Option<Free>
+    requires some { 1 ≤ room }
+    requires few { room ≤ 8192 }
+    requires room { chains.now.room ≡ room }
+    requires homes { 4 * room ≤ 64 * length turned.old }
+    ensures homes { length turned.new ≡ length turned.old }
+    ensures turns { IfSome result (λ free. free.turn < 8) }
+    ensures within { IfSome result (λ free. free.home < 4 * room) }
+    ensures home { IfSome result (λ free. free.home ≡ home_at room free.turn key) }
+    ensures roomy { IfSome result (λ free. (rank home : ℕ → ℕ) → AreChains chains.now.room chains.now.links chains.now.backs rank home
+        → rank (room + free.home) < 4) }
+    ensures passed { IfSome result (λ free. (earlier : ℕ) → earlier < free.turn
+        → IsMarked turned.new (home_at room earlier key)) }
+    ensures passed_all { IfNone result ((earlier : ℕ) → earlier < 8
+        → IsMarked turned.new (home_at room earlier key)) }
+    ensures kept { (home : ℕ) → IsMarked turned.old home → IsMarked turned.new home }
 {
-    entries.clear();
-    for next in 0..keys.len() {
-        entries.enter(keys, next);
+    let mut number = key;
+    for turn in 0..TURNS {
+        number = mix(number);
+        let home = home_of(number, room);
+        if !chains.is_full(home) {
+            return Some(Free { turn, home });
+        }
+        turned.set(home);
     }
-    entries.calm();
+    None
 }

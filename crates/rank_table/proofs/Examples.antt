@@ -1,16 +1,17 @@
 -- Worked examples of the definitions, most by computing.
-use Rattle.std.proofs.Common.{◌≡◌, ◌<◌, ◌≤◌, ◌^◌, ◌*◌, ◌+◌, ◌-◌, ℕ, List, [], ◌∷◌, zero, suc, slice_index_or, lit<, refl}
+use Rattle.std.proofs.Common.{◌≡◌, ◌<◌, ◌≤◌, ◌^◌, ◌*◌, ◌+◌, ◌-◌, ◌%◌, ℕ, List, [], ◌∷◌, zero, suc, length, slice_index_or, lit<, refl, ap}
 use Rattle.std.proofs.Common.{arith}
 use Rattle.space_saving.specs.declared.entry.Entry.{Entry}
-use Rattle.key_index.specs.{IndexedKeys}
+use Rattle.key_index.proofs.Examples.{index_for_two, index_for_two_is_empty, empty_index_lacks_keys}
+use Rattle.loser_tree.specs.{HasLeaves}
 use Rattle.rank_table.specs.declared.slot.Slot.{Slot}
 use Rattle.rank_table.specs.Ranks.{slot_rank}
 use Rattle.rank_table.specs.SlotOrder.{put_in_order, in_rank_order, ordered_entries, AreOrdered}
 use Rattle.rank_table.specs.Slot.{AreApart, AreDistinct}
-use Rattle.rank_table.specs.Slot.{Slots}
+use Rattle.rank_table.specs.Slot.{Slots, slot_keys}
 use Rattle.rank_table.specs.Words.{rank_word, IsExactWord, words_from, slot_of_word}
-use Rattle.rank_table.specs.Times.{AreTimeMarks, renumbered_slot, renumbered_slots, slots_before_time, time_mark}
-use Rattle.rank_table.specs.Ranks.{HasLeast, AreLeaves, AreRanked}
+use Rattle.rank_table.specs.Times.{AreTimeMarks, HasTimeMarks, renumbered_slot, renumbered_slots, slots_before_time, time_mark}
+use Rattle.rank_table.specs.Ranks.{HasLeast, AreLeaves, AreRanked, HasRankLeaves}
 use Rattle.rank_table.specs.Marks.{mark_of, marks_from, rank_of_mark, without_mark, slot_of_mark}
 use Rattle.rank_table.specs.Marks.{numbered}
 use Rattle.rank_table.specs.Steps.{raised_slot, entered_slot, heir_slot}
@@ -91,25 +92,25 @@ renumbered_one = refl
 pub renumbered_three : renumbered_slots (slot 1 5 0 7 ∷ slot 2 3 0 0 ∷ slot 3 5 0 4 ∷ []) ≡ slot 1 5 0 2 ∷ slot 2 3 0 0 ∷ slot 3 5 0 1 ∷ []
 renumbered_three = refl
 
-pub mark_of_a_time : time_mark 1 (slot 2 3 0 7) ≡ 7 * 4096 + 1
+pub mark_of_a_time : time_mark 1 (slot 2 3 0 7) ≡ 8 * 4096 + 1
 mark_of_a_time = refl
 
 -- place 1 has no slot
-pub marks_of_times : AreTimeMarks 2 (7 * 4096 ∷ 18446744073709551615 ∷ []) (slot 1 5 0 7 ∷ [])
+pub marks_of_times : AreTimeMarks 2 (8 * 4096 ∷ 18446744073709551615 ∷ []) (slot 1 5 0 7 ∷ [])
 marks_of_times = record { shape = refl; marked = marked; empty = empty }
   where
     marked : (place : ℕ) (d : Slot) → place < 1
-        → slice_index_or (7 * 4096 ∷ 18446744073709551615 ∷ []) place 0 ≡ time_mark place (slice_index_or (slot 1 5 0 7 ∷ []) place d)
+        → slice_index_or (8 * 4096 ∷ 18446744073709551615 ∷ []) place 0 ≡ time_mark place (slice_index_or (slot 1 5 0 7 ∷ []) place d)
     marked zero d within = refl
     marked (suc place) d within = absurd (omega arith)
 
-    empty : (place : ℕ) → 1 ≤ place → place < 2 → slice_index_or (7 * 4096 ∷ 18446744073709551615 ∷ []) place 0 ≡ 2 ^ 64 - 1
+    empty : (place : ℕ) → 1 ≤ place → place < 2 → slice_index_or (8 * 4096 ∷ 18446744073709551615 ∷ []) place 0 ≡ 2 ^ 64 - 1
     empty zero behind inside = absurd (omega arith)
     empty (suc zero) behind inside = refl
     empty (suc (suc place)) behind inside = absurd (omega arith)
 
 -- a leaf that an empty place has by mistake: it would sort as the slot of time 0 there
-pub empty_place_has_a_mark : AreTimeMarks 2 (7 * 4096 ∷ 1 ∷ []) (slot 1 5 0 7 ∷ []) → ⊥
+pub empty_place_has_a_mark : AreTimeMarks 2 (8 * 4096 ∷ 1 ∷ []) (slot 1 5 0 7 ∷ []) → ⊥
 empty_place_has_a_mark marks = omega (arith, marks.empty 1 (omega arith) (omega arith))
 
 pub least_of_two : HasLeast (slot 1 5 0 2 ∷ slot 2 3 0 0 ∷ []) 1
@@ -132,6 +133,82 @@ leaf_is_missing leaves = omega (arith, leaves.shape)
 -- a leaf of place 1 at place 0
 pub leaf_of_another_place : AreLeaves 2 0 (1 ∷ 1 ∷ []) [] → ⊥
 leaf_of_another_place leaves = omega (arith, leaves.early 0 (omega arith) (omega arith))
+
+-- one leaf is the only node of its tree
+tree_of_one_leaf : (word : ℕ) → HasLeaves (word ∷ []) (word ∷ [])
+tree_of_one_leaf word = record {
+  least = λ node. word;
+  shape = refl;
+  some = omega arith;
+  few = omega arith;
+  leaf = leaf;
+  meet = λ node inner within. absurd (omega arith);
+  loser = λ node inner within. absurd (omega arith);
+  winner = refl;
+}
+  where
+    leaf : (place : ℕ) → place < 1 → word ≡ slice_index_or (word ∷ []) place 0
+    leaf zero within = refl
+    leaf (suc place) within = absurd (omega arith)
+
+pub tree_without_slots : HasRankLeaves 1 0 (0 ∷ []) []
+tree_without_slots = record {
+  leaves = 0 ∷ [];
+  in_tree = tree_of_one_leaf 0;
+  are_leaves = record {
+    most = omega arith;
+    shape = refl;
+    fits = omega arith;
+    placed = placed;
+    early = early;
+    below = λ place d within. absurd (omega arith);
+    based = λ place d within. absurd (omega arith);
+    timed = λ place d within. absurd (omega arith);
+  };
+}
+  where
+    placed : (place : ℕ) → place < 1 → slice_index_or (0 ∷ []) place 0 % 4096 ≡ place
+    placed zero within = refl
+    placed (suc place) within = absurd (omega arith)
+
+    early : (place : ℕ) → 0 ≤ place → place < 1 → slice_index_or (0 ∷ []) place 0 ≡ place
+    early zero behind within = refl
+    early (suc place) behind within = absurd (omega arith)
+
+-- the leaf of an empty place is the place
+pub tree_with_a_word_of_no_slot : HasRankLeaves 1 0 (4096 ∷ []) [] → ⊥
+tree_with_a_word_of_no_slot has =
+    let one = has.are_leaves.shape in
+    omega (
+      arith,
+      has.in_tree.winner,
+      has.in_tree.leaf 0 (omega arith),
+      ap has.in_tree.least (let e : length has.leaves + 0 ≡ 1 = omega arith in e),
+      has.are_leaves.early 0 (omega arith) (omega arith),
+    )
+
+-- where there is no slot, the mark is the greatest number
+pub tree_of_marks_without_slots : HasTimeMarks 1 (18446744073709551615 ∷ []) []
+tree_of_marks_without_slots = record {
+  leaves = 18446744073709551615 ∷ [];
+  in_tree = tree_of_one_leaf 18446744073709551615;
+  are_marks = record { shape = refl; marked = λ place d within. absurd (omega arith); empty = empty };
+}
+  where
+    empty : (place : ℕ) → 0 ≤ place → place < 1 → slice_index_or (18446744073709551615 ∷ []) place 0 ≡ 2 ^ 64 - 1
+    empty zero behind within = refl
+    empty (suc place) behind within = absurd (omega arith)
+
+pub tree_with_a_mark_of_no_slot : HasTimeMarks 1 (4096 ∷ []) [] → ⊥
+tree_with_a_mark_of_no_slot has =
+    let one = has.are_marks.shape in
+    omega (
+      arith,
+      has.in_tree.winner,
+      has.in_tree.leaf 0 (omega arith),
+      ap has.in_tree.least (let e : length has.leaves + 0 ≡ 1 = omega arith in e),
+      has.are_marks.empty 0 (omega arith) (omega arith),
+    )
 
 -- a time of 2^18 doesn't fit into a word
 pub slot_of_a_late_time : AreLeaves 1 0 (0 ∷ []) (slot 1 5 0 262144 ∷ []) → ⊥
@@ -174,33 +251,32 @@ slot_of_a_word = refl
 pub entries_by_their_numbers : numbered 0 (entry 2 3 0 ∷ entry 1 5 0 ∷ []) ≡ slot 2 3 0 0 ∷ slot 1 5 0 1 ∷ []
 entries_by_their_numbers = refl
 
-abbrev two_keys : IndexedKeys
-two_keys = record { room = 4; keys = 1 ∷ 2 ∷ [] }
-
 abbrev two_slots : Slots
-two_slots = record { capacity = 4; slots = slot 1 5 0 2 ∷ slot 2 3 0 0 ∷ [] }
+two_slots = record { capacity = 2; slots = slot 1 5 0 2 ∷ slot 2 3 0 0 ∷ [] }
 
-pub keys_of_the_slots : AreParts 4 two_keys two_slots
-keys_of_the_slots = record { roomy = refl; as_many = refl; keyed = refl }
+pub keys_of_the_slots : slot_keys two_slots.slots ≡ 1 ∷ 2 ∷ []
+keys_of_the_slots = refl
 
--- an index that kept the key of another slot
-pub stale_key : AreParts 4 (record { room = 4; keys = 1 ∷ 3 ∷ [] }) two_slots → ⊥
-stale_key together = cc
+pub keys_of_no_slots : AreParts 2 index_for_two (record { capacity = 2; slots = [] })
+keys_of_no_slots = record { roomy = refl; as_many = refl; keyed = index_for_two_is_empty }
+
+-- an index in which no key was entered
+pub missing_keys : AreParts 2 index_for_two two_slots → ⊥
+missing_keys together = empty_index_lacks_keys 1 (2 ∷ []) together.keyed
 
 -- there is no table of capacity 0
 pub no_room_for_slots : AreRanked 0 4 0 [] [] → ⊥
 no_room_for_slots ranked = omega (arith, ranked.some)
 
 -- key 6 takes over the slot of key 2
-pub slot_taken_over : IsTakenOver 6 4 7 (record { room = 2; keys = 1 ∷ 2 ∷ [] }) (record { capacity = 2; slots = slot 1 5 0 2 ∷ slot 2 3 0 0 ∷ [] })
-    (record { room = 2; keys = 1 ∷ 6 ∷ [] }) (record { capacity = 2; slots = slot 1 5 0 2 ∷ slot 6 7 3 7 ∷ [] })
-slot_taken_over = record { place = 1; least = least_of_two; indexed = refl; taken = λ d. refl }
+pub slot_taken_over : IsTakenOver 6 4 7 two_slots (record { capacity = 2; slots = slot 1 5 0 2 ∷ slot 6 7 3 7 ∷ [] })
+slot_taken_over = record { place = 1; least = least_of_two; taken = λ d. refl }
 
-pub empty_table : IsRankTable 2 0 0 (record { room = 2; keys = [] }) (record { capacity = 2; slots = [] })
+pub empty_table : IsRankTable 2 0 0 index_for_two (record { capacity = 2; slots = [] })
 empty_table = record {
   least = omega arith;
   most = omega arith;
-  together = record { roomy = refl; as_many = refl; keyed = refl };
+  together = keys_of_no_slots;
   slots = record { timed = tt; distinct = tt };
   clocked = omega arith;
   adds_up = refl;
@@ -211,5 +287,5 @@ empty_table = record {
 }
 
 -- a clock of 2^18 + 1 is past the times that fit into a word
-pub clock_past_its_end : IsRankTable 2 262145 0 (record { room = 2; keys = [] }) (record { capacity = 2; slots = [] }) → ⊥
+pub clock_past_its_end : IsRankTable 2 262145 0 index_for_two (record { capacity = 2; slots = [] }) → ⊥
 clock_past_its_end table = omega (arith, table.clocked)

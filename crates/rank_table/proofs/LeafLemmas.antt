@@ -7,10 +7,11 @@ use Rattle.std.proofs.lemmas.Bool.{cases_eq, cases_lt}
 use Rattle.std.proofs.lemmas.List.{get_or_default, get_or_append_left, get_or_push, get_or-map, length-map, length_push}
 use Rattle.std.proofs.lemmas.List.FromFn.{length-range_with_len, get_or-range_with_len}
 use Rattle.std.proofs.lemmas.List.Sums.{sum_by-set, sum_by-le}
+use Rattle.loser_tree.specs.{HasLeaves}
 use Rattle.rank_table.specs.declared.slot.Slot.{Slot}
 use Rattle.rank_table.specs.Ranks.{slot_rank}
 use Rattle.rank_table.specs.Words.{rank_word, IsExactWord}
-use Rattle.rank_table.specs.Ranks.{AreLeaves, AreRanked, HasLeast}
+use Rattle.rank_table.specs.Ranks.{AreLeaves, AreRanked, HasLeast, HasRankLeaves}
 use Rattle.rank_table.specs.SlotOrder.{AreOrdered}
 use Rattle.rank_table.specs.Times.{renumbered_slot, renumbered_slots}
 use Rattle.rank_table.proofs.RankedSlotLemmas.{all-ranked_slot_at}
@@ -169,6 +170,54 @@ leaf_rises_when_mended capacity base leaves slots place slot are full within rea
     ) in
     omega (arith, length-set leaves place new, sum_by-set (λ x. x) leaves place new 0 (omega arith), sum_by-le (λ x. x) (2 ^ 64) (set leaves place new) small)
 
+-- the leaves of a tree stay lower bounds when the least one becomes its slot's word
+pub least_leaf_is_mended_to_word : (capacity base leaf place word : ℕ) (tree after : List ℕ) (slots : List Slot) (slot : Slot)
+    → HasRankLeaves capacity base tree slots → place < length slots → leaf % 4096 ≡ place
+    → ((leaves : List ℕ) → HasLeaves tree leaves → Contains leaves leaf)
+    → ((leaves : List ℕ) → HasLeaves tree leaves → All (λ other. leaf ≤ other) leaves)
+    → slot ≡ get_or slots place slot → word ≡ rank_word base slot place
+    → ((leaves : List ℕ) → HasLeaves tree leaves → All (λ other. get_or leaves place 0 ≤ other) leaves → HasLeaves after (set leaves place word))
+    → HasRankLeaves capacity base after slots
+least_leaf_is_mended_to_word capacity base leaf place word tree after slots slot has within names present least read is replaced =
+    let named = leaf_stands_at_its_place capacity base leaf has.leaves slots has.are_leaves (present has.leaves has.in_tree) in
+    let here : get_or has.leaves place 0 ≡ leaf = ap (λ n. get_or has.leaves n 0) (sym names) ∙ named.1 in
+    record {
+      leaves = set has.leaves place word;
+      in_tree = replaced has.leaves has.in_tree (subst (λ n. All (λ other. n ≤ other) has.leaves) (sym here) (least has.leaves has.in_tree));
+      are_leaves = subst (λ n. AreLeaves capacity base (set has.leaves place n) slots) (sym is)
+          (leaf_is_mended_to_word capacity base has.leaves slots place slot has.are_leaves within read);
+    }
+
+-- and their sum, which is that of the tree's nodes, comes nearer to its bound if that word differs
+pub tree_rises_when_leaf_is_mended : (capacity base leaf place word : ℕ) (tree after : List ℕ) (slots : List Slot) (slot : Slot)
+    → HasRankLeaves capacity base tree slots → capacity ≡ length slots → place < length slots → leaf % 4096 ≡ place
+    → ((leaves : List ℕ) → HasLeaves tree leaves → Contains leaves leaf)
+    → ((leaves : List ℕ) → HasLeaves tree leaves → All (λ other. leaf ≤ other) leaves)
+    → slot ≡ get_or slots place slot → word ≡ rank_word base slot place → word ≢ leaf
+    → ((leaves : List ℕ) → HasLeaves tree leaves → All (λ other. get_or leaves place 0 ≤ other) leaves → HasLeaves after (set leaves place word))
+    → ((leaves : List ℕ) → HasLeaves tree leaves → sum tree ≡ sum leaves) → ((leaves : List ℕ) → HasLeaves after leaves → sum after ≡ sum leaves)
+    → length after * 2 ^ 64 - sum after < length tree * 2 ^ 64 - sum tree
+tree_rises_when_leaf_is_mended capacity base leaf place word tree after slots slot has full within names present least read is differs replaced sums later =
+    let named = leaf_stands_at_its_place capacity base leaf has.leaves slots has.are_leaves (present has.leaves has.in_tree) in
+    let here : get_or has.leaves place 0 ≡ leaf = ap (λ n. get_or has.leaves n 0) (sym names) ∙ named.1 in
+    let new : HasLeaves after (set has.leaves place word) = replaced has.leaves has.in_tree
+    (subst (λ n. All (λ other. n ≤ other) has.leaves) (sym here) (least has.leaves has.in_tree)) in
+    let rises : length (set has.leaves place word) * 2 ^ 64 - sum (set has.leaves place word) < length has.leaves * 2 ^ 64 - sum has.leaves =
+    subst (λ n. length (set has.leaves place n) * 2 ^ 64 - sum (set has.leaves place n) < length has.leaves * 2 ^ 64 - sum has.leaves) (sym is)
+    (leaf_rises_when_mended capacity base has.leaves slots place slot has.are_leaves full (omega arith) read
+    (λ same. differs (is ∙ sym same ∙ here))) in
+    omega (arith, rises, sums has.leaves has.in_tree, later (set has.leaves place word) new, new.shape, has.in_tree.shape)
+
+-- a slot whose word is the least leaf has the least word
+pub least_leaf_is_least_word : (capacity base leaf place : ℕ) (leaves : List ℕ) (slots : List Slot) (slot : Slot) → AreLeaves capacity base leaves slots
+    → All (λ other. leaf ≤ other) leaves → place < length slots → slot ≡ get_or slots place slot → rank_word base slot place ≡ leaf
+    → (other : ℕ) (d : Slot) → other < length slots → rank_word base (get_or slots place d) place ≤ rank_word base (get_or slots other d) other
+least_leaf_is_least_word capacity base leaf place leaves slots slot are least within read is other d inside =
+    let fits : length slots ≤ capacity = are.fits in
+    let at : slot ≡ get_or slots place d = read ∙ get_or_default slots place slot d within in
+    subst (λ (s : Slot). rank_word base s place ≤ rank_word base (get_or slots other d) other) at
+    (omega (arith, is, least other 0 (omega (arith, are.shape)), are.below other d inside))
+
 -- a winner whose word is exact comes first
 pub exact_leaf_is_least : (capacity base : ℕ) (leaves : List ℕ) (slots : List Slot) (place : ℕ) (slot : Slot) → AreLeaves capacity base leaves slots
     → place < length slots
@@ -191,35 +240,47 @@ exact_leaf_is_least capacity base leaves slots place slot are within read exact 
     }
 
 -- the leaves of a tree that restarts with the least count as its base
-pub leaf_restarts_at_least_count : (capacity reserved base : ℕ) (leaves : List ℕ) (slots : List Slot) (place : ℕ) (slot : Slot)
-    → AreRanked capacity reserved base leaves slots → length slots ≡ capacity
+pub leaf_restarts_at_least_count : (capacity reserved base : ℕ) (tree after : List ℕ) (slots : List Slot) (place : ℕ) (slot : Slot)
+    → AreRanked capacity reserved base tree slots → length slots ≡ capacity
+    → HasLeaves after (range_with_len 0 capacity)
     → place < length slots → slot ≡ get_or slots place slot → ((other : ℕ) (d : Slot) → other < length slots
     → (get_or slots place d).entry.count ≤ (get_or slots other d).entry.count)
-    → AreRanked capacity reserved slot.entry.count (range_with_len 0 capacity) slots
-leaf_restarts_at_least_count capacity reserved base leaves slots place slot are full within read least = record {
-  some = are.some;
-  has_room = are.has_room;
-  are_leaves = leaf_starts_as_its_place capacity slot.entry.count slots are.are_leaves.most are.are_leaves.fits
-      (λ other d inside. subst (λ (s : Slot). s.entry.count ≤ (get_or slots other d).entry.count) (sym (read
-      ∙ get_or_default slots place slot d within)) (least other d inside)) are.are_leaves.timed;
-  unbased = λ room. absurd (omega arith);
-}
+    → AreRanked capacity reserved slot.entry.count after slots
+leaf_restarts_at_least_count capacity reserved base tree after slots place slot are full restarted within read least =
+    let old = are.has_leaves.are_leaves in
+    record {
+      some = are.some;
+      has_room = are.has_room;
+      has_leaves = record {
+        leaves = range_with_len 0 capacity;
+        in_tree = restarted;
+        are_leaves = leaf_starts_as_its_place capacity slot.entry.count slots old.most old.fits
+            (λ other d inside. subst (λ (s : Slot). s.entry.count ≤ (get_or slots other d).entry.count) (sym (read
+            ∙ get_or_default slots place slot d within)) (least other d inside)) old.timed;
+      };
+      unbased = λ room. absurd (omega arith);
+    }
 
 -- the leaves of a tree that restarts once its slots are renumbered
-pub leaf_restarts_when_renumbered : (capacity reserved base : ℕ) (leaves : List ℕ) (slots : List Slot)
-    → AreRanked capacity reserved base leaves slots → AreOrdered (2 ^ 18) slots
-    → AreRanked capacity reserved base (range_with_len 0 capacity) (renumbered_slots slots)
-leaf_restarts_when_renumbered capacity reserved base leaves slots are ordered =
+pub leaf_restarts_when_renumbered : (capacity reserved base : ℕ) (tree after : List ℕ) (slots : List Slot)
+    → AreRanked capacity reserved base tree slots → AreOrdered (2 ^ 18) slots → HasLeaves after (range_with_len 0 capacity)
+    → AreRanked capacity reserved base after (renumbered_slots slots)
+leaf_restarts_when_renumbered capacity reserved base tree after slots are ordered restarted =
+    let old = are.has_leaves.are_leaves in
     let same : length (renumbered_slots slots) ≡ length slots = length-map slots (renumbered_slot slots) in
-    let fits : length slots ≤ capacity = are.are_leaves.fits in
-    let most : capacity ≤ 4096 = are.are_leaves.most in
+    let fits : length slots ≤ capacity = old.fits in
+    let most : capacity ≤ 4096 = old.most in
     let again = AreOrdered-renumbered_slots (2 ^ 18) slots ordered in
     record {
       some = are.some;
       has_room = are.has_room;
-      are_leaves = leaf_starts_as_its_place capacity base (renumbered_slots slots) most (omega arith)
-          (λ place d within. subst (λ (s : Slot). base ≤ s.entry.count) (sym (get_or-map (renumbered_slot slots) slots place d d (omega arith)))
-          (are.are_leaves.based place d (omega arith)))
-          (λ place d within. omega (arith, all-ranked_slot_at (λ slot. slot.time < length slots) place (renumbered_slots slots) d again.timed within));
+      has_leaves = record {
+        leaves = range_with_len 0 capacity;
+        in_tree = restarted;
+        are_leaves = leaf_starts_as_its_place capacity base (renumbered_slots slots) most (omega arith)
+            (λ place d within. subst (λ (s : Slot). base ≤ s.entry.count) (sym (get_or-map (renumbered_slot slots) slots place d d (omega arith)))
+            (old.based place d (omega arith)))
+            (λ place d within. omega (arith, all-ranked_slot_at (λ slot. slot.time < length slots) place (renumbered_slots slots) d again.timed within));
+      };
       unbased = λ room. are.unbased (omega arith);
     }

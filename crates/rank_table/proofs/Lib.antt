@@ -4,6 +4,7 @@ pub mod LeafLemmas
 pub mod SlotChangeLemmas
 pub mod SlotKeyLemmas
 pub mod SlotRiseLemmas
+pub mod TimeMarkLemmas
 pub mod RenumberedSlotLemmas
 pub mod SortedSlotLemmas
 pub mod SortedWordLemmas

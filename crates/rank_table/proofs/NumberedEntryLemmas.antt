@@ -11,7 +11,6 @@ use Rattle.rank_table.specs.Ranks.{slot_rank}
 use Rattle.rank_table.specs.SlotOrder.{put_in_order, in_rank_order, ordered_entries, AreOrdered}
 use Rattle.rank_table.specs.Slot.{AreApart}
 use Rattle.rank_table.proofs.RankedSlotLemmas.{ranked_slot_entry, slot_put_in_order-least}
-use Rattle.rank_table.proofs.SlotKeyLemmas.{slot_key}
 
 pub length-numbered_entries : (time : ℕ) (entries : List Entry) → length (numbered time entries) ≡ length entries
 length-numbered_entries time [] = refl
@@ -65,10 +64,6 @@ entries-numbered time (entry ∷ rest) = ap (λ l. entry ∷ l) (entries-numbere
 
 pub ordered_entries-numbered : (entries : List Entry) → RisesFrom 0 entries → ordered_entries (numbered 0 entries) ≡ entries
 ordered_entries-numbered entries rises = ap (map ranked_slot_entry) (in_rank_order-numbered_entries 0 0 entries rises) ∙ entries-numbered 0 entries
-
-pub keys-numbered_entries : (time : ℕ) (entries : List Entry) → map (λ (entry : Entry). entry.key) entries ≡ map slot_key (numbered time entries)
-keys-numbered_entries time [] = refl
-keys-numbered_entries time (entry ∷ rest) = ap (λ l. entry.key ∷ l) (keys-numbered_entries (time + 1) rest)
 
 -- a slot whose key is missing among later entries is apart from their slots
 apart_from_numbered_entries : (slot : Slot) (time : ℕ) (entries : List Entry) → slot.time < time → table_entry slot.entry.key entries ≡ None

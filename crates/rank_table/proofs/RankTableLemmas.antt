@@ -4,7 +4,7 @@ use Rattle.std.proofs.Common.{subst, arith}
 use Rattle.std.specs.List.{AllByRecursion}
 use Rattle.std.proofs.lemmas.Bool.{cond-true, cond-false, lt-ltb, le-ltb}
 use Rattle.std.proofs.lemmas.List.Elements.{recursion_from_All}
-use Rattle.key_index.specs.{IndexedKeys}
+use Rattle.key_index.specs.{KeyEntries}
 use Rattle.space_saving.specs.declared.entry.Entry.{Entry}
 use Rattle.space_saving.specs.{TableAdd, TableValue, after_step, table_entry, table_total, least_count}
 use Rattle.space_saving.specs.{interval_from, interval_in, HasSmallError, IsTable, AreTableEntries}
@@ -17,13 +17,12 @@ use Rattle.rank_table.proofs.RankedSlotLemmas.{ranked_slot_entry, all-ranked_slo
 use Rattle.rank_table.specs.Marks.{numbered}
 use Rattle.rank_table.proofs.SlotChangeLemmas.{AreOrdered-change_of_time, least_entry_in_slot_change}
 use Rattle.rank_table.proofs.SlotChangeLemmas.{slot_change_entry_count}
-use Rattle.rank_table.proofs.SlotKeyLemmas.{slot_key}
-use Rattle.rank_table.proofs.NumberedEntryLemmas.{ordered_entries-numbered, keys-numbered_entries}
+use Rattle.rank_table.proofs.NumberedEntryLemmas.{ordered_entries-numbered}
 use Rattle.rank_table.proofs.NumberedEntryLemmas.{AreOrdered-all_numbered_entries}
 use Rattle.rank_table.proofs.SlotRiseLemmas.{all_slots_from_rise_order}
 
 -- a table after an add at this time
-pub IsRankTable-add : (capacity clock now total weight : ℕ) (index index_after : IndexedKeys) (ranked ranked_after : Slots) (add : TableAdd)
+pub IsRankTable-add : (capacity clock now total weight : ℕ) (index index_after : KeyEntries) (ranked ranked_after : Slots) (add : TableAdd)
     → IsRankTable capacity clock total index ranked
     → add.weight ≡ weight → 1 ≤ weight → table_total (ordered_entries ranked.slots) + weight < 2 ^ 56
     → ((entries : List Entry) → IsTable capacity entries → IsTable capacity (after_step capacity entries add))
@@ -92,22 +91,21 @@ rank_table_length_as_seen capacity seen slots table same view = ap length same �
     ∙ ap (λ (t : TableValue). length t.entries) view
 
 -- the times of a table are below 2^64
-pub rank_table_times_are_small : (capacity clock total : ℕ) (index : IndexedKeys) (ranked : Slots) → IsRankTable capacity clock total index ranked
+pub rank_table_times_are_small : (capacity clock total : ℕ) (index : KeyEntries) (ranked : Slots) → IsRankTable capacity clock total index ranked
     → AreOrdered (2 ^ 64) ranked.slots
 rank_table_times_are_small capacity clock total index ranked table =
     AreOrdered-change_of_time clock (2 ^ 64) ranked.slots (omega (arith, table.clocked)) table.slots
 
 -- a table of entries that were inserted one after the other
-pub IsRankTable-loaded : (capacity total : ℕ) (entries : List Entry) (index : IndexedKeys) (ranked : Slots) → 2 ≤ capacity → capacity ≤ 4096
+pub IsRankTable-loaded : (capacity total : ℕ) (entries : List Entry) (index : KeyEntries) (ranked : Slots) → 2 ≤ capacity → capacity ≤ 4096
     → AreTableEntries capacity entries → total ≡ table_total entries
-    → index.room ≡ capacity → ranked.capacity ≡ capacity → index.keys ≡ map (λ (entry : Entry). entry.key) entries → ranked.slots ≡ numbered 0 entries
-    → IsRankTable capacity (length entries) total index ranked
-IsRankTable-loaded capacity total entries index ranked least most are counted roomy as_many keys slots =
+    → AreParts capacity index ranked → ranked.slots ≡ numbered 0 entries → IsRankTable capacity (length entries) total index ranked
+IsRankTable-loaded capacity total entries index ranked least most are counted together slots =
     let same : ordered_entries ranked.slots ≡ entries = ap ordered_entries slots ∙ ordered_entries-numbered entries are.is_table.ascending in
     record {
       least = least;
       most = most;
-      together = record { roomy = roomy; as_many = as_many; keyed = keys ∙ keys-numbered_entries 0 entries ∙ ap (map slot_key) (sym slots) };
+      together = together;
       slots = subst (AreOrdered (length entries)) (sym slots) (AreOrdered-all_numbered_entries entries are.is_table.distinct);
       clocked = omega (arith, are.is_table.fits);
       adds_up = counted ∙ ap table_total (sym same);

@@ -1,5 +1,6 @@
--- Slots and the leaves of a tree over them, which no public contract cites.
+-- Slots, and a tree whose leaves are over them, which no public contract cites.
 use Rattle.std.specs.Prelude.{ℕ, ◌≡◌, ◌%◌, ◌<◌, ◌≤◌, List, length, slice_index, slice_index_or, ◌+◌, ◌*◌, ◌^◌}
+use Rattle.loser_tree.specs.{HasLeaves}
 use Rattle.rank_table.specs.declared.slot.Slot.{Slot}
 use Rattle.rank_table.specs.Words.{rank_word}
 
@@ -24,9 +25,15 @@ pub record AreLeaves (capacity base : ℕ) (leaves : List ℕ) (slots : List Slo
   pub based : (place : ℕ) (d : Slot) → place < length slots → base ≤ (slice_index_or slots place d).entry.count
   pub timed : (place : ℕ) (d : Slot) → place < length slots → (slice_index_or slots place d).time < 2 ^ 18
 
--- memory for all slots, such leaves, and a base of 0 as long as there is room for one more slot
-pub record AreRanked (capacity reserved base : ℕ) (leaves : List ℕ) (slots : List Slot) : Type 0 where
+-- a tree of such leaves
+pub record HasRankLeaves (capacity base : ℕ) (tree : List ℕ) (slots : List Slot) : Type 0 where
+  pub leaves : List ℕ
+  pub in_tree : HasLeaves tree leaves
+  pub are_leaves : AreLeaves capacity base leaves slots
+
+-- memory for all slots, such a tree, and a base of 0 as long as there is room for one more slot
+pub record AreRanked (capacity reserved base : ℕ) (tree : List ℕ) (slots : List Slot) : Type 0 where
   pub some : 1 ≤ capacity
   pub has_room : capacity ≤ reserved
-  pub are_leaves : AreLeaves capacity base leaves slots
+  pub has_leaves : HasRankLeaves capacity base tree slots
   pub unbased : length slots < capacity → base ≡ 0

@@ -1,5 +1,5 @@
 -- Slots by place, which no public contract cites.
-use Rattle.std.specs.Prelude.{ℕ, List, ◌≢◌, [], ◌∷◌, ⊤}
+use Rattle.std.specs.Prelude.{ℕ, List, ◌≢◌, [], ◌∷◌, ⊤, map}
 use Rattle.std.specs.List.{AllByRecursion}
 use Rattle.rank_table.specs.declared.slot.Slot.{Slot}
 
@@ -7,6 +7,10 @@ use Rattle.rank_table.specs.declared.slot.Slot.{Slot}
 pub record Slots : Type 0 where
   pub capacity : ℕ
   pub slots : List Slot
+
+-- the keys of slots
+abbrev pub slot_keys : List Slot → List ℕ
+slot_keys slots = map (λ slot. slot.entry.key) slots
 
 -- two slots with different keys and different times
 abbrev pub AreApart : Slot → Slot → Type 0

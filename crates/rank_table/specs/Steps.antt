@@ -1,6 +1,5 @@
 -- The slots that a step makes, which no public contract cites.
 use Rattle.std.specs.Prelude.{ℕ, ◌≡◌, ◌+◌, slice_index_or, slice_set}
-use Rattle.key_index.specs.{IndexedKeys}
 use Rattle.rank_table.specs.declared.slot.Slot.{Slot}
 use Rattle.rank_table.specs.Ranks.{HasLeast}
 use Rattle.rank_table.specs.Slot.{Slots}
@@ -18,9 +17,8 @@ abbrev pub heir_slot : ℕ → ℕ → ℕ → Slot → Slot
 heir_slot key weight now slot = record { entry = record { key = key; count = slot.entry.count + weight; error = slot.entry.count }; time = now }
 
 -- the slot of the least rank was taken over by this key
-pub record IsTakenOver (key weight now : ℕ) (index : IndexedKeys) (ranked : Slots) (index_after : IndexedKeys) (ranked_after : Slots) : Type 0 where
+pub record IsTakenOver (key weight now : ℕ) (ranked ranked_after : Slots) : Type 0 where
   pub place : ℕ
   pub least : HasLeast ranked.slots place
-  pub indexed : index_after ≡ record index { keys = slice_set index.keys place key }
   pub taken : (d : Slot)
       → ranked_after ≡ record ranked { slots = slice_set ranked.slots place (heir_slot key weight now (slice_index_or ranked.slots place d)) }

@@ -1,5 +1,5 @@
 //! A table of Space-Saving whose adds take nearly constant time. Its entries stay in slots in the order in which
-//! their first keys came; a winner tree of ranks answers the least one when a new key needs it.
+//! their first keys came; a loser tree of ranks answers the least one when a new key needs it.
 #![tactic(auto)]
 
 mod copying;

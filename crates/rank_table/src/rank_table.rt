@@ -1,13 +1,14 @@
 //! The table.
 
-ghost use Rattle.std.specs.Prelude.{◌≡◌, ◌≤◌, [], map};
+ghost use Rattle.std.specs.Prelude.{◌≡◌, ◌≤◌, []};
 ghost use Rattle.rank_table.specs.Marks.{numbered};
+ghost use Rattle.rank_table.specs.RankTable.{AreParts};
 
 use crate::copying::write_in_order;
 use crate::ranked_slots::RankedSlots;
 use crate::scanning::{interval_of, slot_at};
 use crate::slot::Slot;
-use crate::steps::add_weight;
+use crate::steps::{add_weight, append};
 use key_index::KeyIndex;
 use space_saving::{Entry, EntrySource, Flat, Summary, intervals_are_narrow, steps_leave_a_table};
 use std::alloc::{AllocError, Global};
@@ -126,20 +127,15 @@ impl EntrySource for RankTable {
 
 // Puts the entries of a flat table into empty parts of its capacity, in their order.
 fn load(index: &mut KeyIndex, ranked: &mut RankedSlots, flat: &Flat)
-    requires room { index.old.room ≡ flat.now.capacity }
     requires few { flat.now.capacity ≤ 4096 }
-    requires capacity { ranked.old.capacity ≡ flat.now.capacity }
-    requires no_keys { index.old.keys ≡ [] }
+    requires together { AreParts flat.now.capacity index.old ranked.old }
     requires no_slots { ranked.old.slots ≡ [] }
-    ensures index { index.new ≡ record index.old { keys = map (λ entry. entry.key) flat.now.entries } }
+    ensures together { AreParts flat.now.capacity index.new ranked.new }
     ensures ranked { ranked.new ≡ record ranked.old { slots = numbered 0 flat.now.entries } }
 {
     for place in 0..flat.len() {
         let entry = flat.entry(place);
-        index.push(entry.key);
-        ranked.push(Slot {
-            entry,
-            time: place as u64,
-        });
+        let time = place as u64;
+        append(index, ranked, Slot { entry, time });
     }
 }

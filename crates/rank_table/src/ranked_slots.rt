@@ -3,7 +3,7 @@
 ghost use Rattle.std.specs.Prelude.{◌≡◌, ◌+◌, ◌^◌, ◌<◌, ◌≤◌, ◌++◌, ◌∷◌, [], ℕ, IfOk, IsTrue, false, ◌↔◌, length};
 ghost use Rattle.std.specs.Prelude.{map, slice_index_or, slice_set};
 ghost use Rattle.rank_table.specs.declared.slot.Slot.{Slot};
-ghost use Rattle.rank_table.specs.Ranks.{AreLeaves, HasLeast};
+ghost use Rattle.rank_table.specs.Ranks.{HasLeast, HasRankLeaves};
 ghost use Rattle.rank_table.specs.SlotOrder.{AreOrdered, ordered_entries};
 ghost use Rattle.rank_table.specs.Times.{renumbered_slots};
 ghost use Rattle.rank_table.specs.Words.{rank_word};
@@ -12,9 +12,9 @@ use crate::renumbering::renumber_slots;
 use crate::scanning::least_of;
 use crate::slot::Slot;
 use crate::words::{PLACES, TIMES, is_exact, word_of};
+use loser_tree::LoserTree;
 use std::alloc::{AllocError, Global};
 use std::marker::Model;
-use winner_tree::WinnerTree;
 
 /// Slots at fixed places. The leaves of the tree are lower bounds of the slots' words, so the tree need not change
 /// when the rank of a slot rises.
@@ -22,7 +22,7 @@ use winner_tree::WinnerTree;
 pub(crate) struct RankedSlots {
     capacity: usize,
     slots: Vec<Slot>,
-    tree: WinnerTree,
+    tree: LoserTree,
     base: u64,
 }
 
@@ -48,7 +48,7 @@ impl RankedSlots {
         Ok(RankedSlots {
             capacity,
             slots: Vec::with_capacity(alloc, capacity)?,
-            tree: WinnerTree::with_leaves(alloc, capacity)?,
+            tree: LoserTree::with_leaves(alloc, capacity)?,
             base: 0,
         })
     }
@@ -89,14 +89,16 @@ impl RankedSlots {
         self.slots[place] = slot;
     }
 
-    /// Sets the leaf of a place to its slot's word. `least` would do it too; done at once, it overlaps with the
-    /// look-ups of the next keys, and nothing waits for it.
+    /// Sets the leaf of a place to its slot's word, if it is the least leaf. `least` would do it too; done at once, it
+    /// overlaps with the look-ups of the next keys, and nothing waits for it.
     pub(crate) fn mend(&mut self, place: usize)
         requires { place < length self.old.slots }
         ensures { self.new ≡ self.old }
     {
-        let word = word_of(self.base, &self.slots[place], place);
-        self.tree.set(place, word);
+        if self.tree.least() % PLACES == place as u64 {
+            let word = word_of(self.base, &self.slots[place], place);
+            self.tree.replace_least(place, word);
+        }
     }
 
     /// The place of the slot that comes before all others, among as many slots as the capacity. It looks at all slots
@@ -146,10 +148,10 @@ impl RankedSlots {
 }
 
 // The place whose slot has the least word. A leaf that comes first and is less than its slot's word gets that word.
-fn winner(tree: &mut WinnerTree, slots: &[Slot], base: u64) -> usize
+fn winner(tree: &mut LoserTree, slots: &[Slot], base: u64) -> usize
     requires some { 0 < length slots.now }
-    requires leaves { AreLeaves (length slots.now) base tree.old slots.now }
-    ensures leaves { AreLeaves (length slots.now) base tree.new slots.now }
+    requires leaves { HasRankLeaves (length slots.now) base tree.old slots.now }
+    ensures leaves { HasRankLeaves (length slots.now) base tree.new slots.now }
     ensures within { result < length slots.now }
     ensures least { (place : ℕ) (d : Slot) → place < length slots.now
         → rank_word base (slice_index_or slots.now result d) result ≤ rank_word base (slice_index_or slots.now place d) place }
@@ -161,6 +163,6 @@ fn winner(tree: &mut WinnerTree, slots: &[Slot], base: u64) -> usize
         if word == leaf {
             return place;
         }
-        tree.set(place, word);
+        tree.replace_least(place, word);
     }
 }

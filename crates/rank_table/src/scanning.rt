@@ -1,12 +1,14 @@
 //! Slots by rank, found by looking at all of them.
 
-ghost use Rattle.std.specs.Prelude.{◌≡◌, ◌^◌, ◌<◌, ◌≤◌, ℕ, Some, IsTrue, false, nat_lt, length, map, slice_get};
+ghost use Rattle.std.specs.Prelude.{◌≡◌, ◌^◌, ◌<◌, ◌≤◌, ℕ, Some, IsTrue, false, nat_lt, length, slice_get};
 ghost use Rattle.std.specs.Prelude.{slice_index_or, count_by};
+ghost use Rattle.key_index.specs.{HoldsKeys};
 ghost use Rattle.rank_table.specs.declared.slot.Slot.{Slot};
 ghost use Rattle.space_saving.specs.{interval_in, AreTableEntries};
 ghost use Rattle.rank_table.specs.SlotOrder.{AreOrdered, ordered_entries, in_rank_order};
 ghost use Rattle.rank_table.specs.Ranks.{slot_rank};
 ghost use Rattle.rank_table.specs.Ranks.{HasLeast};
+ghost use Rattle.rank_table.specs.Slot.{slot_keys};
 
 use crate::slot::Slot;
 use key_index::KeyIndex;
@@ -64,13 +66,13 @@ pub(crate) fn slot_at(slots: &[Slot], place: usize) -> Slot
 /// The interval of a key. For one that is missing among as many slots as there can be, it looks at all of them.
 pub(crate) fn interval_of(index: &KeyIndex, slots: &[Slot], capacity: u32, key: u64) -> (u64, u64)
     requires some { 1 ≤ capacity }
-    requires keyed { index.now.keys ≡ map (λ slot. slot.entry.key) slots.now }
+    requires keyed { HoldsKeys (slot_keys slots.now) index.now }
     requires slots { AreOrdered (2 ^ 64) slots.now }
     requires entries { AreTableEntries capacity (ordered_entries slots.now) }
     ensures low { result.0 ≡ (interval_in (record { capacity = capacity; entries = ordered_entries slots.now }) key).low }
     ensures high { result.1 ≡ (interval_in (record { capacity = capacity; entries = ordered_entries slots.now }) key).high }
 {
-    match index.find(key) {
+    match index.find(slots, key) {
         Some(place) => {
             let entry = slots[place].entry;
             (entry.count - entry.error, entry.count)

@@ -10,7 +10,7 @@ ghost use Rattle.rank_table.specs.declared.slot.Slot.{Slot};
 
 use crate::ranked_slots::RankedSlots;
 use crate::slot::Slot;
-use key_index::KeyIndex;
+use key_index::{KeyIndex, appended_key_is_missing};
 use space_saving::Entry;
 
 /// Adds a weight for a key at a time later than all before: its slot's rank rises, or a new slot takes free room,
@@ -33,7 +33,7 @@ pub(crate) fn add_weight(
     ensures stepped { ordered_entries ranked.new.slots
         ≡ after_step ranked.old.capacity (ordered_entries ranked.old.slots) (record { key = key; weight = weight }) }
 {
-    match index.find(key) {
+    match index.find(ranked.slots(), key) {
         Some(place) => grow(ranked, place, weight, now),
         None if ranked.has_room() => take_room(index, ranked, key, weight, now),
         None => take_over(index, ranked, key, weight, now),
@@ -64,7 +64,7 @@ fn take_room(index: &mut KeyIndex, ranked: &mut RankedSlots, key: u64, weight: u
     requires room { length ranked.old.slots < ranked.old.capacity }
     requires early { now < 2 ^ 18 }
     requires together { AreParts ranked.old.capacity index.old ranked.old }
-    ensures index { index.new ≡ record index.old { keys = index.old.keys ++ key ∷ [] } }
+    ensures together { AreParts ranked.old.capacity index.new ranked.new }
     ensures ranked { ranked.new ≡ record ranked.old { slots = ranked.old.slots ++ entered_slot key weight now ∷ [] } }
 {
     let entry = Entry {
@@ -72,8 +72,21 @@ fn take_room(index: &mut KeyIndex, ranked: &mut RankedSlots, key: u64, weight: u
         count: weight,
         error: 0,
     };
-    index.push(key);
-    ranked.push(Slot { entry, time: now });
+    append(index, ranked, Slot { entry, time: now });
+}
+
+/// Appends a slot, and enters its key in the index.
+pub(crate) fn append(index: &mut KeyIndex, ranked: &mut RankedSlots, slot: Slot)
+    requires room { length ranked.old.slots < ranked.old.capacity }
+    requires early { slot.time < 2 ^ 18 }
+    requires together { AreParts ranked.old.capacity index.old ranked.old }
+    ensures together { AreParts ranked.old.capacity index.new ranked.new }
+    ensures ranked { ranked.new ≡ record ranked.old { slots = ranked.old.slots ++ slot ∷ [] } }
+{
+    appended_key_is_missing();
+    let place = ranked.slots().len();
+    ranked.push(slot);
+    index.enter(ranked.slots(), place);
 }
 
 // Gives a new key the slot that comes first: its count becomes the error of the new entry.
@@ -83,7 +96,8 @@ fn take_over(index: &mut KeyIndex, ranked: &mut RankedSlots, key: u64, weight: u
     requires slots { AreOrdered now ranked.old.slots }
     requires early { now < 2 ^ 18 }
     requires room { table_total (ordered_entries ranked.old.slots) + weight < 2 ^ 56 }
-    ensures { IsTakenOver key weight now index.old ranked.old index.new ranked.new }
+    ensures together { AreParts ranked.old.capacity index.new ranked.new }
+    ensures taken { IsTakenOver key weight now ranked.old ranked.new }
 {
     let place = ranked.least();
     let least = ranked.slots()[place].entry.count;
@@ -92,7 +106,7 @@ fn take_over(index: &mut KeyIndex, ranked: &mut RankedSlots, key: u64, weight: u
         count: least + weight,
         error: least,
     };
-    index.replace(place, key);
+    index.leave(ranked.slots(), place);
     ranked.raise(
         place,
         Slot {
@@ -100,5 +114,6 @@ fn take_over(index: &mut KeyIndex, ranked: &mut RankedSlots, key: u64, weight: u
             time: now,
         },
     );
+    index.enter(ranked.slots(), place);
     ranked.mend(place);
 }

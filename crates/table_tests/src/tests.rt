@@ -1,9 +1,9 @@
 ghost use Rattle.std.specs.Prelude.{◌≤◌};
 
 mod key_indexes;
+mod loser_trees;
 mod plain_tables;
 mod rank_tables;
-mod winner_trees;
 
 use space_saving::{Entry, Summary};
 use std::alloc::Global;

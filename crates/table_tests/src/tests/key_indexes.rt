@@ -1,77 +1,141 @@
 //! Indexes of keys, compared with plain lists of the same keys.
 
-ghost use Rattle.std.specs.Prelude.{◌≡◌, ◌<◌, length};
+ghost use Rattle.std.specs.Prelude.{◌≡◌};
 
 use super::next;
-use key_index::KeyIndex;
+use key_index::{KeyIndex, Keyed, appended_key_is_missing};
 use std::alloc::Global;
+use std::marker::Model;
 use std::test::Fail;
 
-/// The place of a key in a list, as the index should find it.
-fn place_in(list: &[u64], key: u64) -> Option<usize> {
-    for (place, other) in list.iter().enumerate() {
-        if *other == key {
-            return Some(place);
-        }
-    }
-    None
+/// What has a key and no more.
+#[derive(Clone, Copy)]
+struct Holder {
+    key: u64,
 }
 
-/// Whether an index has the places of a plain list of the same keys through 2,000 turns in which a new key may replace
-/// another. All keys are multiples of `step`.
-fn follow_a_list(alloc: Global, room: usize, step: u64) -> Result<bool, Fail> {
-    if room == 0 || room >= 1000 {
-        return Err("too little or too much room".into());
+impl Keyed for Holder {
+    ghost key_of = { λ holder. holder.key };
+
+    fn key(&self) -> u64 {
+        self.key
     }
-    let mut index = KeyIndex::with_room(alloc, room)?;
-    let mut list = Vec::new(alloc);
+}
+
+/// A list and an index of its keys.
+#[derive(Drop)]
+struct IndexedList {
+    room: usize,
+    index: KeyIndex,
+    list: Vec<Holder>,
+}
+
+impl Model for IndexedList {
+    ghost use Rattle.std.specs.Prelude.{ℕ, ◌≡◌, map};
+    ghost use Rattle.key_index.specs.{HoldsKeys};
+
+    ghost Value = { ℕ };
+
+    ghost view = { λ i. i.room };
+
+    ghost invariant = { λ i. (i.index.room ≡ i.room) × HoldsKeys (map (λ holder. holder.key) i.list.items) i.index };
+}
+
+impl IndexedList {
+    fn with_room(alloc: Global, room: usize) -> Result<IndexedList, Fail> {
+        if room == 0 || room > 8192 {
+            return Err("too little or too much room".into());
+        }
+        let index = KeyIndex::with_room(alloc, room)?;
+        let list = Vec::with_capacity(alloc, room)?;
+        Ok(IndexedList { room, index, list })
+    }
+
+    /// Appends a key.
+    fn append(&mut self, key: u64) -> Result<(), Fail> {
+        let place = self.list.len();
+        if place >= self.room {
+            return Err("no room for one more".into());
+        }
+        appended_key_is_missing();
+        self.list.push(Holder { key })?;
+        self.index.enter(&self.list, place);
+        Ok(())
+    }
+
+    /// Puts a key in the place of another.
+    fn replace(&mut self, place: usize, key: u64) {
+        if place < self.list.len() {
+            self.index.leave(&self.list, place);
+            self.list[place] = Holder { key };
+            self.index.enter(&self.list, place);
+        }
+    }
+
+    /// The place of a key, by the index.
+    fn find(&self, key: u64) -> Option<usize> {
+        self.index.find(&self.list, key)
+    }
+
+    /// The place of a key in the list, as the index should find it.
+    fn place_in_list(&self, key: u64) -> Option<usize> {
+        for (place, holder) in self.list.iter().enumerate() {
+            if holder.key == key {
+                return Some(place);
+            }
+        }
+        None
+    }
+
+    /// The key at a place.
+    fn key_at(&self, place: usize) -> Option<u64> {
+        self.list.get(place).map(|holder| holder.key)
+    }
+
+    /// Whether the index finds each key at its place in the list.
+    fn finds_all(&self) -> bool {
+        for (place, holder) in self.list.iter().enumerate() {
+            if self.find(holder.key) != Some(place) {
+                return false;
+            }
+        }
+        true
+    }
+}
+
+/// Whether an index has the places of a list through 2,000 turns in which a new key may replace another. All keys are
+/// multiples of `step`.
+fn follow_a_list(alloc: Global, room: usize, step: u64) -> Result<bool, Fail> {
+    if room == 0 {
+        return Err("no room".into());
+    }
+    let mut keys = IndexedList::with_room(alloc, room)?;
     for place in 0..room {
-        let key = (place as u64).wrapping_mul(step);
-        index.push(key);
-        list.push(key)?;
+        keys.append((place as u64).wrapping_mul(step))?;
     }
     let mut random: u64 = 7;
     for _turn in 0..2000 {
         random = next(random);
         let place = (random >> 33) as usize % room;
-        let key = (random >> 41).wrapping_mul(step);
-        if !replace_one(&mut index, &mut list, place, key) {
+        if !replace_one(&mut keys, place, (random >> 41).wrapping_mul(step)) {
             return Ok(false);
         }
     }
-    Ok(has_places_of(&index, &list))
+    Ok(keys.finds_all())
 }
 
-/// Puts a key in the place of another in an index and in a list of the same keys, unless it is one of them. Returns
-/// whether the index then finds what the list has.
-fn replace_one(index: &mut KeyIndex, list: &mut [u64], place: usize, key: u64) -> bool
-    requires { place < length index.old.keys }
-    ensures { length index.new.keys ≡ length index.old.keys }
-{
-    if place >= list.len() {
-        return false;
-    }
-    let known = place_in(list, key);
-    if index.find(key) != known {
+/// Puts a key in the place of another, unless it is in the list. Returns whether the index then finds what the list has.
+fn replace_one(keys: &mut IndexedList, place: usize, key: u64) -> bool {
+    let known = keys.place_in_list(key);
+    if keys.find(key) != known {
         return false;
     }
     if known.is_some() {
         return true;
     }
-    let gone = list[place];
-    index.replace(place, key);
-    list[place] = key;
-    index.find(key) == Some(place) && index.find(gone).is_none()
-}
-
-/// Whether the index finds each key at its place in the list.
-fn has_places_of(index: &KeyIndex, list: &[u64]) -> bool {
-    for (place, key) in list.iter().enumerate() {
-        if index.find(*key) != Some(place) {
-            return false;
-        }
-    }
-    true
+    let gone = keys.key_at(place);
+    keys.replace(place, key);
+    keys.find(key) == Some(place) && gone.is_some_and(|gone| keys.find(gone).is_none())
 }
 
 #[test]
@@ -90,6 +154,9 @@ fn follow_lists(alloc: Global, room: usize) -> Result<bool, Fail> {
     )
 }
 
+/// What a turn multiplies by.
+const MULTIPLIER: u64 = 0x9e37_79b9_7f4a_7c15;
+
 /// One divided by an odd number, modulo 2^64 (Newton's method).
 fn inverse_of(odd: u64) -> u64 {
     let mut inverse = odd;
@@ -99,23 +166,62 @@ fn inverse_of(odd: u64) -> u64 {
     inverse
 }
 
+/// The number of which the next turn makes this product. It lays the high half over the low one once more, which takes it
+/// off again.
+fn before_turn(product: u64) -> u64 {
+    let factor = product.wrapping_mul(inverse_of(MULTIPLIER));
+    factor ^ factor >> 32
+}
+
+/// What a turn makes of a number.
+fn after_turn(number: u64) -> u64 {
+    (number ^ number >> 32).wrapping_mul(MULTIPLIER)
+}
+
 #[test]
-fn keys_that_share_a_home_are_found(rt: HostRuntime) -> Result<(), Fail> {
-    assert!(rt; finds_keys_of_one_home(rt.alloc())?);
+fn keys_that_share_homes_are_found(rt: HostRuntime) -> Result<(), Fail> {
+    assert!(rt; finds_keys_of_one_home(rt.alloc())?, "one home");
+    assert!(rt; finds_keys_behind_full_homes(rt.alloc())?, "full homes");
     Ok(())
 }
 
-/// Whether an index finds 512 keys whose products with the first turn's multiplier differ only in their low half, and no
+/// Whether an index finds forty keys of which the first turn makes products that differ only in their low half, and no
 /// other.
 fn finds_keys_of_one_home(alloc: Global) -> Result<bool, Fail> {
-    let inverse = inverse_of(0x9e37_79b9_7f4a_7c15);
-    let mut index = KeyIndex::with_room(alloc, 512)?;
-    let mut list = Vec::new(alloc);
-    for number in 0..512u64 {
-        let key = ((5 << 32) + number).wrapping_mul(inverse);
-        index.push(key);
-        list.push(key)?;
+    let mut keys = IndexedList::with_room(alloc, 512)?;
+    for number in 0..40 {
+        keys.append(before_turn((5 << 32) + number))?;
     }
-    let other = ((5 << 32) + 512u64).wrapping_mul(inverse);
-    Ok(has_places_of(&index, &list) && index.find(other).is_none())
+    Ok(keys.finds_all() && keys.find(before_turn((5 << 32) + 40)).is_none())
+}
+
+/// Whether an index finds twelve keys all of whose homes have four other keys each, and no other: nothing but its list is
+/// left for them. Then whether it finds what replaces them.
+fn finds_keys_behind_full_homes(alloc: Global) -> Result<bool, Fail> {
+    let mut keys = IndexedList::with_room(alloc, 512)?;
+    for key in 1..13 {
+        fill_homes_of(&mut keys, key)?;
+    }
+    for key in 1..13 {
+        keys.append(key)?;
+    }
+    let found = keys.finds_all() && keys.find(13).is_none();
+    Ok(
+        found
+            && replace_one(&mut keys, 384, 13)
+            && replace_one(&mut keys, 395, 1)
+            && keys.finds_all(),
+    )
+}
+
+/// Appends four keys to each of the eight homes of a key. Of 2,048 homes, the high 11 bits of a product name one.
+fn fill_homes_of(keys: &mut IndexedList, key: u64) -> Result<(), Fail> {
+    let mut number = key;
+    for step in 0..32u64 {
+        if step % 4 == 0 {
+            number = after_turn(number);
+        }
+        keys.append(before_turn((number >> 53 << 53) | key << 5 | step))?;
+    }
+    Ok(())
 }

@@ -1,30 +1,16 @@
-use Rattle.std.proofs.Common.{arith, rules}
-use Rattle.key_index.proofs.WalkLemmas.{walk_begins, walk_goes_on, walk_ends}
+use Rattle.std.proofs.Common.{◌≡◌, ◌-◌, arith, rules, map, get_or, ap, sym, ◌∙◌}
+use Rattle.key_index.proofs.WalkLemmas.{walk_mark_is_of_another_key, walk_of_one_place}
 use Rattle.key_index.proofs.chains.place_in_chain.Goals as goal
 
-pub loop-step-init : goal.loop-step-init
-loop-step-init c = record {
-  within = c.requires.head;
-  walk = λ room backs rank home chains high.
-      walk_begins room c.args.links.now backs c.args.keys.now rank home c.args.key c.args.head chains high;
-}
-
-pub returns-then-mark-eq0-clause-missing : goal.returns-then-mark-eq0-clause-missing
-returns-then-mark-eq0-clause-missing c = λ room backs rank home chains high.
-    let walk = c.loop-step.invariant.walk room backs rank home chains high in
-    walk_ends room c.args.links.now backs c.args.keys.now rank home c.args.key c.args.head chains c.loop-step.cell c.loop-step._step walk
-    (chains.ends c.loop-step.cell walk.live (search (rules, c.if-mark-eq0.true)))
-
-pub loop-step-preserved : goal.loop-step-preserved
-loop-step-preserved c = record {
-  within = search rules;
-  walk = λ room backs rank home chains high.
-      walk_goes_on room c.args.links.now backs c.args.keys.now rank home c.args.key c.args.head chains c.loop-step.cell c.loop-step._step c.from-mark.result
-      (c.loop-step.invariant.walk room backs rank home chains high) (search rules) c.if-mark-eq0.false (search rules);
-}
-
-pub returns-clause-missing : goal.returns-clause-missing
-returns-clause-missing c = λ room backs rank home chains high.
-    let walk = c.loop-step.invariant.walk room backs rank home chains high in
-    walk_ends room c.args.links.now backs c.args.keys.now rank home c.args.key c.args.head chains c.loop-step.cell c.loop-step._step walk
-    (omega (arith, walk.left))
+pub returns-then-min-eq0-clause-missing : goal.returns-then-min-eq0-clause-missing
+returns-then-min-eq0-clause-missing g c =
+    let keys = map g.T.Keyed.key_of c.args.slots.now in
+    let first = c.from-first.result in
+    let none : c.mark_if-found_first.result ≡ 0 = omega (arith, c.max-found.ensures, c.if-found-ne0.false) in
+    let read : c.key_at.result ≡ get_or keys (first - 1) 0 =
+    c.key_at.ensures ∙ ap (λ n. get_or keys n 0) (let e : c.saturating_sub-one.result ≡ first - 1 = omega (arith, c.saturating_sub-one.ensures) in e) in
+    λ room backs rank home chains high.
+    walk_of_one_place room c.args.links.now backs keys rank home c.args.key c.args.head chains first c.from-second.result high
+    (search rules) (search rules) (sym c.min.ensures ∙ c.if-min-eq0.true)
+    (λ some same. walk_mark_is_of_another_key c.key_at.result c.args.key first c.mark_if-found_first.result c.mark_if-found_first.ensures none some
+    (read ∙ same))

@@ -1,12 +1,12 @@
-use Rattle.std.proofs.Common.{◌-◌, ◌/◌, subst, arith, rules}
+use Rattle.std.proofs.Common.{◌-◌, ◌/◌, subst, arith, rules, map}
 use Rattle.key_index.specs.SortedPlaces.{standing}
 use Rattle.key_index.proofs.OrderLemmas.{OrderLook, order_before_half, order_after_half}
 use Rattle.key_index.proofs.sorted_places.first_from.Goals as goal
 
 pub loop-size-preserved : goal.loop-size-preserved
-loop-size-preserved c =
+loop-size-preserved g c =
     let listed = c.args.listed.now in
-    let keys = c.args.keys.now in
+    let keys = map g.T.Keyed.key_of c.args.slots.now in
     let from = c.loop-size.from in
     let half = c.loop-size.size / 2 in
     let rest = c.loop-size.size - c.loop-size.size / 2 in

@@ -1,16 +1,16 @@
-use Rattle.std.proofs.Common.{◌≡◌, ◌+◌, ◌<◌, ◌++◌, ◌∷◌, [], length, map, take, sym, ap, ◌∙◌, subst, arith}
-use Rattle.std.proofs.lemmas.List.{length-take-le, take_more, map-append}
+use Rattle.std.proofs.Common.{◌≡◌, ◌+◌, ◌<◌, ◌++◌, ◌∷◌, [], length, take, sym, ap, ◌∙◌, subst, arith}
+use Rattle.std.proofs.lemmas.List.{length-take-le, take_more}
 use Rattle.std.proofs.lemmas.Option.{get_or_from_slice_get}
-use Rattle.key_index.specs.{IndexedKeys}
 use Rattle.rank_table.specs.declared.slot.Slot.{Slot}
 use Rattle.space_saving.specs.declared.entry.Entry.{Entry}
 use Rattle.rank_table.specs.Slot.{Slots}
 use Rattle.rank_table.specs.Marks.{numbered}
+use Rattle.rank_table.specs.RankTable.{AreParts}
 use Rattle.rank_table.proofs.NumberedEntryLemmas.{length-numbered_entries, numbered-push_entry}
 use Rattle.rank_table.proofs.rank_table.load.Goals as goal
 
-pub push-requires-in-loop-place-clause-room : goal.push-requires-in-loop-place-clause-room
-push-requires-in-loop-place-clause-room c =
+pub append-requires-clause-room : goal.append-requires-clause-room
+append-requires-clause-room c =
     let entries = c.args.flat.now.entries in
     subst (λ (r : Slots). length r.slots < r.capacity) (sym c.loop-place.invariant.ranked)
     (omega (arith, length-numbered_entries 0 (take c.loop-place.place entries), length-take-le c.loop-place.place entries (omega arith)))
@@ -25,11 +25,8 @@ loop-place-preserved c =
     (get_or_from_slice_get entries place entry entry c.entry-entry.ensures.entry) in
     let count : 0 + length (take place entries) ≡ place = omega (arith, length-take-le place entries (omega arith)) in
     record {
-      index = c.push.ensures ∙ ap (λ (i : IndexedKeys). let k : IndexedKeys = record { room = i.room; keys = i.keys ++ entry.key ∷ [] } in k)
-          c.loop-place.invariant.index
-          ∙ ap (λ keys. let k : IndexedKeys = record { room = c.args.index.now.room; keys = keys } in k)
-          (sym (ap (map (λ (e : Entry). e.key)) more ∙ map-append (λ (e : Entry). e.key) (take place entries) (entry ∷ [])));
-      ranked = c.push-in-loop-place.ensures
+      together = subst (λ n. AreParts n c.append.new.index c.append.new.ranked) c.loop-place.invariant.together.as_many c.append.ensures.together;
+      ranked = c.append.ensures.ranked
           ∙ ap (λ (r : Slots). let s : Slots = record {
             capacity = r.capacity;
             slots = r.slots ++ (let t : Slot = record {
@@ -41,3 +38,7 @@ loop-place-preserved c =
           ∙ ap (λ slots. let s : Slots = record { capacity = c.args.ranked.now.capacity; slots = slots } in s)
           (sym (ap (numbered 0) more ∙ numbered-push_entry 0 (take place entries) entry place count));
     }
+
+pub append-requires-clause-together : goal.append-requires-clause-together
+append-requires-clause-together c = subst (λ n. AreParts n c.loop-place.index c.loop-place.ranked) (sym c.loop-place.invariant.together.as_many)
+    c.loop-place.invariant.together

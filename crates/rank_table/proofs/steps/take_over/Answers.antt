@@ -1,7 +1,9 @@
-use Rattle.std.proofs.Common.{◌≡◌, ◌<◌, ◌≤◌, List, length, get_or, sym, ap, subst, ◌∙◌, arith}
+use Rattle.std.proofs.Common.{◌≡◌, ◌<◌, ◌≤◌, ℕ, List, length, refl, get_or, sym, ap, subst, ◌∙◌, arith}
 use Rattle.std.proofs.lemmas.List.{get_or_default}
 use Rattle.rank_table.specs.declared.slot.Slot.{Slot}
+use Rattle.key_index.specs.{HoldsKeysButOne}
 use Rattle.rank_table.specs.Slot.{Slots}
+use Rattle.rank_table.proofs.SlotKeyLemmas.{slot_keys_on_change}
 use Rattle.rank_table.proofs.RankedSlotLemmas.{all-ranked_slot_at, ranked_slot_count_in_total}
 use Rattle.rank_table.proofs.steps.take_over.Goals as goal
 
@@ -34,3 +36,10 @@ raise-requires-clause-time c = λ d.
       all-ranked_slot_at (λ s. s.time < c.args.now) c.least-place.result c.args.ranked.now.slots d c.requires.slots.timed
           c.least-place.ensures.least.within,
     ))
+
+pub enter-requires-clause-others : goal.enter-requires-clause-others
+enter-requires-clause-others c =
+    subst (λ (keys : List ℕ). HoldsKeysButOne c.least-place.result keys c.leave.new.self)
+    (sym (slot_keys_on_change c.least-place.result c.args.key c.slots-2.result.now c.slots-3.result.now c.least-place.new.self c.raise.new.self _
+    c.slots-2.ensures.slots c.raise.ensures c.slots-3.ensures.slots refl))
+    (c.leave.ensures.others c.args.key)

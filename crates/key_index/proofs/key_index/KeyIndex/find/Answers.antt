@@ -1,16 +1,23 @@
-use Rattle.std.proofs.Common.{◌≡◌, ◌≢◌, ℕ, List, length, ap, sym, subst, ◌∙◌}
-use Rattle.std.specs.Prelude.{MatchOption, All, Some, slice_get}
-use Rattle.key_index.specs.Entries.{AreEntered}
-use Rattle.key_index.specs.KeyIndex.{IndexedKeys}
-use Rattle.key_index.proofs.KeyLemmas.{key_found}
+use Rattle.std.proofs.Common.{◌≡◌, ◌≢◌, ◌<◌, ℕ, length, map, refl, get_or, sym, subst, arith, rules}
+use Rattle.key_index.specs.Entries.{KeyEntries, AreEntered}
+use Rattle.key_index.proofs.HomeLemmas.{home_of_mixed}
+use Rattle.key_index.proofs.EntryLemmas.{entry_parts, EntryMissing, entry_turn_is_last}
+use Rattle.key_index.proofs.KeyLemmas.{key_missing}
 use Rattle.key_index.proofs.key_index.KeyIndex.find.Goals as goal
 
-pub returns : goal.returns
-returns c =
-    let keys = c.deref.result.now in
-    let entries = c.self.inside.entries in
-    let is : keys ≡ c.args.self.now.keys = c.deref.ensures.value ∙ ap (λ (i : IndexedKeys). i.keys) c.self.view_is in
-    let entered : AreEntered (length keys) (length keys) keys entries =
-    subst (λ (xs : List ℕ). AreEntered (length xs) (length xs) xs entries) (sym c.deref.ensures.value) c.self.invariant.filled.entered in
-    subst (λ (xs : List ℕ). MatchOption c.find.result (All (λ other. other ≢ c.args.key) xs) (λ place. slice_get xs place ≡ Some c.args.key)) is
-    (key_found keys entries c.args.key c.find.result entered c.find.ensures.within c.find.ensures.found c.find.ensures.missing)
+pub returns-then-not-has : goal.returns-then-not-has
+returns-then-not-has g c =
+    let i = c.self.inside in
+    let keys = map g.T.Keyed.key_of c.args.slots.now in
+    let end = length keys in
+    let entered : AreEntered end end keys (entry_parts i.room i.chains.links i.chains.backs i.turned i.listed.items) =
+    subst (λ (e : KeyEntries). AreEntered end end keys e) (sym c.self.view_is) c.requires.holds.entered in
+    let at = home_of_mixed i.room 0 c.args.key c.args.key c.mix.result c.home_of-home.result refl c.mix.ensures c.home_of-home.ensures.home in
+    let missing : EntryMissing i.room i.chains.links i.chains.backs keys c.home_of-home.result c.args.key =
+    subst (λ room. EntryMissing room i.chains.links i.chains.backs keys c.home_of-home.result c.args.key) c.self.invariant.roomy
+    c.in_default.ensures.missing in
+    key_missing keys c.args.key (λ (place : ℕ). λ (below : place < end). λ (has : get_or keys place 0 ≡ c.args.key).
+    let apart : place ≢ end = λ same. omega arith in
+    entry_turn_is_last end end i.room place 0 c.home_of-home.result c.args.key keys i.chains.links i.chains.backs i.listed.items
+    i.turned entered below apart has (omega arith) (omega arith) at missing
+    (λ marked. search (rules, c.has.ensures, marked)))

@@ -1,18 +1,15 @@
-use Rattle.std.proofs.Common.{◌*◌, ℕ, List, [], false, replicate, sym, subst, rules}
-use Rattle.key_index.specs.Entries.{Entries}
+use Rattle.std.proofs.Common.{◌+◌, ◌*◌, List, ℕ, [], replicate, subst, sym}
+use Rattle.key_index.specs.Chains.{Chains}
 use Rattle.key_index.specs.KeyIndex.{HoldsKeys}
+use Rattle.key_index.proofs.EntryLemmas.{entry_parts}
 use Rattle.key_index.proofs.KeyLemmas.{key_of_nothing}
 use Rattle.key_index.proofs.key_index.KeyIndex.with_room.Goals as goal
 
-pub invariant_of-result : goal.invariant_of-result
-invariant_of-result c =
+pub returns-clause-holds : goal.returns-clause-holds
+returns-clause-holds c =
     let room = c.args.room in
-    let entries = c.in_ok-with_room.field-0 in
-    record {
-      some = c.requires.some;
-      few = search rules;
-      fits = c.requires.few;
-      has_room = search rules;
-      filled = subst (λ (xs : List ℕ). HoldsKeys room xs entries) (sym c.in_ok-with_capacity.ensures.items)
-          (subst (λ (e : Entries). HoldsKeys room [] e) (sym c.in_ok-with_room.ensures) (key_of_nothing room (replicate (4 * room) false)));
-    }
+    let turned = c.in_ok-for_homes.field-0 in
+    subst (λ (chains : Chains). HoldsKeys [] (entry_parts room chains.links chains.backs turned c.in_ok-with_capacity.field-0.items))
+    (sym c.in_ok-with_room.ensures.empty)
+    (subst (λ (listed : List ℕ). HoldsKeys [] (entry_parts room (replicate (5 * room) 0) (replicate (room + 1) 0) turned listed))
+    (sym c.in_ok-with_capacity.ensures.items) (key_of_nothing room turned))

@@ -1,9 +1,8 @@
 use Rattle.std.proofs.Common.{sym, ap, ◌∙◌, subst}
-use Rattle.key_index.specs.{IndexedKeys}
 use Rattle.space_saving.specs.{TableValue, AreTableEntries}
 use Rattle.rank_table.specs.SlotOrder.{ordered_entries}
 use Rattle.rank_table.specs.Slot.{Slots}
-use Rattle.rank_table.specs.RankTable.{IsRankTable}
+use Rattle.rank_table.specs.RankTable.{AreParts, IsRankTable}
 use Rattle.rank_table.proofs.NumberedEntryLemmas.{ordered_entries-numbered}
 use Rattle.rank_table.proofs.RankTableLemmas.{IsRankTable-loaded}
 use Rattle.rank_table.proofs.rank_table.RankTableSummary.restore.Goals as goal
@@ -16,9 +15,8 @@ invariant_of-result c =
     subst (λ n. IsRankTable capacity n c.total-total.result c.load.new.index c.load.new.ranked) (sym c.len.ensures.length)
     (IsRankTable-loaded capacity c.total-total.result entries c.load.new.index c.load.new.ranked c.capacity-capacity.ensures.least
     c.capacity-capacity.ensures.most are c.total-total.ensures.total
-    (ap (λ (i : IndexedKeys). i.room) c.load.ensures.index ∙ ap (λ (i : IndexedKeys). i.room) c.in_ok-index.ensures) (ap
-    (λ (r : Slots). r.capacity) c.load.ensures.ranked ∙ ap (λ (r : Slots). r.capacity) c.in_ok-ranked.ensures)
-    (ap (λ (i : IndexedKeys). i.keys) c.load.ensures.index) (ap (λ (r : Slots). r.slots) c.load.ensures.ranked))
+    (subst (λ n. AreParts n c.load.new.index c.load.new.ranked) (sym c.capacity-capacity.ensures.capacity) c.load.ensures.together)
+    (ap (λ (r : Slots). r.slots) c.load.ensures.ranked))
 
 pub returns : goal.returns
 returns c =

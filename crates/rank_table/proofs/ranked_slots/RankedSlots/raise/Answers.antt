@@ -5,6 +5,7 @@ use Rattle.rank_table.proofs.ranked_slots.RankedSlots.raise.Goals as goal
 
 pub invariant_of-self : goal.invariant_of-self
 invariant_of-self c =
+    let has = c.self.invariant.has_leaves in
     let items = c.self.inside.slots.items in
     let within : c.args.place < length items = subst (λ (r : Slots). c.args.place < length r.slots) (sym c.self.view_is) c.requires.within in
     let more = subst (λ (r : Slots). (get_or r.slots c.args.place c.args.slot).entry.count ≤ c.args.slot.entry.count) (sym c.self.view_is)
@@ -13,7 +14,11 @@ invariant_of-self c =
     record {
       some = c.self.invariant.some;
       has_room = c.self.invariant.has_room;
-      are_leaves = leaf_stays_below_raised_slot c.self.inside.capacity c.self.inside.base c.self.inside.tree items c.args.place c.args.slot
-          c.self.invariant.are_leaves within more later c.requires.early;
+      has_leaves = record {
+        leaves = has.leaves;
+        in_tree = has.in_tree;
+        are_leaves = leaf_stays_below_raised_slot c.self.inside.capacity c.self.inside.base has.leaves items c.args.place c.args.slot has.are_leaves within
+            more later c.requires.early;
+      };
       unbased = λ room. c.self.invariant.unbased (omega (arith, length-set items c.args.place c.args.slot));
     }

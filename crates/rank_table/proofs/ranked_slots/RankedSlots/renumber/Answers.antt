@@ -1,7 +1,6 @@
-use Rattle.std.proofs.Common.{◌≡◌, ◌++◌, ◌^◌, ℕ, List, length, take, drop, sym, ap, subst, ◌∙◌}
+use Rattle.std.proofs.Common.{◌≡◌, ◌++◌, ◌^◌, List, length, take, drop, sym, ap, subst, ◌∙◌}
 use Rattle.std.proofs.Math.Seq.{take-append_seam}
 use Rattle.std.proofs.lemmas.List.{length-map}
-use Rattle.std.specs.List.{range_with_len}
 use Rattle.rank_table.specs.declared.slot.Slot.{Slot}
 use Rattle.rank_table.specs.Slot.{Slots}
 use Rattle.rank_table.specs.SlotOrder.{AreOrdered}
@@ -21,8 +20,6 @@ invariant_of-self c =
     let slots : take c.self.inside.slots.len (now ++ behind) ≡ renumbered_slots items = ap (λ n. take n (now ++ behind)) (sym many)
     ∙ take-append_seam now behind ∙ c.renumber_slots.ensures.slots ∙ ap renumbered_slots c.deref_mut.ensures.value in
     let ordered : AreOrdered (2 ^ 18) items = subst (λ (r : Slots). AreOrdered (2 ^ 18) r.slots) (sym c.self.view_is) c.requires in
-    subst (λ (l : List ℕ). AreRanked c.self.inside.capacity c.self.inside.slots.cap c.self.inside.base l (take c.self.inside.slots.len (now ++ behind)))
-    (sym c.renumber_slots.ensures.restarted)
-    (subst (λ (l : List Slot). AreRanked c.self.inside.capacity c.self.inside.slots.cap c.self.inside.base (range_with_len 0 c.self.inside.capacity) l)
-    (sym slots)
-    (leaf_restarts_when_renumbered c.self.inside.capacity c.self.inside.slots.cap c.self.inside.base c.self.inside.tree items c.self.invariant ordered))
+    subst (λ (l : List Slot). AreRanked c.self.inside.capacity c.self.inside.slots.cap c.self.inside.base c.renumber_slots.new.tree l) (sym slots)
+    (leaf_restarts_when_renumbered c.self.inside.capacity c.self.inside.slots.cap c.self.inside.base c.self.inside.tree c.renumber_slots.new.tree items
+    c.self.invariant ordered c.renumber_slots.ensures.restarted)

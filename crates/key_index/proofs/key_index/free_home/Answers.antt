@@ -1,0 +1,29 @@
+use Rattle.std.proofs.Common.{◌≡◌, sym, ap, ◌∙◌, subst, ⊎_elim, arith}
+use Rattle.std.proofs.lemmas.Bool.{cases_eq}
+use Rattle.key_index.specs.Homes.{home_at}
+use Rattle.key_index.specs.HomeMarks.{IsMarked}
+use Rattle.key_index.proofs.HomeLemmas.{home_mixed_on, home_of_mixed}
+use Rattle.key_index.proofs.key_index.free_home.Goals as goal
+
+pub returns-then-not-is_full-clause-home : goal.returns-then-not-is_full-clause-home
+returns-then-not-is_full-clause-home c =
+    home_of_mixed c.args.room c.loop-turn.turn c.args.key c.loop-turn.number c.mix-number.result c.home_of-home.result
+    c.loop-turn.invariant.number c.mix-number.ensures c.home_of-home.ensures.home
+
+pub loop-turn-preserved : goal.loop-turn-preserved
+loop-turn-preserved c =
+    let home = c.home_of-home.result in
+    let at : home ≡ home_at c.args.room c.loop-turn.turn c.args.key = home_of_mixed c.args.room c.loop-turn.turn c.args.key c.loop-turn.number
+    c.mix-number.result home c.loop-turn.invariant.number c.mix-number.ensures c.home_of-home.ensures.home in
+    record {
+      number = home_mixed_on c.loop-turn.turn c.args.key c.loop-turn.number c.mix-number.result c.loop-turn.invariant.number c.mix-number.ensures;
+      homes = c.set.ensures.length ∙ c.loop-turn.invariant.homes;
+      passed = λ earlier before.
+          ⊎_elim
+          (λ (here : earlier ≡ c.loop-turn.turn). subst (IsMarked c.set.new.self)
+          (at ∙ ap (λ t. home_at c.args.room t c.args.key) (sym here)) c.set.ensures.marked)
+          (λ (there : earlier ≡ c.loop-turn.turn → ⊥). c.set.ensures.kept (home_at c.args.room earlier c.args.key)
+          (c.loop-turn.invariant.passed earlier (omega arith)))
+          (cases_eq earlier c.loop-turn.turn);
+      kept = λ other marked. c.set.ensures.kept other (c.loop-turn.invariant.kept other marked);
+    }

@@ -1,0 +1,4 @@
+pub mod LoserNodeLemmas
+pub mod ClimbNodeLemmas
+pub mod NumberedNodeLemmas
+pub mod Examples

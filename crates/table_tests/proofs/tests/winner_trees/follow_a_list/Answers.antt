@@ -1,6 +1,0 @@
-use Rattle.std.proofs.Common.{length, ap, ◌∙◌}
-use Rattle.std.proofs.lemmas.List.FromFn.{length-range_with_len}
-use Rattle.table_tests.proofs.tests.winner_trees.follow_a_list.Goals as goal
-
-pub loop-turn-init : goal.loop-turn-init
-loop-turn-init c = ap length c.in_ok-tree.ensures ∙ length-range_with_len 0 c.args.leaves

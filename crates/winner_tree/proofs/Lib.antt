@@ -1,2 +1,0 @@
-pub mod TreeNodeLemmas
-pub mod Examples

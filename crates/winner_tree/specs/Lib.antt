@@ -1,2 +1,0 @@
--- within the crate
-pub mod Nodes
