@@ -1,6 +1,5 @@
 -- Worked examples of upper bounds on highs, most by computing.
 use Rattle.std.proofs.Common.{◌≡◌, ◌≤◌, ◌^◌, ◌-◌, [], ◌∷◌, None, Some, refl, arith}
-use Rattle.std.proofs.lemmas.Bool.{false≢true}
 use Rattle.space_saving.specs.{TableValue}
 use Rattle.cut_merge.specs.HighBounds.{cell_count, greatest_bound, BoundsValue, bound_home}
 use Rattle.cut_merge.specs.HighBounds.{bound_cell, high_bound, NoteKey}
@@ -29,8 +28,8 @@ full = record {
   entries = record { key = 8; count = 3; error = 1 } ∷ record { key = 5; count = 7; error = 0 } ∷ [];
 }
 
--- 7 exceeds the high of a missing key by 4, and the entry itself counts 1
-pub counted_by_an_entry : counted_in full (Some (record { key = 5; count = 7; error = 0 })) ≡ 5
+-- 7 exceeds the high of a missing key by 4
+pub counted_by_an_entry : counted_in full (Some (record { key = 5; count = 7; error = 0 })) ≡ 4
 counted_by_an_entry = refl
 
 pub counted_by_no_entry : counted_in full None ≡ 0
@@ -48,9 +47,9 @@ pub bound_of_key_0 : high_bound bounds 0 ≡ 8
 unfolding bound_home
 bound_of_key_0 = refl
 
--- once an entry of key 7 is counted, the home of the key isn't empty
-pub an_entry_of_key_0 : NoteKey bounds bounds 7 0 → 1 ≤ bound_cell bounds 7
-an_entry_of_key_0 notes = omega (arith, notes.noted)
+-- once an entry of key 7 is counted, its home has at least what the entry adds
+pub an_entry_of_key_7 : NoteKey bounds bounds 7 4 → 4 ≤ bound_cell bounds 7
+an_entry_of_key_7 notes = omega (arith, notes.noted)
 
 pub a_high_of_2_more : AddMissing bounds (record { cells = 5 ∷ []; missing = 5 }) 2
 a_high_of_2_more = record { missing = refl; raises = omega arith; cells = refl }
@@ -63,4 +62,4 @@ no_entries_change_nothing = record { missing = refl; raises = λ key. omega arit
 
 -- without runs no key has a high
 pub bounds_of_no_runs : AreBoundsOf [] bounds
-bounds_of_no_runs = record { highs = λ key. omega arith; known = λ key there. absurd (false≢true there) }
+bounds_of_no_runs = record { highs = λ key. omega arith }

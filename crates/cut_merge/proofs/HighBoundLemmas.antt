@@ -1,20 +1,16 @@
 -- Upper bounds on the highs of keys, one entry and one table after another.
-use Rattle.std.proofs.Common.{◌≡◌, ℕ, ◌+◌, ◌-◌, ◌<◌, ◌≤◌, min, eqb, cond, Bool, true, false, ◌||◌, List, [], ◌∷◌, ◌++◌}
-use Rattle.std.proofs.Common.{length, get_or, set, take, sum_by, slice_get, Option, None, Some, is_some, refl, sym, ap}
+use Rattle.std.proofs.Common.{◌≡◌, ℕ, ◌+◌, ◌-◌, ◌<◌, ◌≤◌, min, eqb, cond, Bool, true, false, List, [], ◌∷◌, ◌++◌}
+use Rattle.std.proofs.Common.{length, get_or, set, take, sum_by, slice_get, Option, None, Some, refl, sym, ap}
 use Rattle.std.proofs.Common.{◌∙◌}
 use Rattle.std.proofs.Common.{subst, arith, ⊎_elim}
-use Rattle.std.specs.List.{list_any}
-use Rattle.std.specs.Option.{option_map}
-use Rattle.std.proofs.lemmas.Bool.{false≢true, eqb-true, cases_eq, or_cases}
+use Rattle.std.proofs.lemmas.Bool.{eqb-true, cases_eq}
 use Rattle.std.proofs.lemmas.List.{take_more, get_or-set_same, get_or-set_other}
 use Rattle.std.proofs.lemmas.List.Sums.{sum_by_push}
-use Rattle.std.proofs.lemmas.List.Folds.{list_any-append}
 use Rattle.std.proofs.lemmas.Option.{none-some, get_or_from_slice_get, slice_get_within}
 use Rattle.space_saving.specs.{TableValue, TableInterval, table_entry, interval_in, interval_from}
 use Rattle.space_saving.specs.declared.entry.Entry.{Entry}
-use Rattle.cut_merge.specs.Run.{RunValue, IsRunOf, interval_of_entry, run_interval, is_monitored}
+use Rattle.cut_merge.specs.Run.{RunValue, IsRunOf, run_interval}
 use Rattle.cut_merge.specs.Run.{missing_high}
-use Rattle.cut_merge.specs.NodeMerge.{has_key}
 use Rattle.cut_merge.specs.HighBounds.{BoundsValue, bound_home, bound_cell, greatest_bound}
 use Rattle.cut_merge.specs.HighBounds.{NoteKey}
 use Rattle.cut_merge.specs.HighBounds.{counted_in, NoteEntries, AreBoundsOf}
@@ -34,7 +30,7 @@ high_bound_entry_pushed key (f ∷ fs) entry none same =
     by false is rest = rest is
 
 -- and changes nothing for another key
-high_bound_other_entry_pushed : (key : ℕ) (entries : List Entry) (entry : Entry) → eqb entry.key key ≡ false
+pub high_bound_other_entry_pushed : (key : ℕ) (entries : List Entry) (entry : Entry) → eqb entry.key key ≡ false
     → table_entry key (entries ++ entry ∷ []) ≡ table_entry key entries
 high_bound_other_entry_pushed key [] entry differs = ap (λ b. cond b (Some entry) None) differs
 high_bound_other_entry_pushed key (f ∷ fs) entry differs =
@@ -85,7 +81,6 @@ pub high_bounds_raised : (runs : List RunValue) (old new : BoundsValue) → AreB
     → old.missing ≤ new.missing → ((key : ℕ) → bound_cell old key ≤ bound_cell new key) → AreBoundsOf runs new
 high_bounds_raised runs old new fit missing raises = record {
   highs = λ key. omega (arith, fit.highs key, missing, raises key);
-  known = λ key is. omega (arith, fit.known key is, raises key);
 }
 
 -- one more run fits where its table's entries were counted
@@ -104,15 +99,6 @@ high_bounds_with_more_runs runs run table old new fit is above missing noted = r
       high_more key (table_entry key table.entries) (sum_by (λ (r : RunValue). (run_interval r key).high) runs)
       (sum_by (λ (r : RunValue). (run_interval r key).high) (runs ++ run ∷ []))
       (above key) (noted key) (fit.highs key) (sum ∙ ap (λ n. sum_by (λ (r : RunValue). (run_interval r key).high) runs + n) high);
-  known = λ key there.
-      ⊎_elim
-      (λ (old_is : has_key key runs ≡ true).
-      omega (arith, fit.known key old_is, noted key))
-      (λ last.
-      some_counted key (table_entry key table.entries)
-      (sym (ap is_some (is.entries key)) ∙ or_last (is_monitored key run) last) (noted key))
-      (or_cases (has_key key runs) (list_any (λ r. is_monitored key r) (run ∷ []))
-      (sym (list_any-append (λ r. is_monitored key r) runs (run ∷ [])) ∙ there));
 }
   where
     high_more : (key : ℕ) (found : Option Entry) (before after : ℕ)
@@ -126,19 +112,10 @@ high_bounds_with_more_runs runs run table old new fit is above missing noted = r
     high_more key (Some entry) before after above_missing counted bound is_after =
         omega (arith, above_missing, counted, bound, is_after, missing)
 
-    or_last : (b : Bool) → (b || false) ≡ true → b ≡ true
-    or_last true is_true = refl
-    or_last false is_true = is_true
-
-    some_counted : (key : ℕ) (found : Option Entry) → is_some (option_map interval_of_entry found) ≡ true
-        → min greatest_bound (bound_cell old key + counted_in table found) ≤ bound_cell new key → 0 < bound_cell new key
-    some_counted key None none counted = absurd (false≢true none)
-    some_counted key (Some entry) some counted = omega (arith, counted)
-
 -- one cell is raised, and so is the bound of each key whose home it is
 pub high_bound_cell_raised : (cells : List ℕ) (key excess raised : ℕ) (missing : ℕ) → bound_home key < length cells
     → ((other : ℕ) → get_or cells (bound_home other) 0 ≤ greatest_bound)
-    → raised ≡ min greatest_bound (get_or cells (bound_home key) 0 + excess + 1)
+    → raised ≡ min greatest_bound (get_or cells (bound_home key) 0 + excess)
     → NoteKey (record { cells = cells; missing = missing })
     (record { cells = set cells (bound_home key) raised; missing = missing }) key excess
 high_bound_cell_raised cells key excess raised missing within bounded is = record {

@@ -1,11 +1,13 @@
 pub mod Examples
 pub mod ExamplesOfMerging
 pub mod ExamplesOfHighBounds
+pub mod ExamplesOfSeenHomes
 pub mod RunLemmas
 pub mod FirstSeenLemmas
 pub mod TableMergeLemmas
 pub mod NewKeyLemmas
 pub mod HighBoundLemmas
+pub mod SeenHomeLemmas
 pub mod CutTableLemmas
 pub mod CutMergeLemmas
 pub mod MergedIntervalLemmas

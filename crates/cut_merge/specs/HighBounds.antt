@@ -1,11 +1,10 @@
 -- Upper bounds on the highs of keys.
-use Rattle.std.specs.Prelude.{ℕ, ◌≡◌, ◌+◌, ◌-◌, ◌*◌, ◌/◌, ◌%◌, ◌^◌, ◌<◌, ◌≤◌, min, true, List, slice_index, sum_by}
+use Rattle.std.specs.Prelude.{ℕ, ◌≡◌, ◌+◌, ◌-◌, ◌*◌, ◌/◌, ◌%◌, ◌^◌, ◌≤◌, min, List, slice_index, sum_by}
 use Rattle.std.specs.Prelude.{Option}
 use Rattle.std.specs.Prelude.{None, Some, take}
 use Rattle.space_saving.specs.{TableValue, table_entry}
 use Rattle.space_saving.specs.declared.entry.Entry.{Entry}
 use Rattle.cut_merge.specs.Run.{RunValue, run_interval, missing_high}
-use Rattle.cut_merge.specs.NodeMerge.{has_key}
 
 -- how many cells there are
 abbrev pub cell_count : ℕ
@@ -36,7 +35,7 @@ high_bound bounds key = min greatest_bound (bounds.missing + bound_cell bounds k
 pub record NoteKey (old new : BoundsValue) (key excess : ℕ) : Type 0 where
   pub missing : new.missing ≡ old.missing
   pub raises : (other : ℕ) → bound_cell old other ≤ bound_cell new other
-  pub noted : min greatest_bound (bound_cell old key + excess + 1) ≤ bound_cell new key
+  pub noted : min greatest_bound (bound_cell old key + excess) ≤ bound_cell new key
 
 -- one more table's high of a missing key was added
 pub record AddMissing (old new : BoundsValue) (high : ℕ) : Type 0 where
@@ -47,7 +46,7 @@ pub record AddMissing (old new : BoundsValue) (high : ℕ) : Type 0 where
 -- what an entry counts in its key's home
 abbrev pub counted_in : TableValue → Option Entry → ℕ
 counted_in table None = 0
-counted_in table (Some entry) = entry.count - missing_high table + 1
+counted_in table (Some entry) = entry.count - missing_high table
 
 -- the first entries of a table, this many of them, were counted
 pub record NoteEntries (table : TableValue) (old new : BoundsValue) (place : ℕ) : Type 0 where
@@ -57,8 +56,7 @@ pub record NoteEntries (table : TableValue) (old new : BoundsValue) (place : ℕ
       → min greatest_bound (bound_cell old key + counted_in table (table_entry key (take place table.entries)))
       ≤ bound_cell new key
 
--- the bounds fit some runs: no key has a higher high, and the home of each key that they have isn't empty
+-- the bounds fit some runs: no key has a higher high
 pub record AreBoundsOf (runs : List RunValue) (bounds : BoundsValue) : Type 0 where
   pub highs : (key : ℕ) → min greatest_bound (sum_by (λ run. (run_interval run key).high) runs)
       ≤ bounds.missing + bound_cell bounds key
-  pub known : (key : ℕ) → has_key key runs ≡ true → 0 < bound_cell bounds key

@@ -2,6 +2,7 @@ pub mod CutTables
 pub mod Run
 pub mod NodeMerge
 pub mod HighBounds
+pub mod SeenHomes
 pub mod Merged
 -- the face: what contracts of other crates cite
 pub use Rattle.cut_merge.specs.Merged.{MergedValue, RepresentsCut, candidates_at, interval_for}

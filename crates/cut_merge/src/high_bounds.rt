@@ -1,6 +1,6 @@
 //! Upper bounds on the highs of keys, so that few keys need a search.
 
-ghost use Rattle.std.specs.Prelude.{◌≡◌, ◌==◌, ◌+◌, ◌<◌, ℕ, min, IfOk};
+ghost use Rattle.std.specs.Prelude.{◌≡◌, ◌+◌, ◌<◌, ℕ, min, IfOk};
 ghost use Rattle.cut_merge.specs.HighBounds.{bound_home, bound_cell, cell_count};
 ghost use Rattle.cut_merge.specs.HighBounds.{greatest_bound, NoteKey, AddMissing, high_bound};
 
@@ -14,9 +14,8 @@ const CELLS: usize = 4096;
 const MULTIPLIER: u64 = 0x9e37_79b9_7f4a_7c15;
 
 /// Upper bounds on the highs of keys. A key has its home in one of some cells. A cell sums up what entries add to the
-/// highs of the keys whose home it is, beyond the highs of missing keys, and counts one more for each entry. Keys
-/// that share a home share a bound, which is too high for each of them: that may cost a search, but changes no
-/// interval.
+/// highs of the keys whose home it is, beyond the highs of missing keys. Keys that share a home share a bound, which is
+/// too high for each of them: that may cost a search, but changes no interval.
 #[derive(Drop)]
 pub(crate) struct HighBounds {
     cells: Vec<u64>,
@@ -51,13 +50,6 @@ impl HighBounds {
         self.missing.saturating_add(self.cells[home_of(key)])
     }
 
-    /// Whether no entry was counted in the key's home.
-    pub(crate) fn is_empty_at(&self, key: u64) -> bool
-        ensures { result ≡ (bound_cell self.now key == 0) }
-    {
-        self.cells[home_of(key)] == 0
-    }
-
     /// Raises all bounds by the high of a missing key in one more table.
     pub(crate) fn add_missing(&mut self, missing: u64)
         ensures { AddMissing self.old self.new missing }
@@ -70,7 +62,7 @@ impl HighBounds {
         ensures { NoteKey self.old self.new key excess }
     {
         let home = home_of(key);
-        self.cells[home] = self.cells[home].saturating_add(excess).saturating_add(1);
+        self.cells[home] = self.cells[home].saturating_add(excess);
     }
 }
 

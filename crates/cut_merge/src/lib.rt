@@ -8,6 +8,7 @@ mod laws;
 mod merged;
 mod node_merge;
 mod run;
+mod seen_homes;
 
 pub use laws::{
     merged_intervals_are_narrow, merged_intervals_hold_weights, monitored_keys_are_few,

@@ -1,7 +1,7 @@
 //! The tables of a cut, merged.
 
-ghost use Rattle.std.specs.Prelude.{◌≡◌, ◌<◌, ◌≤◌, ℕ, IfOk};
-ghost use Rattle.prefix_lattice.specs.{IsNode, total_limit};
+ghost use Rattle.std.specs.Prelude.{◌≡◌, ◌<◌, ◌≤◌, ◌^◌, ℕ, IfOk};
+ghost use Rattle.prefix_lattice.specs.{HasPrefixKey, IsNode, PrefixValue, total_limit};
 ghost use Rattle.shard_state.specs.{CutValue, total_of_cut};
 ghost use Rattle.cut_merge.specs.Merged.{NodeRepresents, merge_at, interval_for};
 ghost use Rattle.cut_merge.specs.Merged.{candidates_at, RepresentsCut, interval_for_key};
@@ -10,10 +10,14 @@ ghost use Rattle.cut_merge.specs.CutTables.{FitsTotal};
 
 use crate::laws::tables_are_bounded;
 use crate::node_merge::NodeMerge;
+use crate::seen_homes::SeenHomes;
 use prefix_lattice::{Node, Prefix};
 use shard_state::Cut;
 use std::alloc::{AllocError, Global};
 use std::marker::Model;
+
+/// How many homes the filter of keys has for each entry that the tables of a node can have.
+const HOMES_AN_ENTRY: usize = 8;
 
 /// The tables of all shards of a cut, read as one: the keys of each node in the order in which they are first
 /// seen, each with its interval. It is made in one pass over the entries of the cut.
@@ -42,9 +46,10 @@ impl Merged {
         ensures { IfOk result (λ merged. RepresentsCut merged cut.now) }
     {
         let mut nodes = Vec::with_capacity(alloc, 25)?;
+        let mut seen = SeenHomes::with_homes(alloc, home_count(cut))?;
         for place in 0..25 {
             let node = Node::from_index(place).unwrap();
-            nodes.push(merge_node(alloc, cut, node)?)?;
+            nodes.push(merge_node(alloc, cut, node, &mut seen)?)?;
         }
         Ok(Merged {
             capacity: cut.capacity(),
@@ -81,13 +86,13 @@ impl Merged {
         self.merge_of(prefix.node()).interval(prefix.key())
     }
 
-    /// A bound on the greatest weight that the prefix can have had over all shards, in bytes or packets: at least the
-    /// high of its interval. It needs no search, so a caller that looks for heavy prefixes can skip most of the others
-    /// by it.
-    pub fn at_most(&self, prefix: &Prefix) -> u64
-        ensures { (interval_for self.now prefix.now).high ≤ result }
+    /// A bound on the greatest weight that the prefix of this node with this key can have had over all shards, in bytes or
+    /// packets: at least the high of its interval. It needs no search and no prefix, so a caller that looks for heavy
+    /// prefixes can skip most of the others by it.
+    pub fn at_most(&self, node: Node, key: u64) -> u64
+        ensures { (prefix : PrefixValue) → HasPrefixKey node key prefix → (interval_for self.now prefix).high ≤ result }
     {
-        self.merge_of(prefix.node()).at_most(prefix.key())
+        self.merge_of(node).at_most(key)
     }
 
     /// The keys that some shard monitors at the node, each once, in the order in which they are first seen: shard
@@ -112,18 +117,32 @@ impl Merged {
 // The tables of a node, merged over the shards of a cut. It stays a function of its own in the binary, so that
 // measurements can see where merging begins.
 #[inline(never)]
-fn merge_node(alloc: Global, cut: &Cut, node: Node) -> Result<NodeMerge, AllocError>
+fn merge_node(
+    alloc: Global,
+    cut: &Cut,
+    node: Node,
+    seen: &mut SeenHomes,
+) -> Result<NodeMerge, AllocError>
     requires is_node { IsNode node }
     requires bounded { total_of_cut cut.now < total_limit }
     ensures stands { IfOk result (λ merge. NodeRepresents merge (tables_at node cut.now)) }
     ensures within { IfOk result (λ merge. (key : ℕ) → FitsTotal (total_of_cut cut.now) (interval_for_key merge key)) }
 {
     tables_are_bounded();
+    seen.clear();
     let mut merge = NodeMerge::new(alloc)?;
     for shard in 0..cut.shards() {
-        merge.add(alloc, cut.shard(shard).table(node))?;
+        merge.add(alloc, cut.shard(shard).table(node), seen)?;
     }
     Ok(merge)
+}
+
+// How many homes the filter of keys has: with so many, few keys share one.
+fn home_count(cut: &Cut) -> usize
+    ensures some { 1 ≤ result }
+    ensures few { result ≤ 2 ^ 32 }
+{
+    HOMES_AN_ENTRY * cut.shards() as usize * cut.capacity() as usize + 1
 }
 
 // The weight that the shards of a cut counted together.

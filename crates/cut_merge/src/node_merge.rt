@@ -8,10 +8,12 @@ ghost use Rattle.cut_merge.specs.Merged.{interval_for_key};
 ghost use Rattle.cut_merge.specs.NodeMerge.{has_key};
 ghost use Rattle.cut_merge.specs.Run.{IsRunOf, missing_high};
 ghost use Rattle.cut_merge.specs.HighBounds.{bound_cell, NoteEntries};
+ghost use Rattle.cut_merge.specs.SeenHomes.{SeeEntries, is_seen};
 ghost use Rattle.cut_merge.specs.CutTables.{keys_of};
 
 use crate::high_bounds::HighBounds;
 use crate::run::Run;
+use crate::seen_homes::SeenHomes;
 use space_saving::Flat;
 use std::alloc::{AllocError, Global};
 use std::marker::Model;
@@ -48,18 +50,26 @@ impl NodeMerge {
         })
     }
 
-    /// Merges one more table in. After an `Err` the table may be merged in part.
-    pub(crate) fn add(&mut self, alloc: Global, table: &Flat) -> Result<(), AllocError>
+    /// Merges one more table in, and sees its keys. After an `Err` the table may be merged in part.
+    pub(crate) fn add(
+        &mut self,
+        alloc: Global,
+        table: &Flat,
+        seen: &mut SeenHomes,
+    ) -> Result<(), AllocError>
         requires known { (key : ℕ) → list_any (λ other. key == other) self.old.keys ≡ has_key key self.old.runs }
+        requires seen { (key : ℕ) → has_key key self.old.runs ≡ true → is_seen seen.old key ≡ true }
         requires apart { KeysApart table.now.entries }
         requires bounded { (key : ℕ) → CanBeMerged key table.now }
-        ensures { OnOk result (WithTable self.old table.now self.new) }
+        ensures with { OnOk result (WithTable self.old table.now self.new) }
+        ensures seen { OnOk result ((key : ℕ) → has_key key self.new.runs ≡ true → is_seen seen.new key ≡ true) }
     {
         let run = Run::of(alloc, table)?;
         self.bounds.add_missing(run.missing());
         note_keys(
             &mut self.keys,
             &mut self.bounds,
+            seen,
             &self.runs,
             table,
             run.missing(),
@@ -100,38 +110,41 @@ impl NodeMerge {
     }
 }
 
-// Appends the keys of a table that none of these runs has, and counts all its entries.
+// Appends the keys of a table that none of these runs has, sees all its keys, and counts all its entries.
 fn note_keys(
     keys: &mut Vec<u64>,
     bounds: &mut HighBounds,
+    seen: &mut SeenHomes,
     runs: &[Run],
     table: &Flat,
     missing: u64,
 ) -> Result<(), AllocError>
     requires known { (key : ℕ) → list_any (λ other. key == other) keys.old.items ≡ has_key key runs.now }
-    requires bounded { (key : ℕ) → has_key key runs.now ≡ true → 0 < bound_cell bounds.old key }
+    requires seen { (key : ℕ) → has_key key runs.now ≡ true → is_seen seen.old key ≡ true }
     requires missing { missing ≡ missing_high table.now }
     ensures keys { OnOk result (keys.new.items ≡ fold keys_seen keys.old.items (keys_of table.now)) }
     ensures bounds { OnOk result (NoteEntries table.now bounds.old bounds.new (length table.now.entries)) }
+    ensures seen { OnOk result (SeeEntries table.now seen.old seen.new (length table.now.entries)) }
     ensures raises { (key : ℕ) → bound_cell bounds.old key ≤ bound_cell bounds.new key }
     ensures same { bounds.new.missing ≡ bounds.old.missing }
 {
     for place in 0..table.len() {
         let entry = table.entry(place);
-        if !is_known(bounds, runs, entry.key) {
+        if !is_known(seen, runs, entry.key) {
             keys.push(entry.key)?;
         }
+        seen.note(entry.key);
         bounds.note(entry.key, entry.count - missing);
     }
     Ok(())
 }
 
-// Whether one of these runs has the key. Where its home is empty, none has.
-fn is_known(bounds: &HighBounds, runs: &[Run], key: u64) -> bool
-    requires { has_key key runs.now ≡ true → 0 < bound_cell bounds.now key }
+// Whether one of these runs has the key. Where no key with its home was seen, none has.
+fn is_known(seen: &SeenHomes, runs: &[Run], key: u64) -> bool
+    requires { has_key key runs.now ≡ true → is_seen seen.now key ≡ true }
     ensures { result ≡ has_key key runs.now }
 {
-    if bounds.is_empty_at(key) {
+    if !seen.has(key) {
         return false;
     }
     runs.iter().any(|run| run.monitors(key))

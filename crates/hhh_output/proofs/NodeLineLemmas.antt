@@ -59,17 +59,14 @@ node_line_candidate_is_new keys place key distinct within read (k, below, at) =
     distinct k place key before within (sym (get_or-take place keys k key before) ∙ at ∙ read)
 
 module _ (merged : MergedValue) (threshold : ℕ) (reported : List PrefixValue) (node : NodeValue) (keys : List ℕ)
-    (old now : List Line) (place key : ℕ) (prefix : PrefixValue) (found : Option Line)
+    (old now : List Line) (place key : ℕ) (found : Option Line)
     (judged : HasJudgedNodeLines merged threshold reported node keys old now place)
     (elsewhere : All (λ (line : Line). node_of_prefix line.prefix ≢ node) old)
     (distinct : AllPairs (λ k other. k ≢ other) keys) (within : place < length keys)
     (read : key ≡ get_or keys place key)
-    (only : (other : PrefixValue) → (Some prefix ≡ Some other) ↔ HasPrefixKey node key other)
-    (asked : (line : Line) → line.prefix ≡ prefix → (found ≡ Some line) ↔ CanSelect merged threshold reported line)
-    (its_prefix : (line : Line) → found ≡ Some line → line.prefix ≡ prefix) where
-  node_line_belongs_to_node : HasPrefixKey node key prefix
-  node_line_belongs_to_node = (only prefix).0 refl
-
+    (asked : (line : Line) → HasPrefixKey node key line.prefix
+    → (found ≡ Some line) ↔ CanSelect merged threshold reported line)
+    (its_prefix : (line : Line) → found ≡ Some line → HasPrefixKey node key line.prefix) where
   -- a line among one more key is among the earlier ones or that of this key
   node_line_among_more : (line : Line) → IsNodeLineAmong merged threshold reported node (take (place + 1) keys) line
       → IsNodeLineAmong merged threshold reported node (take place keys) line ⊎ (found ≡ Some line)
@@ -78,10 +75,7 @@ module _ (merged : MergedValue) (threshold : ℕ) (reported : List PrefixValue) 
       (subst (λ ks. Contains ks (prefix_key line.prefix)) (node_line_candidates_grow keys place key within read) among.key)) [
         | inl earlier ↦ inl (record { has_key = among.has_key; key = earlier; asked = among.asked })
         | inr same ↦
-            let its : Some prefix ≡ Some line.prefix =
-            (only line.prefix).1 (subst (λ k. HasPrefixKey node k line.prefix) (sym same) among.has_key) in
-            let is : line.prefix ≡ prefix = cc in
-            inr ((asked line is).1 among.asked)
+            inr ((asked line (subst (λ k. HasPrefixKey node k line.prefix) (sym same) among.has_key)).1 among.asked)
       ]
 
   -- an earlier key is one of the keys
@@ -118,21 +112,19 @@ module _ (merged : MergedValue) (threshold : ℕ) (reported : List PrefixValue) 
   pub node_line_found_is_judged : (new : Line) → found ≡ Some new
       → HasJudgedNodeLines merged threshold reported node keys old (now ++ new ∷ []) (place + 1)
   node_line_found_is_judged new is =
-      let new_prefix : new.prefix ≡ prefix = its_prefix new is in
-      let new_key : prefix_key new.prefix ≡ key = ap prefix_key new_prefix ∙ node_line_belongs_to_node.of_key in
+      let its = its_prefix new is in
+      let new_key : prefix_key new.prefix ≡ key = its.of_key in
       let new_among : IsNodeLineAmong merged threshold reported node (take (place + 1) keys) new = record {
-        has_key =
-            subst (λ p. HasPrefixKey node (prefix_key p) p) (sym new_prefix)
-            (subst (λ k. HasPrefixKey node k prefix) (sym node_line_belongs_to_node.of_key) node_line_belongs_to_node);
+        has_key = subst (λ k. HasPrefixKey node k new.prefix) (sym new_key) its;
         key = subst (λ ks. Contains ks (prefix_key new.prefix)) (sym (node_line_candidates_grow keys place key within read))
             (subst (Contains (take place keys ++ key ∷ [])) (sym new_key) (Contains-push (take place keys) key));
-        asked = (asked new new_prefix).0 is;
+        asked = (asked new its).0 is;
       } in
       let other_prefix : (k : ℕ) (d : Line) → k < length now → (get_or now k d).prefix ≢ new.prefix = λ k d below same.
       elim ((judged.members (get_or now k d)).0 (Contains-get_or now k d below)) [
         | inl old_one ↦
             All-contains (λ (l : Line). node_of_prefix l.prefix ≢ node) old (get_or now k d) elsewhere old_one
-            (ap node_of_prefix (same ∙ new_prefix) ∙ node_line_belongs_to_node.of_node)
+            (ap node_of_prefix same ∙ its.of_node)
         | inr among ↦
             node_line_candidate_is_new keys place key distinct within read
             (subst (Contains (take place keys)) (ap prefix_key same ∙ new_key) among.key)
@@ -197,20 +189,19 @@ all_node_lines_judged merged threshold reported node old now place done judged l
 
 -- the next key is judged, whether it has a line or not
 module _ (merged : MergedValue) (threshold : ℕ) (reported : List PrefixValue) (node : NodeValue) (keys : List ℕ)
-    (old now : List Line) (place key : ℕ) (prefix : PrefixValue)
+    (old now : List Line) (place key : ℕ)
     (judged : HasJudgedNodeLines merged threshold reported node keys old now place)
     (elsewhere : All (λ (line : Line). node_of_prefix line.prefix ≢ node) old)
     (distinct : AllPairs (λ k other. k ≢ other) keys) (within : place < length keys)
-    (read : key ≡ get_or keys place key)
-    (only : (other : PrefixValue) → (Some prefix ≡ Some other) ↔ HasPrefixKey node key other) where
+    (read : key ≡ get_or keys place key) where
   pub next_node_line_judged : (found : Option Line)
-      → ((line : Line) → line.prefix ≡ prefix → (found ≡ Some line) ↔ CanSelect merged threshold reported line)
-      → ((line : Line) → found ≡ Some line → line.prefix ≡ prefix)
+      → ((line : Line) → HasPrefixKey node key line.prefix → (found ≡ Some line) ↔ CanSelect merged threshold reported line)
+      → ((line : Line) → found ≡ Some line → HasPrefixKey node key line.prefix)
       → HasJudgedNodeLines merged threshold reported node keys old (now ++ option_to_list found) (place + 1)
   next_node_line_judged None asked its_prefix =
       subst (λ lines. HasJudgedNodeLines merged threshold reported node keys old lines (place + 1)) (sym (append-nil now))
-      (node_line_missing_is_judged merged threshold reported node keys old now place key prefix None judged elsewhere distinct
-      within read only asked its_prefix refl)
+      (node_line_missing_is_judged merged threshold reported node keys old now place key None judged elsewhere distinct
+      within read asked its_prefix refl)
   next_node_line_judged (Some line) asked its_prefix =
-      node_line_found_is_judged merged threshold reported node keys old now place key prefix (Some line) judged elsewhere distinct
-      within read only asked its_prefix line refl
+      node_line_found_is_judged merged threshold reported node keys old now place key (Some line) judged elsewhere distinct
+      within read asked its_prefix line refl

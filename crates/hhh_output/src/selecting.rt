@@ -4,7 +4,7 @@
 ghost use Rattle.std.specs.Prelude.{◌≡◌, ◌≢◌, ◌+◌, ◌≤◌, ◌<◌, ◌^◌, ◌↔◌, ◌⊎◌, [], ◌++◌, length, All, AllPairs, Contains};
 ghost use Rattle.std.specs.Prelude.{IfOk, OnOk, Some};
 ghost use Rattle.std.specs.Option.{option_to_list};
-ghost use Rattle.prefix_lattice.specs.{IsNode, deepest_level, node_level, node_of_prefix};
+ghost use Rattle.prefix_lattice.specs.{HasPrefixKey, IsNode, IsPrefixKey, deepest_level, node_level, node_of_prefix};
 ghost use Rattle.cut_merge.specs.{candidates_at};
 ghost use Rattle.conditioned_bounds.specs.{member_limit};
 ghost use Rattle.hhh_report.specs.declared.line.Line.{Line as LineValue};
@@ -98,8 +98,7 @@ fn select_at(
     ensures few { OnOk result (length found.new.items ≤ length found.old.items + length (candidates_at merged.now node)) }
 {
     for key in merged.candidates(node) {
-        let prefix = Prefix::from_key(*key, node).unwrap();
-        let line = line_for(merged, threshold, reported, prefix)?;
+        let line = line_at(merged, threshold, reported, node, *key)?;
         push_found(found, line)?;
     }
     Ok(())
@@ -115,6 +114,31 @@ fn push_found(found: &mut Vec<Line>, line: Option<Line>) -> Result<(), AllocErro
     Ok(())
 }
 
+// The line of the prefix of this node with this key, if merged tables give it one over these lines. Most keys are known
+// to be too light without their prefixes.
+fn line_at(
+    merged: &Merged,
+    threshold: u64,
+    reported: &LineIndex,
+    node: Node,
+    key: u64,
+) -> Result<Option<Line>, AllocError>
+    requires { IsPrefixKey node key }
+    ensures asked { IfOk result (λ found. (line : LineValue) → HasPrefixKey node key line.prefix
+        → (found ≡ Some line) ↔ CanSelect merged.now threshold reported.now line) }
+    ensures prefix { IfOk result (λ found. (line : LineValue) → found ≡ Some line → HasPrefixKey node key line.prefix) }
+{
+    if merged.at_most(node, key) < threshold {
+        return Ok(None);
+    }
+    line_for(
+        merged,
+        threshold,
+        reported,
+        Prefix::from_key(key, node).unwrap(),
+    )
+}
+
 // The line of a prefix, if merged tables give it a line over these lines.
 fn line_for(
     merged: &Merged,
@@ -126,9 +150,6 @@ fn line_for(
         → (found ≡ Some line) ↔ CanSelect merged.now threshold reported.now line) }
     ensures prefix { IfOk result (λ found. (line : LineValue) → found ≡ Some line → line.prefix ≡ prefix) }
 {
-    if merged.at_most(&prefix) < threshold {
-        return Ok(None);
-    }
     let (lo, hi) = merged.interval(&prefix);
     if hi < threshold {
         return Ok(None);

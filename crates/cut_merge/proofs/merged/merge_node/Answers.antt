@@ -10,7 +10,7 @@ use Rattle.cut_merge.proofs.merged.merge_node.Goals as goal
 pub add-requires-clause-known : goal.add-requires-clause-known
 add-requires-clause-known c = λ key.
     monitored_of_table_merge c.loop-shard.merge (take c.loop-shard.shard (tables_at c.args.node c.args.cut.now)) key
-    c.loop-shard.invariant
+    c.loop-shard.invariant.merged
 
 pub add-requires-clause-bounded : goal.add-requires-clause-bounded
 add-requires-clause-bounded c = λ key.
@@ -19,13 +19,16 @@ add-requires-clause-bounded c = λ key.
     c.tables_are_bounded.ensures c.requires.is_node c.shards-shard-end.ensures.kept c.shard.ensures.shard)
 
 pub loop-shard-preserved : goal.loop-shard-preserved
-loop-shard-preserved c =
-    cut_merge_of_more_shards c.args.node c.args.cut.now c.loop-shard.shard c.shard.result.now c.loop-shard.merge
-    c.add.new.self c.shard.ensures.shard c.loop-shard.invariant
-    (subst (λ (t : TableValue). WithTable c.loop-shard.merge t c.add.new.self) c.table.ensures.table
-    c.in_ok-add.ensures)
+loop-shard-preserved c = record {
+  merged =
+      cut_merge_of_more_shards c.args.node c.args.cut.now c.loop-shard.shard c.shard.result.now c.loop-shard.merge
+      c.add.new.self c.shard.ensures.shard c.loop-shard.invariant.merged
+      (subst (λ (t : TableValue). WithTable c.loop-shard.merge t c.add.new.self) c.table.ensures.table
+      c.in_ok-add.ensures.with);
+  seen = c.in_ok-add.ensures.seen;
+}
 
 pub returns-clause-within : goal.returns-clause-within
 returns-clause-within c = λ key.
     cut_merge_within_total c.args.node c.args.cut.now c.loop-shard.shard key c.loop-shard.merge c.tables_are_bounded.ensures
-    c.requires.is_node c.shards-shard-end.ensures.kept c.loop-shard.invariant
+    c.requires.is_node c.shards-shard-end.ensures.kept c.loop-shard.invariant.merged

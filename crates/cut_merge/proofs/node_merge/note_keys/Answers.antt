@@ -1,20 +1,16 @@
 use Rattle.std.proofs.Common.{◌≡◌, ℕ, ◌+◌, ◌-◌, ◌∷◌, [], ◌++◌, map, take, fold, ap, ◌∙◌, sym, subst, if◌then◌else◌}
-use Rattle.std.proofs.Common.{arith}
 use Rattle.space_saving.specs.declared.entry.Entry.{Entry}
 use Rattle.cut_merge.specs.Merged.{keys_seen}
 use Rattle.cut_merge.specs.HighBounds.{NoteKey}
 use Rattle.cut_merge.proofs.NewKeyLemmas.{new_keys_after_entry}
 use Rattle.cut_merge.proofs.HighBoundLemmas.{high_bound_notes_more}
+use Rattle.cut_merge.proofs.SeenHomeLemmas.{seen_homes_of_more_entries}
 use Rattle.cut_merge.proofs.node_merge.note_keys.Goals as goal
 use Rattle.cut_merge.proofs.node_merge.note_keys.Goals.{then-not-is_known+in_ok-push, else-not-is_known}
 
 pub is_known-requires : goal.is_known-requires
 is_known-requires c = λ is.
-    omega (
-      arith,
-      c.requires.bounded c.entry-entry.result.key is,
-      c.loop-place.invariant.bounds.raises c.entry-entry.result.key,
-    )
+    c.loop-place.invariant.seen.kept c.entry-entry.result.key (c.requires.seen c.entry-entry.result.key is)
 
 pub loop-place-preserved : goal.loop-place-preserved
 loop-place-preserved c =
@@ -38,8 +34,11 @@ loop-place-preserved c =
     record {
       keys = keys;
       bounds =
-          high_bound_notes_more c.args.table.now c.args.bounds.now c.loop-place.bounds c.note.new.self c.loop-place.place entry
+          high_bound_notes_more c.args.table.now c.args.bounds.now c.loop-place.bounds c.note-in-loop-place.new.self c.loop-place.place entry
           c.loop-place.invariant.bounds c.entry-entry.ensures.entry c.entry-entry.ensures.apart
-          (subst (λ (missing : ℕ). NoteKey c.loop-place.bounds c.note.new.self entry.key (entry.count - missing))
-          c.requires.missing c.note.ensures);
+          (subst (λ (missing : ℕ). NoteKey c.loop-place.bounds c.note-in-loop-place.new.self entry.key (entry.count - missing))
+          c.requires.missing c.note-in-loop-place.ensures);
+      seen =
+          seen_homes_of_more_entries c.args.table.now c.args.seen.now c.loop-place.seen c.note.new.self c.loop-place.place entry
+          c.loop-place.invariant.seen c.entry-entry.ensures.entry c.note.ensures;
     }

@@ -1,6 +1,5 @@
-use Rattle.std.proofs.Common.{◌≡◌, ℕ, ◌+◌, ◌≤◌, ◌↔◌, List, length, get_or, AllPairs, ◌≢◌, Some, sym, subst}
+use Rattle.std.proofs.Common.{ℕ, ◌+◌, ◌≤◌, List, length, get_or, AllPairs, ◌≢◌, sym, subst}
 use Rattle.std.proofs.lemmas.List.{get_or_default}
-use Rattle.prefix_lattice.specs.{PrefixValue, HasPrefixKey}
 use Rattle.cut_merge.specs.{candidates_at}
 use Rattle.hhh_output.proofs.NodeLineLemmas.{HasJudgedNodeLines, next_node_line_judged, all_node_lines_judged}
 use Rattle.hhh_output.proofs.selecting.select_at.Goals as goal
@@ -16,11 +15,9 @@ loop-key-preserved c =
     HasJudgedNodeLines c.args.merged.now c.args.threshold c.args.reported.now c.args.node keys c.args.found.now.items lines
     (c.loop-key.key-index + 1)) (sym c.in_ok-push_found.ensures)
     (next_node_line_judged c.args.merged.now c.args.threshold c.args.reported.now c.args.node keys c.args.found.now.items
-    c.loop-key.found.items c.loop-key.key-index key c.unwrap-prefix.result
+    c.loop-key.found.items c.loop-key.key-index key
     c.loop-key.invariant c.requires.apart distinct c.loop-key-test.true
     (get_or_default keys c.loop-key.key-index 0 key c.loop-key-test.true)
-    (subst (λ found. (other : PrefixValue) → (found ≡ Some other) ↔ HasPrefixKey c.args.node key other)
-    c.unwrap-prefix.ensures c.from_key.ensures.prefix)
     c.in_ok-line.line c.in_ok-line.ensures.asked c.in_ok-line.ensures.prefix)
 
 pub returns-clause-members : goal.returns-clause-members
