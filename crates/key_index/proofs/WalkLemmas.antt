@@ -1,21 +1,19 @@
 -- Walks along a chain, from the home's head on.
 use Rattle.std.proofs.Common.{◌≡◌, ◌≢◌, ℕ, ◌+◌, ◌-◌, ◌<◌, ◌≤◌, min, eqb, if◌then◌else◌, List, get_or}
 use Rattle.std.proofs.Common.{sym, ap, ◌∙◌, subst, ⊎_elim, arith}
+use Rattle.std.specs.Prelude.{Option, None, Some, IfNone}
 use Rattle.std.proofs.lemmas.Bool.{cases_eq, cases_lt, eq-eqb}
-use Rattle.key_index.specs.Chains.{AreChains, IsLinked, IsLive}
+use Rattle.key_index.specs.Chains.{AreChains, HasPassed, IsLinked, IsLive}
 
 -- a mark that was taken only for a key, and wasn't, is that of another key, or of none
 pub walk_mark_is_of_another_key : (has key mark taken : ℕ) → taken ≡ (if eqb has key then mark else 0) → taken ≡ 0 → mark ≢ 0 → has ≢ key
 walk_mark_is_of_another_key has key mark taken is none some same =
     some (sym (is ∙ ap (λ b. if b then mark else 0) (eq-eqb has key same)) ∙ none)
 
--- A walk is at this cell after so many steps. The places of the chain up to the cell have other keys, and behind it are no
--- more places than there are steps to come
-pub record WalkFinds (room : ℕ) (backs keys : List ℕ) (rank home : ℕ → ℕ) (key head cell step : ℕ) : Type 0 where
-  pub live : IsLive room backs cell
-  pub here : home cell ≡ head
-  pub left : rank cell + step ≤ 4
-  pub others : (place : ℕ) → IsLinked backs place → home place ≡ head → rank cell ≤ rank place → get_or keys place 0 ≢ key
+-- what holds where nothing was found, in other words
+pub walk_none_weaker : {P Q : Type 0} (found : Option ℕ) → (P → Q) → IfNone found P → IfNone found Q
+walk_none_weaker None weaker holds = weaker holds
+walk_none_weaker (Some place) weaker holds = holds
 
 -- so many places of the chain stand up to this cell
 pub record WalkCounts (room : ℕ) (backs : List ℕ) (rank : ℕ → ℕ) (head cell step : ℕ) : Type 0 where
@@ -23,7 +21,7 @@ pub record WalkCounts (room : ℕ) (backs : List ℕ) (rank : ℕ → ℕ) (head
   pub steps : rank cell + step ≡ rank head
 
 module _ (room : ℕ) (links backs keys : List ℕ) (rank home : ℕ → ℕ) (key head : ℕ) (chains : AreChains room links backs rank home) where
-  pub walk_begins : room ≤ head → WalkFinds room backs keys rank home key head head 0
+  pub walk_begins : room ≤ head → HasPassed room backs keys rank home key head head 0
   walk_begins high = record {
     live = λ low. absurd (omega arith);
     here = chains.heads head high;
@@ -32,8 +30,8 @@ module _ (room : ℕ) (links backs keys : List ℕ) (rank home : ℕ → ℕ) (k
         let top : rank place < rank head = subst (λ n. rank place < rank n) at (chains.top place linked) in omega arith;
   }
 
-  pub walk_goes_on : (cell step mark : ℕ) → WalkFinds room backs keys rank home key head cell step → get_or links cell 0 ≡ mark → mark ≢ 0
-      → get_or keys (mark - 1) 0 ≢ key → WalkFinds room backs keys rank home key head (mark - 1) (step + 1)
+  pub walk_goes_on : (cell step mark : ℕ) → HasPassed room backs keys rank home key head cell step → get_or links cell 0 ≡ mark → mark ≢ 0
+      → get_or keys (mark - 1) 0 ≢ key → HasPassed room backs keys rank home key head (mark - 1) (step + 1)
   walk_goes_on cell step mark walk is some other =
       let led = chains.leads cell (mark - 1) walk.live (let to : get_or links cell 0 ≡ mark - 1 + 1 = omega arith in to) in
       record {
@@ -49,7 +47,7 @@ module _ (room : ℕ) (links backs keys : List ℕ) (rank home : ℕ → ℕ) (k
             (cases_lt (rank place) (rank cell));
       }
 
-  pub walk_ends : (cell step : ℕ) → WalkFinds room backs keys rank home key head cell step → rank cell ≡ 0
+  pub walk_ends : (cell step : ℕ) → HasPassed room backs keys rank home key head cell step → rank cell ≡ 0
       → (place : ℕ) → IsLinked backs place → home place ≡ head → get_or keys place 0 ≢ key
   walk_ends cell step walk none place linked at = walk.others place linked at (omega arith)
 
@@ -66,6 +64,13 @@ module _ (room : ℕ) (links backs keys : List ℕ) (rank home : ℕ → ℕ) (k
       let last : second ≡ 0 = omega (arith, short, some) in
       walk_ends (first - 1) 1 goes_on (chains.ends (first - 1) goes_on.live (next ∙ last)))
       (cases_eq first 0)
+
+  -- a chain's first two places are passed
+  pub walk_passes_two_places : (first second : ℕ) → room ≤ head → get_or links head 0 ≡ first → get_or links (first - 1) 0 ≡ second
+      → first ≢ 0 → second ≢ 0 → get_or keys (first - 1) 0 ≢ key → get_or keys (second - 1) 0 ≢ key
+      → HasPassed room backs keys rank home key head (second - 1) 2
+  walk_passes_two_places first second high is next some more other one_more =
+      walk_goes_on (first - 1) 1 second (walk_goes_on head 0 first (walk_begins high) is some other) next more one_more
 
   pub walk_counts_on : (cell step mark : ℕ) → WalkCounts room backs rank head cell step → get_or links cell 0 ≡ mark → mark ≢ 0
       → WalkCounts room backs rank head (mark - 1) (step + 1)

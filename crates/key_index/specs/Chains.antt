@@ -43,3 +43,11 @@ pub record AreChains (room : ℕ) (links backs : List ℕ) (rank home : ℕ → 
       → IsLinked backs place × (home place ≡ home cell) × (rank place + 1 ≡ rank cell)
   pub back : (place : ℕ) → IsLinked backs place
       → (cell : ℕ) × IsLive room backs cell × (slice_index backs (place + 1) ≡ cell + 1) × (slice_index links cell ≡ place + 1)
+
+-- A search for a key is at this cell after so many steps from the head of a home. The places of the chain up to the cell have
+-- other keys, and behind it are no more places than there are steps to come
+pub record HasPassed (room : ℕ) (backs keys : List ℕ) (rank home : ℕ → ℕ) (key head cell step : ℕ) : Type 0 where
+  pub live : IsLive room backs cell
+  pub here : home cell ≡ head
+  pub left : rank cell + step ≤ 4
+  pub others : (place : ℕ) → IsLinked backs place → home place ≡ head → rank cell ≤ rank place → slice_index keys place ≢ key

@@ -34,6 +34,11 @@ pub record AreEntered (end but : ℕ) (keys : List ℕ) (entries : KeyEntries) :
   pub listed : (place : ℕ) → IsListed entries.listed place → (place < end) × (place ≢ but) × (8 ≤ turn place)
   pub rises : Rises keys entries.listed
 
+-- each place of the key that is entered is in the home of this turn, or of a later one, or in the list
+abbrev pub IsNotBefore : ℕ → ℕ → List ℕ → KeyEntries → Type 0
+IsNotBefore turn key keys entries = (end but : ℕ) (entered : AreEntered end but keys entries) (place : ℕ) → place < end → place ≢ but
+    → slice_index keys place ≡ key → turn ≤ entered.turn place
+
 -- shape and memory
 pub record AreEntries (room reserved : ℕ) (chains : Chains) (turned : List ℕ) : Type 0 where
   pub some : 1 ≤ room

@@ -3,7 +3,7 @@
 
 ghost use Rattle.std.specs.Prelude.{◌≡◌, ◌≢◌, ◌+◌, ◌-◌, ◌*◌, ◌^◌, ◌<◌, ◌≤◌, ◌↔◌, ℕ, List, All, IfOk, IfSome, IfNone, IsTrue};
 ghost use Rattle.std.specs.Prelude.{length, map, replicate, slice_index, slice_set, true, if◌then◌else◌};
-ghost use Rattle.key_index.specs.Chains.{AreChains, HaveShape, IsLinked};
+ghost use Rattle.key_index.specs.Chains.{AreChains, HasPassed, HaveShape, IsLinked};
 
 use crate::homes::HOMES_A_KEY;
 use crate::keyed::{Keyed, key_at};
@@ -45,7 +45,7 @@ impl KeyChains {
         Ok(KeyChains { room, links, backs })
     }
 
-    /// A place of the key in the chain of this home. It passes at most four keys, the first two perhaps twice.
+    /// A place of the key in the chain of this home. It passes at most four keys, each once.
     pub(crate) fn place_of<T: Keyed>(&self, slots: &[T], key: u64, home: usize) -> Option<usize>
         requires home { home < 4 * self.now.room }
         requires some { 0 < length slots.now }
@@ -152,7 +152,7 @@ fn place_in_chain<T: Keyed>(links: &[u16], slots: &[T], key: u64, head: usize) -
     if first.min(second) == 0 {
         return None;
     }
-    walk_chain(links, slots, key, head)
+    walk_chain(links, slots, key, two)
 }
 
 // The mark, if this holds, and else that of no place.
@@ -162,20 +162,21 @@ fn mark_if(holds: bool, mark: usize) -> usize
     if holds { mark } else { 0 }
 }
 
-// A place of the key in a chain, found place by place. It stays a function of its own in the binary, since few searches
-// come to it.
+// A place of the key behind the second one of a chain, found place by place. It stays a function of its own in the binary,
+// since few searches come to it.
 #[inline(never)]
-fn walk_chain<T: Keyed>(links: &[u16], slots: &[T], key: u64, head: usize) -> Option<usize>
-    requires head { head < length links.now }
+fn walk_chain<T: Keyed>(links: &[u16], slots: &[T], key: u64, second: usize) -> Option<usize>
+    requires second { second < length links.now }
     requires few { length slots.now ≤ length links.now }
     requires marks { All (λ mark. mark ≤ length slots.now) links.now }
     ensures within { IfSome result (λ place. place < length slots.now) }
     ensures found { IfSome result (λ place. slice_index (map T.key_of slots.now) place ≡ key) }
-    ensures missing { IfNone result ((room : ℕ) (backs : List ℕ) (rank home : ℕ → ℕ) → AreChains room links.now backs rank home
-        → room ≤ head → (place : ℕ) → IsLinked backs place → home place ≡ head → slice_index (map T.key_of slots.now) place ≢ key) }
+    ensures missing { IfNone result ((room head : ℕ) (backs : List ℕ) (rank home : ℕ → ℕ) → AreChains room links.now backs rank home
+        → HasPassed room backs (map T.key_of slots.now) rank home key head second 2
+        → (place : ℕ) → IsLinked backs place → home place ≡ head → slice_index (map T.key_of slots.now) place ≢ key) }
 {
-    let mut cell = head;
-    for _step in 0..PLACES_A_HOME {
+    let mut cell = second;
+    for _step in 2..PLACES_A_HOME {
         let mark = usize::from(links[cell]);
         if mark == 0 {
             return None;

@@ -4,8 +4,8 @@ ghost use Rattle.std.specs.Prelude.{◌≡◌, ◌≢◌, ◌+◌, ◌*◌, ◌/
 ghost use Rattle.std.specs.Prelude.{MatchOption, Some, length, map, replicate, slice_get, slice_set};
 ghost use Rattle.key_index.specs.Chains.{AreChains};
 ghost use Rattle.key_index.specs.HomeMarks.{IsMarked};
-ghost use Rattle.key_index.specs.Homes.{home_at};
-ghost use Rattle.key_index.specs.Entries.{KeyEntries, AreEntered, LeadBelow};
+ghost use Rattle.key_index.specs.Homes.{home_at, mixed};
+ghost use Rattle.key_index.specs.Entries.{KeyEntries, AreEntered, IsNotBefore, LeadBelow};
 ghost use Rattle.key_index.specs.KeyIndex.{HoldsKeys, HoldsKeysButOne};
 
 use crate::chains::KeyChains;
@@ -76,14 +76,15 @@ impl KeyIndex {
         if slots.is_empty() {
             return None;
         }
-        let home = home_of(mix(key), self.room);
+        let number = mix(key);
+        let home = home_of(number, self.room);
         if let Some(place) = self.chains.place_of(slots, key, home) {
             return Some(place);
         }
         if !self.turned.has(home) {
             return None;
         }
-        self.find_in_turn(slots, key)
+        self.find_further(slots, key, number)
     }
 
     /// Enters the place of the one slot whose key isn't held. It allocates no memory. Once many keys were turned away,
@@ -115,17 +116,19 @@ impl KeyIndex {
         }
     }
 
-    // A place of the key, looked for in one home after the other. It stays a function of its own in the binary, since few
-    // searches come to it.
+    // A place of the key, looked for in its homes from the second on, by the number that named the first one. It stays a function
+    // of its own in the binary, since few searches come to it.
     #[inline(never)]
-    fn find_in_turn<T: Keyed>(&self, slots: &[T], key: u64) -> Option<usize>
+    fn find_further<T: Keyed>(&self, slots: &[T], key: u64, number: u64) -> Option<usize>
         requires some { 0 < length slots.now }
         requires holds { HoldsKeys (map T.key_of slots.now) self.now }
+        requires number { number ≡ mixed key }
+        requires further { IsNotBefore 1 key (map T.key_of slots.now) self.now }
         ensures { MatchOption result (All (λ other. other ≢ key) (map T.key_of slots.now))
             (λ place. slice_get (map T.key_of slots.now) place ≡ Some key) }
     {
-        let mut number = key;
-        for _turn in 0..TURNS {
+        let mut number = number;
+        for _turn in 1..TURNS {
             number = mix(number);
             let home = home_of(number, self.room);
             if let Some(place) = self.chains.place_of(slots, key, home) {

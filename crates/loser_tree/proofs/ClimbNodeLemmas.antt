@@ -173,3 +173,37 @@ climb_ends_at_root_node leaves nodes past word some few climb =
       loser = λ node inner within. get_or-set_other nodes 0 node word 0 (omega arith) ∙ climb.loser node inner within (omega arith);
       winner = get_or-set_same nodes 0 word 0 (omega arith) ∙ sym climb.carried;
     }
+
+-- nodes of which one was set are as many
+pub set_node_keeps_length : (nodes after : List ℕ) (node word : ℕ) → after ≡ set nodes node word → length after ≡ length nodes
+set_node_keeps_length nodes after node word written = ap length written ∙ length-set nodes node word
+
+-- three levels up, parent by parent
+pub climb_goes_up_three_levels : (leaves nodes first second third : List ℕ) (past node word lesser least last : ℕ) → 8 ≤ node → node < 2 * length nodes
+    → HasClimbed leaves nodes past node word
+    → first ≡ set nodes (node / 2) (max word (get_or nodes (node / 2) 0)) → lesser ≡ min word (get_or nodes (node / 2) 0)
+    → second ≡ set first (node / 4) (max lesser (get_or first (node / 4) 0)) → least ≡ min lesser (get_or first (node / 4) 0)
+    → third ≡ set second (node / 8) (max least (get_or second (node / 8) 0)) → last ≡ min least (get_or second (node / 8) 0)
+    → HasClimbed leaves third past (node / 8) last
+climb_goes_up_three_levels leaves nodes first second third past node word lesser least last inner within climb one is_lesser two is_least three is_last =
+    let half : node / 2 / 2 ≡ node / 4 = omega arith in
+    let quarter : node / 4 / 2 ≡ node / 8 = omega arith in
+    let at_first : HasClimbed leaves first past (node / 2) lesser =
+    climb_goes_to_parent_node leaves nodes first past node word lesser (omega arith) within climb one is_lesser in
+    let as_long : length first ≡ length nodes = set_node_keeps_length nodes first (node / 2) (max word (get_or nodes (node / 2) 0)) one in
+    let at_second : HasClimbed leaves second past (node / 4) least =
+    subst (λ n. HasClimbed leaves second past n least) half
+    (climb_goes_to_parent_node leaves first second past (node / 2) lesser least (omega arith) (omega (arith, as_long)) at_first
+    (two ∙ ap (λ n. set first n (max lesser (get_or first n 0))) (sym half)) (is_least ∙ ap (λ n. min lesser (get_or first n 0)) (sym half))) in
+    let as_long_still : length second ≡ length first = set_node_keeps_length first second (node / 4) (max lesser (get_or first (node / 4) 0)) two in
+    subst (λ n. HasClimbed leaves third past n last) quarter
+    (climb_goes_to_parent_node leaves second third past (node / 4) least last (omega arith) (omega (arith, as_long, as_long_still)) at_second
+    (three ∙ ap (λ n. set second n (max least (get_or second n 0))) (sym quarter)) (is_last ∙ ap (λ n. min least (get_or second n 0)) (sym quarter)))
+
+-- the way of a word from the leaf at a place of these nodes is done up to this node, with the nodes and the least word as they are now
+pub record ClimbIsAt (before : List ℕ) (place word : ℕ) (nodes : List ℕ) (node least : ℕ) : Type 0 where
+  pub inner : 1 ≤ node
+  pub within : node < 2 * length nodes
+  pub shape : length nodes ≡ length before
+  pub climbed : (leaves : List ℕ) → HasLeaves before leaves → get_or leaves place 0 ≡ get_or before 0 0
+      → HasClimbed (set leaves place word) nodes (get_or before 0 0) node least

@@ -1,13 +1,10 @@
 //! The inner nodes of a loser tree in heap order: node 1 is the root, and the children of node i are 2 i and 2 i + 1.
 //! The leaves would come last, and aren't stored. Node 0 has the least leaf.
 
-ghost use Rattle.std.specs.Prelude.{◌≡◌, ◌+◌, ◌*◌, ◌^◌, ◌<◌, ◌≤◌, All, List, ℕ, length, max, min, slice_index, slice_set};
+ghost use Rattle.std.specs.Prelude.{◌≡◌, ◌+◌, ◌*◌, ◌/◌, ◌^◌, ◌<◌, ◌≤◌, All, List, ℕ, length, max, min, slice_index, slice_set};
 ghost use Rattle.std.specs.List.{range_with_len};
 ghost use Rattle.loser_tree.specs.LoserTree.{HasLeaves};
 ghost use Rattle.loser_tree.specs.Nodes.{HasClimbed, HaveLeastNumbers, number_below};
-
-/// How many levels a climb goes up in straight code: those of a tree of 4,096 leaves.
-const STRAIGHT_LEVELS: usize = 12;
 
 /// Changes the least leaf, which is at this place, to this word.
 pub(crate) fn replace_least_leaf(nodes: &mut [u64], place: usize, word: u64)
@@ -32,19 +29,29 @@ fn climb(nodes: &mut [u64], place: usize, word: u64) -> u64
 {
     let mut node = nodes.len() + place;
     let mut least = word;
-    // The number of turns is fixed, so the compiler unrolls this loop.
-    for _ in 0..STRAIGHT_LEVELS {
-        if node <= 1 {
-            return least;
-        }
-        node /= 2;
-        least = meet(nodes, node, least);
+    while node >= 8 {
+        least = climb_three_levels(nodes, node, least);
+        node /= 8;
     }
     while node > 1 {
         node /= 2;
         least = meet(nodes, node, least);
     }
     least
+}
+
+// Carries a word three levels up from a node, and returns the least word there. It is straight code, which asks only once
+// in three levels whether the root is reached.
+fn climb_three_levels(nodes: &mut [u64], node: usize, word: u64) -> u64
+    requires inner { 8 ≤ node }
+    requires within { node < 2 * length nodes.old }
+    ensures shape { length nodes.new ≡ length nodes.old }
+    ensures climbed { (leaves : List ℕ) (past : ℕ) → HasClimbed leaves nodes.old past node word
+        → HasClimbed leaves nodes.new past (node / 8) result }
+{
+    let lesser = meet(nodes, node / 2, word);
+    let least_of_three = meet(nodes, node / 4, lesser);
+    meet(nodes, node / 8, least_of_three)
 }
 
 // Leaves the greater one of a word and a node's in the node, and returns the lesser.

@@ -89,14 +89,27 @@ impl RankedSlots {
         self.slots[place] = slot;
     }
 
-    /// Sets the leaf of a place to its slot's word, if it is the least leaf. `least` would do it too; done at once, it
-    /// overlaps with the look-ups of the next keys, and nothing waits for it.
-    pub(crate) fn mend(&mut self, place: usize)
-        requires { place < length self.old.slots }
+    /// Changes the slot that comes first to one of no smaller count and time. Its leaf is mended too, if it is the least
+    /// one. `least` would do it later; done at once, it overlaps with the look-ups of the next keys, and nothing waits for it.
+    pub(crate) fn replace_first(&mut self, place: usize, slot: Slot)
+        requires within { place < length self.old.slots }
+        requires count { (d : Slot) → (slice_index_or self.old.slots place d).entry.count ≤ slot.entry.count }
+        requires time { (d : Slot) → (slice_index_or self.old.slots place d).time ≤ slot.time }
+        requires early { slot.time < 2 ^ 18 }
+        ensures { self.new ≡ record self.old { slots = slice_set self.old.slots place slot } }
+    {
+        self.raise(place, slot);
+        self.mend(place, &slot);
+    }
+
+    // Sets the leaf of a place to the word of its slot, which is this one, if it is the least leaf.
+    fn mend(&mut self, place: usize, slot: &Slot)
+        requires within { place < length self.old.slots }
+        requires slot { (d : Slot) → slice_index_or self.old.slots place d ≡ slot.now }
         ensures { self.new ≡ self.old }
     {
         if self.tree.least() % PLACES == place as u64 {
-            let word = word_of(self.base, &self.slots[place], place);
+            let word = word_of(self.base, slot, place);
             self.tree.replace_least(place, word);
         }
     }

@@ -107,7 +107,7 @@ fn take_over(index: &mut KeyIndex, ranked: &mut RankedSlots, key: u64, weight: u
         error: least,
     };
     index.leave(ranked.slots(), place);
-    ranked.raise(
+    ranked.replace_first(
         place,
         Slot {
             entry: heir,
@@ -115,5 +115,4 @@ fn take_over(index: &mut KeyIndex, ranked: &mut RankedSlots, key: u64, weight: u
         },
     );
     index.enter(ranked.slots(), place);
-    ranked.mend(place);
 }

@@ -18,8 +18,8 @@ overflow_add-heir c =
     ∙ ap (λ (r : Slots). r.slots) c.least-place.ensures.same) in
     omega (arith, ranked_slot_count_in_total c.least-place.result slots blank c.least-place.ensures.least.within)
 
-pub raise-requires-clause-count : goal.raise-requires-clause-count
-raise-requires-clause-count c = λ d.
+pub replace_first-requires-clause-count : goal.replace_first-requires-clause-count
+replace_first-requires-clause-count c = λ d.
     let after = c.least-place.new.self.slots in
     let within : c.least-place.result < length after = subst (λ (r : Slots). c.least-place.result < length r.slots)
     (sym c.least-place.ensures.same) c.least-place.ensures.least.within in
@@ -28,8 +28,8 @@ raise-requires-clause-count c = λ d.
     ∙ ap (λ (s : Slot). s.entry.count) (get_or_default after c.least-place.result blank d within) in
     omega arith
 
-pub raise-requires-clause-time : goal.raise-requires-clause-time
-raise-requires-clause-time c = λ d.
+pub replace_first-requires-clause-time : goal.replace_first-requires-clause-time
+replace_first-requires-clause-time c = λ d.
     subst (λ (r : Slots). (get_or r.slots c.least-place.result d).time ≤ c.args.now) (sym c.least-place.ensures.same)
     (omega (
       arith,
@@ -40,6 +40,6 @@ raise-requires-clause-time c = λ d.
 pub enter-requires-clause-others : goal.enter-requires-clause-others
 enter-requires-clause-others c =
     subst (λ (keys : List ℕ). HoldsKeysButOne c.least-place.result keys c.leave.new.self)
-    (sym (slot_keys_on_change c.least-place.result c.args.key c.slots-2.result.now c.slots-3.result.now c.least-place.new.self c.raise.new.self _
-    c.slots-2.ensures.slots c.raise.ensures c.slots-3.ensures.slots refl))
+    (sym (slot_keys_on_change c.least-place.result c.args.key c.slots-2.result.now c.slots-3.result.now c.least-place.new.self c.replace_first.new.self _
+    c.slots-2.ensures.slots c.replace_first.ensures c.slots-3.ensures.slots refl))
     (c.leave.ensures.others c.args.key)

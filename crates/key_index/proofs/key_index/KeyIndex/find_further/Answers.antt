@@ -1,16 +1,22 @@
-use Rattle.std.proofs.Common.{◌≡◌, ◌≢◌, ◌<◌, ◌≤◌, ℕ, List, length, map, refl, get_or, ap, sym, ◌∙◌, subst, arith, rules}
-use Rattle.std.specs.Prelude.{Option, None, Some, IfNone, IfSome}
+use Rattle.std.proofs.Common.{◌≡◌, ◌≢◌, ◌<◌, ◌≤◌, ℕ, List, length, map, get_or, ap, sym, ◌∙◌, subst, arith, rules}
+use Rattle.std.specs.Prelude.{Some, IfSome}
 use Rattle.std.proofs.lemmas.List.{length-map}
 use Rattle.std.proofs.lemmas.Option.{slice_get-get_or}
 use Rattle.key_index.specs.SortedPlaces.{Rises, IsListed}
-use Rattle.key_index.specs.Entries.{KeyEntries, AreEntered}
+use Rattle.key_index.specs.Entries.{KeyEntries, AreEntered, IsNotBefore}
 use Rattle.key_index.proofs.HomeLemmas.{home_mixed_on, home_of_mixed}
 use Rattle.key_index.proofs.EntryLemmas.{entry_parts, EntryMissing, entry_turns_on, entry_turn_is_last}
 use Rattle.key_index.proofs.KeyLemmas.{key_missing, key_found}
-use Rattle.key_index.proofs.key_index.KeyIndex.find_in_turn.Goals as goal
+use Rattle.key_index.proofs.WalkLemmas.{walk_none_weaker}
+use Rattle.key_index.proofs.key_index.KeyIndex.find_further.Goals as goal
 
 pub loop-turn-init : goal.loop-turn-init
-loop-turn-init g c = record { number = refl; later = λ end but entered place below apart has. omega arith }
+loop-turn-init g c =
+    let i = c.self.inside in
+    record {
+      number = c.requires.number;
+      further = subst (λ (e : KeyEntries). IsNotBefore 1 c.args.key (map g.T.Keyed.key_of c.args.slots.now) e) (sym c.self.view_is) c.requires.further;
+    }
 
 pub loop-turn-preserved : goal.loop-turn-preserved
 loop-turn-preserved g c =
@@ -23,9 +29,9 @@ loop-turn-preserved g c =
     c.in_default.ensures.missing in
     record {
       number = home_mixed_on c.loop-turn._turn c.args.key c.loop-turn.number c.mix-number.result c.loop-turn.invariant.number c.mix-number.ensures;
-      later = λ end but entered place below apart has.
+      further = λ end but entered place below apart has.
           entry_turns_on end but i.room place c.loop-turn._turn c.home_of-home.result c.args.key keys i.chains.links i.chains.backs i.listed.items
-          i.turned entered below apart has (c.loop-turn.invariant.later end but entered place below apart has) (omega arith) at missing;
+          i.turned entered below apart has (c.loop-turn.invariant.further end but entered place below apart has) (omega arith) at missing;
     }
 
 pub returns-in-Some : goal.returns-in-Some
@@ -49,13 +55,8 @@ returns-then-not-has g c =
     key_missing keys c.args.key (λ (place : ℕ). λ (below : place < end). λ (has : get_or keys place 0 ≡ c.args.key).
     let apart : place ≢ end = λ same. omega arith in
     entry_turn_is_last end end i.room place c.loop-turn._turn c.home_of-home.result c.args.key keys i.chains.links i.chains.backs i.listed.items
-    i.turned entered below apart has (c.loop-turn.invariant.later end end entered place below apart has) (omega arith) at missing
+    i.turned entered below apart has (c.loop-turn.invariant.further end end entered place below apart has) (omega arith) at missing
     (λ marked. search (rules, c.has.ensures, marked)))
-
--- what holds of no value, in other words
-none_weaker : {P Q : Type 0} (found : Option ℕ) → (P → Q) → IfNone found P → IfNone found Q
-none_weaker None weaker holds = weaker holds
-none_weaker (Some place) weaker holds = holds
 
 pub returns : goal.returns
 returns g c =
@@ -68,11 +69,11 @@ returns g c =
     key_found keys c.args.key c.find.result
     (subst (λ n. IfSome c.find.result (λ place. place < n)) (sym long) c.find.ensures.within)
     c.find.ensures.found
-    (none_weaker c.find.result
+    (walk_none_weaker c.find.result
     (λ (none : Rises keys c.deref.result.now → (place : ℕ) → IsListed c.deref.result.now place → get_or keys place 0 ≢ c.args.key).
     λ (place : ℕ). λ (below : place < length keys). λ (has : get_or keys place 0 ≡ c.args.key).
     let apart : place ≢ end = λ same. omega arith in
-    let late : 8 ≤ entered.turn place = omega (arith, c.loop-turn.invariant.later end end entered place below apart has) in
+    let late : 8 ≤ entered.turn place = omega (arith, c.loop-turn.invariant.further end end entered place below apart has) in
     subst (λ (xs : List ℕ). Rises keys xs → (place : ℕ) → IsListed xs place → get_or keys place 0 ≢ c.args.key) c.deref.ensures.value none
     entered.rises place (entered.ended place below apart late) has)
     c.find.ensures.missing)
