@@ -2,8 +2,10 @@ ghost use Rattle.std.specs.Prelude.{◌≤◌};
 
 mod key_indexes;
 mod loser_trees;
+mod made_records;
 mod plain_tables;
 mod rank_tables;
+mod three_tables;
 
 use space_saving::{Entry, Summary};
 use std::alloc::Global;
