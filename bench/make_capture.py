@@ -1,14 +1,16 @@
 #!/usr/bin/env python3
 """Writes a capture of random IPv4 traffic: make_capture.py SEED FRAMES KIND > FILE
 
-KIND is `short`, `whole`, `skewed`, `zipf`, `distinct`, `met`, `crossed`, `nested`, `paired`, `heavy`, `forged` or
-`listed`. Addresses come from a linear congruential generator; of each side a quarter is one host, a quarter falls into a
-/22, and the rest spreads over a /8. Lengths on the wire go 100, 200, 300, 400 in turn. `short` frames hold the 34 bytes
+KIND is `short`, `whole`, `skewed`, `mixed`, `zipf`, `distinct`, `met`, `crossed`, `nested`, `paired`, `heavy`, `forged`
+or `listed`. Addresses come from a linear congruential generator; of each side a quarter is one host, a quarter falls into
+a /22, and the rest spreads over a /8. Lengths on the wire go 100, 200, 300, 400 in turn. `short` frames hold the 34 bytes
 up to the end of the IPv4 header, `whole` frames all their bytes.
 
 `skewed` frames are as short, and of each side three quarters fall to 255 hosts, which are strewn over the /8:
 as often to host 1 as to 2 and 3 together, to 4 up to 7, and so on up to 128 to 255. So a host has about
 half of what the host of half its number has. The last quarter spreads over the /8.
+
+`mixed` frames are `skewed` ones, but for their lengths on the wire, each of which is any from 60 to 1,514.
 
 `zipf` frames are as short, and each side has 1,048,576 hosts, which are strewn over all addresses: the host of number n
 has a share of about 1 / n. So few hosts have much, many have little, and there is no end to new ones.
@@ -18,7 +20,7 @@ comes twice, so nearly all tables take a new key with each frame.
 
 `met` frames are as short, and made against the index of the tables at their default capacity: no two have one pair
 of addresses, and all pairs share their first home in each of the nine tables that keep two bytes or more of
-each side. There are 1,048,576 such pairs.
+each side. There are some 2,000,000 such pairs.
 
 `crossed` frames are as short, and made against the query. Of each side there are a tenth as many /16 networks as
 frames. Each has ten frames, from ten /24 networks, and the order is random. So at a threshold of ten packets each
@@ -53,9 +55,9 @@ INCREMENT = 1442695040888963407
 STATES = 1 << 64
 STREWING = 0x9E3779
 ZIPF_STREWING = 0x9E3779B1
-# The multiplier of the first turn of a search, and how many homes the index of a table of 512 entries has.
-FIRST_TURN = 0x9E3779B97F4A7C15
-HOMES = 8 * 512
+# The multiplier of a search, and how many homes the index of a table of 512 entries has.
+MULTIPLIER_OF_INDEX = 0x9E3779B97F4A7C15
+HOMES = 4 * 512
 FORGED_LENGTH = 4_093_509_168
 FILE_HEADER = struct.pack("<IHHIIII", 0xA1B2C3D4, 2, 4, 0, 0, 262144, 1)
 ETHERNET = bytes.fromhex("020000000002" "020000000001" "0800")
@@ -97,20 +99,21 @@ def random_pairs(seed, pick):
         yield source, pick(20, state >> 32)
 
 
-ADDRESSES = {"skewed": skewed_address, "forged": skewed_address, "zipf": zipf_address}
+ADDRESSES = {"skewed": skewed_address, "mixed": skewed_address, "forged": skewed_address, "zipf": zipf_address}
 
 
 def met_pairs():
-    """Pairs of /16 networks whose key's product with the first multiplier is below the second home."""
-    low = sorted(((second << 16) * FIRST_TURN % STATES, second) for second in range(1 << 16))
+    """Pairs of /16 networks whose key has the first home: folded, its product with the multiplier is below the second."""
+    low = sorted(((folded << 16) * MULTIPLIER_OF_INDEX % STATES, folded) for folded in range(1 << 16))
     for first in range(1 << 16):
-        missing = -(first << 48) * FIRST_TURN % STATES
+        missing = -(first << 48) * MULTIPLIER_OF_INDEX % STATES
         place = bisect.bisect_left(low, (missing, 0))
         for turn in range(len(low)):
-            product, second = low[(place + turn) % len(low)]
+            product, folded = low[(place + turn) % len(low)]
             if (product - missing) % STATES >= STATES // HOMES:
                 break
-            yield first << 16, second << 16
+            # A search folds the upper half of a key, its source, into the lower one first.
+            yield first << 16, (folded ^ first) << 16
 
 
 def crossed_addresses(source, count):
@@ -188,6 +191,9 @@ def wire_lengths(seed, count, kind):
     if kind == "heavy":
         source = random.Random(seed + 1)
         return (source.randrange(1 << 31, 1 << 32) for _ in range(count))
+    if kind == "mixed":
+        source = random.Random(seed + 1)
+        return (source.randrange(60, 1515) for _ in range(count))
     if kind == "distinct":
         return itertools.repeat(100, count)
     lengths = [100 * (1 + place % 4) for place in range(count)]

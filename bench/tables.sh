@@ -1,43 +1,39 @@
 #!/bin/sh
-# Measures the tables of `report` beside those of a program that is tuned by hand, in one run:
-# tables.sh [TURNS [FETCHES]]. Over 1,000,000 short, skewed and Zipf frames, at three capacities, by bytes and by
-# packets, in blocks of 1,024 and of 65,536 records, it compares the sessions of `report --workers 1` and of
-# `space_saving`, and prints the least processor time of each in three turns, or in TURNS, and their ratio. The greatest
-# ratio is last. Whole runs are compared: reading a capture takes 30 to 50 ms of each. With `yes` for FETCHES the plain
-# program fetches each table into the cache before a block, for which the toolchain of `report` has no call; else it
-# doesn't. Needs cc and python3, and some ten minutes.
+# Measures the three bodies of a table in one run: tables.sh [TURNS [FRAMES]]. The records of captures are added to 25
+# tables, one for each node, in blocks of 1,024: over short, skewed and Zipf frames, over skewed ones of mixed lengths, and
+# over keys that meet in one home of the index, by bytes and by packets, at three capacities. Prints the least processor
+# time of an add in three turns, or in TURNS, in nanoseconds, of each body, and its ratio to that of `RankTable`.
+#
+# The program for this (`bench/table_program`) is no part of the product, so it is proved and built in a copy of the
+# repository. It is run as
+#
+#     table_bench none|plain|rank|stream bytes|packets CAPACITY < CAPTURE
+#
+# `none` only reads, and its time is taken from the others'. Needs python3 and 5 GB for the copy. With 40,000 frames,
+# unless FRAMES says how many, it takes some ten minutes, most of them for `PlainTable`, which looks at each entry.
 set -eu
 here=$(dirname "$(readlink -f "$0")")
 turns=${1:-3}
-fetches=${2:-no}
-. "$here/measure.sh"
-compile space_saving
+frames=${2:-40000}
+work=$(mktemp -d)
+trap 'rm -rf "$work"' EXIT
+program=${PROGRAM:-$("$here/build_program.sh" "$work" table none bytes 2)}
 
-# Runs a program over a capture: INPUT PROGRAM WORD...
+# Runs the program over a capture: INPUT WORD...
 echo 'input=$1; shift; exec "$@" <"$input"' >"$work/over"
 
-# A point of the comparison: KIND CAPACITY WEIGHT BLOCK. The capacity bounds `phi` from below, and this one fits all.
-compare_tables() {
-    words="--capacity $2 --phi 31251 --weigh $3 --block $4"
-    ours="$hhh report --workers 1 $words"
-    plain="$work/space_saving $words --fetch $fetches"
-    name="$1 frames, capacity $2, by $3, blocks of $4"
-    sh "$work/over" "$work/$1" $ours >"$work/ours"
-    sh "$work/over" "$work/$1" $plain | cmp - "$work/ours" >&2 || echo "$name: other sessions" >&2
-    printf "/bin/sh $work/over $work/$1 %s\n" "$plain" "$ours" | python3 "$here/least_times.py" "$turns" |
-        paste -sd ' ' - | awk -v name="$name" '{
-            printf "%s: space_saving %.0f ms, hhh %.0f ms; ratio %.2f\n", name, $1, $2, $2 / $1
-        }'
-}
-
-for kind in short skewed zipf; do
-    make_capture $kind
-    for capacity in 64 512 4096; do
-        for weight in bytes packets; do
-            for block in 1024 65536; do
-                compare_tables $kind $capacity $weight $block
-            done
+for kind in short skewed zipf mixed met; do
+    python3 "$here/make_capture.py" 7 "$frames" $kind >"$work/$kind"
+    for weigh in bytes packets; do
+        for capacity in 64 512 4096; do
+            for body in none plain rank stream; do
+                echo "/bin/sh $work/over $work/$kind $program $body $weigh $capacity"
+            done | python3 "$here/least_times.py" "$turns" | paste -sd ' ' - |
+                awk -v name="$kind frames, by $weigh, capacity $capacity" -v adds="$((25 * frames))" '{
+                    for (i = 2; i <= 4; i++) add[i] = ($i - $1) * 1000000 / adds
+                    printf "%s: plain %.0f ns, rank %.1f ns, stream %.1f ns; ratios %.1f, %.2f\n",
+                        name, add[2], add[3], add[4], add[2] / add[3], add[4] / add[3]
+                }'
         done
     done
-done | tee "$work/lines"
-awk '$NF > most { most = $NF; line = $0 } END { if (NR != 36) exit 1; print "greatest ratio: " line }' "$work/lines"
+done
