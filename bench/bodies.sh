@@ -20,7 +20,8 @@ clone_with() {
 texts() {
     "$1" demo 7 200000 --shards 8
     "$1" demo 7 20000 --capacity 2 --phi 1000000
-    "$1" demo 11 20000 --capacity 4096 --phi 500 --weigh packets --rounds 3
+    "$1" demo 11 20000 --capacity 4096 --phi 500
+    "$1" make 7 20000 | "$1" report --weigh packets
 }
 
 clone_with RankTable rank_table
