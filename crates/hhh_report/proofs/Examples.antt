@@ -1,16 +1,18 @@
 -- Worked examples of positions, thresholds, lines, reports and their tests, most by computing.
-use Rattle.std.proofs.Common.{◌≡◌, ℕ, zero, suc, ◌*◌, ◌≤◌, ◌<◌, List, [], ◌∷◌, length, Contains, Bool, true, false}
+use Rattle.std.proofs.Common.{◌≡◌, ℕ, ◌*◌, ◌≤◌, ◌<◌, List, [], ◌∷◌, length, Contains, Bool, true, false}
 use Rattle.std.proofs.Common.{eqb, refl, ap, ◌∙◌, arith}
 use Rattle.std.proofs.lemmas.Bool.{and_parts, eqb-true, false≢true}
 use Rattle.std.proofs.lemmas.List.Elements.{All-nil, All-cons}
 use Rattle.std.proofs.lemmas.List.Kept.{AllPairs-cons}
-use Rattle.std.specs.Prelude.{slice_index}
 use Rattle.std.specs.declared.cmp.Ordering.{Ordering}
 use Rattle.std.specs.declared.cmp.Ordering.TheVariants.{Less, Equal, Greater}
+use Rattle.prefix_lattice.specs.{address_bits}
+use Rattle.prefix_lattice.specs.declared.grain.Grain.TheVariants.{Byte}
+use Rattle.prefix_lattice.proofs.Examples.{front, leading_bits_of_an_address}
 use Rattle.prefix_lattice.specs.{RecordValue, begins_with, PrefixValue, IsPrefix, covers}
 use Rattle.prefix_lattice.specs.{prefix_weight, under, report_order, conditioned_weight}
 use Rattle.hhh_report.specs.Positions.{AreNotPast, records_before}
-use Rattle.hhh_report.specs.Lines.{prefixes_of_lines, line_limit, AreReportLines}
+use Rattle.hhh_report.specs.Lines.{prefixes_of_lines, line_limit, AreOfGrain, AreReportLines}
 use Rattle.hhh_report.specs.Report.{IsSameReport}
 use Rattle.hhh_report.specs.SoundReport.{LineHoldsWeight, IsNarrowLine, IsJustified}
 use Rattle.hhh_report.specs.SoundReport.{IsSound}
@@ -75,7 +77,7 @@ packet = record { src = 0x0a010203; dst = 0x14010203; weight = 100 }
 
 -- 10.0.0.0/8 20.0.0.0/8
 abbrev prefix : PrefixValue
-prefix = record { source = 10 ∷ []; dest = 20 ∷ [] }
+prefix = record { source = front 0x0a000000 8; dest = front 0x14000000 8 }
 
 abbrev line : Line
 line = record { prefix = prefix; lo = 100; hi = 100 }
@@ -102,27 +104,15 @@ root = record { source = []; dest = [] }
 
 -- 10.1.2.3/32 20.1.2.3/32, which is the packet's own
 abbrev whole : PrefixValue
-whole = record { source = 10 ∷ 1 ∷ 2 ∷ 3 ∷ []; dest = 20 ∷ 1 ∷ 2 ∷ 3 ∷ [] }
+whole = record { source = address_bits 0x0a010203; dest = address_bits 0x14010203 }
 
-pub whole_is_prefix : IsPrefix whole
+pub whole_is_prefix : IsPrefix Byte whole
 whole_is_prefix = record {
-  source = record { few = omega arith; bytes = source };
-  dest = record { few = omega arith; bytes = dest };
+  source = leading_bits_of_an_address 0x0a010203 32 (omega arith);
+  dest = leading_bits_of_an_address 0x14010203 32 (omega arith);
+  source_steps = refl;
+  dest_steps = refl;
 }
-  where
-    source : (place : ℕ) → slice_index whole.source place < 256
-    source zero = omega arith
-    source (suc zero) = omega arith
-    source (suc (suc zero)) = omega arith
-    source (suc (suc (suc zero))) = omega arith
-    source (suc (suc (suc (suc place)))) = omega arith
-
-    dest : (place : ℕ) → slice_index whole.dest place < 256
-    dest zero = omega arith
-    dest (suc zero) = omega arith
-    dest (suc (suc zero)) = omega arith
-    dest (suc (suc (suc zero))) = omega arith
-    dest (suc (suc (suc (suc place)))) = omega arith
 
 -- the lines of the packet's own prefix and of the root
 abbrev own : Line
@@ -130,6 +120,10 @@ own = record { prefix = whole; lo = 100; hi = 100 }
 
 abbrev of_all : Line
 of_all = record { prefix = root; lo = 100; hi = 100 }
+
+pub lines_by_bytes : AreOfGrain Byte (own ∷ [])
+lines_by_bytes = All-cons (λ (line : Line). IsPrefix Byte line.prefix) own [] whole_is_prefix
+    (All-nil (λ (line : Line). IsPrefix Byte line.prefix))
 
 -- a line comes before another in a report
 abbrev Precedes : Line → Line → Type 0
@@ -185,15 +179,15 @@ pub reports_with_other_lines : ¬ IsSameReport told silent
 reports_with_other_lines same = let count : 1 ≡ 0 = ap length same.lines in omega (arith, count)
 
 -- two lists that begin each other are the same
-both_begin : (bytes other : List ℕ) → begins_with bytes other ≡ true → begins_with other bytes ≡ true → bytes ≡ other
+both_begin : (bits other : List ℕ) → begins_with bits other ≡ true → begins_with other bits ≡ true → bits ≡ other
 both_begin [] [] begins begun = refl
 both_begin [] (first ∷ rest) begins begun = absurd (false≢true begins)
-both_begin (byte ∷ bytes) [] begins begun = absurd (false≢true begun)
-both_begin (byte ∷ bytes) (first ∷ rest) begins begun =
-    let parts = and_parts (eqb byte first) (begins_with bytes rest) begins in
-    let other = and_parts (eqb first byte) (begins_with rest bytes) begun in
-    ap (λ head. head ∷ bytes) (eqb-true byte first parts.0)
-    ∙ ap (λ tail. first ∷ tail) (both_begin bytes rest parts.1 other.1)
+both_begin (bit ∷ bits) [] begins begun = absurd (false≢true begun)
+both_begin (bit ∷ bits) (first ∷ rest) begins begun =
+    let parts = and_parts (eqb bit first) (begins_with bits rest) begins in
+    let other = and_parts (eqb first bit) (begins_with rest bits) begun in
+    ap (λ head. head ∷ bits) (eqb-true bit first parts.0)
+    ∙ ap (λ tail. first ∷ tail) (both_begin bits rest parts.1 other.1)
 
 -- a prefix that covers the packet and isn't its own is above its own, so the line explains the packet
 explained : (prefix : PrefixValue) → ¬ Contains (whole ∷ []) prefix
@@ -221,7 +215,7 @@ justified_by_its_weight = let enough : 4 ≤ 500 = omega arith in enough
 pub not_justified_beside_the_line : ¬ IsJustified 512 1 (whole ∷ root ∷ []) (packet ∷ []) of_all
 not_justified_beside_the_line justified = let most : 512 ≤ 200 = justified in omega (arith, most)
 
-pub told_is_sound : IsSound told ((packet ∷ []) ∷ []) 4 10000
+pub told_is_sound : IsSound Byte told ((packet ∷ []) ∷ []) 4 10000
 told_is_sound = record {
   positions = (omega arith, tt);
   total = refl;
@@ -239,11 +233,11 @@ told_is_sound = record {
   complete = λ prefix is_prefix missing. explained prefix missing;
 }
 
-pub silence_is_unsound : ¬ IsSound silent ((packet ∷ []) ∷ []) 4 10000
+pub silence_is_unsound : ¬ IsSound Byte silent ((packet ∷ []) ∷ []) 4 10000
 silence_is_unsound sound =
     let left : 100 < 1 = sound.complete whole whole_is_prefix (λ inside. omega (arith, inside.1)) in
     omega (arith, left)
 
 -- a report with one position is not sound over two lists
-pub told_of_one_packet_alone : ¬ IsSound told ((packet ∷ []) ∷ (packet ∷ []) ∷ []) 4 10000
+pub told_of_one_packet_alone : ¬ IsSound Byte told ((packet ∷ []) ∷ (packet ∷ []) ∷ []) 4 10000
 told_of_one_packet_alone sound = sound.positions.1

@@ -3,6 +3,7 @@ use Rattle.std.specs.Prelude.{ℕ, ◌≡◌, ◌+◌, ◌*◌, ◌<◌, ◌≤�
 use Rattle.std.specs.List.{AllZip}
 use Rattle.prefix_lattice.specs.{RecordValue, PrefixValue, IsPrefix, prefix_weight, total_weight, conditioned_weight}
 use Rattle.prefix_lattice.specs.{closest, kept_pairs, HoldsWeight, IsNarrow}
+use Rattle.prefix_lattice.specs.declared.grain.Grain.{Grain}
 use Rattle.hhh_report.specs.declared.line.Line.{Line}
 use Rattle.hhh_report.specs.declared.report.Report.{Report}
 use Rattle.hhh_report.specs.Positions.{records_before}
@@ -33,15 +34,15 @@ IsJustified capacity threshold lines records line =
 abbrev pub IsHeavyLine : ℕ → Line → Type 0
 IsHeavyLine threshold line = threshold ≤ line.hi
 
--- given the prefixes of the lines, each prefix without a line, whether or not a table monitors it, has a conditioned weight
--- below the threshold
-abbrev pub AreComplete : ℕ → List PrefixValue → List RecordValue → Type 0
-AreComplete threshold lines records = (prefix : PrefixValue) → IsPrefix prefix → ¬ Contains lines prefix
+-- given the prefixes of the lines, each prefix of a grain without a line, whether or not a table monitors it, has a
+-- conditioned weight below the threshold
+abbrev pub AreComplete : Grain → ℕ → List PrefixValue → List RecordValue → Type 0
+AreComplete grain threshold lines records = (prefix : PrefixValue) → IsPrefix grain prefix → ¬ Contains lines prefix
     → conditioned_weight prefix lines records < threshold
 
--- a report is sound over lists of records, for tables of this capacity: eight tests hold. That its lines are in strict
--- order, so that none comes twice, is the invariant of the type `Report`, `AreReportLines`
-pub record IsSound (report : Report) (lists : List (List RecordValue)) (capacity phi : ℕ) : Type 0 where
+-- a report whose lines are of a grain is sound over lists of records, for tables of this capacity: eight tests hold. That
+-- its lines are in strict order, so that none comes twice, is the invariant of the type `Report`, `AreReportLines`
+pub record IsSound (grain : Grain) (report : Report) (lists : List (List RecordValue)) (capacity phi : ℕ) : Type 0 where
   pub positions : AreWithinLists report.positions lists
   pub total : report.total ≡ total_weight (records_before lists report.positions)
   pub threshold : IsThreshold phi report.total report.threshold
@@ -51,4 +52,4 @@ pub record IsSound (report : Report) (lists : List (List RecordValue)) (capacity
   pub justified : All
       (IsJustified capacity report.threshold (prefixes_of_lines report.lines) (records_before lists report.positions))
       report.lines
-  pub complete : AreComplete report.threshold (prefixes_of_lines report.lines) (records_before lists report.positions)
+  pub complete : AreComplete grain report.threshold (prefixes_of_lines report.lines) (records_before lists report.positions)

@@ -1,10 +1,10 @@
--- The chain of incomparable prefixes that cover a record: their kept source bytes rise and their kept destination
--- bytes fall.
+-- The chain of incomparable prefixes that cover a record: their kept source bits rise and their kept destination
+-- bits fall.
 use Rattle.std.proofs.Common.{◌≡◌, ◌≢◌, ℕ, ◌<◌, ◌≤◌, Bool, true, false, ltb, cond, List, [], ◌∷◌, length, ◌⊎◌, inl}
 use Rattle.std.proofs.Common.{inr, refl, sym, arith, subst}
 use Rattle.std.specs.List.{AllPairs}
 use Rattle.std.proofs.lemmas.Bool.{and_from, cases_lt, ltb-true, ltb-false}
-use Rattle.prefix_lattice.specs.Address.{address_bytes}
+use Rattle.prefix_lattice.specs.Address.{address_bits}
 use Rattle.prefix_lattice.specs.Record.{RecordValue}
 use Rattle.prefix_lattice.specs.Prefix.{PrefixValue, covers}
 use Rattle.prefix_lattice.specs.Lattice.{under, strictly_under}
@@ -16,31 +16,31 @@ use Rattle.prefix_lattice.proofs.OrderedCountLemmas.{ordered_insert, ordered_by,
 use Rattle.prefix_lattice.proofs.OrderedCountLemmas.{ordered_by-adds_none}
 use Rattle.prefix_lattice.proofs.UnderMeetLemmas.{under_both_sides, covers-sides_like_under, same_unless_strictly_under}
 
--- how many bytes a prefix keeps of the source, and of the destination
-abbrev pub chain_source_bytes : PrefixValue → ℕ
-chain_source_bytes prefix = length prefix.source
+-- how many bits a prefix keeps of the source, and of the destination
+abbrev pub chain_source_bits : PrefixValue → ℕ
+chain_source_bits prefix = length prefix.source
 
-abbrev pub chain_dest_bytes : PrefixValue → ℕ
-chain_dest_bytes prefix = length prefix.dest
+abbrev pub chain_dest_bits : PrefixValue → ℕ
+chain_dest_bits prefix = length prefix.dest
 
 -- a member that covers the record
 pub record IsChainMember (members : List PrefixValue) (rec : RecordValue) (prefix : PrefixValue) : Type 0 where
   pub among : Among prefix members
   pub covered : covers prefix rec ≡ true
 
--- of two prefixes that cover a record, one is under the other if it keeps at least as many bytes on both sides
+-- of two prefixes that cover a record, one is under the other if it keeps at least as many bits on both sides
 pub under-by_chain_bytes : (rec : RecordValue) (lower upper : PrefixValue) → covers lower rec ≡ true
     → covers upper rec ≡ true
-    → chain_source_bytes upper ≤ chain_source_bytes lower → chain_dest_bytes upper ≤ chain_dest_bytes lower → under lower upper ≡ true
+    → chain_source_bits upper ≤ chain_source_bits lower → chain_dest_bits upper ≤ chain_dest_bits lower → under lower upper ≡ true
 under-by_chain_bytes rec lower upper covered upper_covered sources dests =
     let sides = covers-sides_like_under lower rec covered in
     let uppers = covers-sides_like_under upper rec upper_covered in
-    and_from _ _ (list_front-shorter (address_bytes rec.src) lower.source upper.source sides.0 uppers.0 sources)
-    (list_front-shorter (address_bytes rec.dst) lower.dest upper.dest sides.1 uppers.1 dests)
+    and_from _ _ (list_front-shorter (address_bits rec.src) lower.source upper.source sides.0 uppers.0 sources)
+    (list_front-shorter (address_bits rec.dst) lower.dest upper.dest sides.1 uppers.1 dests)
 
--- a prefix under another keeps at least as many bytes on both sides
+-- a prefix under another keeps at least as many bits on both sides
 pub chain_bytes-by_under : (lower upper : PrefixValue) → under lower upper ≡ true
-    → (chain_source_bytes upper ≤ chain_source_bytes lower) × (chain_dest_bytes upper ≤ chain_dest_bytes lower)
+    → (chain_source_bits upper ≤ chain_source_bits lower) × (chain_dest_bits upper ≤ chain_dest_bits lower)
 chain_bytes-by_under lower upper is_under =
     let sides = under_both_sides lower upper is_under in
     (list_front-no_longer lower.source upper.source sides.0, list_front-no_longer lower.dest upper.dest sides.1)
@@ -57,34 +57,34 @@ chain_member_under_is_same members prefix other incomparable among other_among i
     either (inl same) = same
     either (inr none) = same_unless_strictly_under prefix other is_under none.0
 
--- a step down the chain: more source bytes are kept, and fewer destination bytes
+-- a step down the chain: more source bytes are kept, and fewer destination bits
 pub record DescendsChain (prefix next : PrefixValue) : Type 0 where
-  pub source : chain_source_bytes prefix < chain_source_bytes next
-  pub dest : chain_dest_bytes next < chain_dest_bytes prefix
+  pub source : chain_source_bits prefix < chain_source_bits next
+  pub dest : chain_dest_bits next < chain_dest_bits prefix
 
 -- of two distinct members that cover a record, one descends to the other
 pub chain_descends_either_way : (members : List PrefixValue) (rec : RecordValue) (prefix other : PrefixValue)
     → AreIncomparable members → IsChainMember members rec prefix → IsChainMember members rec other → prefix ≢ other
     → DescendsChain prefix other ⊎ DescendsChain other prefix
 chain_descends_either_way members rec prefix other incomparable step other_step differ =
-    by_lengths (cases_lt (chain_source_bytes prefix) (chain_source_bytes other))
-    (cases_lt (chain_source_bytes other) (chain_source_bytes prefix)) (cases_lt (chain_dest_bytes prefix) (chain_dest_bytes other))
-    (cases_lt (chain_dest_bytes other) (chain_dest_bytes prefix))
+    by_lengths (cases_lt (chain_source_bits prefix) (chain_source_bits other))
+    (cases_lt (chain_source_bits other) (chain_source_bits prefix)) (cases_lt (chain_dest_bits prefix) (chain_dest_bits other))
+    (cases_lt (chain_dest_bits other) (chain_dest_bits prefix))
   where
-    not_under : chain_source_bytes other ≤ chain_source_bytes prefix → chain_dest_bytes other ≤ chain_dest_bytes prefix → ⊥
+    not_under : chain_source_bits other ≤ chain_source_bits prefix → chain_dest_bits other ≤ chain_dest_bits prefix → ⊥
     not_under sources dests =
         differ (chain_member_under_is_same members prefix other incomparable step.among other_step.among
         (under-by_chain_bytes rec prefix other step.covered other_step.covered sources dests))
 
-    not_over : chain_source_bytes prefix ≤ chain_source_bytes other → chain_dest_bytes prefix ≤ chain_dest_bytes other → ⊥
+    not_over : chain_source_bits prefix ≤ chain_source_bits other → chain_dest_bits prefix ≤ chain_dest_bits other → ⊥
     not_over sources dests =
         differ (sym (chain_member_under_is_same members other prefix incomparable other_step.among step.among
         (under-by_chain_bytes rec other prefix other_step.covered step.covered sources dests)))
 
-    by_lengths : (chain_source_bytes prefix < chain_source_bytes other) ⊎ (chain_source_bytes other ≤ chain_source_bytes prefix)
-        → (chain_source_bytes other < chain_source_bytes prefix) ⊎ (chain_source_bytes prefix ≤ chain_source_bytes other)
-        → (chain_dest_bytes prefix < chain_dest_bytes other) ⊎ (chain_dest_bytes other ≤ chain_dest_bytes prefix)
-        → (chain_dest_bytes other < chain_dest_bytes prefix) ⊎ (chain_dest_bytes prefix ≤ chain_dest_bytes other)
+    by_lengths : (chain_source_bits prefix < chain_source_bits other) ⊎ (chain_source_bits other ≤ chain_source_bits prefix)
+        → (chain_source_bits other < chain_source_bits prefix) ⊎ (chain_source_bits prefix ≤ chain_source_bits other)
+        → (chain_dest_bits prefix < chain_dest_bits other) ⊎ (chain_dest_bits other ≤ chain_dest_bits prefix)
+        → (chain_dest_bits other < chain_dest_bits prefix) ⊎ (chain_dest_bits prefix ≤ chain_dest_bits other)
         → DescendsChain prefix other ⊎ DescendsChain other prefix
     by_lengths (inl rises) back dest (inl falls) = inl (record { source = rises; dest = falls })
     by_lengths (inl rises) back dest (inr not_falls) = absurd (not_over (omega arith) not_falls)
@@ -101,18 +101,18 @@ IsChain (prefix ∷ rest) = ((next : PrefixValue) → Among next rest → Descen
 -- a prefix that descends to or from each member of a chain can be inserted into it
 pub chain_has_place_for_prefix : (prefix : PrefixValue) (chain : List PrefixValue) → IsChain chain
     → ((other : PrefixValue) → Among other chain → DescendsChain prefix other ⊎ DescendsChain other prefix)
-    → IsChain (ordered_insert chain_source_bytes prefix chain)
+    → IsChain (ordered_insert chain_source_bits prefix chain)
 chain_has_place_for_prefix prefix [] is_chain apart = (λ next among. absurd among, tt)
 chain_has_place_for_prefix prefix (first ∷ rest) is_chain apart =
     by_test (chain_has_place_for_prefix prefix rest is_chain.1 (λ other among. apart other (inr among)))
-    (ltb (chain_source_bytes first) (chain_source_bytes prefix)) refl
+    (ltb (chain_source_bits first) (chain_source_bits prefix)) refl
   where
-    before : (DescendsChain prefix first ⊎ DescendsChain first prefix) → chain_source_bytes first < chain_source_bytes prefix
+    before : (DescendsChain prefix first ⊎ DescendsChain first prefix) → chain_source_bits first < chain_source_bits prefix
         → DescendsChain first prefix
     before (inl descends) less = absurd (omega (arith, descends.source))
     before (inr descends) less = descends
 
-    behind : (DescendsChain prefix first ⊎ DescendsChain first prefix) → chain_source_bytes prefix ≤ chain_source_bytes first
+    behind : (DescendsChain prefix first ⊎ DescendsChain first prefix) → chain_source_bits prefix ≤ chain_source_bits first
         → DescendsChain prefix first
     behind (inl descends) more = descends
     behind (inr descends) more = absurd (omega (arith, descends.source))
@@ -130,30 +130,30 @@ chain_has_place_for_prefix prefix (first ∷ rest) is_chain apart =
           dest = omega (arith, descends.dest, further.dest);
         }
 
-    by_test : IsChain (ordered_insert chain_source_bytes prefix rest) → (less : Bool)
-        → ltb (chain_source_bytes first) (chain_source_bytes prefix) ≡ less
-        → IsChain (cond less (first ∷ ordered_insert chain_source_bytes prefix rest) (prefix ∷ first ∷ rest))
+    by_test : IsChain (ordered_insert chain_source_bits prefix rest) → (less : Bool)
+        → ltb (chain_source_bits first) (chain_source_bits prefix) ≡ less
+        → IsChain (cond less (first ∷ ordered_insert chain_source_bits prefix rest) (prefix ∷ first ∷ rest))
     by_test in_rest true is =
-        let descends = before (apart first (inl refl)) (ltb-true (chain_source_bytes first) (chain_source_bytes prefix) is) in
-        (λ next among. of_put descends next (ordered_insert-cases chain_source_bytes next prefix rest among), in_rest)
+        let descends = before (apart first (inl refl)) (ltb-true (chain_source_bits first) (chain_source_bits prefix) is) in
+        (λ next among. of_put descends next (ordered_insert-cases chain_source_bits next prefix rest among), in_rest)
     by_test in_rest false is =
-        let descends = behind (apart first (inl refl)) (ltb-false (chain_source_bytes first) (chain_source_bytes prefix) is) in
+        let descends = behind (apart first (inl refl)) (ltb-false (chain_source_bits first) (chain_source_bits prefix) is) in
         (of_first descends, is_chain)
 
--- distinct members that cover a record form a chain, once their kept source bytes rise
+-- distinct members that cover a record form a chain, once their kept source bits rise
 pub chain_from_ordered_members : (members : List PrefixValue) (rec : RecordValue) (steps : List PrefixValue)
     → AreIncomparable members
     → AllPairs (λ prefix other. prefix ≢ other) steps
     → ((prefix : PrefixValue) → Among prefix steps → IsChainMember members rec prefix)
-    → IsChain (ordered_by chain_source_bytes steps)
+    → IsChain (ordered_by chain_source_bits steps)
 chain_from_ordered_members members rec [] incomparable distinct are_steps = tt
 chain_from_ordered_members members rec (first ∷ rest) incomparable distinct are_steps =
-    chain_has_place_for_prefix first (ordered_by chain_source_bytes rest)
+    chain_has_place_for_prefix first (ordered_by chain_source_bits rest)
     (chain_from_ordered_members members rec rest incomparable
     (AllPairs-list_tail (λ prefix other. prefix ≢ other) first rest distinct)
     (λ prefix among. are_steps prefix (inr among)))
     (λ other among.
-    let other_among = ordered_by-adds_none chain_source_bytes other rest among in
+    let other_among = ordered_by-adds_none chain_source_bits other rest among in
     chain_descends_either_way members rec first other incomparable (are_steps first (inl refl))
     (are_steps other (inr other_among))
     (among-All (λ later. first ≢ later) other rest

@@ -5,9 +5,8 @@ use Rattle.std.specs.List.{All, AllPairs, list_any, filter_map}
 use Rattle.std.proofs.lemmas.Bool.{not-true, not_from_false}
 use Rattle.std.proofs.lemmas.List.Elements.{All-nil, All-append, All-head, All-tail}
 use Rattle.std.proofs.lemmas.List.Kept.{AllPairs-filter}
-use Rattle.prefix_lattice.specs.Node.{node_level}
 use Rattle.prefix_lattice.specs.Record.{RecordValue}
-use Rattle.prefix_lattice.specs.Prefix.{PrefixValue, IsPrefix, covers, node_of_prefix}
+use Rattle.prefix_lattice.specs.Prefix.{PrefixValue, IsPrefix, covers, prefix_level}
 use Rattle.prefix_lattice.specs.Lattice.{strictly_under}
 use Rattle.prefix_lattice.specs.Meets.{meet}
 use Rattle.prefix_lattice.specs.ClosestLines.{lines_under, one_line_covers, greatest_lines, closest}
@@ -15,6 +14,7 @@ use Rattle.prefix_lattice.specs.KeptPairs.{under_third}
 use Rattle.prefix_lattice.specs.KeptPairs.{unless_third, pair_meet, pair_meets}
 use Rattle.prefix_lattice.specs.KeptPairs.{kept_pairs}
 use Rattle.prefix_lattice.specs.ClosestLines.{AreIncomparable}
+use Rattle.prefix_lattice.specs.declared.grain.Grain.{Grain}
 use Rattle.prefix_lattice.proofs.AddressLemmas.{address_tests_agree}
 use Rattle.prefix_lattice.proofs.AmongLemmas.{Among, PassesAmong, All-from_among, among-All, any_among-true}
 use Rattle.prefix_lattice.proofs.AmongLemmas.{any_among-found, any_among-fails, among-filter, filter-among}
@@ -32,14 +32,14 @@ closest_is_strictly_under_none member members among =
 
 -- from a member that covers a record the way up ends at a greatest one that covers it
 climb_to_closest : (members : List PrefixValue) (rec : RecordValue) (bound : ℕ) (member : PrefixValue) → Among member members
-    → covers member rec ≡ true → node_level (node_of_prefix member) < bound
+    → covers member rec ≡ true → prefix_level member < bound
     → PassesAmong (λ p. covers p rec) (greatest_lines members)
 climb_to_closest members rec zero member among covered low = absurd (omega arith)
 climb_to_closest members rec (suc bound) member among covered low =
     by_test (climb_to_closest members rec bound) (list_any (λ other. strictly_under member other) members) refl
   where
     by_test : ((other : PrefixValue) → Among other members → covers other rec ≡ true
-        → node_level (node_of_prefix other) < bound → PassesAmong (λ p. covers p rec) (greatest_lines members))
+        → prefix_level other < bound → PassesAmong (λ p. covers p rec) (greatest_lines members))
         → (above : Bool) → list_any (λ other. strictly_under member other) members ≡ above
         → PassesAmong (λ p. covers p rec) (greatest_lines members)
     by_test from false is = record {
@@ -62,7 +62,7 @@ greatest_as_closest-covers : (members : List PrefixValue) (rec : RecordValue)
 greatest_as_closest-covers members rec = address_tests_agree (one_line_covers members rec) (one_line_covers (greatest_lines members) rec)
     (λ some.
     let line = any_among-found (λ p. covers p rec) members some in
-    let top = climb_to_closest members rec (suc (node_level (node_of_prefix line.found))) line.found line.among line.passes (omega arith) in
+    let top = climb_to_closest members rec (suc (prefix_level line.found)) line.found line.among line.passes (omega arith) in
     any_among-true (λ p. covers p rec) top.found (greatest_lines members) top.among top.passes)
     (λ some.
     let line = any_among-found (λ p. covers p rec) (greatest_lines members) some in
@@ -141,6 +141,7 @@ closest_kept_meets_stay_under prefix members all = closest_kept_meets_inherit (�
     strictly_under-trans lowest first prefix (meet-under first second lowest found).0 strictly) all
 
 -- the kept meets of prefixes are prefixes
-pub closest_kept_meets_are_prefixes : (members : List PrefixValue) → All IsPrefix members → All IsPrefix (kept_pairs members)
-closest_kept_meets_are_prefixes members all = closest_kept_meets_inherit IsPrefix members members
+pub closest_kept_meets_are_prefixes : (grain : Grain) (members : List PrefixValue) → All (IsPrefix grain) members
+    → All (IsPrefix grain) (kept_pairs members)
+closest_kept_meets_are_prefixes grain members all = closest_kept_meets_inherit (IsPrefix grain) members members
     (λ first second lowest valid other_valid found. meet-IsPrefix first second lowest valid other_valid found) all

@@ -1,5 +1,5 @@
 -- Worked examples of what lines explain: closest lines, kept pairs and the staircase law.
-use Rattle.std.proofs.Common.{◌≡◌, ◌≢◌, ℕ, List, [], ◌∷◌, length, true, false, None, Some, AllPairs, refl, ap, arith}
+use Rattle.std.proofs.Common.{◌≡◌, ◌≢◌, ℕ, ◌*◌, List, [], ◌∷◌, length, true, false, None, Some, AllPairs, refl, ap, arith}
 use Rattle.std.proofs.lemmas.List.Elements.{All-cons, All-nil}
 use Rattle.std.proofs.lemmas.List.Kept.{AllPairs-cons}
 use Rattle.prefix_lattice.specs.Node.{NodeValue}
@@ -13,16 +13,17 @@ use Rattle.prefix_lattice.specs.KeptPairs.{under_third, unless_third, pair_meet}
 use Rattle.prefix_lattice.specs.KeptPairs.{pair_meets, kept_pairs}
 use Rattle.prefix_lattice.specs.ClosestLines.{AreIncomparable, covering_count}
 use Rattle.prefix_lattice.specs.Staircase.{ObeyStaircase}
+use Rattle.prefix_lattice.specs.declared.grain.Grain.TheVariants.{Byte}
 use Rattle.prefix_lattice.specs.Uppers.{is_upper, shortened, upper_at}
-use Rattle.prefix_lattice.proofs.Examples.{packet, answer, prefix, root, to_twenty, from_ten_to_twenty}
+use Rattle.prefix_lattice.proofs.Examples.{front, packet, answer, prefix, root, to_twenty, from_ten_to_twenty}
 
 -- a node that keeps this many bytes of each address
 abbrev node : ℕ → ℕ → NodeValue
-node sources dests = record { source_bytes = sources; dest_bytes = dests }
+node sources dests = record { grain = Byte; source_bits = 8 * sources; dest_bits = 8 * dests }
 
 -- 10.1.0.0/16 20.0.0.0/8
 abbrev net : PrefixValue
-net = record { source = 10 ∷ 1 ∷ []; dest = 20 ∷ [] }
+net = record { source = front 0x0a010000 16; dest = front 0x14000000 8 }
 
 pub a_node_of_fewer_source_bytes : is_upper (node 1 1) net ≡ true
 a_node_of_fewer_source_bytes = refl
@@ -31,10 +32,10 @@ pub a_node_of_more_destination_bytes : is_upper (node 1 2) net ≡ false
 a_node_of_more_destination_bytes = refl
 
 -- 10.0.0.0/8 0.0.0.0/0
-pub net_cut_down : shortened net (node 1 0) ≡ record { source = 10 ∷ []; dest = [] }
+pub net_cut_down : shortened net (node 1 0) ≡ record { source = front 0x0a000000 8; dest = [] }
 net_cut_down = refl
 
-pub net_is_under_one_prefix_of_a_node : upper_at net (node 1 1) ≡ Some (record { source = 10 ∷ []; dest = 20 ∷ [] })
+pub net_is_under_one_prefix_of_a_node : upper_at net (node 1 1) ≡ Some (record { source = front 0x0a000000 8; dest = front 0x14000000 8 })
 net_is_under_one_prefix_of_a_node = refl
 
 pub net_is_under_none_of_a_node_that_keeps_more : upper_at net (node 3 0) ≡ None
@@ -72,27 +73,27 @@ nearer_lines_are_closest = refl
 
 -- (10.0.0.0/8, 20.1.1.0/24), (10.1.0.0/16, 20.1.0.0/16) and (10.1.1.0/24, 20.0.0.0/8)
 abbrev lowest_step : PrefixValue
-lowest_step = record { source = 10 ∷ []; dest = 20 ∷ 1 ∷ 1 ∷ [] }
+lowest_step = record { source = front 0x0a000000 8; dest = front 0x14010100 24 }
 
 abbrev middle_step : PrefixValue
-middle_step = record { source = 10 ∷ 1 ∷ []; dest = 20 ∷ 1 ∷ [] }
+middle_step = record { source = front 0x0a010000 16; dest = front 0x14010000 16 }
 
 abbrev highest_step : PrefixValue
-highest_step = record { source = 10 ∷ 1 ∷ 1 ∷ []; dest = 20 ∷ [] }
+highest_step = record { source = front 0x0a010100 24; dest = front 0x14000000 8 }
 
 abbrev stairs : List PrefixValue
 stairs = lowest_step ∷ middle_step ∷ highest_step ∷ []
 
 -- what the lower two share, and the upper two
 abbrev lower_meet : PrefixValue
-lower_meet = record { source = 10 ∷ 1 ∷ []; dest = 20 ∷ 1 ∷ 1 ∷ [] }
+lower_meet = record { source = front 0x0a010000 16; dest = front 0x14010100 24 }
 
 abbrev upper_meet : PrefixValue
-upper_meet = record { source = 10 ∷ 1 ∷ 1 ∷ []; dest = 20 ∷ 1 ∷ [] }
+upper_meet = record { source = front 0x0a010100 24; dest = front 0x14010000 16 }
 
 -- what the outer two share
 abbrev outer_meet : PrefixValue
-outer_meet = record { source = 10 ∷ 1 ∷ 1 ∷ []; dest = 20 ∷ 1 ∷ 1 ∷ [] }
+outer_meet = record { source = front 0x0a010100 24; dest = front 0x14010100 24 }
 
 -- from 10.1.1.1 to 20.1.1.1
 abbrev climber : RecordValue

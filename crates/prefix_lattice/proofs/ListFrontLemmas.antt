@@ -2,7 +2,7 @@
 use Rattle.std.proofs.Common.{◌≡◌, ℕ, ◌<◌, ◌≤◌, max, eqb, Bool, true, false, ◌&&◌, zero, suc, List, [], ◌∷◌, length}
 use Rattle.std.proofs.Common.{take, refl, sym, ap, ◌∙◌, arith, Some, None, cond, inl, inr, ◌⊎◌, subst}
 use Rattle.std.proofs.lemmas.Bool.{false≢true, eqb-true, eq-eqb, and_parts, and_from, cases_lt, false_from_ne_true}
-use Rattle.prefix_lattice.specs.KeptBytes.{begins_with}
+use Rattle.prefix_lattice.specs.KeptBits.{begins_with}
 use Rattle.prefix_lattice.specs.Meets.{meet_side}
 
 pub list_front-reflexive : (xs : List ℕ) → begins_with xs xs ≡ true

@@ -1,9 +1,10 @@
 -- How long the text of a prefix can be.
-use Rattle.std.proofs.Common.{ℕ, ◌*◌, ◌/◌, ◌%◌, ◌≤◌, List, ◌∷◌, ◌++◌, length, decimal, arith, length-append}
+use Rattle.std.proofs.Common.{ℕ, ◌/◌, ◌%◌, ◌≤◌, List, ◌∷◌, ◌++◌, length, decimal, arith, length-append}
 use Rattle.std.proofs.lemmas.Fmt.{length-decimal-le}
 use Rattle.prefix_lattice.specs.Address.{address_of}
-use Rattle.prefix_lattice.specs.KeptBytes.{AreLeadingBytes}
+use Rattle.prefix_lattice.specs.KeptBits.{AreLeadingBits}
 use Rattle.prefix_lattice.specs.Prefix.{PrefixValue, IsPrefix}
+use Rattle.prefix_lattice.specs.declared.grain.Grain.{Grain}
 use Rattle.prefix_lattice.specs.PrefixText.{address_text, side_text, prefix_text}
 
 -- a byte has at most three digits
@@ -28,19 +29,19 @@ length-address_text address =
     )
 
 -- a length in bits has at most two digits
-pub text_length-bits : (bytes : ℕ) → bytes ≤ 4 → length (decimal (8 * bytes)) ≤ 2
-text_length-bits bytes few = length-decimal-le 2 (8 * bytes) (omega arith) (omega arith) (omega arith)
+pub text_length-bits : (bits : ℕ) → bits ≤ 32 → length (decimal bits) ≤ 2
+text_length-bits bits few = length-decimal-le 2 bits (omega arith) (omega arith) (omega arith)
 
-pub length-side_text : (front : List ℕ) → AreLeadingBytes front → length (side_text front) ≤ 18
+pub length-side_text : (front : List ℕ) → AreLeadingBits front → length (side_text front) ≤ 18
 length-side_text front leading =
     omega (
       arith,
-      length-append (address_text (address_of front)) (47 ∷ decimal (8 * length front)),
+      length-append (address_text (address_of front)) (47 ∷ decimal (length front)),
       length-address_text (address_of front),
       text_length-bits (length front) leading.few,
     )
 
-pub length-prefix_text : (prefix : PrefixValue) → IsPrefix prefix → length (prefix_text prefix) ≤ 37
+pub length-prefix_text : {grain : Grain} (prefix : PrefixValue) → IsPrefix grain prefix → length (prefix_text prefix) ≤ 37
 length-prefix_text prefix valid =
     omega (
       arith,

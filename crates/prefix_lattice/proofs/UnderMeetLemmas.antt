@@ -1,20 +1,21 @@
 -- Which prefix is under which, and the greatest under two.
-use Rattle.std.proofs.Common.{◌≡◌, ◌≢◌, ◌↔◌, ℕ, ◌-◌, ◌*◌, ◌/◌, ◌^◌, ◌<◌, ◌≤◌, max, Bool, true, false, ◌&&◌, not}
+use Rattle.std.proofs.Common.{◌≡◌, ◌≢◌, ◌↔◌, ℕ, ◌-◌, ◌*◌, ◌/◌, ◌%◌, ◌^◌, ◌<◌, ◌≤◌, max, Bool, true, false, ◌&&◌, not}
 use Rattle.std.proofs.Common.{List, length, take, Option, Some, None, is_some, IfSome, IsSomeAnd, ◌⊎◌, inl, inr}
 use Rattle.std.proofs.Common.{refl, sym, ap, ◌∙◌, arith, subst}
 use Rattle.std.proofs.lemmas.Bool.{false≢true, and_parts, and_from, cases_lt}
 use Rattle.std.proofs.Math.Nat.{mul-div_cancel}
-use Rattle.prefix_lattice.specs.Address.{number_from, address_bytes, address_of}
-use Rattle.prefix_lattice.specs.KeptBytes.{begins_with, AreLeadingBytes}
-use Rattle.prefix_lattice.specs.Node.{node_level}
+use Rattle.prefix_lattice.specs.Address.{number_from, address_bits, address_of}
+use Rattle.prefix_lattice.specs.KeptBits.{begins_with, AreLeadingBits}
+use Rattle.prefix_lattice.specs.Grain.{grain_bits}
 use Rattle.prefix_lattice.specs.Record.{RecordValue}
-use Rattle.prefix_lattice.specs.Prefix.{PrefixValue, IsPrefix, covers, node_of_prefix}
+use Rattle.prefix_lattice.specs.Prefix.{PrefixValue, IsPrefix, covers, prefix_level}
 use Rattle.prefix_lattice.specs.Lattice.{under, same_as, strictly_under}
 use Rattle.prefix_lattice.specs.Meets.{meet_side, meet_of_sides, meet}
 use Rattle.prefix_lattice.specs.Meets.{AreOverlapping}
+use Rattle.prefix_lattice.specs.declared.grain.Grain.{Grain}
 use Rattle.prefix_lattice.proofs.AddressLemmas.{address_unit_is_positive, address_front_is_leading}
 use Rattle.prefix_lattice.proofs.AddressLemmas.{address_front-length, address_of-small}
-use Rattle.prefix_lattice.proofs.AddressLemmas.{address_of-leading, address_tells_leading_bytes}
+use Rattle.prefix_lattice.proofs.AddressLemmas.{address_of-leading, address_tells_leading_bits}
 use Rattle.prefix_lattice.proofs.AddressLemmas.{begins_with-address_front}
 use Rattle.prefix_lattice.proofs.ListFrontLemmas.{list_front-reflexive, list_front-transitive, list_front-antisymmetric}
 use Rattle.prefix_lattice.proofs.ListFrontLemmas.{list_front-no_longer, list_front-shorter, longer_list_front-begins}
@@ -27,10 +28,10 @@ under_both_sides lower upper is_under =
     and_parts (begins_with lower.source upper.source) (begins_with lower.dest upper.dest) is_under
 
 pub covers-sides_like_under : (prefix : PrefixValue) (rec : RecordValue) → covers prefix rec ≡ true
-    → (begins_with (address_bytes rec.src) prefix.source ≡ true)
-    × (begins_with (address_bytes rec.dst) prefix.dest ≡ true)
+    → (begins_with (address_bits rec.src) prefix.source ≡ true)
+    × (begins_with (address_bits rec.dst) prefix.dest ≡ true)
 covers-sides_like_under prefix rec covered =
-    and_parts (begins_with (address_bytes rec.src) prefix.source) (begins_with (address_bytes rec.dst) prefix.dest)
+    and_parts (begins_with (address_bits rec.src) prefix.source) (begins_with (address_bits rec.dst) prefix.dest)
     covered
 
 -- each prefix is under itself
@@ -116,15 +117,15 @@ same_unless_strictly_under lower upper is_under not_strictly = by_test (under up
 
 -- going up strictly the level falls
 pub strictly_under-is_deeper : (lower upper : PrefixValue) → strictly_under lower upper ≡ true
-    → node_level (node_of_prefix upper) < node_level (node_of_prefix lower)
-strictly_under-is_deeper lower upper strictly = by_level (cases_lt (node_level (node_of_prefix upper)) (node_level (node_of_prefix lower)))
+    → prefix_level upper < prefix_level lower
+strictly_under-is_deeper lower upper strictly = by_level (cases_lt (prefix_level upper) (prefix_level lower))
   where
     parts : (under lower upper ≡ true) × (lower ≢ upper)
     parts = (strictly_under-differs lower upper).0 strictly
 
-    by_level : (node_level (node_of_prefix upper) < node_level (node_of_prefix lower))
-        ⊎ (node_level (node_of_prefix lower) ≤ node_level (node_of_prefix upper))
-        → node_level (node_of_prefix upper) < node_level (node_of_prefix lower)
+    by_level : (prefix_level upper < prefix_level lower)
+        ⊎ (prefix_level lower ≤ prefix_level upper)
+        → prefix_level upper < prefix_level lower
     by_level (inl falls) = falls
     by_level (inr no_fall) =
         let sides = under_both_sides lower upper parts.0 in
@@ -157,8 +158,8 @@ pub covers-up_from_under : (lower upper : PrefixValue) (rec : RecordValue) → u
 covers-up_from_under lower upper rec is_under covered =
     let sides = under_both_sides lower upper is_under in
     let covers_sides = covers-sides_like_under lower rec covered in
-    and_from _ _ (list_front-transitive (address_bytes rec.src) lower.source upper.source covers_sides.0 sides.0)
-    (list_front-transitive (address_bytes rec.dst) lower.dest upper.dest covers_sides.1 sides.1)
+    and_from _ _ (list_front-transitive (address_bits rec.src) lower.source upper.source covers_sides.0 sides.0)
+    (list_front-transitive (address_bits rec.dst) lower.dest upper.dest covers_sides.1 sides.1)
 
 -- the sides of a meet are the longer of the two lists on each side
 pub record MeetIsLonger (prefix other lowest : PrefixValue) : Type 0 where
@@ -232,11 +233,11 @@ meet-turned prefix other =
 
 -- two prefixes that cover one record meet, and their meet covers it
 pub meet-covers : (prefix other : PrefixValue) (rec : RecordValue) → covers prefix rec ≡ true → covers other rec ≡ true
-    → (lowest : PrefixValue) × IsMeet prefix other lowest (address_bytes rec.src) (address_bytes rec.dst)
+    → (lowest : PrefixValue) × IsMeet prefix other lowest (address_bits rec.src) (address_bits rec.dst)
 meet-covers prefix other rec covered covered_by_other =
     let sides = covers-sides_like_under prefix rec covered in
     let others = covers-sides_like_under other rec covered_by_other in
-    meet_of prefix other (address_bytes rec.src) (address_bytes rec.dst) sides.0 others.0 sides.1 others.1
+    meet_of prefix other (address_bits rec.src) (address_bits rec.dst) sides.0 others.0 sides.1 others.1
 
 -- a prefix under two others is under their meet
 pub meet-greatest : (prefix other lower : PrefixValue) → under lower prefix ≡ true → under lower other ≡ true
@@ -249,38 +250,44 @@ meet-greatest prefix other lower is_under under_other =
     (and_from _ _ found.1.source_begins found.1.dest_begins)
 
 -- the meet of two prefixes is a prefix
-pub meet-IsPrefix : (prefix other lowest : PrefixValue) → IsPrefix prefix → IsPrefix other
-    → meet prefix other ≡ Some lowest → IsPrefix lowest
-meet-IsPrefix prefix other lowest valid other_valid found =
+pub meet-IsPrefix : {grain : Grain} (prefix other lowest : PrefixValue) → IsPrefix grain prefix → IsPrefix grain other
+    → meet prefix other ≡ Some lowest → IsPrefix grain lowest
+meet-IsPrefix {grain} prefix other lowest valid other_valid found =
     let sides = meet_is_longer prefix other lowest found in
     record {
       source =
-          longer_list_front-either AreLeadingBytes prefix.source other.source lowest.source sides.source valid.source
+          longer_list_front-either AreLeadingBits prefix.source other.source lowest.source sides.source valid.source
           other_valid.source;
-      dest = longer_list_front-either AreLeadingBytes prefix.dest other.dest lowest.dest sides.dest valid.dest other_valid.dest;
+      dest = longer_list_front-either AreLeadingBits prefix.dest other.dest lowest.dest sides.dest valid.dest other_valid.dest;
+      source_steps =
+          longer_list_front-either (λ front. length front % grain_bits grain ≡ 0) prefix.source other.source lowest.source
+          sides.source valid.source_steps other_valid.source_steps;
+      dest_steps =
+          longer_list_front-either (λ front. length front % grain_bits grain ≡ 0) prefix.dest other.dest lowest.dest
+          sides.dest valid.dest_steps other_valid.dest_steps;
     }
 
--- the address of leading bytes has zeros after them
+-- the address of leading bits has zeros after them
 under_meet-zeros_after : (front : List ℕ)
-    → address_of front / 256 ^ (4 - length front) * 256 ^ (4 - length front) ≡ address_of front
+    → address_of front / 2 ^ (32 - length front) * 2 ^ (32 - length front) ≡ address_of front
 under_meet-zeros_after front =
-    let unit = 256 ^ (4 - length front) in
-    ap (λ m. m * unit) (mul-div_cancel (number_from 256 0 front) (address_unit_is_positive (4 - length front)))
+    let unit = 2 ^ (32 - length front) in
+    ap (λ m. m * unit) (mul-div_cancel (number_from 2 0 front) (address_unit_is_positive (32 - length front)))
 
--- the address of leading bytes begins with them
-pub under_meet-address_begins : (front : List ℕ) → AreLeadingBytes front
-    → begins_with (address_bytes (address_of front)) front ≡ true
+-- the address of leading bits begins with them
+pub under_meet-address_begins : (front : List ℕ) → AreLeadingBits front
+    → begins_with (address_bits (address_of front)) front ≡ true
 under_meet-address_begins front leading =
     let n = length front in
-    let own = take n (address_bytes (address_of front)) in
+    let own = take n (address_bits (address_of front)) in
     let small = address_of-small front leading in
-    begins_with-address_front (address_bytes (address_of front)) front
-    (address_tells_leading_bytes own front (address_front_is_leading n (address_of front) leading.few) leading
+    begins_with-address_front (address_bits (address_of front)) front
+    (address_tells_leading_bits own front (address_front_is_leading n (address_of front) leading.few) leading
     (address_front-length n (address_of front) leading.few)
     (address_of-leading n (address_of front) leading.few small ∙ under_meet-zeros_after front))
 
 -- two prefixes share a pair of addresses exactly where they meet
-pub meet-some : (prefix other : PrefixValue) → IsPrefix prefix → IsPrefix other
+pub meet-some : {grain : Grain} (prefix other : PrefixValue) → IsPrefix grain prefix → IsPrefix grain other
     → (is_some (meet prefix other) ≡ true) ↔ AreOverlapping prefix other
 meet-some prefix other valid other_valid = (shared (meet prefix other) refl, found)
   where

@@ -1,9 +1,9 @@
 -- The lattice of prefixes: which is under which.
 use Rattle.std.specs.Prelude.{◌&&◌, not, Bool}
-use Rattle.prefix_lattice.specs.KeptBytes.{begins_with}
+use Rattle.prefix_lattice.specs.KeptBits.{begins_with}
 use Rattle.prefix_lattice.specs.Prefix.{PrefixValue}
 
--- a prefix is under another whose kept bytes begin its own, on both sides
+-- a prefix is under another whose kept bits begin its own, on both sides
 abbrev pub under : PrefixValue → PrefixValue → Bool
 under lower upper = begins_with lower.source upper.source && begins_with lower.dest upper.dest
 

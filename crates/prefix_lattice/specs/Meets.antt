@@ -1,10 +1,10 @@
 -- The meet of two prefixes: the greatest prefix under both.
 use Rattle.std.specs.Prelude.{ℕ, ◌≡◌, ◌^◌, ◌<◌, true, List, Option, None, Some, if◌then◌else◌}
-use Rattle.prefix_lattice.specs.KeptBytes.{begins_with}
+use Rattle.prefix_lattice.specs.KeptBits.{begins_with}
 use Rattle.prefix_lattice.specs.Record.{RecordValue}
 use Rattle.prefix_lattice.specs.Prefix.{PrefixValue, covers}
 
--- one side of a meet: the longer of two lists of kept bytes, if it begins with the other
+-- one side of a meet: the longer of two lists of kept bits, if it begins with the other
 abbrev pub meet_side : List ℕ → List ℕ → Option (List ℕ)
 meet_side front other =
     if begins_with front other then Some front else (if begins_with other front then Some other else None)

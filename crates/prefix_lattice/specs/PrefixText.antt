@@ -1,10 +1,12 @@
 -- The text of a prefix: how it is spelled, and what is wrong with a text that spells no prefix.
-use Rattle.std.specs.Prelude.{ℕ, ◌≡◌, ◌≢◌, ◌-◌, ◌*◌, ◌^◌, ◌%◌, ◌<◌, ◌≤◌, ◌⊎◌, ◌==◌, List, ◌∷◌, ◌++◌, length, map}
+use Rattle.std.specs.Prelude.{ℕ, ◌≡◌, ◌≢◌, ◌-◌, ◌*◌, ◌^◌, ◌%◌, ◌<◌, ◌⊎◌, ◌==◌, List, ◌∷◌, ◌++◌, length, map}
 use Rattle.std.specs.Prelude.{decimal, ◌+◌, take, drop}
 use Rattle.std.specs.List.{join_with_byte, before_first, after_first}
 use Rattle.prefix_lattice.specs.Address.{address_bytes, address_of, address_length}
-use Rattle.prefix_lattice.specs.KeptBytes.{AreLeadingBytes}
+use Rattle.prefix_lattice.specs.KeptBits.{AreLeadingBits}
+use Rattle.prefix_lattice.specs.Grain.{IsGrainLength, grain_bits}
 use Rattle.prefix_lattice.specs.Prefix.{PrefixValue}
+use Rattle.prefix_lattice.specs.declared.grain.Grain.{Grain}
 use Rattle.prefix_lattice.specs.declared.prefix_fault.Side.{Side}
 use Rattle.prefix_lattice.specs.declared.prefix_fault.Side.TheVariants.{Source, Dest}
 use Rattle.prefix_lattice.specs.declared.prefix_fault.PrefixFault.{PrefixFault}
@@ -24,9 +26,9 @@ address_text address = join_with_byte dot (map decimal (address_bytes address))
 
 -- an address, a slash and the number of bits that are kept
 abbrev pub side_text_of : ℕ → ℕ → List ℕ
-side_text_of address bytes = address_text address ++ slash ∷ decimal (8 * bytes)
+side_text_of address bits = address_text address ++ slash ∷ decimal bits
 
--- how one side of a prefix is spelled: bytes that are not kept are written as zeros
+-- how one side of a prefix is spelled: bits that are not kept are written as zeros
 abbrev pub side_text : List ℕ → List ℕ
 side_text front = side_text_of (address_of front) (length front)
 
@@ -54,9 +56,10 @@ source_part text = before_first (λ byte. byte == text_space) text
 abbrev pub dest_part : List ℕ → List ℕ
 dest_part text = after_first (λ byte. byte == text_space) text
 
--- the text spells this side of a prefix
-pub record TextSpellsSide (text front : List ℕ) : Type 0 where
-  pub leading : AreLeadingBytes front
+-- the text spells this side of a prefix of a grain
+pub record TextSpellsSide (grain : Grain) (text front : List ℕ) : Type 0 where
+  pub leading : AreLeadingBits front
+  pub steps : length front % grain_bits grain ≡ 0
   pub spelled : text ≡ side_text front
 
 -- the text is an address: four numbers from 0 to 255 without leading zeros
@@ -67,34 +70,36 @@ IsAddressText text = (address : ℕ) × (address < 2 ^ 32) × (text ≡ address_
 abbrev pub before_slash : List ℕ → List ℕ
 before_slash text = before_first (λ byte. byte == slash) text
 
--- the text after its first slash is one of the five lengths
-abbrev pub HasLength : List ℕ → Type 0
-HasLength text = (bytes : ℕ) × (bytes ≤ address_length) × (text ≡ before_slash text ++ slash ∷ decimal (8 * bytes))
+-- the text after its first slash is a length of a grain
+abbrev pub HasLength : Grain → List ℕ → Type 0
+HasLength grain text =
+    (bits : ℕ) × IsGrainLength grain bits × (text ≡ before_slash text ++ slash ∷ decimal bits)
 
--- the text is an address and a length, and a bit past the length is set
-pub record HasLooseBits (text : List ℕ) : Type 0 where
+-- the text is an address and a length of a grain, and a bit past the length is set
+pub record HasLooseBits (grain : Grain) (text : List ℕ) : Type 0 where
   pub address : ℕ
-  pub bytes : ℕ
+  pub bits : ℕ
   pub is_address : address < 2 ^ 32
-  pub is_length : bytes ≤ address_length
-  pub spelled : text ≡ side_text_of address bytes
-  pub loose : address % 256 ^ (address_length - bytes) ≢ 0
+  pub is_length : IsGrainLength grain bits
+  pub spelled : text ≡ side_text_of address bits
+  pub loose : address % 2 ^ (address_length - bits) ≢ 0
 
--- what is wrong with the text of one side
-abbrev pub HasSideFault : Side → List ℕ → PrefixFault → Type 0
-HasSideFault side text (BadAddress at) = (at ≡ side) × ¬ IsAddressText (before_slash text)
-HasSideFault side text (BadLength at) = (at ≡ side) × IsAddressText (before_slash text) × ¬ HasLength text
-HasSideFault side text (LooseBits at) = (at ≡ side) × HasLooseBits text
+-- what is wrong with the text of one side of a prefix of a grain
+abbrev pub HasSideFault : Grain → Side → List ℕ → PrefixFault → Type 0
+HasSideFault grain side text (BadAddress at) = (at ≡ side) × ¬ IsAddressText (before_slash text)
+HasSideFault grain side text (BadLength at) = (at ≡ side) × IsAddressText (before_slash text) × ¬ HasLength grain text
+HasSideFault grain side text (LooseBits at) = (at ≡ side) × HasLooseBits grain text
 
--- the two texts spell the prefix
-pub record SpellsPrefix (source_text dest_text : List ℕ) (prefix : PrefixValue) : Type 0 where
-  pub source : TextSpellsSide source_text prefix.source
-  pub dest : TextSpellsSide dest_text prefix.dest
+-- the two texts spell the prefix, which is of this grain
+pub record SpellsPrefix (grain : Grain) (source_text dest_text : List ℕ) (prefix : PrefixValue) : Type 0 where
+  pub source : TextSpellsSide grain source_text prefix.source
+  pub dest : TextSpellsSide grain dest_text prefix.dest
 
--- what is wrong with the two texts: the source is checked completely before the destination
-abbrev pub HasPrefixFault : List ℕ → List ℕ → PrefixFault → Type 0
-HasPrefixFault source dest fault =
-    HasSideFault Source source fault ⊎ (((front : List ℕ) × TextSpellsSide source front) × HasSideFault Dest dest fault)
+-- what is wrong with two texts that spell no prefix of a grain: the source is checked completely before the destination
+abbrev pub HasPrefixFault : Grain → List ℕ → List ℕ → PrefixFault → Type 0
+HasPrefixFault grain source dest fault =
+    HasSideFault grain Source source fault
+    ⊎ (((front : List ℕ) × TextSpellsSide grain source front) × HasSideFault grain Dest dest fault)
 
 -- this part was written from this offset on, and other bytes are unchanged
 pub record WritesPrefixPart (old new : List ℕ) (start end : ℕ) (part : List ℕ) : Type 0 where

@@ -4,24 +4,24 @@ use Rattle.prefix_lattice.specs.Node.{NodeValue}
 use Rattle.prefix_lattice.specs.Prefix.{PrefixValue, IsPrefix, node_of_prefix}
 use Rattle.prefix_lattice.specs.Lattice.{under}
 
--- whether a node keeps no more bytes of either address than a prefix
+-- whether a node keeps no more bits of either address than a prefix
 abbrev pub is_upper : NodeValue → PrefixValue → Bool
 is_upper node prefix =
-    nat_le node.source_bytes (length prefix.source) && nat_le node.dest_bytes (length prefix.dest)
+    nat_le node.source_bits (length prefix.source) && nat_le node.dest_bits (length prefix.dest)
 
--- a prefix cut down to a node: as many of its leading bytes as the node keeps
+-- a prefix cut down to a node: as many of its leading bits as the node keeps
 abbrev pub shortened : PrefixValue → NodeValue → PrefixValue
 shortened prefix node = record {
-  source = take node.source_bytes prefix.source;
-  dest = take node.dest_bytes prefix.dest;
+  source = take node.source_bits prefix.source;
+  dest = take node.dest_bits prefix.dest;
 }
 
--- the prefix of a node that a prefix is under, if the node keeps no more bytes than it
+-- the prefix of a node that a prefix is under, if the node keeps no more bits than it
 abbrev pub upper_at : PrefixValue → NodeValue → Option PrefixValue
 upper_at prefix node = if is_upper node prefix then Some (shortened prefix node) else None
 
 -- an upper prefix is a prefix of this node, and the lower one is under it
 pub record IsAbove (prefix upper : PrefixValue) (node : NodeValue) : Type 0 where
-  pub is_prefix : IsPrefix upper
-  pub of_node : node_of_prefix upper ≡ node
+  pub is_prefix : IsPrefix node.grain upper
+  pub of_node : node_of_prefix node.grain upper ≡ node
   pub is_under : under prefix upper ≡ true

@@ -2,7 +2,8 @@
 #![tactic(auto)]
 
 mod decimal;
-mod kept_bytes;
+mod grain;
+mod kept_bits;
 mod laws;
 mod node;
 mod prefix;
@@ -15,10 +16,11 @@ mod side_reading;
 mod side_writing;
 
 pub use decimal::number_of;
+pub use grain::Grain;
 pub use laws::{
-    closest_lines_explain, covering_goes_up, kept_meets_stay_under, meets_are_greatest,
-    prefix_texts_read_back, prefixes_are_ordered, report_order_is_total, staircase_law,
-    uppers_are_above,
+    closest_lines_explain, covering_goes_up, grains_are_nested, kept_meets_stay_under,
+    meets_are_greatest, prefix_texts_read_back, prefixes_are_ordered,
+    prefixes_cover_their_own_addresses, report_order_is_total, staircase_law, uppers_are_above,
 };
 pub use node::Node;
 pub use prefix::{

@@ -18,7 +18,8 @@ pub enum PrefixFault {
     /// leading zeros, joined by dots.
     #[error("{0}: bad address")]
     BadAddress(Side),
-    /// The address is good, and there is no slash, or the text after the first one is not 0, 8, 16, 24 or 32.
+    /// The address is good, and there is no slash, or the text after the first one is not a multiple of
+    /// the grain's bits from 0 to 32.
     #[error("{0}: bad length")]
     BadLength(Side),
     /// Address and length are good, and a bit of the address past the length is set.

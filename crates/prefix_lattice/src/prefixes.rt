@@ -1,6 +1,7 @@
 //! Prefixes in their order.
 
 ghost use Rattle.std.specs.Prelude.{◌≡◌, ◌==◌, ◌<◌, ◌++◌, [], ◌∷◌, length, All, OnOk, OnErr, slice_get, Some};
+ghost use Rattle.prefix_lattice.specs.Grain.{finest_grain};
 ghost use Rattle.prefix_lattice.specs.Prefix.{IsPrefix};
 
 use crate::Prefix;
@@ -15,14 +16,15 @@ pub struct Prefixes {
 
 impl Model for Prefixes {
     ghost use Rattle.std.specs.Prelude.{List, All};
+    ghost use Rattle.prefix_lattice.specs.Grain.{finest_grain};
     ghost use Rattle.prefix_lattice.specs.Prefix.{PrefixValue, IsPrefix};
 
     ghost Value = { List PrefixValue };
 
     ghost view = { λ l. l.prefixes.items };
 
-    // Each is a pair of lists of leading bytes.
-    ghost invariant = { λ l. All IsPrefix l.prefixes.items };
+    // Each is a pair of lists of leading bits.
+    ghost invariant = { λ l. All (IsPrefix finest_grain) l.prefixes.items };
 }
 
 impl Prefixes {
@@ -40,7 +42,7 @@ impl Prefixes {
         ensures ok { OnOk result (self.new ≡ self.old ++ prefix ∷ []) }
         ensures err { OnErr result (self.new ≡ self.old) }
     {
-        prefix.keeps_leading_bytes();
+        prefix.keeps_leading_bits();
         Ok(self.prefixes.push(prefix)?)
     }
 
@@ -69,7 +71,7 @@ impl Prefixes {
     /// The prefixes in their order.
     pub fn as_slice(&self) -> &[Prefix]
         ensures value { result.now ≡ self.now }
-        ensures prefixes { All IsPrefix self.now }
+        ensures prefixes { All (IsPrefix finest_grain) self.now }
     {
         self.prefixes.as_slice()
     }

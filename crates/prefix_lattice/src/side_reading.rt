@@ -4,35 +4,35 @@ ghost use Rattle.std.specs.Prelude.{◌≡◌, ◌≢◌, ◌==◌, ◌<◌, ◌
 ghost use Rattle.std.specs.Prelude.{IfSome, IfNone, IfOk, IfErr};
 ghost use Rattle.std.specs.List.{before_first};
 ghost use Rattle.prefix_lattice.specs.PrefixText.{address_text, slash, TextSpellsSide, HasSideFault};
-ghost use Rattle.prefix_lattice.specs.Address.{address_length};
+ghost use Rattle.prefix_lattice.specs.Grain.{IsGrainLength};
 
-use crate::kept_bytes::KeptBytes;
-use crate::{PrefixFault, Side, number_of};
+use crate::kept_bits::KeptBits;
+use crate::{Grain, PrefixFault, Side, number_of};
 
-/// Reads an address, a slash and a length in bits.
-pub fn parse_side(text: &[u8], side: Side) -> Result<KeptBytes, PrefixFault>
-    ensures ok { IfOk result (TextSpellsSide text.now) }
-    ensures fault { IfErr result (HasSideFault side text.now) }
+/// Reads an address, a slash and a length in bits, which is of this grain.
+pub fn parse_side(grain: Grain, text: &[u8], side: Side) -> Result<KeptBits, PrefixFault>
+    ensures ok { IfOk result (TextSpellsSide grain text.now) }
+    ensures fault { IfErr result (HasSideFault grain side text.now) }
 {
     let Some(cut) = cut_at(text, b'/') else {
-        return Err(without_length(text, side));
+        return Err(without_length(grain, text, side));
     };
     let Some(address) = address_of_text(cut.before) else {
         return Err(PrefixFault::BadAddress(side));
     };
-    let Some(bytes) = kept_by(cut.after) else {
+    let Some(bits) = length_of_text(grain, cut.after) else {
         return Err(PrefixFault::BadLength(side));
     };
-    match KeptBytes::exact(address, bytes) {
+    match KeptBits::exact(address, bits) {
         Some(kept) => Ok(kept),
         None => Err(PrefixFault::LooseBits(side)),
     }
 }
 
 // What is wrong with a text that has no slash.
-fn without_length(text: &[u8], side: Side) -> PrefixFault
+fn without_length(grain: Grain, text: &[u8], side: Side) -> PrefixFault
     requires { before_first (λ byte. byte == slash) text.now ≡ text.now }
-    ensures { HasSideFault side text.now result }
+    ensures { HasSideFault grain side text.now result }
 {
     match address_of_text(text) {
         Some(_) => PrefixFault::BadLength(side),
@@ -83,21 +83,22 @@ fn byte_of(text: &[u8]) -> Option<u8>
     }
 }
 
-// How many bytes a length in bits keeps, if it is 0, 8, 16, 24 or 32.
-fn kept_by(text: &[u8]) -> Option<u8>
-    ensures some { IfSome result (λ bytes. (bytes ≤ address_length) × (text.now ≡ decimal (8 * bytes))) }
-    ensures none { IfNone result ((bytes : ℕ) → bytes ≤ address_length → text.now ≢ decimal (8 * bytes)) }
+// The length that a text spells, if it is a multiple of the grain's bits from 0 to 32.
+fn length_of_text(grain: Grain, text: &[u8]) -> Option<u8>
+    ensures some { IfSome result (λ bits. IsGrainLength grain bits × (text.now ≡ decimal bits)) }
+    ensures none { IfNone result ((bits : ℕ) → IsGrainLength grain bits → text.now ≢ decimal bits) }
 {
-    let Some(bits) = number_of(text) else {
+    let Some(number) = number_of(text) else {
         return None
     };
-    if bits > 32 {
+    if number > 32 {
         return None;
     }
-    if bits % 8 != 0 {
+    let bits = number as u8;
+    if bits % grain.bits() != 0 {
         return None;
     }
-    Some((bits / 8) as u8)
+    Some(bits)
 }
 
 /// A text split at the first occurrence of a byte.

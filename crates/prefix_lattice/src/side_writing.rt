@@ -5,17 +5,17 @@ ghost use Rattle.prefix_lattice.specs.PrefixText.{WritesPrefixPart, address_text
 ghost use Rattle.prefix_lattice.specs.PrefixText.{side_text};
 
 use crate::decimal::write_number;
-use crate::kept_bytes::KeptBytes;
+use crate::kept_bits::KeptBits;
 
 /// Writes an address, a slash and a length in bits at an offset of a text, and returns the offset after them. The text
 /// has room for the 18 bytes that they may need. Other bytes are unchanged.
-pub fn write_side(text: &mut [u8], at: usize, side: &KeptBytes) -> usize
+pub fn write_side(text: &mut [u8], at: usize, side: &KeptBits) -> usize
     requires { at + longest_side_text ≤ length text.old }
     ensures written { WritesPrefixPart text.old text.new at result (side_text side.now) }
     ensures short { result ≤ at + longest_side_text }
 {
     let end = write_address(text, at, side.address());
-    write_behind(text, end, b'/', 8 * side.len())
+    write_behind(text, end, b'/', side.len())
 }
 
 fn write_address(text: &mut [u8], at: usize, address: u32) -> usize

@@ -1,18 +1,19 @@
 //! Closest lines, kept pairs and bounds, and an index of lines, compared with the plain list of them.
 
-ghost use Rattle.std.specs.Prelude.{◌≡◌, ◌≤◌, ◌<◌, ◌^◌, OnOk, if◌then◌else◌};
+ghost use Rattle.std.specs.Prelude.{◌≡◌, ◌≤◌, ◌<◌, ◌^◌, All, IfOk, IsTrue, OnOk, if◌then◌else◌};
 ghost use Rattle.std.specs.List.{list_any};
-ghost use Rattle.prefix_lattice.specs.{covers, same_as};
+ghost use Rattle.prefix_lattice.specs.{IsPrefix, covers, same_as};
 
 use super::prefix_of_texts;
 use conditioned_bounds::{Intervals, LineIndex, bound, closest, kept_pairs};
-use prefix_lattice::{Node, Prefix, Prefixes, Record, prefixes_are_ordered};
+use prefix_lattice::{Grain, Node, Prefix, Prefixes, Record, prefixes_are_ordered};
 use std::alloc::{AllocError, Global};
 use std::test::Fail;
 
 /// The traffic of one packet, whose weight is known to be from `low` to `high`.
 #[derive(Drop)]
 struct OnePacket {
+    grain: Grain,
     packet: Record,
     low: u64,
     high: u64,
@@ -24,6 +25,12 @@ impl Intervals for OnePacket {
     ghost low = { λ known prefix. if covers prefix known.packet then known.low else 0 };
 
     ghost high = { λ known prefix. if covers prefix known.packet then known.high else 0 };
+
+    ghost grain_of = { λ known. known.grain };
+
+    fn grain(&self) -> Grain {
+        self.grain
+    }
 
     fn interval(&self, prefix: &Prefix) -> (u64, u64) {
         if prefix.covers(&self.packet) {
@@ -130,27 +137,47 @@ fn are_meets(alloc: Global, members: &[Texts], meets: &[Texts]) -> Result<bool, 
     Ok(kept_pairs(alloc, &members)?.as_slice() == want.as_slice())
 }
 
+/// Whether all prefixes are of a grain.
+fn are_of_grain(prefixes: &Prefixes, grain: Grain) -> bool
+    ensures { IsTrue result → All (IsPrefix grain) prefixes.now }
+{
+    for prefix in prefixes.as_slice() {
+        if !prefix.of_grain(grain) {
+            return false;
+        }
+    }
+    true
+}
+
 /// A bound, and how many closest lines and kept pairs it counts.
 type Bound = (i128, u64, u64);
 
 fn bound_of(alloc: Global, text: Texts, known: &OnePacket) -> Result<Bound, Fail> {
     let prefix = parse(text)?;
     let lines = parse_all(alloc, &STAIRS)?;
+    if !prefix.of_grain(known.grain) || !are_of_grain(&lines, known.grain) {
+        return Err("another grain".into());
+    }
     let parts = bound(alloc, &prefix, &lines, known)?;
     Ok((parts.value, parts.closest, parts.pairs))
 }
 
 /// A packet of the stairs, whose weight is known to be from `low` to `high`.
-fn packet_of(low: u64, high: u64) -> Result<OnePacket, Fail> {
+fn packet_of(grain: Grain, low: u64, high: u64) -> Result<OnePacket, Fail> {
     let packet = Record::new(0x0a01_0101, 0x1401_0101, 9).ok_or("a weight of 0")?;
-    one_packet(packet, low, high)
+    one_packet(grain, packet, low, high)
 }
 
-fn one_packet(packet: Record, low: u64, high: u64) -> Result<OnePacket, Fail> {
+fn one_packet(grain: Grain, packet: Record, low: u64, high: u64) -> Result<OnePacket, Fail> {
     if low > high || high >= 1 << 60 {
         return Err("no interval of a weight".into());
     }
-    Ok(OnePacket { packet, low, high })
+    Ok(OnePacket {
+        grain,
+        packet,
+        low,
+        high,
+    })
 }
 
 /// The low and the high of the packet's weight, a prefix, and its bound.
@@ -173,14 +200,19 @@ fn bounds_of_prefixes(rt: HostRuntime) -> Result<(), Fail> {
     Ok(())
 }
 
-/// The place of the first prefix whose bound is another.
+/// The place of the first prefix whose bound is another, from intervals of one of the grains.
 fn first_other_bound(alloc: Global, cases: &[Bounding]) -> Result<Option<usize>, Fail> {
-    for (place, (low, high, text, want)) in cases.iter().enumerate() {
-        if bound_of(alloc, *text, &packet_of(*low, *high)?)? != *want {
+    for (place, case) in cases.iter().enumerate() {
+        if !has_bound(alloc, Grain::Byte, case)? || !has_bound(alloc, Grain::Nibble, case)? {
             return Ok(Some(place));
         }
     }
     Ok(None)
+}
+
+fn has_bound(alloc: Global, grain: Grain, case: &Bounding) -> Result<bool, Fail> {
+    let (low, high, text, want) = *case;
+    Ok(bound_of(alloc, text, &packet_of(grain, low, high)?)? == want)
 }
 
 /// Whether a prefix is one of some lines.
@@ -193,13 +225,20 @@ fn is_among(lines: &Prefixes, prefix: &Prefix) -> bool
         .any(|line| prefix.under(line) && line.under(prefix))
 }
 
-/// Pushes a prefix that neither has yet to both.
-fn push_new(pushed: &mut Prefixes, index: &mut LineIndex, prefix: &Prefix) -> Result<(), Fail>
-    requires { pushed.old ≡ index.old }
-    ensures { OnOk result (pushed.new ≡ index.new) }
+/// Pushes a prefix of a grain that neither has yet to both.
+fn push_new(
+    grain: Grain,
+    pushed: &mut Prefixes,
+    index: &mut LineIndex,
+    prefix: &Prefix,
+) -> Result<(), Fail>
+    requires grain { index.old.grain ≡ grain }
+    requires lines { pushed.old ≡ index.old.lines }
+    ensures grain { OnOk result (index.new.grain ≡ grain) }
+    ensures lines { OnOk result (pushed.new ≡ index.new.lines) }
 {
     prefixes_are_ordered();
-    if pushed.len() > 1000 || is_among(pushed, prefix) {
+    if pushed.len() > 1000 || is_among(pushed, prefix) || !prefix.of_grain(grain) {
         return Err("no new line".into());
     }
     pushed.push(*prefix)?;
@@ -207,45 +246,60 @@ fn push_new(pushed: &mut Prefixes, index: &mut LineIndex, prefix: &Prefix) -> Re
     Ok(())
 }
 
-/// An index of these lines, pushed in their order.
-fn indexed(alloc: Global, lines: &Prefixes) -> Result<LineIndex, Fail> {
+/// An index of these lines of a grain, pushed in their order.
+fn indexed(alloc: Global, grain: Grain, lines: &Prefixes) -> Result<LineIndex, Fail>
+    ensures { IfOk result (λ index. index.grain ≡ grain) }
+{
     let mut pushed = Prefixes::new(alloc);
-    let mut index = LineIndex::new(alloc);
+    let mut index = LineIndex::new(alloc, grain);
     for line in lines.as_slice() {
-        push_new(&mut pushed, &mut index, line)?;
+        push_new(grain, &mut pushed, &mut index, line)?;
     }
     Ok(index)
 }
 
 #[test]
 fn lines_of_an_index(rt: HostRuntime) -> Result<(), Fail> {
-    assert!(rt; are_lines_of_their_index(rt.alloc(), &STAIRS)?);
-    // 9 - 27 + 18.
-    assert!(rt; bound_by_index(rt.alloc(), &STAIRS)? == (0, 3, 2));
-    assert!(rt; bound_by_index(rt.alloc(), &[])? == (9, 0, 0));
+    assert!(rt; has_lines(rt.alloc(), Grain::Byte)? && has_lines(rt.alloc(), Grain::Nibble)?);
     Ok(())
 }
 
+/// Whether an index of a grain has the stairs and the bound over them, and an empty one the bound over nothing.
+fn has_lines(alloc: Global, grain: Grain) -> Result<bool, Fail> {
+    Ok(
+        are_lines_of_their_index(alloc, grain, &STAIRS)?
+            // 9 - 27 + 18.
+            && bound_by_index(alloc, grain, &STAIRS)? == (0, 3, 2)
+            && bound_by_index(alloc, grain, &[])? == (9, 0, 0),
+    )
+}
+
 /// Whether the closest lines of the root are those of the index.
-fn are_lines_of_their_index(alloc: Global, texts: &[Texts]) -> Result<bool, Fail> {
+fn are_lines_of_their_index(alloc: Global, grain: Grain, texts: &[Texts]) -> Result<bool, Fail> {
     let root = parse(ROOT)?;
     let lines = parse_all(alloc, texts)?;
-    let index = indexed(alloc, &lines)?;
+    let index = indexed(alloc, grain, &lines)?;
+    if !root.of_grain(grain) {
+        return Err("another grain".into());
+    }
     Ok(index.closest(&root)?.as_slice() == lines.as_slice())
 }
 
 /// The bound of the root by an index of lines.
-fn bound_by_index(alloc: Global, texts: &[Texts]) -> Result<Bound, Fail> {
+fn bound_by_index(alloc: Global, grain: Grain, texts: &[Texts]) -> Result<Bound, Fail> {
     let root = parse(ROOT)?;
-    let exact = packet_of(9, 9)?;
-    let index = indexed(alloc, &parse_all(alloc, texts)?)?;
+    let exact = packet_of(grain, 9, 9)?;
+    let index = indexed(alloc, exact.grain, &parse_all(alloc, texts)?)?;
+    if !root.of_grain(exact.grain) {
+        return Err("another grain".into());
+    }
     let parts = index.bound(&root, &exact)?;
     Ok((parts.value, parts.closest, parts.pairs))
 }
 
 /// The sides of a small world: a tree of six nets and the net above all. Of two of them, one begins the other, they are
 /// apart, or they are equal, so in the 49 pairs of them every shape of a meet occurs.
-const SIDES: [(u32, u8); 7] = [
+const BYTE_SIDES: [(u32, u8); 7] = [
     (0, 0),
     (0x0a00_0000, 1),
     (0x0b00_0000, 1),
@@ -255,12 +309,32 @@ const SIDES: [(u32, u8); 7] = [
     (0x0a01_0300, 3),
 ];
 
-/// The prefix of this number among the 49 of the small world.
-fn of_world(number: u32) -> Result<Prefix, Fail> {
-    let (source, source_bytes) = SIDES[(number % 7) as usize];
-    let (dest, dest_bytes) = SIDES[(number / 7 % 7) as usize];
+/// The same tree by half bytes.
+const NIBBLE_SIDES: [(u32, u8); 7] = [
+    (0, 0),
+    (0xa000_0000, 1),
+    (0xb000_0000, 1),
+    (0xa100_0000, 2),
+    (0xa200_0000, 2),
+    (0xb100_0000, 2),
+    (0xa130_0000, 3),
+];
+
+/// The sides of the small world of a grain.
+fn sides_of(grain: Grain) -> [(u32, u8); 7] {
+    match grain {
+        Grain::Byte => BYTE_SIDES,
+        Grain::Nibble => NIBBLE_SIDES,
+    }
+}
+
+/// The prefix of this number among the 49 of the small world of a grain.
+fn of_world(grain: Grain, number: u32) -> Result<Prefix, Fail> {
+    let sides = sides_of(grain);
+    let (source, source_units) = sides[(number % 7) as usize];
+    let (dest, dest_units) = sides[(number / 7 % 7) as usize];
     let pair = Record::new(source, dest, 1).ok_or("a weight of 0")?;
-    let node = Node::new(source_bytes, dest_bytes).ok_or("a node")?;
+    let node = Node::new(grain, source_units, dest_units).ok_or("a node")?;
     Ok(Prefix::of(&pair, node))
 }
 
@@ -273,7 +347,7 @@ fn next(state: &mut u64) -> u32 {
 }
 
 /// Some lines of the small world, in an order that the state picks: each with a chance of one in `rarity`.
-fn some_lines(alloc: Global, state: &mut u64, rarity: u32) -> Result<Prefixes, Fail>
+fn some_lines(alloc: Global, grain: Grain, state: &mut u64, rarity: u32) -> Result<Prefixes, Fail>
     requires { 0 < rarity }
 {
     let mut lines = Prefixes::new(alloc);
@@ -281,7 +355,7 @@ fn some_lines(alloc: Global, state: &mut u64, rarity: u32) -> Result<Prefixes, F
     let stride = 1 + next(state) % 6;
     for turn in 0..49 {
         if next(state) % rarity == 0 {
-            lines.push(of_world((first + turn * stride) % 49)?)?;
+            lines.push(of_world(grain, (first + turn * stride) % 49)?)?;
         }
     }
     Ok(lines)
@@ -294,7 +368,12 @@ fn agree(
     index: &LineIndex,
     prefix: &Prefix,
     intervals: &OnePacket,
-) -> Result<bool, AllocError> {
+) -> Result<bool, Fail>
+    requires { index.now.grain ≡ intervals.now.grain }
+{
+    if !prefix.of_grain(intervals.grain) || !are_of_grain(lines, intervals.grain) {
+        return Err("another grain".into());
+    }
     let near = closest(alloc, prefix, lines)?;
     if index.closest(prefix)?.as_slice() != near.as_slice() {
         return Ok(false);
@@ -304,10 +383,20 @@ fn agree(
 
 #[test]
 fn an_index_gives_what_a_plain_list_gives(rt: HostRuntime) -> Result<(), Fail> {
-    let packet = Record::new(0x0a01_0305, 0x0a01_0307, 9).ok_or("a weight of 0")?;
-    let intervals = one_packet(packet, 5, 9)?;
-    assert!(rt; kept_in_sets(rt.alloc(), &intervals)? > 2000);
+    assert!(rt; kept_by_grain(rt.alloc(), Grain::Byte)? > 2000);
+    assert!(rt; kept_by_grain(rt.alloc(), Grain::Nibble)? > 2000);
     Ok(())
+}
+
+/// Compares indexes with plain lists over the small world of a grain. Returns how many pairs of the root are kept in
+/// all.
+fn kept_by_grain(alloc: Global, grain: Grain) -> Result<u64, Fail> {
+    let (src, dst) = match grain {
+        Grain::Byte => (0x0a01_0305, 0x0a01_0307),
+        Grain::Nibble => (0xa135_0000, 0xa137_0000),
+    };
+    let packet = Record::new(src, dst, 9).ok_or("a weight of 0")?;
+    kept_in_sets(alloc, &one_packet(grain, packet, 5, 9)?)
 }
 
 /// Compares indexes of 2,000 sets of lines with the plain lists. Returns how many pairs of the root are kept in all.
@@ -315,8 +404,8 @@ fn kept_in_sets(alloc: Global, intervals: &OnePacket) -> Result<u64, Fail> {
     let mut state = 7;
     let mut kept = 0u64;
     for set in 0..2000u32 {
-        let other = of_world(next(&mut state) % 49)?;
-        let lines = some_lines(alloc, &mut state, 2 + set % 8)?;
+        let other = of_world(intervals.grain, next(&mut state) % 49)?;
+        let lines = some_lines(alloc, intervals.grain, &mut state, 2 + set % 8)?;
         kept = kept.wrapping_add(kept_in_set(alloc, &lines, &other, intervals)?);
     }
     Ok(kept)
@@ -331,12 +420,15 @@ fn kept_in_set(
     intervals: &OnePacket,
 ) -> Result<u64, Fail> {
     let root = parse(ROOT)?;
-    let index = indexed(alloc, lines)?;
+    let index = indexed(alloc, intervals.grain, lines)?;
     if !agree(alloc, lines, &index, &root, intervals)? {
         return Err("another answer at the root".into());
     }
     if !agree(alloc, lines, &index, other, intervals)? {
         return Err("another answer at a prefix of the world".into());
+    }
+    if !root.of_grain(intervals.grain) {
+        return Err("another grain".into());
     }
     Ok(index.bound(&root, intervals)?.pairs)
 }

@@ -1,7 +1,7 @@
 //! Which prefix is under which, upper prefixes, meets, the order of a report, and texts that are read back.
 
 use super::prefix_of_texts;
-use prefix_lattice::{Node, Prefix};
+use prefix_lattice::{Grain, Node, Prefix};
 use std::cmp::Ordering;
 use std::test::Fail;
 
@@ -14,7 +14,7 @@ fn prefix_of(text: &str) -> Result<Prefix, Fail> {
 // Two prefixes, and their meet if they have one.
 type Meeting = (&'static str, &'static str, Option<&'static str>);
 
-const MEETINGS: [Meeting; 5] = [
+const MEETINGS: [Meeting; 6] = [
     ("10.0.0.0/8 0.0.0.0/0", "11.0.0.0/8 0.0.0.0/0", None),
     (
         "10.0.0.0/8 0.0.0.0/0",
@@ -35,6 +35,11 @@ const MEETINGS: [Meeting; 5] = [
         "10.0.0.0/8 20.1.1.0/24",
         "10.1.1.0/24 20.0.0.0/8",
         Some("10.1.1.0/24 20.1.1.0/24"),
+    ),
+    (
+        "10.16.0.0/12 20.1.0.0/16",
+        "10.0.0.0/8 20.1.16.0/20",
+        Some("10.16.0.0/12 20.1.16.0/20"),
     ),
 ];
 
@@ -62,25 +67,42 @@ fn prefix_of_some(text: Option<&str>) -> Result<Option<Prefix>, Fail> {
     }
 }
 
-// A prefix, how many bytes a node keeps of its addresses, and the prefix of the node that it is under, if there is one.
-type CutDown = (&'static str, u8, u8, Option<&'static str>);
+// A prefix, the grain of a node, how many steps of it the node keeps of the prefix's addresses, and the prefix of the
+// node that it is under, if there is one.
+type CutDown = (&'static str, Grain, u8, u8, Option<&'static str>);
 
-const CUT_DOWN: [CutDown; 5] = [
+const CUT_DOWN: [CutDown; 7] = [
     (
         "10.1.0.0/16 20.1.0.0/16",
+        Grain::Byte,
         1,
         2,
         Some("10.0.0.0/8 20.1.0.0/16"),
     ),
     (
         "10.1.0.0/16 20.1.0.0/16",
+        Grain::Byte,
         2,
         2,
         Some("10.1.0.0/16 20.1.0.0/16"),
     ),
-    ("10.1.0.0/16 20.1.0.0/16", 3, 0, None),
-    ("10.1.0.0/16 20.1.0.0/16", 0, 3, None),
-    ("10.1.2.3/32 20.1.2.3/32", 0, 0, Some("0.0.0.0/0 0.0.0.0/0")),
+    ("10.1.0.0/16 20.1.0.0/16", Grain::Byte, 3, 0, None),
+    ("10.1.0.0/16 20.1.0.0/16", Grain::Byte, 0, 3, None),
+    (
+        "10.1.2.3/32 20.1.2.3/32",
+        Grain::Byte,
+        0,
+        0,
+        Some("0.0.0.0/0 0.0.0.0/0"),
+    ),
+    (
+        "10.20.0.0/16 20.1.0.0/16",
+        Grain::Nibble,
+        3,
+        1,
+        Some("10.16.0.0/12 16.0.0.0/4"),
+    ),
+    ("10.20.0.0/16 20.1.0.0/16", Grain::Nibble, 5, 0, None),
 ];
 
 #[test]
@@ -91,8 +113,8 @@ fn cuts_prefixes_down_to_nodes(rt: HostRuntime) -> Result<(), Fail> {
 
 // The place of the first prefix that is cut down to another.
 fn first_cut_otherwise(cases: &[CutDown]) -> Result<Option<usize>, Fail> {
-    for (place, (text, source_bytes, dest_bytes, want)) in cases.iter().enumerate() {
-        let node = Node::new(*source_bytes, *dest_bytes).ok_or("no node")?;
+    for (place, (text, grain, source_units, dest_units, want)) in cases.iter().enumerate() {
+        let node = Node::new(*grain, *source_units, *dest_units).ok_or("no node")?;
         if prefix_of(text)?.upper(node) != prefix_of_some(*want)? {
             return Ok(Some(place));
         }
@@ -155,13 +177,14 @@ fn first_misjudged(cases: &[Standing]) -> Result<Option<usize>, Fail> {
     Ok(None)
 }
 
-// In report order: by level, source address, kept source bytes and destination address.
-const ORDERED: [&str; 8] = [
+// In report order: by level, source address, kept source bits and destination address.
+const ORDERED: [&str; 9] = [
     "10.1.2.3/32 20.1.2.3/32",
     "9.0.0.0/8 20.0.0.0/8",
     "10.0.0.0/8 20.0.0.0/8",
     "10.0.0.0/8 21.0.0.0/8",
     "10.0.0.0/16 0.0.0.0/0",
+    "10.0.0.0/12 0.0.0.0/0",
     "0.0.0.0/0 21.0.0.0/8",
     "0.0.0.0/8 0.0.0.0/0",
     "0.0.0.0/0 0.0.0.0/0",
@@ -191,9 +214,10 @@ fn order_of(text: &str, other: &str) -> Result<Ordering, Fail> {
     Ok(prefix_of(text)?.order(&prefix_of(other)?))
 }
 
-const TEXTS: [&str; 5] = [
+const TEXTS: [&str; 6] = [
     "0.0.0.0/0 0.0.0.0/0",
     "10.0.0.0/8 20.1.0.0/16",
+    "10.16.0.0/12 20.1.32.0/20",
     "10.1.2.0/24 0.0.0.0/0",
     "255.255.255.255/32 255.255.255.255/32",
     "100.20.3.0/24 1.0.0.0/32",

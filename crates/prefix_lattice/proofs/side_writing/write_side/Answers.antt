@@ -1,4 +1,4 @@
-use Rattle.std.proofs.Common.{◌≡◌, ℕ, ◌*◌, ◌≤◌, ◌∷◌, ◌++◌, length, decimal, ap, ◌∙◌, arith}
+use Rattle.std.proofs.Common.{◌≡◌, ℕ, ◌≤◌, ◌∷◌, ◌++◌, length, decimal, ap, ◌∙◌, arith}
 use Rattle.prefix_lattice.specs.Address.{address_of}
 use Rattle.prefix_lattice.specs.PrefixText.{address_text, side_text}
 use Rattle.prefix_lattice.proofs.TextLengthLemmas.{length-address_text, text_length-bits}
@@ -10,7 +10,7 @@ write_address-end-requires c = omega (arith, c.requires, length-address_text c.a
 
 pub write_behind-requires : goal.write_behind-requires
 write_behind-requires c =
-    let few : c.len.result ≤ 4 = omega (arith, c.len.ensures.len, c.len.ensures.leading.few) in
+    let few : c.len.result ≤ 32 = omega (arith, c.len.ensures.len, c.len.ensures.leading.few) in
     omega (
       arith,
       c.requires,
@@ -23,20 +23,20 @@ write_behind-requires c =
 pub returns-clause-written : goal.returns-clause-written
 returns-clause-written c =
     let text = c.args.text.now in
-    let same : address_text c.address.result ++ 47 ∷ decimal (8 * c.len.result) ≡ side_text c.args.side.now =
-    ap (λ (a : ℕ). address_text a ++ 47 ∷ decimal (8 * c.len.result)) c.address.ensures.address
-    ∙ ap (λ (n : ℕ). address_text (address_of c.args.side.now) ++ 47 ∷ decimal (8 * n)) c.len.ensures.len in
+    let same : address_text c.address.result ++ 47 ∷ decimal c.len.result ≡ side_text c.args.side.now =
+    ap (λ (a : ℕ). address_text a ++ 47 ∷ decimal c.len.result) c.address.ensures
+    ∙ ap (λ (n : ℕ). address_text (address_of c.args.side.now) ++ 47 ∷ decimal n) c.len.ensures.len in
     let within : c.write_address-end.result ≤ length text =
     omega (arith, c.requires, c.write_address-end.ensures.ends, length-address_text c.address.result) in
     written_part-same text c.write_behind.new.text c.args.at c.write_behind.result _ _ same
     (written_parts-joined text c.write_address-end.new.text c.write_behind.new.text c.args.at c.write_address-end.result
     c.write_behind.result
-    (address_text c.address.result) (47 ∷ decimal (8 * c.len.result)) within c.write_address-end.ensures
+    (address_text c.address.result) (47 ∷ decimal c.len.result) within c.write_address-end.ensures
     c.write_behind.ensures)
 
 pub returns-clause-short : goal.returns-clause-short
 returns-clause-short c =
-    let few : c.len.result ≤ 4 = omega (arith, c.len.ensures.len, c.len.ensures.leading.few) in
+    let few : c.len.result ≤ 32 = omega (arith, c.len.ensures.len, c.len.ensures.leading.few) in
     omega (
       arith,
       c.write_address-end.ensures.ends,
