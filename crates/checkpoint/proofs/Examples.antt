@@ -5,10 +5,10 @@ use Rattle.prefix_lattice.specs.{RecordValue}
 use Rattle.frame_records.specs.declared.weigh.Weigh.TheVariants.{Bytes, Packets}
 use Rattle.deal_rules.specs.declared.deal_kind.DealKind.TheVariants.{RoundRobin, Free}
 use Rattle.space_saving.specs.declared.entry.Entry.{Entry}
-use Rattle.shard_state.specs.{empty_snapshot, no_entries}
+use Rattle.shard_state.specs.{TableShape, empty_snapshot, no_entries}
 use Rattle.checkpoint.specs.declared.settings.StoreSettings.{StoreSettings}
 use Rattle.checkpoint.specs.Numbers.{number_bytes}
-use Rattle.checkpoint.specs.Header.{AreSettings, settings_header}
+use Rattle.checkpoint.specs.Header.{AreSettings, settings_header, settings_shape}
 use Rattle.checkpoint.specs.Lengths.{span_of, table_span}
 use Rattle.checkpoint.specs.Saved.{SavedValue}
 use Rattle.checkpoint.specs.Body.{IsSaved, IsBody, KeysFit, HasShortKeys, entry_bytes}
@@ -63,12 +63,16 @@ pub table_begins_with_its_total : take 12 (table_bytes (entry ∷ [])) ≡ 0 ∷
 unfolding number_bytes
 table_begins_with_its_total = refl
 
+-- tables by whole bytes, of this many entries
+abbrev shape : ℕ → TableShape
+shape capacity = settings_shape (settings 1 capacity)
+
 -- the first save of one shard with no record, under some digest
 abbrev nothing_yet : ℕ → List ℕ → SavedValue
 nothing_yet sequence digest = record {
   sequence = sequence;
   digest = digest;
-  cut = record { capacity = 2; shards = empty_snapshot 2 ∷ [] };
+  cut = record { shape = shape 2; shards = empty_snapshot (shape 2) ∷ [] };
 }
 
 -- 48 bytes, 8 for the position, and 12 for each of 25 tables: 356
@@ -80,21 +84,21 @@ pub body_has_as_many_bytes : length (body_bytes (nothing_yet 1 (number_bytes 32 
 unfolding number_bytes no_entries
 body_has_as_many_bytes = refl
 
-pub sequence_0_is_not_saved : (digest : List ℕ) → IsSaved 1 2 (nothing_yet 0 digest) → ⊥
+pub sequence_0_is_not_saved : (digest : List ℕ) → IsSaved 1 (shape 2) (nothing_yet 0 digest) → ⊥
 sequence_0_is_not_saved digest is = omega (arith, is.sequenced)
 
-pub sequence_above_the_last_is_not_saved : (digest : List ℕ) → IsSaved 1 2 (nothing_yet (greatest_sequence + 1) digest) → ⊥
+pub sequence_above_the_last_is_not_saved : (digest : List ℕ) → IsSaved 1 (shape 2) (nothing_yet (greatest_sequence + 1) digest) → ⊥
 sequence_above_the_last_is_not_saved digest is = omega (arith, is.early)
 
-pub digest_of_31_bytes_is_not_saved : IsSaved 1 2 (nothing_yet 1 (number_bytes 31 0)) → ⊥
+pub digest_of_31_bytes_is_not_saved : IsSaved 1 (shape 2) (nothing_yet 1 (number_bytes 31 0)) → ⊥
 unfolding number_bytes
 digest_of_31_bytes_is_not_saved is = omega (arith, is.digest)
 
-pub cut_of_another_capacity_is_not_saved : (digest : List ℕ) → IsSaved 1 4 (nothing_yet 1 digest) → ⊥
-cut_of_another_capacity_is_not_saved digest is = omega (arith, is.alike)
+pub cut_of_another_capacity_is_not_saved : (digest : List ℕ) → IsSaved 1 (shape 4) (nothing_yet 1 digest) → ⊥
+cut_of_another_capacity_is_not_saved digest is = omega (arith, ap (λ (s : TableShape). s.capacity) is.alike)
 
-pub cut_of_one_shard_is_no_body_of_two : (digest bytes : List ℕ) → IsBody 2 2 (nothing_yet 1 digest) bytes → ⊥
-cut_of_one_shard_is_no_body_of_two digest bytes is = omega (arith, is.is_saved.shape)
+pub cut_of_one_shard_is_no_body_of_two : (digest bytes : List ℕ) → IsBody 2 (shape 2) (nothing_yet 1 digest) bytes → ⊥
+cut_of_one_shard_is_no_body_of_two digest bytes is = omega (arith, is.is_saved.as_many)
 
 -- a packet from 10.1.2.3 to 20.1.2.3 of 100 bytes
 abbrev packet : RecordValue
@@ -118,7 +122,7 @@ lists_are_not_joined = refl
 pub keys_fit_8_bytes : HasShortKeys (record { key = 18446744073709551616; count = 7; error = 3 } ∷ []) → ⊥
 keys_fit_8_bytes fit = let short = fit 0 entry (omega arith) in omega (arith, short)
 
-pub keys_of_no_table_fit : KeysFit (record { capacity = 2; position = 0; tables = [] })
+pub keys_of_no_table_fit : KeysFit (record { shape = shape 2; position = 0; tables = [] })
 keys_of_no_table_fit k d within = absurd (omega (arith, within))
 
 pub table_of_512_entries_has_12300_bytes : table_span 512 ≡ 12300
@@ -147,5 +151,5 @@ empty_table_fits = record {
   keys = λ k d within. absurd (omega (arith, within));
 }
 
-pub snapshot_of_another_capacity_does_not_fit : SnapshotFits 4 (empty_snapshot 2) → ⊥
-snapshot_of_another_capacity_does_not_fit fits = omega (arith, fits.capacity_is)
+pub snapshot_of_another_capacity_does_not_fit : SnapshotFits (shape 4) (empty_snapshot (shape 2)) → ⊥
+snapshot_of_another_capacity_does_not_fit fits = omega (arith, ap (λ (s : TableShape). s.capacity) fits.shape_is)

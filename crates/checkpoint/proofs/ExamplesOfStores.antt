@@ -4,10 +4,10 @@ use Rattle.std.specs.Prelude.{slice_index}
 use Rattle.prefix_lattice.specs.{RecordValue}
 use Rattle.frame_records.specs.declared.weigh.Weigh.TheVariants.{Bytes}
 use Rattle.deal_rules.specs.declared.deal_kind.DealKind.TheVariants.{RoundRobin}
-use Rattle.shard_state.specs.{CutValue, empty_snapshot, no_entries}
+use Rattle.shard_state.specs.{CutValue, TableShape, empty_snapshot, no_entries}
 use Rattle.slot_disk.specs.{known_slots_of}
 use Rattle.checkpoint.specs.declared.settings.StoreSettings.{StoreSettings}
-use Rattle.checkpoint.specs.Header.{settings_header}
+use Rattle.checkpoint.specs.Header.{settings_header, settings_shape}
 use Rattle.checkpoint.specs.Saved.{SavedValue}
 use Rattle.checkpoint.specs.Store.{SlotHolds, StoreHolds, IsSoundStore, newest_in, newest_slot_in}
 use Rattle.checkpoint.specs.Store.{IsNotNewest, StoreOpensTo}
@@ -24,12 +24,16 @@ settings shards = record { shards = shards; capacity = 2; weigh = Bytes; deal = 
 abbrev store : ℕ → ℕ → List ℕ
 store first second = first ∷ second ∷ settings_header (settings 1)
 
+-- the shape of its tables
+abbrev shape : TableShape
+shape = settings_shape (settings 1)
+
 -- a cut of no record, and one of no record at position 9, which no test here looks into
 abbrev cut : CutValue
-cut = record { capacity = 2; shards = empty_snapshot 2 ∷ [] }
+cut = record { shape = shape; shards = empty_snapshot shape ∷ [] }
 
 abbrev later_cut : CutValue
-later_cut = record { capacity = 2; shards = record { capacity = 2; position = 9; tables = no_entries } ∷ [] }
+later_cut = record { shape = shape; shards = record { shape = shape; position = 9; tables = no_entries shape.grain } ∷ [] }
 
 abbrev saved : ℕ → SavedValue
 saved sequence = record { sequence = sequence; digest = []; cut = cut }

@@ -2,11 +2,11 @@
 use Rattle.std.proofs.Common.{◌≡◌, ℕ, ◌+◌, ◌*◌, ◌^◌, ◌<◌, ◌≤◌, List, [], ◌++◌, length, refl, sym, ap, ◌∙◌}
 use Rattle.std.proofs.Common.{append_assoc, arith}
 use Rattle.std.proofs.Math.Nat.{mul-le-mul_right}
-use Rattle.shard_state.specs.{CutValue, SnapshotValue}
+use Rattle.shard_state.specs.{CutValue, SnapshotValue, TableShape}
 use Rattle.checkpoint.specs.declared.settings.StoreSettings.{StoreSettings}
 use Rattle.checkpoint.specs.Numbers.{number_bytes}
-use Rattle.checkpoint.specs.Header.{AreSettings}
-use Rattle.checkpoint.specs.Lengths.{body_span, table_span}
+use Rattle.checkpoint.specs.Header.{AreSettings, settings_shape}
+use Rattle.checkpoint.specs.Lengths.{snapshot_span, span_of}
 use Rattle.checkpoint.specs.Saved.{SavedValue}
 use Rattle.checkpoint.specs.Body.{IsBody, content_bytes, snapshot_bytes}
 use Rattle.checkpoint.specs.Body.{AreApart, SpellOneThing}
@@ -18,22 +18,22 @@ use Rattle.checkpoint.proofs.ReadListLemmas.{read_list_is_same}
 use Rattle.checkpoint.proofs.SpellingLemmas.{spellings_in_bytes_are_apart, spelling_front_is_same}
 
 -- each span is below 2^32
-one_body_span_is_small : (settings : StoreSettings) → AreSettings settings → body_span settings.shards settings.capacity < 2 ^ 32
+one_body_span_is_small : (settings : StoreSettings) → AreSettings settings → span_of settings < 2 ^ 32
 one_body_span_is_small settings are =
-    let most : settings.shards * (8 + 25 * table_span settings.capacity) ≤ 16 * (8 + 25 * table_span settings.capacity) =
-    mul-le-mul_right (8 + 25 * table_span settings.capacity) are.few in
+    let most : settings.shards * (snapshot_span (settings_shape settings)) ≤ 16 * (snapshot_span (settings_shape settings)) =
+    mul-le-mul_right (snapshot_span (settings_shape settings)) are.few in
     omega (arith, most, are.most)
 
 -- a body's length is a small number
 pub one_body_is_short : (settings : StoreSettings) (saved : SavedValue) (body : List ℕ) → AreSettings settings
-    → IsBody settings.shards settings.capacity saved body → length body < 2 ^ 32
+    → IsBody settings.shards (settings_shape settings) saved body → length body < 2 ^ 32
 one_body_is_short settings saved body are is =
-    omega (arith, body_parts_fit_span settings.shards settings.capacity saved body is, one_body_span_is_small settings are)
+    omega (arith, body_parts_fit_span settings.shards (settings_shape settings) saved body is, one_body_span_is_small settings are)
 
 pub one_body_in_same_bytes : AreApart
 one_body_in_same_bytes settings others saved other body second rest after are are_others is is_second same =
-    let long = body_parts_are_long settings.shards settings.capacity saved body is in
-    let long_second = body_parts_are_long others.shards others.capacity other second is_second in
+    let long = body_parts_are_long settings.shards (settings_shape settings) saved body is in
+    let long_second = body_parts_are_long others.shards (settings_shape others) other second is_second in
     let short = one_body_is_short settings saved body are is in
     let short_second = one_body_is_short others other second are_others is_second in
     let count = 8 + length (content_bytes saved) in
@@ -47,24 +47,24 @@ one_body_in_same_bytes settings others saved other body second rest after are ar
 
 -- what is saved is given by its parts
 one_body_saved_is_same : (saved other : SavedValue) → saved.sequence ≡ other.sequence → saved.digest ≡ other.digest
-    → saved.cut.capacity ≡ other.cut.capacity → saved.cut.shards ≡ other.cut.shards → saved ≡ other
-one_body_saved_is_same saved other sequence digest capacity shards =
+    → saved.cut.shape ≡ other.cut.shape → saved.cut.shards ≡ other.cut.shards → saved ≡ other
+one_body_saved_is_same saved other sequence digest shape shards =
     let with_cut : CutValue → SavedValue = λ cut. record { sequence = other.sequence; digest = other.digest; cut = cut } in
     ap (λ (n : ℕ). record { sequence = n; digest = saved.digest; cut = saved.cut }) sequence
     ∙ ap (λ (l : List ℕ). record { sequence = other.sequence; digest = l; cut = saved.cut }) digest
-    ∙ ap (λ (n : ℕ). with_cut (record { capacity = n; shards = saved.cut.shards })) capacity
-    ∙ ap (λ (l : List SnapshotValue). with_cut (record { capacity = other.cut.capacity; shards = l })) shards
+    ∙ ap (λ (s : TableShape). with_cut (record { shape = s; shards = saved.cut.shards })) shape
+    ∙ ap (λ (l : List SnapshotValue). with_cut (record { shape = other.cut.shape; shards = l })) shards
 
 pub one_body_spells_one_value : SpellOneThing
 one_body_spells_one_value settings saved other body are is is_other =
     let shards = settings.shards in
-    let capacity = settings.capacity in
-    let long = body_parts_are_long shards capacity saved body is in
+    let shape = settings_shape settings in
+    let long = body_parts_are_long shards shape saved body is in
     let short = one_body_is_short settings saved body are is in
-    let front = body_has_front_part shards capacity other body (content_bytes saved) (8 + length (content_bytes saved))
+    let front = body_has_front_part shards shape other body (content_bytes saved) (8 + length (content_bytes saved))
     (omega (arith, short)) (omega (arith, long.1, short)) is.spelled is_other in
-    let head = body_has_head_parts shards capacity other (content_bytes saved) _ _ saved.digest saved.sequence
+    let head = body_has_head_parts shards shape other (content_bytes saved) _ _ saved.digest saved.sequence
     (omega (arith, is.is_saved.early)) is_other.is_saved front.after_is refl is.is_saved.digest refl in
-    let same = read_list_is_same snapshot_bytes (SnapshotFits capacity) (snapshots_are_prefix_free capacity are.most) _ [] [] shards
-    saved.cut.shards other.cut.shards (body_part_spells_shards shards capacity saved is.is_saved) head.shards_begin in
+    let same = read_list_is_same snapshot_bytes (SnapshotFits shape) (snapshots_are_prefix_free shape are.most) _ [] [] shards
+    saved.cut.shards other.cut.shards (body_part_spells_shards shards shape saved is.is_saved) head.shards_begin in
     one_body_saved_is_same saved other head.sequence_is head.digest_is (is.is_saved.alike ∙ sym is_other.is_saved.alike) same.0

@@ -4,11 +4,11 @@ use Rattle.std.proofs.Common.{ap, subst, ◌∙◌, append_assoc, arith}
 use Rattle.std.specs.List.{flat_map}
 use Rattle.std.proofs.lemmas.List.{get_or_default}
 use Rattle.std.proofs.lemmas.List.Sums.{get_or-le-sum_by}
-use Rattle.prefix_lattice.specs.{node_index, node_at}
+use Rattle.prefix_lattice.specs.{node_count, node_index, node_at}
 use Rattle.prefix_lattice.proofs.NodePlaceLemmas.{node_index-node_at_place, IsNode-node_at_place}
 use Rattle.space_saving.specs.declared.entry.Entry.{Entry}
 use Rattle.space_saving.specs.{table_total, AreTableEntries}
-use Rattle.shard_state.specs.{SnapshotValue}
+use Rattle.shard_state.specs.{SnapshotValue, TableShape}
 use Rattle.checkpoint.specs.Numbers.{number_bytes}
 use Rattle.checkpoint.specs.Body.{entry_bytes, table_bytes, snapshot_bytes}
 use Rattle.checkpoint.specs.Decoding.{EntryFits, TableFits, SnapshotFits}
@@ -54,32 +54,37 @@ tables_are_prefix_free capacity most x y r s fits_x fits_y same =
     (prefix_free_entries_fit capacity x fits_x) (prefix_free_entries_fit capacity y fits_y) count.1
 
 -- each table of a snapshot fits
-pub prefix_free_tables_fit : (capacity : ℕ) (snapshot : SnapshotValue) → SnapshotFits capacity snapshot
-    → All (TableFits capacity) snapshot.tables
-prefix_free_tables_fit capacity snapshot fits k d within =
-    let few : k < 25 = omega (arith, fits.is_snapshot.shape) in
-    let at_node = fits.is_snapshot.tables (node_at k) (IsNode-node_at_place k few) in
-    let here : get_or snapshot.tables (node_index (node_at k)) [] ≡ get_or snapshot.tables k d =
-    ap (λ (i : ℕ). get_or snapshot.tables i []) (node_index-node_at_place k) ∙ get_or_default snapshot.tables k [] d within in
+pub prefix_free_tables_fit : (shape : TableShape) (snapshot : SnapshotValue) → SnapshotFits shape snapshot
+    → All (TableFits shape.capacity) snapshot.tables
+prefix_free_tables_fit shape snapshot fits k d within =
+    let grain = snapshot.shape.grain in
+    let few : k < node_count grain = omega (arith, within, fits.is_snapshot.as_many) in
+    let at_node = fits.is_snapshot.tables (node_at grain k) (IsNode-node_at_place grain k few) in
+    let here : get_or snapshot.tables (node_index (node_at grain k)) [] ≡ get_or snapshot.tables k d =
+    ap (λ (i : ℕ). get_or snapshot.tables i []) (node_index-node_at_place grain k)
+    ∙ get_or_default snapshot.tables k [] d within in
     record {
-      are_entries = subst (λ (c : ℕ). AreTableEntries c (get_or snapshot.tables k d)) fits.capacity_is
-          (subst (AreTableEntries snapshot.capacity) here at_node.are_entries);
+      are_entries = subst (λ (s : TableShape). AreTableEntries s.capacity (get_or snapshot.tables k d)) fits.shape_is
+          (subst (AreTableEntries snapshot.shape.capacity) here at_node.are_entries);
       keys = fits.keys k d within;
     }
 
-pub snapshots_are_prefix_free : (capacity : ℕ) → capacity ≤ 4096 → SpellingsAreApart snapshot_bytes (SnapshotFits capacity)
-snapshots_are_prefix_free capacity most x y r s fits_x fits_y same =
+pub snapshots_are_prefix_free : (shape : TableShape) → shape.capacity ≤ 4096
+    → SpellingsAreApart snapshot_bytes (SnapshotFits shape)
+snapshots_are_prefix_free shape most x y r s fits_x fits_y same =
     let grouped = sym (append_assoc (number_bytes 8 x.position) (flat_map table_bytes x.tables) r) ∙ same
     ∙ append_assoc (number_bytes 8 y.position) (flat_map table_bytes y.tables) s in
     let position = spellings_in_bytes_are_apart 8 x.position y.position _ _
     (omega (arith, fits_x.is_snapshot.placed)) (omega (arith, fits_y.is_snapshot.placed)) grouped in
-    let tables = joined_spellings_are_apart table_bytes (TableFits capacity) (tables_are_prefix_free capacity most) x.tables y.tables r s
-    (fits_x.is_snapshot.shape ∙ sym fits_y.is_snapshot.shape) (prefix_free_tables_fit capacity x fits_x) (prefix_free_tables_fit capacity y fits_y)
+    let shapes = fits_x.shape_is ∙ sym fits_y.shape_is in
+    let as_many = fits_x.is_snapshot.as_many ∙ ap (λ (s : TableShape). node_count s.grain) shapes ∙ sym fits_y.is_snapshot.as_many in
+    let tables = joined_spellings_are_apart table_bytes (TableFits shape.capacity) (tables_are_prefix_free shape.capacity most)
+    x.tables y.tables r s as_many (prefix_free_tables_fit shape x fits_x) (prefix_free_tables_fit shape y fits_y)
     position.1 in
-    (same_snapshot x y (fits_x.capacity_is ∙ sym fits_y.capacity_is) position.0 tables.0, tables.1)
+    (same_snapshot x y shapes position.0 tables.0, tables.1)
   where
-    same_snapshot : (x y : SnapshotValue) → x.capacity ≡ y.capacity → x.position ≡ y.position → x.tables ≡ y.tables → x ≡ y
-    same_snapshot x y capacity position tables =
-        ap (λ (c : ℕ). record { capacity = c; position = x.position; tables = x.tables }) capacity
-        ∙ ap (λ (p : ℕ). record { capacity = y.capacity; position = p; tables = x.tables }) position
-        ∙ ap (λ (t : List (List Entry)). record { capacity = y.capacity; position = y.position; tables = t }) tables
+    same_snapshot : (x y : SnapshotValue) → x.shape ≡ y.shape → x.position ≡ y.position → x.tables ≡ y.tables → x ≡ y
+    same_snapshot x y shape position tables =
+        ap (λ (s : TableShape). record { shape = s; position = x.position; tables = x.tables }) shape
+        ∙ ap (λ (p : ℕ). record { shape = y.shape; position = p; tables = x.tables }) position
+        ∙ ap (λ (t : List (List Entry)). record { shape = y.shape; position = y.position; tables = t }) tables

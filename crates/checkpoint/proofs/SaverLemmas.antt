@@ -12,6 +12,8 @@ use Rattle.checkpoint.specs.Store.{OpensOldOrNew, StoreOpensTo, newest_in, store
 use Rattle.checkpoint.specs.Saver.{SaverState, IsSafeSaver, saver_after, next_saved}
 use Rattle.checkpoint.proofs.StoreLemmas.{stores_open_old_or_new, stores_open_the_new, store_holds_new_body}
 use Rattle.checkpoint.proofs.StoreLemmas.{stores_are_ready}
+use Rattle.checkpoint.specs.Header.{settings_shape}
+use Rattle.shard_state.specs.{TableShape}
 
 -- the other slot is one of two
 pub saver_slot_is_small : (slot : ℕ) → other_slot_of slot < 2
@@ -20,18 +22,18 @@ saver_slot_is_small (suc slot) = omega arith
 
 -- the body that was made for the next save
 pub saver_makes_next_body : (saver : SaverState) (cut : CutValue) (sequence : ℕ) (digest bytes body : List ℕ)
-    → sequence ≡ saver.sequence → digest ≡ saver.digest → HasCoreShape saver.settings.shards saver.settings.capacity cut
+    → sequence ≡ saver.sequence → digest ≡ saver.digest → HasCoreShape saver.settings.shards (settings_shape saver.settings) cut
     → bytes ≡ body
-    → IsBody (length cut.shards) cut.capacity (record { sequence = sequence + 1; digest = digest; cut = cut }) body
-    → IsBody saver.settings.shards saver.settings.capacity (next_saved saver cut) bytes
+    → IsBody (length cut.shards) cut.shape (record { sequence = sequence + 1; digest = digest; cut = cut }) body
+    → IsBody saver.settings.shards (settings_shape saver.settings) (next_saved saver cut) bytes
 saver_makes_next_body saver cut sequence digest bytes body same_sequence same_digest shape same is =
-    let counted = subst (λ (n : ℕ). IsBody (length cut.shards) cut.capacity (record { sequence = n + 1; digest = digest; cut = cut }) body)
+    let counted = subst (λ (n : ℕ). IsBody (length cut.shards) cut.shape (record { sequence = n + 1; digest = digest; cut = cut }) body)
     same_sequence is in
-    let digested = subst (λ (d : List ℕ). IsBody (length cut.shards) cut.capacity (record { sequence = saver.sequence + 1; digest = d; cut = cut }) body)
+    let digested = subst (λ (d : List ℕ). IsBody (length cut.shards) cut.shape (record { sequence = saver.sequence + 1; digest = d; cut = cut }) body)
     same_digest counted in
-    let shaped = subst (λ (n : ℕ). IsBody n cut.capacity (next_saved saver cut) body) shape.as_many digested in
-    let alike = subst (λ (n : ℕ). IsBody saver.settings.shards n (next_saved saver cut) body) shape.alike shaped in
-    subst (IsBody saver.settings.shards saver.settings.capacity (next_saved saver cut)) (sym same) alike
+    let shaped = subst (λ (n : ℕ). IsBody n cut.shape (next_saved saver cut) body) shape.as_many digested in
+    let alike = subst (λ (s : TableShape). IsBody saver.settings.shards s (next_saved saver cut) body) shape.alike shaped in
+    subst (IsBody saver.settings.shards (settings_shape saver.settings) (next_saved saver cut)) (sym same) alike
 
 pub saver_stands : (saver : SaverState) (possible : List ℕ → Type 0) (old : List ℕ) → IsSafeSaver saver possible old
     → IsStoreOfKnown old possible saver.slots
@@ -49,7 +51,7 @@ module _ (saver : SaverState) (possible : List ℕ → Type 0) (old : List ℕ) 
       subst (λ (n : ℕ). IsReadyForPut span n old) (sym is_slot) spanned
 
   module _ (cut : CutValue) (body : List ℕ)
-      (is : IsBody saver.settings.shards saver.settings.capacity (next_saved saver cut) body) where
+      (is : IsBody saver.settings.shards (settings_shape saver.settings) (next_saved saver cut) body) where
     pub saver_may_leave : (image : List ℕ) → PutMayLeave span slot body old image → OpensOldOrNew saver.settings old (next_saved saver cut) image
     saver_may_leave image may =
         let known = stands.is_known in

@@ -22,6 +22,7 @@ use Rattle.checkpoint.specs.Store.{PutsOpenNew}
 use Rattle.checkpoint.specs.Store.{AreReady, SlotsHoldOne, OpenToOne}
 use Rattle.checkpoint.proofs.BodyPartLemmas.{body_parts_fit_span, body_parts_are_long}
 use Rattle.checkpoint.proofs.OneBodyLemmas.{one_body_is_short, one_body_spells_one_value}
+use Rattle.checkpoint.specs.Header.{settings_shape}
 
 -- a slot with the same content holds the same
 store_slot_holds_same : (settings : StoreSettings) (slot : ℕ) (old image : List ℕ) (held : Option SavedValue)
@@ -32,7 +33,7 @@ store_slot_holds_same settings slot old image (Some saved) same whole = (whole.0
 
 -- a slot that a put was to write holds what it held, nothing, or the new body
 store_slot_may_hold_new : (settings : StoreSettings) (slot : ℕ) (saved : SavedValue) (body old image : List ℕ) (held : Option SavedValue)
-    → IsBody settings.shards settings.capacity saved body → SlotHolds settings slot old held
+    → IsBody settings.shards (settings_shape settings) saved body → SlotHolds settings slot old held
     → PutMayLeave (span_of settings) slot body old image
     → SlotHolds settings slot image held ⊎ (SlotHolds settings slot image None ⊎ SlotHolds settings slot image (Some saved))
 store_slot_may_hold_new settings slot saved body old image held is holds may =
@@ -104,7 +105,7 @@ store_replaces_second (Some one) (Some two) saved free lt = by_test (nat_lt one.
 
 -- slot 0 of a sound store is written: the image is as the old store, or the slot is closed, or holds the new body
 store_with_first_written : (settings : StoreSettings) (saved : SavedValue) (body old image : List ℕ) (first second : Option SavedValue)
-    → StoreHolds settings old first second → IsNotNewest 0 first second → IsBody settings.shards settings.capacity saved body
+    → StoreHolds settings old first second → IsNotNewest 0 first second → IsBody settings.shards (settings_shape settings) saved body
     → store_sequence (newest_in first second) < saved.sequence → PutMayLeave (span_of settings) 0 body old image
     → OpensOldOrNew settings old saved image
 store_with_first_written settings saved body old image first second holds free is lt may =
@@ -119,7 +120,7 @@ store_with_first_written settings saved body old image first second holds free i
     (store_slot_may_hold_new settings 0 saved body old image first is holds.first_slot may)
 
 store_with_second_written : (settings : StoreSettings) (saved : SavedValue) (body old image : List ℕ) (first second : Option SavedValue)
-    → StoreHolds settings old first second → IsNotNewest 1 first second → IsBody settings.shards settings.capacity saved body
+    → StoreHolds settings old first second → IsNotNewest 1 first second → IsBody settings.shards (settings_shape settings) saved body
     → store_sequence (newest_in first second) < saved.sequence → PutMayLeave (span_of settings) 1 body old image
     → OpensOldOrNew settings old saved image
 store_with_second_written settings saved body old image first second holds free is lt may =
@@ -144,7 +145,7 @@ stores_open_old_or_new settings (suc (suc slot)) saved body old image first seco
 -- once a put is done, the slot is the newest, and holds the new body
 pub store_holds_new_body : (settings : StoreSettings) (slot : ℕ) (saved : SavedValue) (body old image : List ℕ)
     (first second : Option SavedValue) → slot < 2 → StoreHolds settings old first second → IsNotNewest slot first second
-    → IsBody settings.shards settings.capacity saved body → store_sequence (newest_in first second) < saved.sequence
+    → IsBody settings.shards (settings_shape settings) saved body → store_sequence (newest_in first second) < saved.sequence
     → IsPut (span_of settings) slot body old image → HasNewest settings slot saved image
 store_holds_new_body settings zero saved body old image first second within holds free is lt put =
     let replaced = store_replaces_first first second saved free lt in
@@ -246,7 +247,7 @@ store_slot_holds_one settings slot image (Some saved) (Some other_one) are holds
     let whole : Whole holds.0 ≡ Whole holds_again.0 = sym holds.1 ∙ holds_again.1 in
     let same : holds.0 ≡ holds_again.0 = cc whole in
     ap Some (one_body_spells_one_value settings saved other_one holds.0 are holds.2
-    (subst (IsBody settings.shards settings.capacity other_one) (sym same) holds_again.2))
+    (subst (IsBody settings.shards (settings_shape settings) other_one) (sym same) holds_again.2))
 
 pub stores_hold_one : SlotsHoldOne
 stores_hold_one settings image first second again other_one are holds holds_again = (
@@ -262,19 +263,19 @@ stores_open_to_one settings image opened again are opens opens_again =
 
 -- a body begins with its length
 store_body_says_length : (settings : StoreSettings) (saved : SavedValue) (body : List ℕ) → AreSettings settings
-    → IsBody settings.shards settings.capacity saved body → number_at 0 body ≡ length body
+    → IsBody settings.shards (settings_shape settings) saved body → number_at 0 body ≡ length body
 unfolding number_at number_bytes
 store_body_says_length settings saved body are is =
-    let long = body_parts_are_long settings.shards settings.capacity saved body is in
+    let long = body_parts_are_long settings.shards (settings_shape settings) saved body is in
     let short = one_body_is_short settings saved body are is in
     let count = 8 + length (content_bytes saved) in
     ap (big_from 0 8) is.spelled ∙ big_number-reads_back 8 count (content_bytes saved) (omega (arith, long.1, short)) ∙ sym long.1
 
 pub store_has_room_for_body : BodiesFit
 store_has_room_for_body settings saved body are is =
-    let long = body_parts_are_long settings.shards settings.capacity saved body is in
+    let long = body_parts_are_long settings.shards (settings_shape settings) saved body is in
     record {
       least = omega (arith, long.0);
-      most = body_parts_fit_span settings.shards settings.capacity saved body is;
+      most = body_parts_fit_span settings.shards (settings_shape settings) saved body is;
       says = store_body_says_length settings saved body are is;
     }

@@ -4,11 +4,11 @@ use Rattle.std.specs.Prelude.{ℕ, ◌≡◌, ◌+◌, ◌^◌, ◌<◌, ◌≤�
 use Rattle.std.specs.List.{flat_map}
 use Rattle.space_saving.specs.declared.entry.Entry.{Entry}
 use Rattle.space_saving.specs.{table_total}
-use Rattle.shard_state.specs.{IsCut, SnapshotValue}
+use Rattle.shard_state.specs.{IsCut, SnapshotValue, TableShape}
 use Rattle.checkpoint.specs.Numbers.{number_bytes}
 use Rattle.checkpoint.specs.Saved.{SavedValue}
 use Rattle.checkpoint.specs.declared.settings.StoreSettings.{StoreSettings}
-use Rattle.checkpoint.specs.Header.{AreSettings}
+use Rattle.checkpoint.specs.Header.{AreSettings, settings_shape}
 
 -- the greatest sequence number of a body
 abbrev pub greatest_sequence : ℕ
@@ -47,28 +47,28 @@ HasShortKeys entries = All (λ entry. entry.key < 2 ^ 64) entries
 abbrev pub KeysFit : SnapshotValue → Type 0
 KeysFit snapshot = All HasShortKeys snapshot.tables
 
--- what may be saved in a store of this many shards and this capacity
-pub record IsSaved (shards capacity : ℕ) (saved : SavedValue) : Type 0 where
+-- what may be saved in a store of this many shards and of tables of this shape
+pub record IsSaved (shards : ℕ) (shape : TableShape) (saved : SavedValue) : Type 0 where
   pub sequenced : 1 ≤ saved.sequence
   pub early : saved.sequence ≤ greatest_sequence
   pub digest : length saved.digest ≡ digest_length
-  pub shape : length saved.cut.shards ≡ shards
-  pub alike : saved.cut.capacity ≡ capacity
+  pub as_many : length saved.cut.shards ≡ shards
+  pub alike : saved.cut.shape ≡ shape
   pub cut : IsCut saved.cut
   pub keys : All KeysFit saved.cut.shards
 
--- the bytes are a body that spells this, in a store of this many shards and this capacity
-pub record IsBody (shards capacity : ℕ) (saved : SavedValue) (bytes : List ℕ) : Type 0 where
-  pub is_saved : IsSaved shards capacity saved
+-- the bytes are a body that spells this, in a store of this many shards and of tables of this shape
+pub record IsBody (shards : ℕ) (shape : TableShape) (saved : SavedValue) (bytes : List ℕ) : Type 0 where
+  pub is_saved : IsSaved shards shape saved
   pub spelled : bytes ≡ body_bytes saved
 
 -- no body begins another one: bodies that begin the same bytes are the same
 abbrev pub AreApart : Type 0
 AreApart = (settings others : StoreSettings) (saved other : SavedValue) (body second rest after : List ℕ)
-    → AreSettings settings → AreSettings others → IsBody settings.shards settings.capacity saved body
-    → IsBody others.shards others.capacity other second → body ++ rest ≡ second ++ after → body ≡ second
+    → AreSettings settings → AreSettings others → IsBody settings.shards (settings_shape settings) saved body
+    → IsBody others.shards (settings_shape others) other second → body ++ rest ≡ second ++ after → body ≡ second
 
 -- under the settings of a store a body spells one sequence, one digest and one cut
 abbrev pub SpellOneThing : Type 0
 SpellOneThing = (settings : StoreSettings) (saved other : SavedValue) (body : List ℕ) → AreSettings settings
-    → IsBody settings.shards settings.capacity saved body → IsBody settings.shards settings.capacity other body → saved ≡ other
+    → IsBody settings.shards (settings_shape settings) saved body → IsBody settings.shards (settings_shape settings) other body → saved ≡ other

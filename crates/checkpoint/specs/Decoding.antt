@@ -2,7 +2,7 @@
 use Rattle.std.specs.Prelude.{ℕ, ◌≡◌, ◌^◌, ◌<◌, List, ◌++◌, length, All}
 use Rattle.space_saving.specs.declared.entry.Entry.{Entry}
 use Rattle.space_saving.specs.{AreTableEntries}
-use Rattle.shard_state.specs.{SnapshotValue, IsSnapshot}
+use Rattle.shard_state.specs.{SnapshotValue, IsSnapshot, TableShape}
 use Rattle.checkpoint.specs.Body.{HasShortKeys, KeysFit}
 
 -- bytes begin with the spelling of a value that fits, and go on with the rest
@@ -30,8 +30,8 @@ pub record TableFits (capacity : ℕ) (entries : List Entry) : Type 0 where
   pub are_entries : AreTableEntries capacity entries
   pub keys : HasShortKeys entries
 
--- a snapshot of this capacity, whose keys fit 8 bytes
-pub record SnapshotFits (capacity : ℕ) (snapshot : SnapshotValue) : Type 0 where
+-- a snapshot of this shape, whose keys fit 8 bytes
+pub record SnapshotFits (shape : TableShape) (snapshot : SnapshotValue) : Type 0 where
   pub is_snapshot : IsSnapshot snapshot
-  pub capacity_is : snapshot.capacity ≡ capacity
+  pub shape_is : snapshot.shape ≡ shape
   pub keys : KeysFit snapshot

@@ -1,10 +1,11 @@
 -- The settings of a store, and its header.
-use Rattle.std.specs.Prelude.{ℕ, ◌+◌, ◌≤◌, List, [], ◌∷◌, ◌++◌, replicate}
+use Rattle.std.specs.Prelude.{ℕ, ◌≤◌, List, [], ◌∷◌, ◌++◌, replicate}
 use Rattle.byteorder.specs.Endian.{big_bytes}
 use Rattle.prefix_lattice.specs.{shard_limit}
+use Rattle.prefix_lattice.specs.declared.grain.Grain.TheVariants.{Byte}
 use Rattle.deal_rules.specs.declared.deal_kind.DealKind.{DealKind}
 use Rattle.deal_rules.specs.declared.deal_kind.DealKind.TheVariants.{RoundRobin, BySource, Free}
-use Rattle.shard_state.specs.{least_capacity, most_capacity}
+use Rattle.shard_state.specs.{TableShape, least_capacity, most_capacity}
 use Rattle.frame_records.specs.declared.weigh.Weigh.{Weigh}
 use Rattle.frame_records.specs.declared.weigh.Weigh.TheVariants.{Bytes, Packets}
 use Rattle.checkpoint.specs.declared.settings.StoreSettings.{StoreSettings}
@@ -15,6 +16,10 @@ pub record AreSettings (settings : StoreSettings) : Type 0 where
   pub few : settings.shards ≤ shard_limit
   pub least : least_capacity ≤ settings.capacity
   pub most : settings.capacity ≤ most_capacity
+
+-- the shape of the tables of a store, which are by whole bytes
+abbrev pub settings_shape : StoreSettings → TableShape
+settings_shape settings = record { grain = Byte; capacity = settings.capacity }
 
 -- the byte of a way of weighing
 abbrev pub weighing_byte : Weigh → ℕ

@@ -12,7 +12,7 @@ pub mod Decoding
 pub use Rattle.checkpoint.specs.Body.{IsBody, IsSaved, greatest_sequence}
 pub use Rattle.checkpoint.specs.Saved.{SavedValue, saved_value}
 unfoldable pub use Rattle.checkpoint.specs.Digest.{lists_digest}
-pub use Rattle.checkpoint.specs.Header.{AreSettings, settings_header}
+pub use Rattle.checkpoint.specs.Header.{AreSettings, settings_header, settings_shape}
 pub use Rattle.checkpoint.specs.Lengths.{span_of}
 pub use Rattle.checkpoint.specs.Store.{StoreBelongs, HasNewest, IsStoreOf}
 pub use Rattle.checkpoint.specs.Store.{OpensOldOrNew, StoreOpensTo, SlotHolds}

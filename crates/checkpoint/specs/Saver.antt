@@ -3,6 +3,7 @@ use Rattle.std.specs.Prelude.{ℕ, ◌≡◌, ◌+◌, ◌<◌, true, false, Lis
 use Rattle.shard_state.specs.{CutValue, cut_positions}
 use Rattle.slot_disk.specs.{IfImageKnown, IsOnlyImage, KnownSlotsState, known_slot_open, other_slot_of}
 use Rattle.slot_disk.specs.{known_slots_of, after_opening}
+use Rattle.checkpoint.specs.Header.{settings_shape}
 use Rattle.checkpoint.specs.declared.settings.StoreSettings.{StoreSettings}
 use Rattle.checkpoint.specs.declared.newest.Newest.{Newest}
 use Rattle.checkpoint.specs.Saved.{SavedValue}
@@ -24,7 +25,7 @@ pub record SaverState : Type 0 where
 abbrev pub IsNewestSave : StoreSettings → KnownSlotsState → Option Newest → Type 0
 IsNewestSave settings slots None = (slots.first_open ≡ false) × (slots.second_open ≡ false)
 IsNewestSave settings slots (Some newest) = (newest.slot < 2) × (known_slot_open slots newest.slot ≡ true)
-    × IsSaved settings.shards settings.capacity (saved_in newest)
+    × IsSaved settings.shards (settings_shape settings) (saved_in newest)
 
 -- the saver of a store with these gates, this digest and this newest slot
 abbrev pub saver_of : KnownSlotsState → StoreSettings → List ℕ → Option Newest → SaverState

@@ -5,6 +5,7 @@ use Rattle.prefix_lattice.specs.{RecordValue}
 use Rattle.shard_state.specs.{CutRepresents, cut_positions}
 use Rattle.slot_disk.specs.{Closed, Whole, slot_content, front_bytes, slot_header, other_slot_of}
 use Rattle.slot_disk.specs.{FitsSlot, IsPut, IsReadyForPut, PutMayLeave, closed_known_slots, known_slots_of}
+use Rattle.checkpoint.specs.Header.{settings_shape}
 use Rattle.checkpoint.specs.declared.settings.StoreSettings.{StoreSettings}
 use Rattle.checkpoint.specs.Header.{settings_header, AreSettings}
 use Rattle.checkpoint.specs.Lengths.{span_of}
@@ -16,7 +17,7 @@ use Rattle.checkpoint.specs.Digest.{lists_digest}
 abbrev pub SlotHolds : StoreSettings → ℕ → List ℕ → Option SavedValue → Type 0
 SlotHolds settings slot image None = slot_content (span_of settings) slot image ≡ Closed
 SlotHolds settings slot image (Some saved) =
-    (body : List ℕ) × (slot_content (span_of settings) slot image ≡ Whole body) × IsBody settings.shards settings.capacity saved body
+    (body : List ℕ) × (slot_content (span_of settings) slot image ≡ Whole body) × IsBody settings.shards (settings_shape settings) saved body
 
 -- the bytes are a store with these settings in its header, and its slots hold these two
 pub record StoreHolds (settings : StoreSettings) (image : List ℕ) (first second : Option SavedValue) : Type 0 where
@@ -114,7 +115,7 @@ FormatIsEmpty = (settings : StoreSettings) (image : List ℕ) → front_bytes �
 -- a body fits a slot of the settings' span
 abbrev pub BodiesFit : Type 0
 BodiesFit = (settings : StoreSettings) (saved : SavedValue) (body : List ℕ) → AreSettings settings
-    → IsBody settings.shards settings.capacity saved body → FitsSlot (span_of settings) body
+    → IsBody settings.shards (settings_shape settings) saved body → FitsSlot (span_of settings) body
 
 -- a sound store is ready for a put into a slot that isn't the newest
 abbrev pub AreReady : Type 0
@@ -127,12 +128,12 @@ AreReady = (settings : StoreSettings) (slot : ℕ) (image : List ℕ) (first sec
 abbrev pub PutsOpenEither : Type 0
 PutsOpenEither = (settings : StoreSettings) (slot : ℕ) (saved : SavedValue) (body old image : List ℕ)
     (first second : Option SavedValue) → slot < 2 → StoreHolds settings old first second → IsNotNewest slot first second
-    → IsBody settings.shards settings.capacity saved body → store_sequence (newest_in first second) < saved.sequence
+    → IsBody settings.shards (settings_shape settings) saved body → store_sequence (newest_in first second) < saved.sequence
     → PutMayLeave (span_of settings) slot body old image → OpensOldOrNew settings old saved image
 
 -- once such a put is done, the store opens to the new body
 abbrev pub PutsOpenNew : Type 0
 PutsOpenNew = (settings : StoreSettings) (slot : ℕ) (saved : SavedValue) (body old image : List ℕ)
     (first second : Option SavedValue) → slot < 2 → StoreHolds settings old first second → IsNotNewest slot first second
-    → IsBody settings.shards settings.capacity saved body → store_sequence (newest_in first second) < saved.sequence
+    → IsBody settings.shards (settings_shape settings) saved body → store_sequence (newest_in first second) < saved.sequence
     → IsPut (span_of settings) slot body old image → StoreOpensTo settings image (Some saved)

@@ -5,17 +5,17 @@ ghost use Rattle.std.specs.Prelude.{IsErrOf, vec_capacity};
 ghost use Rattle.std.specs.List.{flat_map};
 ghost use Rattle.space_saving.specs.declared.entry.Entry.{Entry};
 ghost use Rattle.prefix_lattice.specs.{node_count};
-ghost use Rattle.shard_state.specs.{IsCut, SnapshotValue, least_capacity, most_capacity};
-ghost use Rattle.checkpoint.specs.Header.{AreSettings};
+ghost use Rattle.shard_state.specs.{IsCut, SnapshotValue, least_capacity, most_capacity, most_grain_capacity};
+ghost use Rattle.checkpoint.specs.Header.{AreSettings, settings_shape};
 ghost use Rattle.checkpoint.specs.Saved.{SavedValue, saved_value};
 ghost use Rattle.checkpoint.specs.Body.{IsBody, entry_bytes, table_bytes, snapshot_bytes};
 ghost use Rattle.checkpoint.specs.Lengths.{entry_span};
 ghost use Rattle.checkpoint.specs.Decoding.{ListFits, BeginsWith, BeginsWithNone};
 ghost use Rattle.checkpoint.specs.Decoding.{EntryFits, SnapshotFits, TableFits};
 
-use crate::lengths::NODES;
 use crate::numbers::{first_count, first_digest, first_number};
 use crate::{DecodeFault, Saved, StoreSettings};
+use prefix_lattice::Grain;
 use shard_state::{Cut, Snapshot};
 use space_saving::{Entry, Flat};
 use std::alloc::Global;
@@ -31,9 +31,9 @@ const LAST_SEQUENCE: u64 = 1 << 62;
 /// Whatever the bytes say, memory is allocated for the tables of one cut and of one shard under the settings.
 pub fn decode(alloc: Global, bytes: &[u8], settings: &StoreSettings) -> Result<Saved, DecodeFault>
     requires { AreSettings settings.now }
-    ensures body { IfOk result (λ saved. IsBody settings.now.shards settings.now.capacity
+    ensures body { IfOk result (λ saved. IsBody settings.now.shards (settings_shape settings.now)
         (saved_value saved) bytes.now) }
-    ensures damaged { IsErrOf result DecodeFault.Damaged → (saved : SavedValue) → IsBody settings.now.shards settings.now.capacity saved bytes.now → ⊥ }
+    ensures damaged { IsErrOf result DecodeFault.Damaged → (saved : SavedValue) → IsBody settings.now.shards (settings_shape settings.now) saved bytes.now → ⊥ }
 {
     if bytes.len() < 48 {
         return Err(DecodeFault::Damaged);
@@ -62,11 +62,11 @@ pub fn decode(alloc: Global, bytes: &[u8], settings: &StoreSettings) -> Result<S
 fn read_cut(alloc: Global, settings: &StoreSettings, bytes: &[u8]) -> Result<Cut, DecodeFault>
     requires { AreSettings settings.now }
     ensures cut { IfOk result IsCut }
-    ensures capacity { IfOk result (λ cut. cut.capacity ≡ settings.now.capacity) }
+    ensures shape { IfOk result (λ cut. cut.shape ≡ settings_shape settings.now) }
     ensures read { IfOk result (λ cut. BeginsWith (flat_map snapshot_bytes)
-        (ListFits (SnapshotFits settings.now.capacity) settings.now.shards) bytes.now cut.shards []) }
+        (ListFits (SnapshotFits (settings_shape settings.now)) settings.now.shards) bytes.now cut.shards []) }
     ensures damaged { IsErrOf result DecodeFault.Damaged → (shards : List SnapshotValue) → BeginsWith (flat_map snapshot_bytes)
-        (ListFits (SnapshotFits settings.now.capacity) settings.now.shards) bytes.now shards [] → ⊥ }
+        (ListFits (SnapshotFits (settings_shape settings.now)) settings.now.shards) bytes.now shards [] → ⊥ }
 {
     let (cut, rest) = read_snapshots(alloc, settings, bytes)?;
     if !rest.is_empty() {
@@ -82,16 +82,16 @@ fn read_snapshots<'a>(
     bytes: &'a [u8],
 ) -> Result<(Cut, &'a [u8]), DecodeFault>
     requires { AreSettings settings.now }
-    ensures capacity { IfOk result (λ read. read.0.capacity ≡ settings.now.capacity) }
+    ensures shape { IfOk result (λ read. read.0.shape ≡ settings_shape settings.now) }
     ensures read { IfOk result (λ read. BeginsWith (flat_map snapshot_bytes)
-        (ListFits (SnapshotFits settings.now.capacity) settings.now.shards) bytes.now read.0.shards read.1.now) }
+        (ListFits (SnapshotFits (settings_shape settings.now)) settings.now.shards) bytes.now read.0.shards read.1.now) }
     ensures damaged { IsErrOf result DecodeFault.Damaged →
-        BeginsWithNone (flat_map snapshot_bytes) (ListFits (SnapshotFits settings.now.capacity) settings.now.shards) bytes.now }
+        BeginsWithNone (flat_map snapshot_bytes) (ListFits (SnapshotFits (settings_shape settings.now)) settings.now.shards) bytes.now }
 {
-    let mut cut = Cut::with_room(alloc, settings.shards, settings.capacity)?;
+    let mut cut = Cut::with_room(alloc, Grain::Byte, settings.shards, settings.capacity)?;
     let mut rest = bytes;
     for shard in 0..settings.shards {
-        let (snapshot, after) = read_snapshot(alloc, settings.capacity, rest)?;
+        let (snapshot, after) = read_snapshot(alloc, Grain::Byte, settings.capacity, rest)?;
         cut.put_shard(shard, snapshot);
         rest = after;
     }
@@ -101,43 +101,49 @@ fn read_snapshots<'a>(
 // The snapshot that these bytes begin with, and the bytes after it.
 fn read_snapshot(
     alloc: Global,
+    grain: Grain,
     capacity: u32,
     bytes: &[u8],
 ) -> Result<(Snapshot, &[u8]), DecodeFault>
     requires least { least_capacity ≤ capacity }
     requires most { capacity ≤ most_capacity }
-    ensures read { IfOk result (λ read. BeginsWith snapshot_bytes (SnapshotFits capacity) bytes.now read.0 read.1.now) }
-    ensures damaged { IsErrOf result DecodeFault.Damaged → BeginsWithNone snapshot_bytes (SnapshotFits capacity) bytes.now }
+    requires of_grain { capacity ≤ most_grain_capacity grain }
+    ensures read { IfOk result (λ read. BeginsWith snapshot_bytes (SnapshotFits (record { grain = grain; capacity = capacity }))
+        bytes.now read.0 read.1.now) }
+    ensures damaged { IsErrOf result DecodeFault.Damaged
+        → BeginsWithNone snapshot_bytes (SnapshotFits (record { grain = grain; capacity = capacity })) bytes.now }
 {
     if bytes.len() < 8 {
         return Err(DecodeFault::Damaged);
     }
     let (position, rest) = first_number(bytes);
-    let (tables, rest) = read_tables(alloc, capacity, rest)?;
-    let Some(snapshot) = Snapshot::from_tables(position, tables) else {
+    let (tables, rest) = read_tables(alloc, grain, capacity, rest)?;
+    let Some(snapshot) = Snapshot::from_tables(grain, position, tables) else {
         return Err(DecodeFault::Damaged);
     };
     let _kept = snapshot.position();
     Ok((snapshot, rest))
 }
 
-// The 25 tables that these bytes begin with, and the bytes after them.
+// The tables of a grain that these bytes begin with, and the bytes after them.
 fn read_tables(
     alloc: Global,
+    grain: Grain,
     capacity: u32,
     bytes: &[u8],
 ) -> Result<(Vec<Flat>, &[u8]), DecodeFault>
     requires least { least_capacity ≤ capacity }
     requires most { capacity ≤ most_capacity }
     ensures capacity { IfOk result (λ read. All (λ table. table.capacity ≡ capacity) read.0.items) }
-    ensures read { IfOk result (λ read. BeginsWith (flat_map table_bytes) (ListFits (TableFits capacity) node_count)
+    ensures read { IfOk result (λ read. BeginsWith (flat_map table_bytes) (ListFits (TableFits capacity) (node_count grain))
         bytes.now (map (λ table. table.entries) read.0.items) read.1.now) }
     ensures damaged { IsErrOf result DecodeFault.Damaged →
-        BeginsWithNone (flat_map table_bytes) (ListFits (TableFits capacity) node_count) bytes.now }
+        BeginsWithNone (flat_map table_bytes) (ListFits (TableFits capacity) (node_count grain)) bytes.now }
 {
-    let mut tables = Vec::with_capacity(alloc, usize::from(NODES))?;
+    let nodes = grain.nodes();
+    let mut tables = Vec::with_capacity(alloc, usize::from(nodes))?;
     let mut rest = bytes;
-    for _index in 0..NODES {
+    for _index in 0..nodes {
         let (table, after) = read_table(alloc, capacity, rest)?;
         tables.push(table)?;
         rest = after;

@@ -9,7 +9,7 @@ ghost use Rattle.checkpoint.specs.Body.{entry_bytes, table_bytes, snapshot_bytes
 ghost use Rattle.checkpoint.specs.Body.{KeysFit};
 ghost use Rattle.checkpoint.specs.Body.{IsBody, greatest_sequence};
 
-use crate::lengths::{NODES, body_length};
+use crate::lengths::body_length;
 use crate::numbers::{push_count, push_number};
 use prefix_lattice::Node;
 use shard_state::{Cut, Snapshot};
@@ -27,9 +27,9 @@ pub fn encode(
     requires sequenced { 1 ≤ sequence }
     requires early { sequence ≤ greatest_sequence }
     requires few { length cut.now.shards ≤ shard_limit }
-    ensures body { IfOk result (λ body. IsBody (length cut.now.shards) cut.now.capacity
+    ensures body { IfOk result (λ body. IsBody (length cut.now.shards) cut.now.shape
         (record { sequence = sequence; digest = digest.now; cut = cut.now }) body.items) }
-    ensures fits { IfOk result (λ body. length body.items ≤ body_span (length cut.now.shards) cut.now.capacity) }
+    ensures fits { IfOk result (λ body. length body.items ≤ body_span (length cut.now.shards) cut.now.shape) }
 {
     let length = body_length(cut);
     let mut body = Vec::with_capacity(alloc, length)?;
@@ -66,8 +66,9 @@ fn push_tables(out: &mut Vec<u8>, snapshot: &Snapshot) -> Result<(), AllocError>
     ensures spelled { OnOk result (out.new.items ≡ out.old.items ++ flat_map table_bytes snapshot.now.tables) }
     ensures keys { OnOk result (KeysFit snapshot.now) }
 {
-    for index in 0..NODES {
-        let node = Node::from_index(index).unwrap();
+    let grain = snapshot.grain();
+    for index in 0..grain.nodes() {
+        let node = Node::from_index(grain, index).unwrap();
         push_table(out, snapshot.table(node))?;
     }
     Ok(())

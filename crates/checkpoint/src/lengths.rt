@@ -2,7 +2,7 @@
 
 ghost use Rattle.std.specs.Prelude.{◌≡◌, ◌+◌, ◌*◌, ◌≤◌, length};
 ghost use Rattle.std.specs.List.{flat_map};
-ghost use Rattle.prefix_lattice.specs.{shard_limit};
+ghost use Rattle.prefix_lattice.specs.{finest_grain, shard_limit};
 ghost use Rattle.shard_state.specs.{IsCut, IsSnapshot};
 ghost use Rattle.space_saving.specs.{most_capacity};
 ghost use Rattle.checkpoint.specs.Body.{table_bytes, snapshot_bytes};
@@ -11,9 +11,6 @@ ghost use Rattle.checkpoint.specs.Lengths.{front_span, snapshot_span, table_span
 use prefix_lattice::Node;
 use shard_state::{Cut, Snapshot};
 use space_saving::Flat;
-
-/// The number of nodes of the lattice, which is also the number of tables of a shard.
-pub(crate) const NODES: u8 = 25;
 
 /// How many bytes the body of a cut of at most 16 shards has.
 pub(crate) fn body_length(cut: &Cut) -> usize
@@ -31,11 +28,12 @@ pub(crate) fn body_length(cut: &Cut) -> usize
 fn snapshot_length(snapshot: &Snapshot) -> usize
     requires { IsSnapshot snapshot.now }
     ensures is { result ≡ length (snapshot_bytes snapshot.now) }
-    ensures bounded { result ≤ snapshot_span most_capacity }
+    ensures bounded { result ≤ snapshot_span (record { grain = finest_grain; capacity = most_capacity }) }
 {
     let mut length = 8;
-    for index in 0..NODES {
-        let node = Node::from_index(index).unwrap();
+    let grain = snapshot.grain();
+    for index in 0..grain.nodes() {
+        let node = Node::from_index(grain, index).unwrap();
         length += table_length(snapshot.table(node));
     }
     length

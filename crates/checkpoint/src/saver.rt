@@ -5,6 +5,7 @@ ghost use Rattle.outside_io.specs.{FaultRose};
 ghost use Rattle.hhh_report.specs.{AreNotPast};
 ghost use Rattle.shard_state.specs.{HasCoreShape, cut_positions};
 ghost use Rattle.slot_disk.specs.{IfImageKnown, CrashLeaves, other_slot_of};
+ghost use Rattle.checkpoint.specs.Header.{settings_shape};
 ghost use Rattle.checkpoint.specs.Header.{AreSettings, settings_header};
 ghost use Rattle.checkpoint.specs.Body.{greatest_sequence};
 ghost use Rattle.checkpoint.specs.Store.{OpensOldOrNew, StoreOpensTo};
@@ -93,7 +94,7 @@ impl Saver {
     pub fn save<D: Disk>(self, alloc: Global, disk: &mut D, cut: &Cut) -> Result<Saver, SaveFault>
         requires early { self.sequence < greatest_sequence }
         requires stands { DiskMatches (D.reads disk.old) (D.image_now disk.old) self }
-        requires shape { HasCoreShape self.settings.shards self.settings.capacity cut.now }
+        requires shape { HasCoreShape self.settings.shards (settings_shape self.settings) cut.now }
         requires no_earlier { AreNotPast self.positions (cut_positions cut.now) }
         ensures known { is_some (D.reads disk.new) ≡ is_some (D.reads disk.old) }
         ensures saved { IfOk result (λ saver. saver ≡ saver_after self cut.now) }

@@ -6,6 +6,7 @@ ghost use Rattle.checkpoint.specs.Lengths.{span_of};
 
 use deal_rules::DealKind;
 use frame_records::Weigh;
+use prefix_lattice::Grain;
 
 /// What the header of a store names. Records that are weighed or dealt otherwise belong to another store.
 #[derive(Clone, Copy, Debug, PartialEq, Eq)]
@@ -28,5 +29,5 @@ pub fn span(settings: &StoreSettings) -> u64
     ensures bounded { result < 2 ^ 32 }
 {
     let table = 12 + 24 * u64::from(settings.capacity);
-    48 + u64::from(settings.shards) * (8 + 25 * table)
+    48 + u64::from(settings.shards) * (8 + u64::from(Grain::Byte.nodes()) * table)
 }

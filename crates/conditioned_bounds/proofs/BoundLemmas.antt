@@ -36,7 +36,7 @@ pub record EachBoundPart (P : PrefixValue → Type 0) (p : PrefixValue) (near sh
   pub lines : All P near
   pub meets : All P shared
 
-each_bound_part : (P : PrefixValue → Type 0) (p : PrefixValue) (near meets : List PrefixValue)
+pub each_bound_part : (P : PrefixValue → Type 0) (p : PrefixValue) (near meets : List PrefixValue)
     → All P (p ∷ (near ++ meets)) → EachBoundPart P p near meets
 each_bound_part P p near meets all =
     let rest : All P (near ++ meets) = All-tail P p (near ++ meets) all in

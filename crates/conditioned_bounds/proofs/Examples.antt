@@ -3,6 +3,7 @@ use Rattle.std.proofs.Common.{◌≡◌, ℕ, ◌≤◌, cond, List, [], ◌∷�
 use Rattle.std.proofs.lemmas.List.Elements.{All-from_recursion}
 use Rattle.prefix_lattice.specs.{RecordValue, PrefixValue, covers, prefix_weight, conditioned_weight}
 use Rattle.prefix_lattice.specs.{HoldsWeight, IsNarrow}
+use Rattle.prefix_lattice.proofs.Examples.{front}
 use Rattle.conditioned_bounds.specs.Bounds.{bound_of, prefixes_asked, HoldWeights, AreNarrow}
 use Rattle.conditioned_bounds.specs.Bounds.{AreWeights, sum_limit}
 
@@ -17,8 +18,9 @@ root = record { source = []; dest = [] }
 -- (10.0.0.0/8, 20.1.1.0/24), (10.1.0.0/16, 20.1.0.0/16) and (10.1.1.0/24, 20.0.0.0/8)
 abbrev stairs : List PrefixValue
 stairs =
-    record { source = 10 ∷ []; dest = 20 ∷ 1 ∷ 1 ∷ [] } ∷ record { source = 10 ∷ 1 ∷ []; dest = 20 ∷ 1 ∷ [] }
-    ∷ record { source = 10 ∷ 1 ∷ 1 ∷ []; dest = 20 ∷ [] } ∷ []
+    record { source = front 0x0a000000 8; dest = front 0x14010100 24 }
+    ∷ record { source = front 0x0a010000 16; dest = front 0x14010000 16 }
+    ∷ record { source = front 0x0a010100 24; dest = front 0x14000000 8 } ∷ []
 
 -- this number for each prefix that covers the packet
 abbrev where_covered : ℕ → PrefixValue → ℕ
@@ -35,7 +37,7 @@ wide_intervals_add_up = refl
 
 -- 2 - 9, of intervals that hold no weights
 pub bounds_may_be_below_zero : bound_of (λ prefix. 9) (λ prefix. 2) root
-    (record { source = 10 ∷ []; dest = [] } ∷ []) ≡ negsuc 6
+    (record { source = front 0x0a000000 8; dest = [] } ∷ []) ≡ negsuc 6
 bounds_may_be_below_zero = refl
 
 -- nothing is explained
@@ -43,8 +45,8 @@ pub without_lines_it_is_the_high : bound_of (where_covered 7) (where_covered 11)
 without_lines_it_is_the_high = refl
 
 -- the prefix, its line, and no meet
-pub asks_the_prefix_and_its_line : prefixes_asked root (record { source = 10 ∷ []; dest = [] } ∷ [])
-    ≡ root ∷ record { source = 10 ∷ []; dest = [] } ∷ []
+pub asks_the_prefix_and_its_line : prefixes_asked root (record { source = front 0x0a000000 8; dest = [] } ∷ [])
+    ≡ root ∷ record { source = front 0x0a000000 8; dest = [] } ∷ []
 asks_the_prefix_and_its_line = refl
 
 -- the root, its three stairs, and the two meets that are kept: all six cover the packet

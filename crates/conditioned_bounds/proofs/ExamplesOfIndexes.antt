@@ -8,8 +8,11 @@ use Rattle.std.specs.BTreeMap.{BTreeMap, is_at}
 use Rattle.std.specs.declared.alloc.Global.{Global}
 use Rattle.std.proofs.lemmas.Bool.{false≢true}
 use Rattle.prefix_lattice.proofs.ListLemmas.{Contains-list_head}
-use Rattle.prefix_lattice.specs.{PrefixValue, AreLeadingBytes, IsPrefix, node_of_prefix, strictly_under}
+use Rattle.prefix_lattice.proofs.Examples.{front}
+use Rattle.prefix_lattice.specs.{PrefixValue, AreLeadingBits, IsPrefix, node_of_prefix, strictly_under, finest_grain}
 use Rattle.prefix_lattice.specs.{prefix_code}
+use Rattle.prefix_lattice.specs.declared.grain.Grain.{Grain}
+use Rattle.prefix_lattice.specs.declared.grain.Grain.TheVariants.{Byte, Nibble}
 use Rattle.conditioned_bounds.specs.Uppers.{AreUpperCodes}
 use Rattle.conditioned_bounds.specs.Members.{member_limit, AreMembers}
 use Rattle.conditioned_bounds.specs.Numbers.{line_numbers, line_numbers_at, HaveRoom}
@@ -18,35 +21,39 @@ use Rattle.conditioned_bounds.specs.LineIndex.{root_line, indexed_line, AreIndex
 
 -- 10.1.0.0/16 20.0.0.0/8
 abbrev net : PrefixValue
-net = record { source = 10 ∷ 1 ∷ []; dest = 20 ∷ [] }
+net = record { source = front 0x0a010000 16; dest = front 0x14000000 8 }
 
 -- node 11 of the 25, and 10.1.0.0 and 20.0.0.0
-pub code_of_the_net : prefix_code net ≡ 11 * 2 ^ 64 + 0x0a01000014000000
+pub code_of_the_net : prefix_code Byte net ≡ 11 * 2 ^ 64 + 0x0a01000014000000
 code_of_the_net = refl
 
+-- among half bytes it is of node 38 of the 81
+pub code_of_the_net_by_half_bytes : prefix_code Nibble net ≡ 38 * 2 ^ 64 + 0x0a01000014000000
+code_of_the_net_by_half_bytes = refl
+
 -- 10.0.0.0/8 and 10.0.0.0/16 have the same address, and differ in their nodes
-pub nets_of_one_address_have_two_codes : prefix_code (record { source = 10 ∷ []; dest = [] })
-    ≢ prefix_code (record { source = 10 ∷ 0 ∷ []; dest = [] })
+pub nets_of_one_address_have_two_codes : prefix_code Byte (record { source = front 0x0a000000 8; dest = [] })
+    ≢ prefix_code Byte (record { source = front 0x0a000000 16; dest = [] })
 nets_of_one_address_have_two_codes same = omega (arith, same)
 
 no_upper : (source dest : List ℕ) → false ≡ strictly_under root_line (record { source = source; dest = dest })
 no_upper [] [] = refl
-no_upper [] (byte ∷ dest) = refl
-no_upper (byte ∷ source) dest = refl
+no_upper [] (bit ∷ dest) = refl
+no_upper (bit ∷ source) dest = refl
 
-root_is_prefix : IsPrefix root_line
+root_is_prefix : IsPrefix Byte root_line
 root_is_prefix =
-    let none : AreLeadingBytes [] = record { few = omega arith; bytes = λ place. omega arith } in
-    record { source = none; dest = none }
+    let none : AreLeadingBits [] = record { few = omega arith; bits = λ place. omega arith } in
+    record { source = none; dest = none; source_steps = refl; dest_steps = refl }
 
 -- nothing is above the root
-pub the_root_has_no_codes_above : AreUpperCodes root_line []
-the_root_has_no_codes_above = record {
+pub the_root_has_no_codes_above : (grain : Grain) → AreUpperCodes grain root_line []
+the_root_has_no_codes_above grain = record {
   distinct = λ i j d before within. absurd (omega arith);
   members = λ upper is. no_upper upper.source upper.dest;
 }
 
-pub the_root_is_not_above_itself : ¬ AreUpperCodes root_line (prefix_code root_line ∷ [])
+pub the_root_is_not_above_itself : ¬ AreUpperCodes Byte root_line (prefix_code Byte root_line ∷ [])
 the_root_is_not_above_itself above = false≢true (sym (above.members root_line root_is_prefix))
 
 pub limit_of_an_index : member_limit ≡ 2 ^ 24
@@ -60,10 +67,12 @@ no_members = record {
   coded = λ prefix there. absurd (omega (arith, there.1));
   found = λ prefix is there. absurd (false≢true there);
   nodes = λ k d within. absurd (omega arith);
+  finest = λ k d within. absurd (omega arith);
 }
 
 -- a member whose code is missing wouldn't be found
-pub a_member_has_its_code : ¬ AreMembers (root_line ∷ []) (record { keys = [] }) (node_of_prefix root_line ∷ [])
+pub a_member_has_its_code : ¬ AreMembers (root_line ∷ []) (record { keys = [] })
+    (node_of_prefix finest_grain root_line ∷ [])
 a_member_has_its_code are = false≢true (are.coded root_line (Contains-list_head root_line []))
 
 -- a map of one code, with the numbers that are kept under it
@@ -99,19 +108,22 @@ nothing_at : (kept : BTreeMap ℕ (Vec ℕ Global)) (code : ℕ) → kept.entrie
 nothing_at kept code is =
     ap (λ (entries : List (ℕ × Vec ℕ Global)). line_numbers (lookup (is_at (nat_cmp code)) entries)) is
 
-pub no_lines_are_indexed_by_nothing : (kept : BTreeMap ℕ (Vec ℕ Global)) → kept.entries ≡ [] → AreIndexed [] kept
-no_lines_are_indexed_by_nothing kept is = record {
+pub no_lines_are_indexed_by_nothing : (grain : Grain) (kept : BTreeMap ℕ (Vec ℕ Global)) → kept.entries ≡ []
+    → AreIndexed grain [] kept
+no_lines_are_indexed_by_nothing grain kept is = record {
   few = omega arith;
+  prefixes = λ k d within. absurd (omega arith);
   distinct = λ i j d before within. absurd (omega arith);
   numbers = λ code.
       subst (All (λ number. number < 0)) (sym (nothing_at kept code is)) (λ k d within. absurd (omega arith));
-  under = λ prefix is_prefix. ap (map (indexed_line [])) (nothing_at kept (prefix_code prefix) is);
+  under = λ prefix is_prefix. ap (map (indexed_line [])) (nothing_at kept (prefix_code grain prefix) is);
 }
 
 -- the root would miss the net under it
 pub a_line_is_not_indexed_by_nothing : (kept : BTreeMap ℕ (Vec ℕ Global)) → kept.entries ≡ []
-    → ¬ AreIndexed (net ∷ []) kept
+    → ¬ AreIndexed Byte (net ∷ []) kept
 a_line_is_not_indexed_by_nothing kept is are =
     let missed : 0 ≡ 1 =
-    ap length (sym (ap (map (indexed_line (net ∷ []))) (nothing_at kept (prefix_code root_line) is)) ∙ are.under root_line root_is_prefix) in
+    ap length (sym (ap (map (indexed_line (net ∷ []))) (nothing_at kept (prefix_code Byte root_line) is))
+    ∙ are.under root_line root_is_prefix) in
     omega (arith, missed)

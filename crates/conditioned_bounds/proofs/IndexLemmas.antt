@@ -12,6 +12,7 @@ use Rattle.std.proofs.lemmas.List.Elements.{All-push, All-weaker, All-head, All-
 use Rattle.std.proofs.lemmas.List.Elements.{filter_passes}
 use Rattle.std.proofs.lemmas.List.Sums.{length-filter, count_by-le-length}
 use Rattle.prefix_lattice.specs.{PrefixValue, IsPrefix, strictly_under, lines_under, closest, prefix_code}
+use Rattle.prefix_lattice.specs.declared.grain.Grain.{Grain}
 use Rattle.conditioned_bounds.specs.Uppers.{AreUpperCodes}
 use Rattle.conditioned_bounds.specs.Numbers.{line_numbers_at}
 use Rattle.conditioned_bounds.specs.LineIndex.{AreIndexed, indexed_line, root_line}
@@ -19,13 +20,15 @@ use Rattle.conditioned_bounds.specs.Members.{member_limit}
 use Rattle.conditioned_bounds.proofs.CodeLemmas.{AllPairs-push_code}
 
 -- lines are indexed by whatever keeps the same numbers
-pub index-same : (lines : List PrefixValue) (kept others : BTreeMap ℕ (Vec ℕ Global))
-    → ((code : ℕ) → line_numbers_at others code ≡ line_numbers_at kept code) → AreIndexed lines kept → AreIndexed lines others
-index-same lines kept others same are = record {
+pub index-same : (grain : Grain) (lines : List PrefixValue) (kept others : BTreeMap ℕ (Vec ℕ Global))
+    → ((code : ℕ) → line_numbers_at others code ≡ line_numbers_at kept code) → AreIndexed grain lines kept
+    → AreIndexed grain lines others
+index-same grain lines kept others same are = record {
   few = are.few;
+  prefixes = are.prefixes;
   distinct = are.distinct;
   numbers = λ code. subst (All (λ number. number < length lines)) (sym (same code)) (are.numbers code);
-  under = λ prefix is. ap (map (indexed_line lines)) (same (prefix_code prefix)) ∙ are.under prefix is;
+  under = λ prefix is. ap (map (indexed_line lines)) (same (prefix_code grain prefix)) ∙ are.under prefix is;
 }
 
 -- the lines of numbers stay when a line is appended
@@ -40,15 +43,18 @@ index_lines-stay lines line (number ∷ numbers) few =
     (index_lines-stay lines line numbers (All-tail (λ n. n < length lines) number numbers few))
 
 -- one more line, whose number is noted under the codes of all prefixes above it
-pub index-push : (lines : List PrefixValue) (line : PrefixValue) (kept noted : BTreeMap ℕ (Vec ℕ Global))
-    (codes : List ℕ) (number : ℕ) → AreIndexed lines kept → ¬ Contains lines line → AreUpperCodes line codes
+pub index-push : (grain : Grain) (lines : List PrefixValue) (line : PrefixValue) (kept noted : BTreeMap ℕ
+    (Vec ℕ Global))
+    (codes : List ℕ) (number : ℕ) → AreIndexed grain lines kept → IsPrefix grain line → ¬ Contains lines line
+    → AreUpperCodes grain line codes
     → number ≡ length lines → length lines + 1 < member_limit
     → ((code : ℕ) → line_numbers_at noted code
     ≡ (if list_any (λ other. eqb other code) codes
     then line_numbers_at kept code ++ number ∷ [] else line_numbers_at kept code))
-    → AreIndexed (lines ++ line ∷ []) noted
-index-push lines line kept noted codes number are new above is_number less notes = record {
+    → AreIndexed grain (lines ++ line ∷ []) noted
+index-push grain lines line kept noted codes number are line_is new above is_number less notes = record {
   few = omega (arith, less, length_push lines line);
+  prefixes = All-push (IsPrefix grain) lines line are.prefixes line_is;
   distinct =
       AllPairs-push_code (λ one other. one ≢ other) lines line are.distinct
       (λ k d within same. new (k, within, same-at k d within ∙ same));
@@ -56,9 +62,10 @@ index-push lines line kept noted codes number are new above is_number less notes
       subst (All (λ n. n < length (lines ++ line ∷ []))) (sym (notes code))
       (few code (list_any (λ other. eqb other code) codes));
   under = λ prefix is.
-      ap (map (indexed_line (lines ++ line ∷ []))) (notes (prefix_code prefix))
+      ap (map (indexed_line (lines ++ line ∷ []))) (notes (prefix_code grain prefix))
       ∙ ap (λ b. map (indexed_line (lines ++ line ∷ []))
-      (if b then line_numbers_at kept (prefix_code prefix) ++ number ∷ [] else line_numbers_at kept (prefix_code prefix)))
+      (if b then line_numbers_at kept (prefix_code grain prefix) ++ number ∷ [] else line_numbers_at kept
+      (prefix_code grain prefix)))
       (above.members prefix is)
       ∙ by prefix is (strictly_under line prefix) refl
       ∙ sym (filter-append (λ l. strictly_under l prefix) lines (line ∷ []));
@@ -78,17 +85,20 @@ index-push lines line kept noted codes number are new above is_number less notes
         All-weaker (λ n. n < length lines) (λ n. n < length (lines ++ line ∷ []))
         (λ n less. omega (arith, less, length_push lines line)) (line_numbers_at kept code) (are.numbers code)
 
-    stays : (prefix : PrefixValue) → IsPrefix prefix
-        → map (indexed_line (lines ++ line ∷ [])) (line_numbers_at kept (prefix_code prefix)) ≡ lines_under prefix lines
+    stays : (prefix : PrefixValue) → IsPrefix grain prefix
+        → map (indexed_line (lines ++ line ∷ [])) (line_numbers_at kept (prefix_code grain prefix))
+        ≡ lines_under prefix lines
     stays prefix is =
-        index_lines-stay lines line (line_numbers_at kept (prefix_code prefix)) (are.numbers (prefix_code prefix)) ∙ are.under prefix is
+        index_lines-stay lines line (line_numbers_at kept (prefix_code grain prefix)) (are.numbers
+        (prefix_code grain prefix)) ∙ are.under prefix is
 
-    by : (prefix : PrefixValue) → IsPrefix prefix → (b : Bool) → strictly_under line prefix ≡ b
+    by : (prefix : PrefixValue) → IsPrefix grain prefix → (b : Bool) → strictly_under line prefix ≡ b
         → map (indexed_line (lines ++ line ∷ []))
-        (if b then line_numbers_at kept (prefix_code prefix) ++ number ∷ [] else line_numbers_at kept (prefix_code prefix))
+        (if b then line_numbers_at kept (prefix_code grain prefix) ++ number ∷ [] else line_numbers_at kept
+        (prefix_code grain prefix))
         ≡ lines_under prefix lines ++ cond (strictly_under line prefix) (line ∷ []) []
     by prefix is true strictly =
-        map-append (indexed_line (lines ++ line ∷ [])) (line_numbers_at kept (prefix_code prefix)) (number ∷ [])
+        map-append (indexed_line (lines ++ line ∷ [])) (line_numbers_at kept (prefix_code grain prefix)) (number ∷ [])
         ∙ ap (λ ls. ls ++ indexed_line (lines ++ line ∷ []) number ∷ []) (stays prefix is)
         ∙ ap (λ l. lines_under prefix lines ++ l ∷ [])
         (get_or_push lines line root_line number (sym is_number))

@@ -10,13 +10,13 @@ use Rattle.std.proofs.lemmas.List.{take_more}
 use Rattle.std.proofs.lemmas.List.Elements.{Contains-get_or, Contains-push_cases}
 use Rattle.std.proofs.lemmas.List.Folds.{list_any_none, list_any-from_Any}
 use Rattle.prefix_lattice.specs.{NodeValue, PrefixValue, node_of_prefix, under, same_as, strictly_under}
-use Rattle.prefix_lattice.specs.{lines_under, upper_at}
+use Rattle.prefix_lattice.specs.{lines_under, upper_at, finest_grain}
 use Rattle.conditioned_bounds.proofs.CodeLemmas.{CodeOrderHolds, no_code_above_own_node, code_above-under}
 
 -- no member of the first nodes passes the test
 abbrev pub SearchFoundNone : List PrefixValue → (PrefixValue → Bool) → List NodeValue → ℕ → Type 0
 SearchFoundNone members test nodes count =
-    (member : PrefixValue) → Contains members member → Contains (take count nodes) (node_of_prefix member)
+    (member : PrefixValue) → Contains members member → Contains (take count nodes) (node_of_prefix finest_grain member)
     → test member ≡ false
 
 -- at first no node is searched
@@ -28,22 +28,25 @@ search_starts_with_none members test nodes member there among = absurd (omega (a
 pub search-one_more_node : (members : List PrefixValue) (test : PrefixValue → Bool) (nodes : List NodeValue) (count : ℕ)
     (node : NodeValue) → SearchFoundNone members test nodes count → count < length nodes
     → node ≡ get_or nodes count node
-    → ((member : PrefixValue) → Contains members member → node_of_prefix member ≡ node → test member ≡ false)
+    → ((member : PrefixValue) → Contains members member → node_of_prefix finest_grain member ≡ node
+    → test member ≡ false)
     → SearchFoundNone members test nodes (count + 1)
 search-one_more_node members test nodes count node before within is here member there among =
     ⊎_elim (λ earlier. before member there earlier)
     (λ at. here member there (sym (is ∙ at)))
-    (Contains-push_cases (take count nodes) (get_or nodes count node) (node_of_prefix member)
-    (subst (λ ns. Contains ns (node_of_prefix member)) (take_more nodes count node within) among))
+    (Contains-push_cases (take count nodes) (get_or nodes count node) (node_of_prefix finest_grain member)
+    (subst (λ ns. Contains ns (node_of_prefix finest_grain member)) (take_more nodes count node within) among))
 
 -- after all nodes no member passes the test
 pub search_ends_with_none : (members : List PrefixValue) (test : PrefixValue → Bool) (nodes : List NodeValue) (count : ℕ)
-    → All (λ member. Contains nodes (node_of_prefix member)) members → SearchFoundNone members test nodes count
+    → All (λ member. Contains nodes (node_of_prefix finest_grain member)) members
+    → SearchFoundNone members test nodes count
     → length nodes ≤ count → list_any test members ≡ false
 search_ends_with_none members test nodes count have before all =
     list_any_none test members (λ k d within.
     before (get_or members k d) (Contains-get_or members k d within)
-    (subst (λ ns. Contains ns (node_of_prefix (get_or members k d))) (sym (take_all count nodes all)) (have k d within)))
+    (subst (λ ns. Contains ns (node_of_prefix finest_grain (get_or members k d))) (sym (take_all count nodes all))
+    (have k d within)))
 
 -- one that passes is enough
 pub search_finds_one : (members : List PrefixValue) (test : PrefixValue → Bool) (member : PrefixValue)
@@ -79,31 +82,35 @@ search-false_and true b is = is
 search-false_and false b is = refl
 
 -- no line of its own node explains it
-pub search_own_node-explains_none : CodeOrderHolds → (line prefix other : PrefixValue) → node_of_prefix other ≡ node_of_prefix line
+pub search_own_node-explains_none : CodeOrderHolds → (line prefix other : PrefixValue)
+    → node_of_prefix finest_grain other ≡ node_of_prefix finest_grain line
     → search_explains line prefix other ≡ false
 search_own_node-explains_none order line prefix other same =
     search-false_and (strictly_under other prefix) (strictly_under line other)
-    (no_code_above_own_node order line other (sym same))
+    (no_code_above_own_node order finest_grain line other (sym same))
 
 search_some-injective : (x y : PrefixValue) → ◌≡◌ {A = Option PrefixValue} (Some x) (Some y) → x ≡ y
 search_some-injective x y same = cc
 
 -- none of a node at which it has no upper one
-pub search_no_upper-explains_none : CodeOrderHolds → (line prefix other : PrefixValue) → upper_at line (node_of_prefix other) ≡ None
+pub search_no_upper-explains_none : CodeOrderHolds → (line prefix other : PrefixValue)
+    → upper_at line (node_of_prefix finest_grain other) ≡ None
     → search_explains line prefix other ≡ false
 search_no_upper-explains_none order line prefix other none =
     search-false_and (strictly_under other prefix) (strictly_under line other)
     (false_from_ne_true (strictly_under line other) (λ is.
-    none-some other (sym none ∙ order.only line other (code_above-under line other is))))
+    none-some other (sym none ∙ order.only finest_grain line other (code_above-under line other is))))
 
 -- and of another node only its upper one
-pub search_other-explains_none : CodeOrderHolds → (line prefix other upper : PrefixValue) → upper_at line (node_of_prefix other) ≡ Some upper
+pub search_other-explains_none : CodeOrderHolds → (line prefix other upper : PrefixValue)
+    → upper_at line (node_of_prefix finest_grain other) ≡ Some upper
     → (upper ≡ other → strictly_under upper prefix ≡ false) → search_explains line prefix other ≡ false
 search_other-explains_none order line prefix other upper found apart =
     false_from_ne_true (search_explains line prefix other) (λ is.
     let both = and_parts (strictly_under other prefix) (strictly_under line other) is in
     let same : upper ≡ other =
-    search_some-injective upper other (sym found ∙ order.only line other (code_above-under line other both.1)) in
+    search_some-injective upper other (sym found ∙ order.only finest_grain line other
+    (code_above-under line other both.1)) in
     false≢true (sym (apart same) ∙ ap (λ p. strictly_under p prefix) same ∙ both.0))
 
 -- whether a meet is under a member that is neither of two
@@ -115,25 +122,29 @@ search_same-reflexive order prefix = and_from _ _ (order.reflexive prefix) (orde
 
 -- the member of the first one's node that a meet is under is the first one
 pub search_first-is_no_third : CodeOrderHolds → (first second meet third : PrefixValue) → under meet first ≡ true
-    → node_of_prefix third ≡ node_of_prefix first → is_search_third first second meet third ≡ false
+    → node_of_prefix finest_grain third ≡ node_of_prefix finest_grain first
+    → is_search_third first second meet third ≡ false
 search_first-is_no_third order first second meet third is node =
     false_from_ne_true (is_search_third first second meet third) (λ found.
     let both = and_parts (under meet third) (not (same_as third first || same_as third second)) found in
     let one : third ≡ first =
     search_some-injective third first
-    (sym (order.only meet third both.0) ∙ ap (upper_at meet) node ∙ order.only meet first is) in
+    (sym (order.only finest_grain meet third both.0) ∙ ap (upper_at meet) node
+    ∙ order.only finest_grain meet first is) in
     let same : same_as third first ≡ true = ap (λ p. same_as p first) one ∙ search_same-reflexive order first in
     false≢true (sym (ap (λ b. not (b || same_as third second)) same) ∙ both.1))
 
 -- and so of the second
 pub search_second-is_no_third : CodeOrderHolds → (first second meet third : PrefixValue) → under meet second ≡ true
-    → node_of_prefix third ≡ node_of_prefix second → is_search_third first second meet third ≡ false
+    → node_of_prefix finest_grain third ≡ node_of_prefix finest_grain second
+    → is_search_third first second meet third ≡ false
 search_second-is_no_third order first second meet third is node =
     false_from_ne_true (is_search_third first second meet third) (λ found.
     let both = and_parts (under meet third) (not (same_as third first || same_as third second)) found in
     let one : third ≡ second =
     search_some-injective third second
-    (sym (order.only meet third both.0) ∙ ap (upper_at meet) node ∙ order.only meet second is) in
+    (sym (order.only finest_grain meet third both.0) ∙ ap (upper_at meet) node
+    ∙ order.only finest_grain meet second is) in
     let same : same_as third second ≡ true = ap (λ p. same_as p second) one ∙ search_same-reflexive order second in
     false≢true (sym (ap (λ b. not (same_as third first || b)) same ∙ ap not (or_true (same_as third first)))
     ∙ both.1))
@@ -143,33 +154,38 @@ search_second-is_no_third order first second meet third is node =
     or_true false = refl
 
 -- where a meet has no upper one at a node, no member of the node is a third
-pub search_no_upper-no_third : CodeOrderHolds → (first second meet third : PrefixValue) → upper_at meet (node_of_prefix third) ≡ None
+pub search_no_upper-no_third : CodeOrderHolds → (first second meet third : PrefixValue)
+    → upper_at meet (node_of_prefix finest_grain third) ≡ None
     → is_search_third first second meet third ≡ false
 search_no_upper-no_third order first second meet third none =
     false_from_ne_true (is_search_third first second meet third) (λ found.
     none-some third (sym none
-    ∙ order.only meet third
+    ∙ order.only finest_grain meet third
     (and_parts (under meet third) (not (same_as third first || same_as third second)) found).0))
 
 -- where it has one, no other member is
-pub search_other-is_no_third : CodeOrderHolds → (first second meet third upper : PrefixValue) → upper_at meet (node_of_prefix third) ≡ Some upper
+pub search_other-is_no_third : CodeOrderHolds → (first second meet third upper : PrefixValue)
+    → upper_at meet (node_of_prefix finest_grain third) ≡ Some upper
     → (upper ≡ third → ⊥) → is_search_third first second meet third ≡ false
 search_other-is_no_third order first second meet third upper is apart =
     false_from_ne_true (is_search_third first second meet third) (λ found.
     apart (search_some-injective upper third (sym is
-    ∙ order.only meet third
+    ∙ order.only finest_grain meet third
     (and_parts (under meet third) (not (same_as third first || same_as third second)) found).0)))
 
 -- a member of another node than both that the meet is under is a third
 pub is_search_third-by_node : CodeOrderHolds → (first second meet third : PrefixValue) → under meet third ≡ true
-    → node_of_prefix third ≢ node_of_prefix first → node_of_prefix third ≢ node_of_prefix second → is_search_third first second meet third ≡ true
+    → node_of_prefix finest_grain third ≢ node_of_prefix finest_grain first
+    → node_of_prefix finest_grain third ≢ node_of_prefix finest_grain second
+    → is_search_third first second meet third ≡ true
 is_search_third-by_node order first second meet third is not_first not_second =
     and_from (under meet third) (not (same_as third first || same_as third second)) is
     (ap not (or_from (same_as third first) (same_as third second) (differs first not_first)
     (differs second not_second)))
   where
-    differs : (other : PrefixValue) → node_of_prefix third ≢ node_of_prefix other → same_as third other ≡ false
+    differs : (other : PrefixValue) → node_of_prefix finest_grain third ≢ node_of_prefix finest_grain other
+        → same_as third other ≡ false
     differs other apart =
         false_from_ne_true (same_as third other) (λ same.
         let both = and_parts (under third other) (under other third) same in
-        apart (ap node_of_prefix (order.antisymmetric third other both.0 both.1)))
+        apart (ap (node_of_prefix finest_grain) (order.antisymmetric third other both.0 both.1)))

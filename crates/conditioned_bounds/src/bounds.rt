@@ -1,12 +1,13 @@
 //! Bounds on conditioned weights.
 
-ghost use Rattle.std.specs.Prelude.{◌≡◌, ◌≢◌, ℕ, ◌+◌, ◌*◌, List, length, AllPairs, IfOk, sum_by, pos, ◌-ℤ◌, ◌*ℤ◌, ◌≤ℤ◌};
-ghost use Rattle.prefix_lattice.specs.{RecordValue, closest, kept_pairs, conditioned_weight};
+ghost use Rattle.std.specs.Prelude.{◌≡◌, ◌≢◌, ℕ, ◌+◌, ◌*◌, List, length, All, AllPairs, IfOk, sum_by, pos, ◌-ℤ◌};
+ghost use Rattle.std.specs.Prelude.{◌*ℤ◌, ◌≤ℤ◌};
+ghost use Rattle.prefix_lattice.specs.{RecordValue, IsPrefix, closest, kept_pairs, conditioned_weight};
 ghost use Rattle.conditioned_bounds.specs.Bounds.{bound_of, prefixes_asked, HoldWeights};
 ghost use Rattle.conditioned_bounds.specs.Bounds.{AreNarrow, AreWeights};
 
 use crate::sums::{sum_of_highs, sum_of_lows};
-use crate::{Intervals, bounds_hold, closest, kept_pairs};
+use crate::{Intervals, bounds_hold, closest, kept_pairs, only_prefixes_are_asked};
 use prefix_lattice::{Prefix, Prefixes};
 use std::alloc::{AllocError, Global};
 
@@ -23,13 +24,16 @@ pub struct BoundParts {
 
 /// The bound of a prefix over the reported lines (Mitzenmacher, Steinke, Thaler 2012): its high and the highs
 /// of the meets of its closest lines' kept pairs, less the lows of those lines. A record that n of the lines
-/// cover is covered by n - 1 of the meets, so it is subtracted exactly once. The only error is that memory runs out.
+/// cover is covered by n - 1 of the meets, so it is subtracted exactly once. All prefixes are of the grain of the
+/// intervals. The only error is that memory runs out.
 pub fn bound<I: Intervals>(
     alloc: Global,
     prefix: &Prefix,
     reported: &Prefixes,
     intervals: &I,
 ) -> Result<BoundParts, AllocError>
+    requires prefix { IsPrefix (I.grain_of intervals.now) prefix.now }
+    requires reported { All (IsPrefix (I.grain_of intervals.now)) reported.now }
     ensures closest { IfOk result (λ parts. parts.closest ≡ length (closest prefix.now reported.now)) }
     ensures pairs { IfOk result (λ parts.
         parts.pairs ≡ length (kept_pairs (closest prefix.now reported.now))) }
@@ -53,6 +57,7 @@ pub fn bound<I: Intervals>(
         → parts.value ≡ pos (conditioned_weight prefix.now reported.now records)) }
 {
     bounds_hold();
+    only_prefixes_are_asked();
     let lines = closest(alloc, prefix, reported)?;
     let meets = kept_pairs(alloc, &lines)?;
     Ok(parts_of(prefix, &lines, &meets, intervals))
@@ -65,6 +70,9 @@ fn parts_of<I: Intervals>(
     meets: &Prefixes,
     intervals: &I,
 ) -> BoundParts
+    requires prefix { IsPrefix (I.grain_of intervals.now) prefix.now }
+    requires lines { All (IsPrefix (I.grain_of intervals.now)) lines.now }
+    requires meets { All (IsPrefix (I.grain_of intervals.now)) meets.now }
     ensures value { result.value ≡ pos (I.high intervals.now prefix.now + sum_by (I.high intervals.now) meets.now)
         -ℤ pos (sum_by (I.low intervals.now) lines.now) }
     ensures closest { result.closest ≡ length lines.now }

@@ -5,6 +5,7 @@ ghost use Rattle.prefix_lattice.specs.{RecordValue, PrefixValue, IsPrefix, prefi
 ghost use Rattle.prefix_lattice.specs.{conditioned_weight};
 ghost use Rattle.conditioned_bounds.specs.Bounds.{bound_of, prefixes_asked, HoldWeights};
 ghost use Rattle.conditioned_bounds.specs.Bounds.{AreNarrow, AreWeights};
+ghost use Rattle.prefix_lattice.specs.declared.grain.Grain.{Grain};
 
 use prefix_lattice::{
     closest_lines_explain, covering_goes_up, kept_meets_stay_under, meets_are_greatest,
@@ -50,9 +51,12 @@ pub fn bounds_hold()
     weights_balance();
 }
 
-/// A law of the intervals that a bound is made of: for a prefix and lines that are prefixes, all are of prefixes.
+/// A law of the intervals that a bound is made of: for a prefix and lines of one grain, all are of prefixes of that
+/// grain.
 pub fn only_prefixes_are_asked()
-    ensures { (prefix : PrefixValue) (lines : List PrefixValue) → IsPrefix prefix → All IsPrefix lines → All IsPrefix (prefixes_asked prefix lines) }
+    ensures { (grain : Grain) (prefix : PrefixValue) (lines : List PrefixValue) → IsPrefix grain prefix
+        → All (IsPrefix grain) lines
+        → All (IsPrefix grain) (prefixes_asked prefix lines) }
 {
     kept_meets_stay_under();
 }

@@ -1,13 +1,13 @@
 //! The sum over the meets of kept pairs, without a list of these.
 
-ghost use Rattle.std.specs.Prelude.{◌≡◌, ◌*◌, ◌<◌, ◌≤◌, true, length, sum_by};
+ghost use Rattle.std.specs.Prelude.{◌≡◌, ◌*◌, ◌<◌, ◌≤◌, true, length, sum_by, All, IfSome, Some};
 ghost use Rattle.std.specs.List.{filter_map};
-ghost use Rattle.prefix_lattice.specs.{under, under_third, pair_meet, kept_pairs, total_limit};
+ghost use Rattle.prefix_lattice.specs.{IsPrefix, under, under_third, meet, pair_meet, kept_pairs, total_limit};
 ghost use Rattle.conditioned_bounds.specs.Members.{member_limit};
 
 use crate::Intervals;
-use crate::members::Members;
-use prefix_lattice::{Prefix, prefixes_are_ordered, uppers_are_above};
+use crate::members::{Members, member_node};
+use prefix_lattice::{Prefix, meets_are_greatest, prefixes_are_ordered, uppers_are_above};
 
 /// The sum of the highs of some meets, and how many there are.
 #[derive(Clone, Copy, PartialEq, Eq)]
@@ -19,6 +19,7 @@ pub(crate) struct MeetSum {
 /// The sum over the meets of the kept pairs of some members. Each pair costs one look-up for each node that has a
 /// member, and no memory.
 pub(crate) fn sum_of_meets<I: Intervals>(members: &Members, intervals: &I) -> MeetSum
+    requires { All (IsPrefix (I.grain_of intervals.now)) members.now }
     ensures highs { result.highs ≡ sum_by (I.high intervals.now) (kept_pairs members.now) }
     ensures pairs { result.pairs ≡ length (kept_pairs members.now) }
     ensures bounded { result.highs ≤ result.pairs * total_limit }
@@ -41,12 +42,15 @@ fn sum_of_meets_with<I: Intervals>(
     seconds: &[Prefix],
     intervals: &I,
 ) -> MeetSum
-    requires { length seconds.now < member_limit }
+    requires first { IsPrefix (I.grain_of intervals.now) first.now }
+    requires seconds { All (IsPrefix (I.grain_of intervals.now)) seconds.now }
+    requires few { length seconds.now < member_limit }
     ensures highs { result.highs ≡ sum_by (I.high intervals.now) (filter_map (pair_meet members.now first.now) seconds.now) }
     ensures pairs { result.pairs ≡ length (filter_map (pair_meet members.now first.now) seconds.now) }
     ensures bounded { result.highs ≤ result.pairs * total_limit }
     ensures few { result.pairs ≤ length seconds.now }
 {
+    meets_are_greatest();
     let mut sum = MeetSum { highs: 0, pairs: 0 };
     for second in seconds {
         if let Some(meet) = kept_meet(members, first, second) {
@@ -60,7 +64,8 @@ fn sum_of_meets_with<I: Intervals>(
 
 /// The meet of a pair, if the pair is kept.
 fn kept_meet(members: &Members, first: &Prefix, second: &Prefix) -> Option<Prefix>
-    ensures { result ≡ pair_meet members.now first.now second.now }
+    ensures value { result ≡ pair_meet members.now first.now second.now }
+    ensures meet { IfSome result (λ lowest. meet first.now second.now ≡ Some lowest) }
 {
     let meet = first.meet(second)?;
     if is_under_third(members, first, second, &meet) {
@@ -78,8 +83,8 @@ fn is_under_third(members: &Members, first: &Prefix, second: &Prefix, meet: &Pre
 {
     prefixes_are_ordered();
     uppers_are_above();
-    let first = first.node();
-    let second = second.node();
+    let first = member_node(first);
+    let second = member_node(second);
     for node in members.nodes() {
         if *node == first {
             continue;

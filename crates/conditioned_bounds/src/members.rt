@@ -2,16 +2,19 @@
 
 ghost use Rattle.std.specs.Prelude.{◌≡◌, ◌+◌, ◌<◌, ◌++◌, ◌∷◌, [], ◌↔◌, All, Contains, IsTrue, OnOk, OnErr, IfOk};
 ghost use Rattle.std.specs.Prelude.{length, slice_get, Some};
-ghost use Rattle.prefix_lattice.specs.{PrefixValue, IsPrefix, node_of_prefix};
+ghost use Rattle.prefix_lattice.specs.{IsPrefix, finest_grain, node_of_prefix};
 ghost use Rattle.conditioned_bounds.specs.Members.{member_limit};
 
 use crate::uppers::code_of;
-use prefix_lattice::{Node, Prefix, Prefixes, keys_are_of_their_node};
+use prefix_lattice::{
+    Grain, Node, Prefix, Prefixes, keys_are_of_their_node, prefixes_cover_their_own_addresses,
+};
 use std::alloc::{AllocError, Global};
 use std::collections::BTreeSet;
 use std::marker::Model;
 
-/// A list of prefixes, the numbers of all of them, and the nodes that have one.
+/// A list of prefixes, the numbers of all of them, and the nodes that have one. All are taken as prefixes of the finest
+/// grain, so prefixes of each grain can be members.
 #[derive(Drop)]
 pub(crate) struct Members {
     prefixes: Vec<Prefix>,
@@ -62,10 +65,12 @@ impl Members {
         ensures err { OnErr result (self.new ≡ self.old) }
     {
         keys_are_of_their_node();
+        prefixes_cover_their_own_addresses();
         self.prefixes.reserve(1)?;
         self.nodes.reserve(1)?;
-        self.codes.insert(code_of(prefix))?;
-        let node = prefix.node();
+        prefix.keeps_leading_bits();
+        self.codes.insert(code_of(Grain::Nibble, prefix))?;
+        let node = member_node(prefix);
         if !self.nodes.contains(&node) {
             self.nodes.push(node)?;
         }
@@ -77,12 +82,14 @@ impl Members {
     pub(crate) fn has(&self, prefix: &Prefix) -> bool
         ensures { IsTrue result ↔ Contains self.now prefix.now }
     {
-        self.codes.contains(&code_of(prefix))
+        prefix.keeps_leading_bits();
+        self.codes.contains(&code_of(Grain::Nibble, prefix))
     }
 
     /// The nodes that have a member.
     pub(crate) fn nodes(&self) -> &[Node]
-        ensures { All (λ member. Contains result.now (node_of_prefix member)) self.now }
+        ensures have { All (λ member. Contains result.now (node_of_prefix finest_grain member)) self.now }
+        ensures finest { All (λ node. node.grain ≡ finest_grain) result.now }
     {
         self.nodes.as_slice()
     }
@@ -102,4 +109,12 @@ impl Members {
     {
         self.prefixes.as_slice()
     }
+}
+
+/// The node of a prefix among those of the finest grain.
+pub(crate) fn member_node(prefix: &Prefix) -> Node
+    ensures { result ≡ node_of_prefix finest_grain prefix.now }
+{
+    prefix.keeps_leading_bits();
+    prefix.node(Grain::Nibble).unwrap()
 }

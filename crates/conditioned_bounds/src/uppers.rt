@@ -5,34 +5,42 @@ ghost use Rattle.prefix_lattice.specs.{IsPrefix, prefix_code};
 ghost use Rattle.conditioned_bounds.specs.Uppers.{AreUpperCodes};
 
 use prefix_lattice::{
-    Node, Prefix, keys_are_of_their_node, prefixes_are_ordered, uppers_are_above,
+    Grain, Node, Prefix, keys_are_of_their_node, prefixes_are_ordered,
+    prefixes_cover_their_own_addresses, uppers_are_above,
 };
 use std::alloc::{AllocError, Global};
 
-/// The number of a prefix, by its node and then by its key. No two prefixes share one.
-pub(crate) fn code_of(prefix: &Prefix) -> u128
-    ensures value { result ≡ prefix_code prefix.now }
-    ensures prefix { IsPrefix prefix.now }
+/// The number of a prefix of a grain, by its node and then by its key. No two prefixes of the grain share one.
+pub(crate) fn code_of(grain: Grain, prefix: &Prefix) -> u128
+    requires { IsPrefix grain prefix.now }
+    ensures { result ≡ prefix_code grain prefix.now }
 {
-    u128::from(prefix.node().index()) << 64 | u128::from(prefix.key())
+    let node = prefix.node(grain).unwrap();
+    u128::from(node.index()) << 64 | u128::from(prefix.key())
 }
 
-/// The numbers of all prefixes that this prefix is strictly under, each once.
-pub(crate) fn codes_above(alloc: Global, prefix: &Prefix) -> Result<Vec<u128>, AllocError>
-    ensures { IfOk result (λ codes. AreUpperCodes prefix.now codes.items) }
+/// The numbers of all prefixes of a grain that this prefix is strictly under, each once.
+pub(crate) fn codes_above(
+    alloc: Global,
+    grain: Grain,
+    prefix: &Prefix,
+) -> Result<Vec<u128>, AllocError>
+    requires { IsPrefix grain prefix.now }
+    ensures { IfOk result (λ codes. AreUpperCodes grain prefix.now codes.items) }
 {
     prefixes_are_ordered();
     keys_are_of_their_node();
     uppers_are_above();
-    prefix.keeps_leading_bytes();
-    let mut codes = Vec::with_capacity(alloc, 24)?;
-    for place in 0..25 {
-        let node = Node::from_index(place).unwrap();
-        if node == prefix.node() {
+    prefixes_cover_their_own_addresses();
+    let own = prefix.node(grain).unwrap();
+    let mut codes = Vec::with_capacity(alloc, usize::from(grain.nodes()))?;
+    for place in 0..grain.nodes() {
+        let node = Node::from_index(grain, place).unwrap();
+        if node == own {
             continue;
         }
         if let Some(above) = prefix.upper(node) {
-            codes.push(code_of(&above))?;
+            codes.push(code_of(grain, &above))?;
         }
     }
     Ok(codes)

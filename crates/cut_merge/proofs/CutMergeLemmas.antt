@@ -7,8 +7,8 @@ use Rattle.std.proofs.lemmas.List.Sums.{sum_by-take-le}
 use Rattle.std.proofs.lemmas.List.Elements.{All-take, All-get_or}
 use Rattle.std.proofs.lemmas.Option.{get_or_from_slice_get, slice_get_within, slice_get-map}
 use Rattle.std.specs.Option.{option_map}
-use Rattle.prefix_lattice.specs.{NodeValue, IsNode, node_index, node_at, node_of_prefix, prefix_key}
-use Rattle.prefix_lattice.proofs.NodePlaceLemmas.{node_at_own_place}
+use Rattle.prefix_lattice.specs.{NodeValue, IsNode, node_index, node_at, node_count, node_of_prefix, prefix_key}
+use Rattle.prefix_lattice.proofs.NodePlaceLemmas.{node_at_own_place, node_place_is_small}
 use Rattle.space_saving.specs.{TableValue, table_total}
 use Rattle.shard_state.specs.{SnapshotValue, table_at, CutValue, IsCut, total_of_cut}
 use Rattle.cut_merge.specs.NodeMerge.{NodeMergeValue}
@@ -18,7 +18,7 @@ use Rattle.cut_merge.specs.Merged.{RepresentsCut, interval_for_key, merge_at}
 use Rattle.cut_merge.specs.CutTables.{tables_at, FitsTotal}
 use Rattle.cut_merge.proofs.TableMergeLemmas.{TableMergeIsBounded, table_merge_count, table_merge_is_bounded}
 use Rattle.cut_merge.proofs.TableMergeLemmas.{table_merge_represents_more, interval_of_table_merge}
-use Rattle.cut_merge.proofs.CutTableLemmas.{CutTablesAreBounded, cut_tables_count_total}
+use Rattle.cut_merge.proofs.CutTableLemmas.{cut_table_node_is_node, CutTablesAreBounded, cut_tables_count_total}
 
 -- the table of a shard is at the shard's index among the tables of the node
 cut_merge_stands_at_place : (node : NodeValue) (cut : CutValue) (shard : ℕ) (snapshot : SnapshotValue)
@@ -29,7 +29,7 @@ cut_merge_stands_at_place node cut shard snapshot at =
 
 -- the intervals of the merged tables of some shards are within the total of the cut
 pub cut_merge_within_total : (node : NodeValue) (cut : CutValue) (shards key : ℕ) (merge : NodeMergeValue) → CutTablesAreBounded
-    → IsNode node → IsCut cut
+    → IsNode cut.shape.grain node → IsCut cut
     → NodeRepresents merge (take shards (tables_at node cut))
     → FitsTotal (total_of_cut cut) (interval_for_key merge key)
 cut_merge_within_total node cut shards key merge law is_node kept stands =
@@ -44,7 +44,7 @@ cut_merge_within_total node cut shards key merge law is_node kept stands =
 
 -- the intervals of the table of a shard are bounded
 pub cut_merge_bounded_at_shard : (node : NodeValue) (cut : CutValue) (shard : ℕ) (snapshot : SnapshotValue) (key : ℕ)
-    → CutTablesAreBounded → IsNode node → IsCut cut → slice_get cut.shards shard ≡ Some snapshot
+    → CutTablesAreBounded → IsNode cut.shape.grain node → IsCut cut → slice_get cut.shards shard ≡ Some snapshot
     → CanBeMerged key (table_at node snapshot)
 cut_merge_bounded_at_shard node cut shard snapshot key law is_node kept at =
     let tables = tables_at node cut in
@@ -81,7 +81,7 @@ cut_merge_place_within_total merged place key merge kept within read =
 pub record CutMergesNodes (cut : CutValue) (nodes : List NodeMergeValue) (place : ℕ) : Type 0 where
   pub count : length nodes ≡ place
   pub stands : (k : ℕ) → k < place
-      → NodeRepresents (slice_index_or nodes k nothing_merged) (tables_at (node_at k) cut)
+      → NodeRepresents (slice_index_or nodes k nothing_merged) (tables_at (node_at cut.shape.grain k) cut)
   pub within : (k key : ℕ) → k < place
       → FitsTotal (total_of_cut cut) (interval_for_key (slice_index_or nodes k nothing_merged) key)
 
@@ -96,7 +96,7 @@ cut_merges_none cut = record {
 -- and one more before the next
 pub cut_merges_more_nodes : (cut : CutValue) (nodes : List NodeMergeValue) (place : ℕ) (merge : NodeMergeValue)
     → CutMergesNodes cut nodes place
-    → NodeRepresents merge (tables_at (node_at place) cut)
+    → NodeRepresents merge (tables_at (node_at cut.shape.grain place) cut)
     → ((key : ℕ) → FitsTotal (total_of_cut cut) (interval_for_key merge key))
     → CutMergesNodes cut (nodes ++ merge ∷ []) (place + 1)
 cut_merges_more_nodes cut nodes place merge merges stands within =
@@ -107,7 +107,7 @@ cut_merges_more_nodes cut nodes place merge merges stands within =
     λ P below here k less. by_cases P below here k less in
     record {
       count = length_push nodes merge ∙ ap (λ n. n + 1) merges.count;
-      stands = at (λ k m. NodeRepresents m (tables_at (node_at k) cut)) merges.stands stands;
+      stands = at (λ k m. NodeRepresents m (tables_at (node_at cut.shape.grain k) cut)) merges.stands stands;
       within = λ k key less.
           at (λ _ m. FitsTotal (total_of_cut cut) (interval_for_key m key)) (λ j. merges.within j key)
           (within key) k less;
@@ -125,14 +125,14 @@ cut_merges_more_nodes cut nodes place merge merges stands within =
           (subst (P place) (sym (get_or_push nodes merge nothing_merged place merges.count)) here)
     ]
 
--- once all 25 nodes are merged, what always holds of merged tables holds
-pub cut_merge_is_merged : (cut : CutValue) (nodes : List NodeMergeValue) (capacity : ℕ) → total_of_cut cut < 2 ^ 60
-    → CutMergesNodes cut nodes 25
-    → IsMerged (record { capacity = capacity; total = total_of_cut cut; nodes = nodes })
-cut_merge_is_merged cut nodes capacity bounded merges = record {
+-- once all nodes are merged, what always holds of merged tables holds
+pub cut_merge_is_merged : (cut : CutValue) (nodes : List NodeMergeValue) → total_of_cut cut < 2 ^ 60
+    → CutMergesNodes cut nodes (node_count cut.shape.grain)
+    → IsMerged (record { shape = cut.shape; total = total_of_cut cut; nodes = nodes })
+cut_merge_is_merged cut nodes bounded merges = record {
   bounded = bounded;
-  shape = merges.count;
-  intervals = λ place key. elim (cases_lt place 25) [
+  as_many = merges.count;
+  intervals = λ place key. elim (cases_lt place (node_count cut.shape.grain)) [
     | inl under ↦ merges.within place key under
     | inr above ↦
         subst (λ m. FitsTotal (total_of_cut cut) (interval_for_key m key))
@@ -142,21 +142,22 @@ cut_merge_is_merged cut nodes capacity bounded merges = record {
 }
 
 -- and the merged tables represent the cut
-pub cut_merge_stands_for_cut : (cut : CutValue) (nodes : List NodeMergeValue) → CutMergesNodes cut nodes 25
-    → RepresentsCut (record { capacity = cut.capacity; total = total_of_cut cut; nodes = nodes }) cut
+pub cut_merge_stands_for_cut : (cut : CutValue) (nodes : List NodeMergeValue) → CutMergesNodes cut nodes (node_count cut.shape.grain)
+    → RepresentsCut (record { shape = cut.shape; total = total_of_cut cut; nodes = nodes }) cut
 cut_merge_stands_for_cut cut nodes merges =
-    let at : (node : NodeValue) → IsNode node
+    let grain = cut.shape.grain in
+    let at : (node : NodeValue) → IsNode grain node
     → NodeRepresents (slice_index_or nodes (node_index node) nothing_merged) (tables_at node cut) =
     λ node is_node.
     subst (λ n. NodeRepresents (slice_index_or nodes (node_index node) nothing_merged) (tables_at n cut))
     (node_at_own_place node is_node)
-    (merges.stands (node_index node) (omega (arith, is_node.source, is_node.dest))) in
+    (merges.stands (node_index node) (node_place_is_small node is_node)) in
     record {
-      capacity = refl;
+      shape = refl;
       total = refl;
       intervals = λ prefix is_prefix.
-          interval_of_table_merge (merge_at (node_of_prefix prefix) (record { capacity = cut.capacity; total = total_of_cut cut; nodes = nodes }))
-          (tables_at (node_of_prefix prefix) cut) (prefix_key prefix)
-          (at (node_of_prefix prefix) (record { source = is_prefix.source.few; dest = is_prefix.dest.few }));
+          interval_of_table_merge (merge_at (node_of_prefix grain prefix) (record { shape = cut.shape; total = total_of_cut cut; nodes = nodes }))
+          (tables_at (node_of_prefix grain prefix) cut) (prefix_key prefix)
+          (at (node_of_prefix grain prefix) (cut_table_node_is_node prefix is_prefix));
       candidates = λ node is_node. (at node is_node).keys;
     }

@@ -13,7 +13,7 @@ use Rattle.prefix_lattice.specs.{prefix_weight}
 use Rattle.space_saving.specs.declared.entry.Entry.{Entry}
 use Rattle.space_saving.specs.{TableValue, table_entry, interval_in, interval_from, table_total, IsTable}
 use Rattle.shard_state.specs.{SnapshotValue, IsSnapshot, table_at, snapshot_total, SnapshotRepresents}
-use Rattle.shard_state.specs.{CutValue, IsCut}
+use Rattle.shard_state.specs.{CutValue, IsCut, TableShape}
 use Rattle.hhh_report.specs.{records_before}
 use Rattle.shard_state.specs.{cut_positions, total_of_cut, CutRepresents, HoldsNarrowly}
 use Rattle.shard_state.specs.{interval_of}
@@ -22,6 +22,7 @@ use Rattle.cut_merge.specs.CutTables.{tables_at, interval_in_cut, monitored_in_c
 use Rattle.prefix_lattice.proofs.ListLemmas.{Contains-list_head, Contains-list_tail}
 use Rattle.cut_merge.proofs.FirstSeenLemmas.{first_seen-contains}
 use Rattle.cut_merge.proofs.TableMergeLemmas.{TableMergeIsBounded, table_merge_is_bounded}
+use Rattle.cut_merge.proofs.CutTableLemmas.{cut_table_node_is_node, HaveCutNode, cut_node_in_shards, cut_node_at_head, cut_node_in_tail}
 use Rattle.cut_merge.proofs.CutTableLemmas.{CutTablesAreBounded, cut_tables_count_total}
 
 -- the weight of a prefix over two lists of records, one after the other
@@ -34,9 +35,9 @@ merged_interval_weights_append prefix records more =
 -- what the law of snapshots says of one shard
 pub record MergedIntervalSnapshotsHold : Type 0 where
   pub weight : (snapshot : SnapshotValue) (list : List RecordValue) (prefix : PrefixValue)
-      → SnapshotRepresents snapshot list → 1 ≤ snapshot.capacity
-      → IsPrefix prefix → All (λ (rec : RecordValue). 1 ≤ rec.weight) list
-      → HoldsNarrowly (interval_of prefix snapshot) snapshot.capacity (prefix_weight prefix (take snapshot.position list))
+      → SnapshotRepresents snapshot list → 1 ≤ snapshot.shape.capacity
+      → IsPrefix snapshot.shape.grain prefix → All (λ (rec : RecordValue). 1 ≤ rec.weight) list
+      → HoldsNarrowly (interval_of prefix snapshot) snapshot.shape.capacity (prefix_weight prefix (take snapshot.position list))
       (snapshot_total snapshot)
 
 -- each record has a weight
@@ -44,33 +45,38 @@ abbrev MergedIntervalIsWeighed : List RecordValue → Type 0
 MergedIntervalIsWeighed list = All (λ (rec : RecordValue). 1 ≤ rec.weight) list
 
 -- what holds of each shard holds of all together: lows, weights, highs and totals add up
-merged_interval_over_shards : MergedIntervalSnapshotsHold → (capacity : ℕ) (prefix : PrefixValue) → 1 ≤ capacity → IsPrefix prefix
+merged_interval_over_shards : MergedIntervalSnapshotsHold → (shape : TableShape) (prefix : PrefixValue) → 1 ≤ shape.capacity
+    → IsPrefix shape.grain prefix
     → (shards : List SnapshotValue) (lists : List (List RecordValue))
-    → All (λ (s : SnapshotValue). s.capacity ≡ capacity) shards → AllZip SnapshotRepresents shards lists
+    → All (λ (s : SnapshotValue). s.shape ≡ shape) shards → AllZip SnapshotRepresents shards lists
     → All MergedIntervalIsWeighed lists
-    → HoldsNarrowly (interval_over (map (table_at (node_of_prefix prefix)) shards) (prefix_key prefix)) capacity
+    → HoldsNarrowly (interval_over (map (table_at (node_of_prefix shape.grain prefix)) shards) (prefix_key prefix)) shape.capacity
     (prefix_weight prefix (records_before lists (map (λ (s : SnapshotValue). s.position) shards))) (sum_by snapshot_total shards)
-merged_interval_over_shards law capacity prefix some is_prefix [] [] alike stand weighed = record {
+merged_interval_over_shards law shape prefix some is_prefix [] [] alike stand weighed = record {
   holds = record { low = omega arith; high = omega arith };
   narrow = omega arith;
 }
-merged_interval_over_shards law capacity prefix some is_prefix [] (list ∷ lists) alike stand weighed = absurd stand
-merged_interval_over_shards law capacity prefix some is_prefix (shard ∷ shards) [] alike stand weighed = absurd stand
-merged_interval_over_shards law capacity prefix some is_prefix (shard ∷ shards) (list ∷ lists) alike stand weighed =
-    let same : shard.capacity ≡ capacity = All-head (λ (s : SnapshotValue). s.capacity ≡ capacity) shard shards alike in
-    let first : HoldsNarrowly (interval_of prefix shard) capacity (prefix_weight prefix (take shard.position list))
-    (snapshot_total shard) =
-    subst (λ m.
-    HoldsNarrowly (interval_of prefix shard) m (prefix_weight prefix (take shard.position list)) (snapshot_total shard))
-    same
-    (law.weight shard list prefix stand.0 (omega (arith, same)) is_prefix (All-head MergedIntervalIsWeighed list lists weighed)) in
-    let rest =
-    merged_interval_over_shards law capacity prefix some is_prefix shards lists
-    (All-tail (λ (s : SnapshotValue). s.capacity ≡ capacity) shard shards alike) stand.1
-    (All-tail MergedIntervalIsWeighed list lists weighed) in
-    let tables = map (table_at (node_of_prefix prefix)) shards in
-    let table = table_at (node_of_prefix prefix) shard in
+merged_interval_over_shards law shape prefix some is_prefix [] (list ∷ lists) alike stand weighed = absurd stand
+merged_interval_over_shards law shape prefix some is_prefix (shard ∷ shards) [] alike stand weighed = absurd stand
+merged_interval_over_shards law shape prefix some is_prefix (shard ∷ shards) (list ∷ lists) alike stand weighed =
+    let same : shard.shape ≡ shape = All-head (λ (s : SnapshotValue). s.shape ≡ shape) shard shards alike in
+    let node = node_of_prefix shape.grain prefix in
     let key = prefix_key prefix in
+    let some_of_shard : 1 ≤ shard.shape.capacity = subst (λ (s : TableShape). 1 ≤ s.capacity) (sym same) some in
+    let prefix_of_shard : IsPrefix shard.shape.grain prefix = subst (λ (s : TableShape). IsPrefix s.grain prefix) (sym same) is_prefix in
+    let first : HoldsNarrowly (interval_in (table_at node shard) key) shape.capacity (prefix_weight prefix (take shard.position list))
+    (snapshot_total shard) =
+    subst (λ (s : TableShape).
+    HoldsNarrowly (interval_in (table_at (node_of_prefix s.grain prefix) shard) key) s.capacity
+    (prefix_weight prefix (take shard.position list)) (snapshot_total shard))
+    same
+    (law.weight shard list prefix stand.0 some_of_shard prefix_of_shard (All-head MergedIntervalIsWeighed list lists weighed)) in
+    let rest =
+    merged_interval_over_shards law shape prefix some is_prefix shards lists
+    (All-tail (λ (s : SnapshotValue). s.shape ≡ shape) shard shards alike) stand.1
+    (All-tail MergedIntervalIsWeighed list lists weighed) in
+    let tables = map (table_at node) shards in
+    let table = table_at node shard in
     let low = sum_by-cons (λ (t : TableValue). (interval_in t key).low) table tables in
     let high = sum_by-cons (λ (t : TableValue). (interval_in t key).high) table tables in
     let total = sum_by-cons snapshot_total shard shards in
@@ -85,7 +91,7 @@ merged_interval_over_shards law capacity prefix some is_prefix (shard ∷ shards
     (take shard.position list ++ records_before lists (map (λ (s : SnapshotValue). s.position) shards))
     ≤ (interval_over (table ∷ tables) key).high =
     omega (arith, high, weight, first.holds.high, rest.holds.high) in
-    let first_ordered : (interval_of prefix shard).low ≤ (interval_of prefix shard).high =
+    let first_ordered : (interval_in table key).low ≤ (interval_in table key).high =
     omega (arith, first.holds.low, first.holds.high) in
     let rest_ordered : (interval_over tables key).low ≤ (interval_over tables key).high =
     omega (arith, rest.holds.low, rest.holds.high) in
@@ -93,28 +99,28 @@ merged_interval_over_shards law capacity prefix some is_prefix (shard ∷ shards
       holds = record { low = least; high = most };
       narrow =
           let apart : (interval_over (table ∷ tables) key).high - (interval_over (table ∷ tables) key).low
-          ≡ ((interval_of prefix shard).high - (interval_of prefix shard).low)
+          ≡ ((interval_in table key).high - (interval_in table key).low)
           + ((interval_over tables key).high - (interval_over tables key).low) =
           omega (arith, low, high, first_ordered, rest_ordered) in
-          subst (λ n. n * capacity ≤ sum_by snapshot_total (shard ∷ shards)) (sym apart)
+          subst (λ n. n * shape.capacity ≤ sum_by snapshot_total (shard ∷ shards)) (sym apart)
           (omega (
             arith,
             total,
             first.narrow,
             rest.narrow,
-            add-mul ((interval_of prefix shard).high - (interval_of prefix shard).low)
-                ((interval_over tables key).high - (interval_over tables key).low) capacity,
+            add-mul ((interval_in table key).high - (interval_in table key).low)
+                ((interval_over tables key).high - (interval_over tables key).low) shape.capacity,
           ));
     }
 
 -- if a cut represents lists, the merged interval of each prefix holds its weight
 pub merged_interval_holds : MergedIntervalSnapshotsHold → (cut : CutValue) (lists : List (List RecordValue)) (prefix : PrefixValue)
-    → IsCut cut → CutRepresents cut lists → All MergedIntervalIsWeighed lists → IsPrefix prefix
-    → HoldsNarrowly (interval_in_cut cut prefix) cut.capacity
+    → IsCut cut → CutRepresents cut lists → All MergedIntervalIsWeighed lists → IsPrefix cut.shape.grain prefix
+    → HoldsNarrowly (interval_in_cut cut prefix) cut.shape.capacity
     (prefix_weight prefix (records_before lists (cut_positions cut)))
     (total_of_cut cut)
 merged_interval_holds law cut lists prefix kept stands weighed is_prefix =
-    merged_interval_over_shards law cut.capacity prefix (omega (arith, kept.least)) is_prefix cut.shards lists kept.alike
+    merged_interval_over_shards law cut.shape prefix (omega (arith, kept.least)) is_prefix cut.shards lists kept.alike
     stands.shards weighed
 
 -- a key that isn't monitored has no entry
@@ -140,62 +146,62 @@ IntervalsMergedAreNarrow = (capacity : ℕ) (entries : List Entry) (key : ℕ) �
     - (interval_in (record { capacity = capacity; entries = entries }) key).low) * capacity ≤ table_total entries
 
 -- so the highs of a key that no shard monitors are light together
-merged_interval_light_by_shard : IntervalsMergedAreNarrow → (capacity : ℕ) (node : NodeValue) (key : ℕ) → IsNode node
-    → (shards : List SnapshotValue)
-    → All (λ (s : SnapshotValue). s.capacity ≡ capacity) shards → All IsSnapshot shards
+merged_interval_light_by_shard : IntervalsMergedAreNarrow → (shape : TableShape) (node : NodeValue) (key : ℕ)
+    → (shards : List SnapshotValue) → HaveCutNode node shards
+    → All (λ (s : SnapshotValue). s.shape ≡ shape) shards → All IsSnapshot shards
     → ¬ Contains (flat_map keys_of (map (table_at node) shards)) key
-    → (interval_over (map (table_at node) shards) key).high * capacity ≤ sum_by snapshot_total shards
-merged_interval_light_by_shard law capacity node key is_node [] alike kept missing = omega arith
-merged_interval_light_by_shard law capacity node key is_node (shard ∷ shards) alike kept missing =
+    → (interval_over (map (table_at node) shards) key).high * shape.capacity ≤ sum_by snapshot_total shards
+merged_interval_light_by_shard law shape node key [] nodes alike kept missing = omega arith
+merged_interval_light_by_shard law shape node key (shard ∷ shards) nodes alike kept missing =
     let table = table_at node shard in
     let tables = map (table_at node) shards in
-    let same : shard.capacity ≡ capacity = All-head (λ (s : SnapshotValue). s.capacity ≡ capacity) shard shards alike in
-    let of_shard = (All-head IsSnapshot shard shards kept).tables node is_node in
+    let same : shard.shape ≡ shape = All-head (λ (s : SnapshotValue). s.shape ≡ shape) shard shards alike in
+    let of_shard = (All-head IsSnapshot shard shards kept).tables node (cut_node_at_head node shard shards nodes) in
     let none : table_entry key table.entries ≡ None =
     merged_interval_missing_entry table.entries key
     (λ there. missing (Contains-append_left (keys_of table) (flat_map keys_of tables) key there)) in
     let low : (interval_in table key).low ≡ 0 = ap (λ found. (interval_from found table).low) none in
-    let narrow = law shard.capacity table.entries key of_shard.are_entries.is_table in
+    let narrow = law shard.shape.capacity table.entries key of_shard.are_entries.is_table in
     let width : (interval_in table key).high - (interval_in table key).low ≡ (interval_in table key).high =
     omega (arith, low) in
-    let first : (interval_in table key).high * capacity ≤ snapshot_total shard =
-    subst (λ m. (interval_in table key).high * m ≤ snapshot_total shard) same
-    (subst (λ n. n * shard.capacity ≤ snapshot_total shard) width
-    (subst (λ n. ((interval_in table key).high - (interval_in table key).low) * shard.capacity ≤ n)
+    let first : (interval_in table key).high * shape.capacity ≤ snapshot_total shard =
+    subst (λ (s : TableShape). (interval_in table key).high * s.capacity ≤ snapshot_total shard) same
+    (subst (λ n. n * shard.shape.capacity ≤ snapshot_total shard) width
+    (subst (λ n. ((interval_in table key).high - (interval_in table key).low) * shard.shape.capacity ≤ n)
     of_shard.counted narrow)) in
-    let rest = merged_interval_light_by_shard law capacity node key is_node shards
-    (All-tail (λ (s : SnapshotValue). s.capacity ≡ capacity) shard shards alike)
+    let rest = merged_interval_light_by_shard law shape node key shards (cut_node_in_tail node shard shards nodes)
+    (All-tail (λ (s : SnapshotValue). s.shape ≡ shape) shard shards alike)
     (All-tail IsSnapshot shard shards kept)
     (λ there. missing (Contains-append_right (keys_of table) (flat_map keys_of tables) key there)) in
     let high = sum_by-cons (λ (t : TableValue). (interval_in t key).high) table tables in
-    subst (λ n. n * capacity ≤ sum_by snapshot_total (shard ∷ shards)) (sym high)
+    subst (λ n. n * shape.capacity ≤ sum_by snapshot_total (shard ∷ shards)) (sym high)
     (omega (
       arith,
       first,
       rest,
       sum_by-cons snapshot_total shard shards,
-      add-mul (interval_in table key).high (interval_over tables key).high capacity,
+      add-mul (interval_in table key).high (interval_over tables key).high shape.capacity,
     ))
 
 -- a prefix that no shard monitors has a light merged interval
-pub merged_interval_is_light : IntervalsMergedAreNarrow → (cut : CutValue) (prefix : PrefixValue) → IsCut cut → IsPrefix prefix
-    → ¬ Contains (monitored_in_cut cut (node_of_prefix prefix)) (prefix_key prefix)
-    → (interval_in_cut cut prefix).high * cut.capacity ≤ total_of_cut cut
+pub merged_interval_is_light : IntervalsMergedAreNarrow → (cut : CutValue) (prefix : PrefixValue) → IsCut cut → IsPrefix cut.shape.grain prefix
+    → ¬ Contains (monitored_in_cut cut (node_of_prefix cut.shape.grain prefix)) (prefix_key prefix)
+    → (interval_in_cut cut prefix).high * cut.shape.capacity ≤ total_of_cut cut
 merged_interval_is_light law cut prefix kept is_prefix missing =
-    merged_interval_light_by_shard law cut.capacity (node_of_prefix prefix) (prefix_key prefix)
-    (record { source = is_prefix.source.few; dest = is_prefix.dest.few }) cut.shards kept.alike kept.kept
+    merged_interval_light_by_shard law cut.shape (node_of_prefix cut.shape.grain prefix) (prefix_key prefix) cut.shards
+    (cut_node_in_shards cut (node_of_prefix cut.shape.grain prefix) kept (cut_table_node_is_node prefix is_prefix)) kept.alike kept.kept
     (λ there.
-    missing (first_seen-contains (flat_map keys_of (tables_at (node_of_prefix prefix) cut)) (prefix_key prefix) there))
+    missing (first_seen-contains (flat_map keys_of (tables_at (node_of_prefix cut.shape.grain prefix) cut)) (prefix_key prefix) there))
 
 -- and every merged interval is within the total
-pub merged_interval_within_total : CutTablesAreBounded → (cut : CutValue) (prefix : PrefixValue) → IsCut cut → IsPrefix prefix
+pub merged_interval_within_total : CutTablesAreBounded → (cut : CutValue) (prefix : PrefixValue) → IsCut cut → IsPrefix cut.shape.grain prefix
     → FitsTotal (total_of_cut cut) (interval_in_cut cut prefix)
 merged_interval_within_total law cut prefix kept is_prefix =
-    let is_node : IsNode (node_of_prefix prefix) = record { source = is_prefix.source.few; dest = is_prefix.dest.few } in
-    let tables = tables_at (node_of_prefix prefix) cut in
+    let is_node : IsNode cut.shape.grain (node_of_prefix cut.shape.grain prefix) = cut_table_node_is_node prefix is_prefix in
+    let tables = tables_at (node_of_prefix cut.shape.grain prefix) cut in
     let bounded : TableMergeIsBounded tables (prefix_key prefix) =
-    table_merge_is_bounded tables (prefix_key prefix) (law cut (node_of_prefix prefix) (prefix_key prefix) kept is_node) in
+    table_merge_is_bounded tables (prefix_key prefix) (law cut (node_of_prefix cut.shape.grain prefix) (prefix_key prefix) kept is_node) in
     record {
       ordered = bounded.ordered;
-      within_total = omega (arith, bounded.within_total, cut_tables_count_total (node_of_prefix prefix) cut is_node kept);
+      within_total = omega (arith, bounded.within_total, cut_tables_count_total (node_of_prefix cut.shape.grain prefix) cut is_node kept);
     }

@@ -36,7 +36,8 @@ monitored_in_cut cut node = monitored_in (tables_at node cut)
 
 -- the merged interval of a prefix in a cut: the sums of the lows and of the highs of its key over the shards
 abbrev pub interval_in_cut : CutValue → PrefixValue → TableInterval
-interval_in_cut cut prefix = interval_over (tables_at (node_of_prefix prefix) cut) (prefix_key prefix)
+interval_in_cut cut prefix =
+    interval_over (tables_at (node_of_prefix cut.shape.grain prefix) cut) (prefix_key prefix)
 
 -- an interval of tables is within a total
 abbrev pub FitsTotal : ℕ → TableInterval → Type 0

@@ -6,16 +6,16 @@ use Rattle.prefix_lattice.specs.{NodeValue, IsNode, node_index, PrefixValue, IsP
 use Rattle.prefix_lattice.specs.{node_count}
 use Rattle.prefix_lattice.specs.{total_limit}
 use Rattle.space_saving.specs.{TableInterval, TableValue, interval_in, table_total}
-use Rattle.shard_state.specs.{CutValue, total_of_cut}
+use Rattle.shard_state.specs.{CutValue, TableShape, total_of_cut}
 use Rattle.cut_merge.specs.Run.{RunValue, run_interval, IsRunOf, missing_high}
 use Rattle.cut_merge.specs.NodeMerge.{NodeMergeValue}
 use Rattle.cut_merge.specs.CutTables.{interval_in_cut, monitored_in_cut, FitsTotal}
 use Rattle.cut_merge.specs.CutTables.{keys_of, monitored_in}
 
--- the capacity of the tables, the weight that they counted together, and the merged tables of each of the 25 nodes,
--- in the order of the nodes' indexes
+-- the shape of the tables, the weight that they counted together, and the merged tables of each node of their grain, in
+-- the order of the nodes' indexes
 pub record MergedValue : Type 0 where
-  pub capacity : ℕ
+  pub shape : TableShape
   pub total : ℕ
   pub nodes : List NodeMergeValue
 
@@ -36,24 +36,27 @@ interval_for_key merge key = record {
 
 -- the interval of a prefix in merged tables
 abbrev pub interval_for : MergedValue → PrefixValue → TableInterval
-interval_for merged prefix = interval_for_key (merge_at (node_of_prefix prefix) merged) (prefix_key prefix)
+interval_for merged prefix =
+    interval_for_key (merge_at (node_of_prefix merged.shape.grain prefix) merged) (prefix_key prefix)
 
 -- the keys of a node that merged tables hold
 abbrev pub candidates_at : MergedValue → NodeValue → List ℕ
 candidates_at merged node = (merge_at node merged).keys
 
--- merged tables represent a cut: their capacity and total, the interval of each prefix and the candidates
--- of each node are those of the cut
+-- merged tables represent a cut: their shape and total, and the interval of each prefix and the candidates of each node
+-- of its grain, are those of the cut
 pub record RepresentsCut (merged : MergedValue) (cut : CutValue) : Type 0 where
-  pub capacity : merged.capacity ≡ cut.capacity
+  pub shape : merged.shape ≡ cut.shape
   pub total : merged.total ≡ total_of_cut cut
-  pub intervals : (prefix : PrefixValue) → IsPrefix prefix → interval_for merged prefix ≡ interval_in_cut cut prefix
-  pub candidates : (node : NodeValue) → IsNode node → candidates_at merged node ≡ monitored_in_cut cut node
+  pub intervals : (prefix : PrefixValue) → IsPrefix cut.shape.grain prefix
+      → interval_for merged prefix ≡ interval_in_cut cut prefix
+  pub candidates : (node : NodeValue) → IsNode cut.shape.grain node → candidates_at merged node ≡ monitored_in_cut cut node
 
--- what always holds of merged tables: there are 25 nodes, and no interval is above the total, which is below 2^60
+-- what always holds of merged tables: there is one for each node of the grain, and no interval is above the total, which
+-- is below 2^60
 pub record IsMerged (merged : MergedValue) : Type 0 where
   pub bounded : merged.total < total_limit
-  pub shape : length merged.nodes ≡ node_count
+  pub as_many : length merged.nodes ≡ node_count merged.shape.grain
   pub intervals : (place key : ℕ)
       → FitsTotal merged.total (interval_for_key (slice_index_or merged.nodes place nothing_merged) key)
 

@@ -9,8 +9,8 @@ use Rattle.std.proofs.lemmas.List.{length-map, length-append, map-append}
 use Rattle.std.proofs.lemmas.List.Sorted.{IsNonDecreasingBy-drop, IsNonDecreasingBy-short}
 use Rattle.prefix_lattice.specs.{RecordValue}
 use Rattle.shard_state.specs.{AreCoreShards, BasesRepresent, CutRepresents, CutValue, HasCoreShape, IsShard}
-use Rattle.shard_state.specs.{ShardValue}
-use Rattle.shard_state.specs.{SnapshotRepresents, SnapshotValue, core_capacity, core_lists, cut_positions}
+use Rattle.shard_state.specs.{ShardValue, TableShape}
+use Rattle.shard_state.specs.{SnapshotRepresents, SnapshotValue, core_shape, core_lists, cut_positions}
 use Rattle.shard_state.specs.{snapshot_of}
 use Rattle.shard_state.specs.{shard_state_at}
 use Rattle.hhh_output.specs.{IsReportOf}
@@ -38,14 +38,14 @@ call_states_keep_positions (shard ∷ rest) (position ∷ positions) many =
 
 -- the cut that was read is that of the pure core at the positions of the reads
 call_makes_cut_at_positions : (opening : List ShardValue) (before now : View) (cut changed : CutValue)
-    (reads : ReadsCut opening before cut now changed) → HasCoreShape (length opening) (core_capacity opening) cut
+    (reads : ReadsCut opening before cut now changed) → HasCoreShape (length opening) (core_shape opening) cut
     → IsCoreCut opening (positions_read reads.reads) changed
 call_makes_cut_at_positions opening before now cut changed reads shape = record {
   as_many = length-map reads.reads (λ read. read.position) ∙ reads.as_many;
   kept = subst (All IsShard) (call_states_at_positions opening reads.reads) reads.kept;
   is =
       reads.core
-      ∙ ap₂ (λ capacity states. record { capacity = capacity; shards = map snapshot_of states }) shape.alike
+      ∙ ap₂ (λ s states. record { shape = s; shards = map snapshot_of states }) shape.alike
       (call_states_at_positions opening reads.reads);
 }
 
@@ -54,7 +54,7 @@ call_cut_has_positions : (opening : List ShardValue) (positions : List ℕ) (cut
 call_cut_has_positions opening positions cut at = ap cut_positions at.is ∙ call_states_keep_positions opening positions at.as_many
 
 pub call_cut_at_its_positions : (opening : List ShardValue) (before now : View) (cut changed : CutValue)
-    → ReadsCut opening before cut now changed → HasCoreShape (length opening) (core_capacity opening) cut
+    → ReadsCut opening before cut now changed → HasCoreShape (length opening) (core_shape opening) cut
     → IsCoreCut opening (cut_positions changed) changed
 call_cut_at_its_positions opening before now cut changed reads shape =
     let at : IsCoreCut opening (positions_read reads.reads) changed =
@@ -81,17 +81,17 @@ call_snapshots_represent_records (shard ∷ rest) (position ∷ positions) many 
           (All-tail IsShard state (states_at rest positions) kept),
     )
 
-call_snapshots_have_capacity : (opening : List ShardValue) (positions : List ℕ) (capacity : ℕ)
-    → All (λ (shard : ShardValue). shard.base.capacity ≡ capacity) opening
-    → All (λ (snapshot : SnapshotValue). snapshot.capacity ≡ capacity) (map snapshot_of (states_at opening positions))
-call_snapshots_have_capacity [] positions capacity alike = All-nil (λ (snapshot : SnapshotValue). snapshot.capacity ≡ capacity)
-call_snapshots_have_capacity (shard ∷ rest) [] capacity alike = All-nil (λ (snapshot : SnapshotValue). snapshot.capacity ≡ capacity)
-call_snapshots_have_capacity (shard ∷ rest) (position ∷ positions) capacity alike =
-    All-cons (λ (snapshot : SnapshotValue). snapshot.capacity ≡ capacity) (snapshot_of (shard_state_at position shard))
+call_snapshots_have_shape : (opening : List ShardValue) (positions : List ℕ) (shape : TableShape)
+    → All (λ (shard : ShardValue). shard.base.shape ≡ shape) opening
+    → All (λ (snapshot : SnapshotValue). snapshot.shape ≡ shape) (map snapshot_of (states_at opening positions))
+call_snapshots_have_shape [] positions shape alike = All-nil (λ (snapshot : SnapshotValue). snapshot.shape ≡ shape)
+call_snapshots_have_shape (shard ∷ rest) [] shape alike = All-nil (λ (snapshot : SnapshotValue). snapshot.shape ≡ shape)
+call_snapshots_have_shape (shard ∷ rest) (position ∷ positions) shape alike =
+    All-cons (λ (snapshot : SnapshotValue). snapshot.shape ≡ shape) (snapshot_of (shard_state_at position shard))
     (map snapshot_of (states_at rest positions))
-    (All-head (λ (s : ShardValue). s.base.capacity ≡ capacity) shard rest alike)
-    (call_snapshots_have_capacity rest positions capacity
-    (All-tail (λ (s : ShardValue). s.base.capacity ≡ capacity) shard rest alike))
+    (All-head (λ (s : ShardValue). s.base.shape ≡ shape) shard rest alike)
+    (call_snapshots_have_shape rest positions shape
+    (All-tail (λ (s : ShardValue). s.base.shape ≡ shape) shard rest alike))
 
 pub call_cut_represents_records : (opening : List ShardValue) (positions : List ℕ) (cut : CutValue) → AreCoreShards opening
     → IsCoreCut opening positions cut
@@ -101,7 +101,7 @@ pub call_cut_represents_records : (opening : List ShardValue) (positions : List 
 call_cut_represents_records opening positions cut are at goes_on bases =
     subst (λ (c : CutValue). CutRepresents c (core_lists opening)) (sym at.is)
     (record {
-      alike = call_snapshots_have_capacity opening positions (core_capacity opening) are.alike;
+      alike = call_snapshots_have_shape opening positions (core_shape opening) are.alike;
       shards = call_snapshots_represent_records opening positions at.as_many goes_on bases at.kept;
     })
 
@@ -229,7 +229,7 @@ no_calls opening phi view = record {
 
 -- one round
 pub one_call : (opening : List ShardValue) (phi : ℕ) (before after : View) (cut changed : CutValue) (report : Report)
-    → ReadsCut opening before cut after changed → HasCoreShape (length opening) (core_capacity opening) cut
+    → ReadsCut opening before cut after changed → HasCoreShape (length opening) (core_shape opening) cut
     → report.positions ≡ cut_positions changed → IsCoreReport opening phi report
     → Calls opening phi 1 before after (record { report = report; saved = None } ∷ [])
 one_call opening phi before after cut changed report round shape here is_report =

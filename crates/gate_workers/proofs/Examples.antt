@@ -4,7 +4,8 @@ use Rattle.std.proofs.Common.{refl, ap, arith, subst, All, slice_index_or}
 use Rattle.std.proofs.lemmas.List.Elements.{All-nil, All-from_recursion}
 use Rattle.std.proofs.lemmas.Option.{same_Some}
 use Rattle.prefix_lattice.specs.{RecordValue}
-use Rattle.shard_state.specs.{IsShard, ShardValue, empty_snapshot, snapshot_of, shard_state_at}
+use Rattle.prefix_lattice.specs.declared.grain.Grain.TheVariants.{Byte}
+use Rattle.shard_state.specs.{IsShard, ShardValue, TableShape, empty_snapshot, snapshot_of, shard_state_at}
 use Rattle.shard_state.specs.declared.shard_state.Folded.{Folded}
 use Rattle.position_words.specs.declared.view.Trail.{Trail}
 use Rattle.position_words.specs.declared.view.View.{View}
@@ -17,16 +18,20 @@ use Rattle.gate_workers.specs.Calling.{positions_read, states_at}
 use Rattle.gate_workers.proofs.FeedingLemmas.{feeding_of_same_view}
 use Rattle.gate_workers.proofs.CallLemmas.{no_calls}
 
+-- tables of whole bytes, each of 4 entries
+abbrev pub four : TableShape
+four = record { grain = Byte; capacity = 4 }
+
 -- a packet from 1.0.0.1 to 101.0.0.1
 abbrev x : RecordValue
 x = record { src = 0x01000001; dst = 0x65000001; weight = 1 }
 
 -- two shards, of two packets and of one, none of which is counted
 abbrev pair : ShardValue
-pair = record { list = x ∷ x ∷ []; base = empty_snapshot 4; position = 0 }
+pair = record { list = x ∷ x ∷ []; base = empty_snapshot four; position = 0 }
 
 abbrev single : ShardValue
-single = record { list = x ∷ []; base = empty_snapshot 4; position = 0 }
+single = record { list = x ∷ []; base = empty_snapshot four; position = 0 }
 
 abbrev pub shards : List ShardValue
 shards = pair ∷ single ∷ []
@@ -85,7 +90,7 @@ pub shards_at_positions : states_at shards (2 ∷ 1 ∷ []) ≡ shard_state_at 2
 shards_at_positions = refl
 
 pub cut_of_the_core : cut_at shards (1 ∷ 0 ∷ [])
-    ≡ record { capacity = 4; shards = snapshot_of (shard_state_at 1 pair) ∷ snapshot_of single ∷ [] }
+    ≡ record { shape = four; shards = snapshot_of (shard_state_at 1 pair) ∷ snapshot_of single ∷ [] }
 cut_of_the_core = refl
 
 pub empty_cut_is_at_no_position : IsCoreCut [] [] (cut_at [] [])

@@ -2,7 +2,9 @@
 use Rattle.std.proofs.Common.{◌≡◌, ◌≤◌, [], ◌∷◌, ℕ, zero, suc, length}
 use Rattle.std.proofs.Common.{refl, sym, ap, ◌∙◌, arith}
 use Rattle.prefix_lattice.specs.{RecordValue}
-use Rattle.shard_state.specs.{empty_snapshot}
+use Rattle.prefix_lattice.specs.{grain_bits}
+use Rattle.prefix_lattice.specs.declared.grain.Grain.TheVariants.{Byte, Nibble}
+use Rattle.shard_state.specs.{TableShape, empty_snapshot}
 use Rattle.position_words.specs.declared.view.Trail.{Trail}
 use Rattle.position_words.specs.declared.view.View.{View}
 use Rattle.pass_tokens.specs.{WordsValue, first_view, newcomer_view, after_join}
@@ -14,11 +16,11 @@ use Rattle.gate_workers.specs.Running.{EachByNumber, after_splits}
 use Rattle.gate_workers.specs.Plan.{IsPlanFor}
 use Rattle.gate_workers.specs.LaterView.{IsLaterTrail, IsLaterView, StaysReady}
 use Rattle.gate_workers.specs.declared.plan.ThreadPlan.{ThreadPlan}
-use Rattle.gate_workers.proofs.Examples.{shards, first, trail}
+use Rattle.gate_workers.proofs.Examples.{four, shards, first, trail}
 
 -- two workers and a caller with one round, at half of the total and capacity 4
 abbrev plan : ThreadPlan
-plan = record { workers = 2; callers = 1; rounds = 1; block = 1; phi = 500000; capacity = 4 }
+plan = record { grain = Byte; workers = 2; callers = 1; rounds = 1; block = 1; phi = 500000; capacity = 4 }
 
 pub plan_for_the_shards : IsPlanFor shards plan
 plan_for_the_shards = record {
@@ -29,6 +31,7 @@ plan_for_the_shards = record {
   wide = omega arith;
   some_entries = omega arith;
   few_entries = omega arith;
+  of_grain = omega arith;
   alike = refl;
 }
 
@@ -37,7 +40,12 @@ pub plan_without_a_worker : IsPlanFor shards (record plan { workers = 0 }) → �
 plan_without_a_worker is = let some : 1 ≤ 0 = is.some_workers in omega (arith, some)
 
 pub plan_of_another_capacity : IsPlanFor shards (record plan { capacity = 8 }) → ⊥
-plan_of_another_capacity is = cc is.alike
+plan_of_another_capacity is =
+    let capacities : 8 ≡ 4 = ap (λ (s : TableShape). s.capacity) is.alike in omega (arith, capacities)
+
+pub plan_of_another_grain : IsPlanFor shards (record plan { grain = Nibble }) → ⊥
+plan_of_another_grain is =
+    let bits : 4 ≡ 8 = ap (λ (s : TableShape). grain_bits s.grain) is.alike in omega (arith, bits)
 
 -- a trail that has seen more is later
 pub a_position_further_on : IsLaterTrail (trail 1) (trail 2)
@@ -101,7 +109,7 @@ pub worker_that_stops_early : HasFed shards 1 first first → ⊥
 worker_that_stops_early fed =
     let end : 2 ≤ 0 = fed.ends 0 (record {
       list = x ∷ x ∷ [];
-      base = empty_snapshot 4;
+      base = empty_snapshot four;
       position = 0;
     }) refl in
     omega (arith, end)

@@ -1,7 +1,7 @@
 -- What a caller that reports round after round knows and answers.
 use Rattle.std.specs.Prelude.{ℕ, ◌≡◌, ◌<◌, ◌≤◌, List, [], ◌∷◌, map, fold, length, All, None, slice_index}
 use Rattle.std.specs.List.Sorted.{IsNonDecreasing}
-use Rattle.shard_state.specs.{CutValue, IsShard, ShardValue, core_capacity, snapshot_of, shard_state_at}
+use Rattle.shard_state.specs.{CutValue, IsShard, ShardValue, core_shape, snapshot_of, shard_state_at}
 use Rattle.hhh_output.specs.{IsReportOf}
 use Rattle.hhh_report.specs.declared.report.Report.{Report}
 use Rattle.hhh_report.specs.declared.reports.Reported.{Reported}
@@ -18,7 +18,7 @@ states_at (shard ∷ rest) (position ∷ positions) = shard_state_at position sh
 -- the cut of the pure core at these positions
 abbrev pub cut_at : List ShardValue → List ℕ → CutValue
 cut_at opening positions = record {
-  capacity = core_capacity opening;
+  shape = core_shape opening;
   shards = map snapshot_of (states_at opening positions);
 }
 

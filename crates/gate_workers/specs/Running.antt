@@ -1,6 +1,6 @@
 -- What the threads of a plan do, and what comes back.
 use Rattle.std.specs.Prelude.{ℕ, ◌≡◌, ◌+◌, ◌<◌, List, length, fold, Ok, All, IfOk, slice_index_or}
-use Rattle.shard_state.specs.{BasesRepresent, HasCoreShape, ShardValue, core_capacity, core_lists}
+use Rattle.shard_state.specs.{BasesRepresent, HasCoreShape, ShardValue, core_shape, core_lists}
 use Rattle.position_words.specs.declared.view.View.{View}
 use Rattle.pass_tokens.specs.{IsPassOf, SeatValue, WordsValue, after_join, newcomer_view, view}
 use Rattle.hhh_report.specs.{IsSound}
@@ -33,7 +33,7 @@ HasCalled opening plan before called =
 -- each report of a caller is sound
 abbrev pub AreSoundReports : List ShardValue → ℕ → List Reported → Type 0
 AreSoundReports opening phi reports =
-    All (λ reported. IsSound reported.report (core_lists opening) (core_capacity opening) phi) reports
+    All (λ reported. IsSound (core_shape opening).grain reported.report (core_lists opening) (core_shape opening).capacity phi) reports
 
 -- the calling thread made its rounds once, after all passes were split off from this view
 pub record MakesRounds (relates : View → View → Type 0) (passes : ℕ) (before : View) : Type 0 where
@@ -67,7 +67,7 @@ pub record FeedsToEnds (board : WordsValue) (block : ℕ) (before now : SeatValu
 -- within the crate: a caller that can make its rounds
 pub record CanCall (board : WordsValue) (caller : Caller) : Type 0 where
   pub pass : IsPassOf board caller.pass
-  pub shape : HasCoreShape (length board.opening) (core_capacity board.opening) caller.cut
+  pub shape : HasCoreShape (length board.opening) (core_shape board.opening) caller.cut
 
 -- within the crate: a caller before its thread and after it
 pub record Runs (board : WordsValue) (plan : ThreadPlan) (before now : Caller) : Type 0 where

@@ -2,7 +2,6 @@
 
 ghost use Rattle.std.specs.Prelude.{◌≡◌, ◌≤◌, ◌<◌, ◌^◌, length, All, IfOk, OnOk};
 ghost use Rattle.std.specs.List.{AllZip};
-ghost use Rattle.shard_state.specs.{core_capacity, least_capacity, most_capacity};
 ghost use Rattle.pass_tokens.specs.{IsPassOf, newcomer_view, view};
 ghost use Rattle.gate_workers.specs.Running.{BringsBack, CanCall, EachRelates};
 ghost use Rattle.gate_workers.specs.Running.{Runs, EachByNumber, after_splits};
@@ -47,7 +46,7 @@ pub(crate) fn split_callers(
 {
     let mut callers = Vec::new(alloc);
     for _caller in 0..plan.callers {
-        let made = new_caller(alloc, board, pass, plan.capacity)?;
+        let made = new_caller(alloc, board, pass, plan)?;
         callers.push(made)?;
     }
     Ok(callers)
@@ -58,18 +57,16 @@ fn new_caller(
     alloc: Global,
     board: &Board,
     pass: &mut Pass,
-    capacity: u32,
+    plan: &ThreadPlan,
 ) -> Result<Caller, AllocError>
-    requires least { least_capacity ≤ capacity }
-    requires most { capacity ≤ most_capacity }
-    requires alike { capacity ≡ core_capacity board.now.opening }
+    requires plan { IsPlanFor board.now.opening plan.now }
     requires pass { IsPassOf board.now pass.old }
     ensures caller { IfOk result (CanCall board.now) }
     ensures newcomer { IfOk result (λ caller. view caller.pass ≡ newcomer_view (view pass.old)) }
     ensures split { OnOk result (view pass.new ≡ after_splits 1 (view pass.old)) }
     ensures pass { IsPassOf board.now pass.new }
 {
-    let cut = Cut::with_room(alloc, board.shards(), capacity)?;
+    let cut = Cut::with_room(alloc, plan.grain, board.shards(), plan.capacity)?;
     Ok(Caller {
         pass: board.split(pass),
         cut,

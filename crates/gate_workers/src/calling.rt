@@ -1,7 +1,7 @@
 //! Reporting round after round.
 
 ghost use Rattle.std.specs.Prelude.{◌≡◌, ◌≤◌, ◌<◌, ◌++◌, [], ◌∷◌, length, All, IfOk, None, OnErr};
-ghost use Rattle.shard_state.specs.{BasesRepresent, HasCoreShape, core_capacity, core_lists, cut_positions};
+ghost use Rattle.shard_state.specs.{BasesRepresent, HasCoreShape, core_shape, core_lists, cut_positions};
 ghost use Rattle.hhh_report.specs.{IsSound, million};
 ghost use Rattle.hhh_output.specs.{IsWideShare};
 ghost use Rattle.pass_tokens.specs.{IsPassOf, view};
@@ -31,13 +31,14 @@ pub fn call_reports<R: Wait, G: Gate>(
     gate: &G,
 ) -> (Pass, Result<Reports, AllocError>)
     requires pass { IsPassOf board.now pass }
-    requires shape { HasCoreShape (length board.now.opening) (core_capacity board.now.opening) cut }
+    requires shape { HasCoreShape (length board.now.opening) (core_shape board.now.opening) cut }
     requires some { 1 ≤ phi }
     requires most { phi ≤ million }
-    requires wide { IsWideShare phi (core_capacity board.now.opening) }
+    requires wide { IsWideShare phi (core_shape board.now.opening).capacity }
     ensures calls { IfOk result.1 (Calls board.now.opening phi rounds (view pass) (view result.0)) }
     ensures sound { IfOk result.1 (λ reports. BasesRepresent board.now.opening
-        → All (λ reported. IsSound reported.report (core_lists board.now.opening) (core_capacity board.now.opening) phi) reports) }
+        → All (λ reported. IsSound (core_shape board.now.opening).grain reported.report
+        (core_lists board.now.opening) (core_shape board.now.opening).capacity phi) reports) }
     ensures in_part { OnErr result.1 (ReadsInRounds board.now.opening rounds (view pass) (view result.0)) }
     ensures pass { IsPassOf board.now result.0 }
 {
@@ -60,13 +61,14 @@ pub(crate) fn report_in_rounds<R: Wait, G: Gate>(
     gate: &G,
 ) -> Result<Reports, AllocError>
     requires pass { IsPassOf board.now pass.old }
-    requires shape { HasCoreShape (length board.now.opening) (core_capacity board.now.opening) cut.old }
+    requires shape { HasCoreShape (length board.now.opening) (core_shape board.now.opening) cut.old }
     requires some { 1 ≤ phi }
     requires most { phi ≤ million }
-    requires wide { IsWideShare phi (core_capacity board.now.opening) }
+    requires wide { IsWideShare phi (core_shape board.now.opening).capacity }
     ensures calls { IfOk result (Calls board.now.opening phi rounds (view pass.old) (view pass.new)) }
     ensures sound { IfOk result (λ reports. BasesRepresent board.now.opening
-        → All (λ reported. IsSound reported.report (core_lists board.now.opening) (core_capacity board.now.opening) phi) reports) }
+        → All (λ reported. IsSound (core_shape board.now.opening).grain reported.report
+        (core_lists board.now.opening) (core_shape board.now.opening).capacity phi) reports) }
     ensures in_part { OnErr result (ReadsInRounds board.now.opening rounds (view pass.old) (view pass.new)) }
     ensures pass { IsPassOf board.now pass.new }
 {
@@ -99,18 +101,18 @@ pub fn report_once<R: Wait, G: Gate>(
     turn: &Turn<'_, G>,
 ) -> Result<Report, AllocError>
     requires pass { IsPassOf board.now pass.old }
-    requires shape { HasCoreShape (length board.now.opening) (core_capacity board.now.opening) cut.old }
+    requires shape { HasCoreShape (length board.now.opening) (core_shape board.now.opening) cut.old }
     requires some { 1 ≤ phi }
     requires most { phi ≤ million }
-    requires wide { IsWideShare phi (core_capacity board.now.opening) }
+    requires wide { IsWideShare phi (core_shape board.now.opening).capacity }
     ensures reads { ReadsOnce board.now.opening (view pass.old) (view pass.new) }
     ensures calls { IfOk result (λ report. Calls board.now.opening phi 1 (view pass.old) (view pass.new)
         (record { report = report; saved = None } ∷ [])) }
     ensures sound { IfOk result (λ report. BasesRepresent board.now.opening
-        → IsSound report (core_lists board.now.opening) (core_capacity board.now.opening) phi) }
+        → IsSound (core_shape board.now.opening).grain report (core_lists board.now.opening) (core_shape board.now.opening).capacity phi) }
     ensures read { IsCoreCut board.now.opening (cut_positions cut.new) cut.new }
     ensures cut { IfOk result (λ report. cut.new ≡ cut_at board.now.opening report.positions) }
-    ensures shape { HasCoreShape (length board.now.opening) (core_capacity board.now.opening) cut.new }
+    ensures shape { HasCoreShape (length board.now.opening) (core_shape board.now.opening) cut.new }
     ensures pass { IsPassOf board.now pass.new }
 {
     turn.gate.before_read(turn.caller, turn.round);
@@ -125,11 +127,11 @@ fn report_at(alloc: Global, board: &Board, cut: &Cut, phi: u32) -> Result<Report
     requires cut { IsCoreCut board.now.opening (cut_positions cut.now) cut.now }
     requires some { 1 ≤ phi }
     requires most { phi ≤ million }
-    requires wide { IsWideShare phi (core_capacity board.now.opening) }
+    requires wide { IsWideShare phi (core_shape board.now.opening).capacity }
     ensures positions { IfOk result (λ report. report.positions ≡ cut_positions cut.now) }
     ensures report { IfOk result (IsCoreReport board.now.opening phi) }
     ensures sound { IfOk result (λ report. BasesRepresent board.now.opening
-        → IsSound report (core_lists board.now.opening) (core_capacity board.now.opening) phi) }
+        → IsSound (core_shape board.now.opening).grain report (core_lists board.now.opening) (core_shape board.now.opening).capacity phi) }
 {
     shards_stand();
     let _shards = (board.shards(), cut.shards());

@@ -1,15 +1,18 @@
 -- Lines that are appended to the reported ones, one after another.
-use Rattle.std.proofs.Common.{◌≡◌, ◌≢◌, ℕ, ◌+◌, ◌*◌, ◌<◌, ◌≤◌, zero, suc, List, ◌++◌, length, get_or, take}
+use Rattle.std.proofs.Common.{◌≡◌, ◌≢◌, ℕ, ◌+◌, ◌-◌, ◌*◌, ◌<◌, ◌≤◌, zero, suc, List, ◌++◌, length, get_or, take}
 use Rattle.std.proofs.Common.{AllPairs}
-use Rattle.std.proofs.Common.{Contains, sym, ap, ◌∙◌, ⊎_elim, arith}
+use Rattle.std.proofs.Common.{Contains, refl, sym, ap, ◌∙◌, subst, ⊎_elim, arith}
 use Rattle.std.proofs.lemmas.List.{get_or_append_left, get_or-append-add, get_or-map, get_or-take}
 use Rattle.std.proofs.lemmas.List.{length-map, length-take, length-append}
 use Rattle.std.proofs.lemmas.List.Elements.{Contains-append_cases}
-use Rattle.prefix_lattice.specs.{PrefixValue}
+use Rattle.std.proofs.Math.Nat.{mul-le-mul_right}
+use Rattle.prefix_lattice.specs.{PrefixValue, deepest_level, node_count}
+use Rattle.prefix_lattice.specs.declared.grain.Grain.{Grain}
+use Rattle.prefix_lattice.specs.declared.grain.Grain.TheVariants.{Byte, Nibble}
 use Rattle.conditioned_bounds.specs.{member_limit}
 use Rattle.hhh_report.specs.declared.line.Line.{Line}
 use Rattle.hhh_report.specs.{prefixes_of_lines}
-use Rattle.hhh_output.specs.Selecting.{nodes_down, most_candidates}
+use Rattle.hhh_output.specs.Selecting.{nodes_before, nodes_down, most_candidates}
 
 -- no prefix before an index is the one at the index
 pub appended_line_has_new_prefix : (old : List PrefixValue) (found : List Line) (at : ℕ) (line : Line)
@@ -40,21 +43,39 @@ appended_line_has_new_prefix old found at line distinct within is there =
     (omega (arith, within, count)) (same ∙ sym here))
     (Contains-append_cases old (prefixes_of_lines (take at found)) line.prefix there)
 
--- some levels have no more nodes than all
-appended_line_levels-few : (levels : ℕ) → levels ≤ 9 → nodes_down levels ≤ 25
-appended_line_levels-few zero within = omega arith
-appended_line_levels-few (suc zero) within = omega arith
-appended_line_levels-few (suc (suc zero)) within = omega arith
-appended_line_levels-few (suc (suc (suc zero))) within = omega arith
-appended_line_levels-few (suc (suc (suc (suc zero)))) within = omega arith
-appended_line_levels-few (suc (suc (suc (suc (suc zero))))) within = omega arith
-appended_line_levels-few (suc (suc (suc (suc (suc (suc zero)))))) within = omega arith
-appended_line_levels-few (suc (suc (suc (suc (suc (suc (suc zero))))))) within = omega arith
-appended_line_levels-few (suc (suc (suc (suc (suc (suc (suc (suc zero)))))))) within = omega arith
-appended_line_levels-few (suc (suc (suc (suc (suc (suc (suc (suc (suc zero))))))))) within = omega arith
-appended_line_levels-few (suc (suc (suc (suc (suc (suc (suc (suc (suc (suc levels)))))))))) within = absurd (omega arith)
+-- more levels have no fewer nodes
+appended_line_levels-grow : (grain : Grain) (more levels : ℕ)
+    → nodes_down grain levels ≤ nodes_down grain (more + levels)
+appended_line_levels-grow grain zero levels =
+    let none : 0 + levels ≡ levels = omega arith in
+    subst (λ n. nodes_down grain levels ≤ nodes_down grain n) (sym none) (omega arith)
+appended_line_levels-grow grain (suc more) levels =
+    let one : suc more + levels ≡ suc (more + levels) = omega arith in
+    subst (λ n. nodes_down grain levels ≤ nodes_down grain n) (sym one)
+    (still (nodes_down grain levels) (nodes_down grain (more + levels))
+    (nodes_before grain (deepest_level - (more + levels)) (node_count grain))
+    (appended_line_levels-grow grain more levels))
+  where
+    still : (n most others : ℕ) → n ≤ most → n ≤ most + others
+    still n most others few = omega (arith, few)
+
+-- all levels have all nodes
+appended_line_levels-all : (grain : Grain) → nodes_down grain (deepest_level + 1) ≡ node_count grain
+appended_line_levels-all Byte = refl
+appended_line_levels-all Nibble = refl
+
+-- the candidates of all nodes are so few that each can have a line
+pub appended_line_candidates_are_few : (grain : Grain) → node_count grain * most_candidates grain < member_limit
+appended_line_candidates_are_few Byte = omega arith
+appended_line_candidates_are_few Nibble = omega arith
 
 -- so there is room for the lines of each level
-pub appended_lines-few : (levels lines : ℕ) → levels ≤ 9 → lines ≤ nodes_down levels * most_candidates
-    → lines < member_limit
-appended_lines-few levels lines within few = omega (arith, few, appended_line_levels-few levels within)
+pub appended_lines-few : (grain : Grain) (levels lines : ℕ) → levels ≤ deepest_level + 1
+    → lines ≤ nodes_down grain levels * most_candidates grain → lines < member_limit
+appended_lines-few grain levels lines within few =
+    let others = deepest_level + 1 - levels in
+    let both : others + levels ≡ deepest_level + 1 = omega arith in
+    let fewer : nodes_down grain levels ≤ node_count grain =
+    subst (λ n. nodes_down grain levels ≤ n) (ap (nodes_down grain) both ∙ appended_line_levels-all grain)
+    (appended_line_levels-grow grain others levels) in
+    omega (arith, few, mul-le-mul_right (most_candidates grain) fewer, appended_line_candidates_are_few grain)

@@ -9,13 +9,13 @@ use Rattle.std.proofs.lemmas.Cmp.{ranked}
 use Rattle.std.proofs.lemmas.Int.{ints}
 use Rattle.std.proofs.lemmas.List.Elements.{All-cons, All-weaker, All-contains, All-contains_itself}
 use Rattle.std.proofs.lemmas.List.Kept.{AllPairs-cons}
-use Rattle.prefix_lattice.specs.{address_of, PrefixValue, node_of_prefix, prefix_key, closest, kept_pairs}
+use Rattle.prefix_lattice.specs.{address_of, PrefixValue, node_of_prefix, prefix_key, prefix_level, closest, kept_pairs}
 use Rattle.shard_state.specs.{CutValue}
 use Rattle.cut_merge.specs.{monitored_in_cut}
 use Rattle.hhh_output.specs.Reporting.{IsMonitored, low_in, high_in, IsUnexplained}
 use Rattle.prefix_lattice.proofs.ListLemmas.{Contains-list_head, Contains-list_tail, Contains-list_cons}
 use Rattle.prefix_lattice.proofs.ListLemmas.{Contains-empty_list, AllPairs-list_head, AllPairs-list_tail}
-use Rattle.hhh_output.proofs.NearLineLemmas.{near_line_level, NearLineLevelsFall, near_lines-append}
+use Rattle.hhh_output.proofs.NearLineLemmas.{NearLineLevelsFall, near_lines-append}
 use Rattle.hhh_output.proofs.SoundReportLemmas.{sound_report_key_or_not}
 use Rattle.hhh_output.proofs.SortedPrefixLemmas.{ComesBeforePrefix}
 
@@ -30,7 +30,7 @@ pub record IsChosenLine (cut : CutValue) (threshold : ℕ) (lines : List PrefixV
 chosen_line_or_not : (cut : CutValue) (threshold : ℕ) (lines : List PrefixValue) (prefix : PrefixValue)
     → IsChosenLine cut threshold lines prefix ⊎ ¬ IsChosenLine cut threshold lines prefix
 chosen_line_or_not cut threshold lines prefix =
-    elim (sound_report_key_or_not (prefix_key prefix) (monitored_in_cut cut (node_of_prefix prefix))) [
+    elim (sound_report_key_or_not (prefix_key prefix) (monitored_in_cut cut (node_of_prefix cut.shape.grain prefix))) [
       | inr unknown ↦ inr (λ is. unknown is.monitored)
       | inl monitored ↦ elim (cases_lt (high_in cut prefix) threshold) [
         | inl light ↦ inr (λ is. omega (arith, light, is.heavy))
@@ -62,21 +62,21 @@ chosen_line_by_closest cut threshold lines other prefix same is = record {
 
 -- a prefix that comes later in a report has no greater level
 chosen_line_levels_fall : (prefix later : PrefixValue) → ComesBeforePrefix prefix later
-    → near_line_level later ≤ near_line_level prefix
+    → prefix_level later ≤ prefix_level prefix
 chosen_line_levels_fall prefix later before =
-    by (nat_cmp (near_line_level later) (near_line_level prefix))
+    by (nat_cmp (prefix_level later) (prefix_level prefix))
     (ordering_then (nat_cmp (address_of prefix.source) (address_of later.source))
     (ordering_then (nat_cmp (length prefix.source) (length later.source))
     (nat_cmp (address_of prefix.dest) (address_of later.dest))))
-    (ranked (near_line_level later) (near_line_level prefix)
-    (nat_cmp (near_line_level later) (near_line_level prefix)) refl) before
+    (ranked (prefix_level later) (prefix_level prefix)
+    (nat_cmp (prefix_level later) (prefix_level prefix)) refl) before
   where
     by : (o rest : Ordering)
-        → MatchOrdering o (near_line_level later < near_line_level prefix)
-        (near_line_level later ≡ near_line_level prefix) (near_line_level prefix < near_line_level later)
-        → ordering_then o rest ≡ Less → near_line_level later ≤ near_line_level prefix
-    by Less rest below _ = let lower : near_line_level later < near_line_level prefix = below in omega arith
-    by Equal rest level _ = let same : near_line_level later ≡ near_line_level prefix = level in omega arith
+        → MatchOrdering o (prefix_level later < prefix_level prefix)
+        (prefix_level later ≡ prefix_level prefix) (prefix_level prefix < prefix_level later)
+        → ordering_then o rest ≡ Less → prefix_level later ≤ prefix_level prefix
+    by Less rest below _ = let lower : prefix_level later < prefix_level prefix = below in omega arith
+    by Equal rest level _ = let same : prefix_level later ≡ prefix_level prefix = level in omega arith
     by Greater rest above first = let turned : Greater ≡ Less = first in absurd (cc)
 
 -- what is chosen of some prefixes beside lines before them: those that are to have a line beside all of these
@@ -102,9 +102,9 @@ module _ (cut : CutValue) (threshold : ℕ) (before rest : List PrefixValue) (pr
 
   -- which is of no greater level
   chosen_lines_are_low : (chosen : List PrefixValue) → All (ComesBeforePrefix prefix) chosen
-      → All (λ line. near_line_level line ≤ near_line_level prefix) chosen
+      → All (λ line. prefix_level line ≤ prefix_level prefix) chosen
   chosen_lines_are_low chosen later =
-      All-weaker (ComesBeforePrefix prefix) (λ (line : PrefixValue). near_line_level line ≤ near_line_level prefix)
+      All-weaker (ComesBeforePrefix prefix) (λ (line : PrefixValue). prefix_level line ≤ prefix_level prefix)
       (λ line is. chosen_line_levels_fall prefix line is) chosen later
 
   -- it has a line
@@ -116,8 +116,8 @@ module _ (cut : CutValue) (threshold : ℕ) (before rest : List PrefixValue) (pr
       chosen_lines_come_later chosen (λ other there. (are.there other there).0) in
       let joined : (before ++ prefix ∷ []) ++ chosen ≡ before ++ (prefix ∷ chosen) =
       append_assoc before (prefix ∷ []) chosen in
-      let low : All (λ line. near_line_level line ≤ near_line_level prefix) (prefix ∷ chosen) =
-      All-cons (λ (line : PrefixValue). near_line_level line ≤ near_line_level prefix) prefix chosen (omega arith)
+      let low : All (λ line. prefix_level line ≤ prefix_level prefix) (prefix ∷ chosen) =
+      All-cons (λ (line : PrefixValue). prefix_level line ≤ prefix_level prefix) prefix chosen (omega arith)
       (chosen_lines_are_low chosen later) in
       let own : IsChosenLine cut threshold (before ++ (prefix ∷ chosen)) prefix =
       chosen_line_by_closest cut threshold before (before ++ (prefix ∷ chosen)) prefix

@@ -3,12 +3,14 @@ use Rattle.std.proofs.Common.{◌≡◌, ℕ, zero, suc, ◌<◌, ◌≤ℤ◌, 
 use Rattle.std.proofs.Common.{refl, ap, subst, arith, pos}
 use Rattle.std.proofs.Math.ListN.{replicate}
 use Rattle.std.proofs.lemmas.Int.{ints}
-use Rattle.std.specs.Prelude.{slice_index_or, slice_index}
-use Rattle.prefix_lattice.specs.{RecordValue, node_index, PrefixValue, IsPrefix, node_of_prefix, prefix_key}
+use Rattle.std.specs.Prelude.{slice_index_or}
+use Rattle.prefix_lattice.specs.{RecordValue, node_index, node_count, PrefixValue, IsPrefix, node_of_prefix, prefix_key}
+use Rattle.prefix_lattice.specs.declared.grain.Grain.TheVariants.{Byte}
+use Rattle.prefix_lattice.proofs.Examples.{front, leading_bits_of_an_address}
 use Rattle.hhh_report.specs.{AreReportLines}
 use Rattle.hhh_report.specs.declared.line.Line.{Line}
 use Rattle.hhh_report.specs.declared.report.Report.{Report}
-use Rattle.shard_state.specs.{fold_from, no_entries, empty_snapshot, CutValue}
+use Rattle.shard_state.specs.{fold_from, no_entries, empty_snapshot, CutValue, TableShape}
 use Rattle.cut_merge.specs.{monitored_in}
 use Rattle.hhh_output.specs.Reporting.{IsMonitored, low_in, high_in, IsUnexplained}
 use Rattle.hhh_output.specs.Reporting.{IsLineOf, IsReportOf, IsWideShare}
@@ -26,13 +28,17 @@ packet = record { src = 0x0a010203; dst = 0x14010203; weight = 100 }
 
 -- 10.0.0.0/8 20.0.0.0/8
 abbrev prefix : PrefixValue
-prefix = record { source = 10 ∷ []; dest = 20 ∷ [] }
+prefix = record { source = front 0x0a000000 8; dest = front 0x14000000 8 }
+
+-- tables of 4 entries, for prefixes by whole bytes
+abbrev small : TableShape
+small = record { grain = Byte; capacity = 4 }
 
 -- one shard that counted the packet
 abbrev cut : CutValue
 cut = record {
-  capacity = 4;
-  shards = record { capacity = 4; position = 1; tables = fold_from 0 4 no_entries (packet ∷ []) } ∷ [];
+  shape = small;
+  shards = record { shape = small; position = 1; tables = fold_from 0 small (no_entries Byte) (packet ∷ []) } ∷ [];
 }
 
 pub low_of_the_prefix : low_in cut prefix ≡ 100
@@ -49,27 +55,15 @@ root = record { source = []; dest = [] }
 
 -- 10.1.2.3/32 20.1.2.3/32, which is the packet's own
 abbrev pub whole : PrefixValue
-whole = record { source = 10 ∷ 1 ∷ 2 ∷ 3 ∷ []; dest = 20 ∷ 1 ∷ 2 ∷ 3 ∷ [] }
+whole = record { source = front 0x0a010203 32; dest = front 0x14010203 32 }
 
-pub whole_is_prefix : IsPrefix whole
+pub whole_is_prefix : IsPrefix Byte whole
 whole_is_prefix = record {
-  source = record { few = omega arith; bytes = source };
-  dest = record { few = omega arith; bytes = dest };
+  source = leading_bits_of_an_address 0x0a010203 32 (omega arith);
+  dest = leading_bits_of_an_address 0x14010203 32 (omega arith);
+  source_steps = refl;
+  dest_steps = refl;
 }
-  where
-    source : (place : ℕ) → slice_index whole.source place < 256
-    source zero = omega arith
-    source (suc zero) = omega arith
-    source (suc (suc zero)) = omega arith
-    source (suc (suc (suc zero))) = omega arith
-    source (suc (suc (suc (suc place)))) = omega arith
-
-    dest : (place : ℕ) → slice_index whole.dest place < 256
-    dest zero = omega arith
-    dest (suc zero) = omega arith
-    dest (suc (suc zero)) = omega arith
-    dest (suc (suc (suc zero))) = omega arith
-    dest (suc (suc (suc (suc place)))) = omega arith
 
 -- the lines of the packet's own prefix and of the root
 abbrev pub own : Line
@@ -108,14 +102,15 @@ root_is_monitored = (0, omega arith, refl)
 
 -- 11.0.0.0/8 0.0.0.0/0
 abbrev elsewhere : PrefixValue
-elsewhere = record { source = 11 ∷ []; dest = [] }
+elsewhere = record { source = front 0x0b000000 8; dest = [] }
 
 pub another_network_is_not : ¬ IsMonitored cut elsewhere
 unfolding no_entries
 another_network_is_not monitored = other monitored.0 monitored.1 monitored.2
   where
     other : (place : ℕ) → place < 1
-        → slice_index_or (prefix_key (record { source = 10 ∷ []; dest = [] }) ∷ []) place (prefix_key elsewhere)
+        → slice_index_or (prefix_key (record { source = front 0x0a000000 8; dest = [] }) ∷ []) place
+        (prefix_key elsewhere)
         ≡ prefix_key elsewhere → ⊥
     other zero within is = omega (arith, is)
     other (suc place) within is = omega arith
@@ -138,7 +133,7 @@ silence_is_no_report_of_the_cut report =
 
 -- a cut of one shard that counted nothing, and what is reported of it
 abbrev nothing_counted : CutValue
-nothing_counted = record { capacity = 4; shards = empty_snapshot 4 ∷ [] }
+nothing_counted = record { shape = small; shards = empty_snapshot small ∷ [] }
 
 abbrev nothing_told : Report
 nothing_told = record { positions = 0 ∷ []; total = 0; threshold = 1; lines = []; are_lines = no_lines }
@@ -160,7 +155,7 @@ nothing_is_told_of_nothing = record {
     (λ asked.
         let none = subst (λ keys. Contains keys (prefix_key line.prefix))
         (ap (λ entries. monitored_in (record { capacity = 4; entries = entries } ∷ []))
-        (alike [] 25 (node_index (node_of_prefix line.prefix)))) asked.monitored in
+        (alike [] (node_count Byte) (node_index (node_of_prefix Byte line.prefix)))) asked.monitored in
         absurd (omega (arith, none.1))),
   );
 }

@@ -1,12 +1,13 @@
 -- Worked examples of how the lines of a report are found, most by computing.
-use Rattle.std.proofs.Common.{◌≡◌, ◌≢◌, ℕ, ◌*◌, ◌≤◌, ◌≤ℤ◌, List, [], ◌∷◌, ◌++◌, length, All, AllPairs, Contains}
-use Rattle.std.proofs.Common.{refl, sym, ap, subst, arith, pos, ◌<◌}
+use Rattle.std.proofs.Common.{◌≡◌, ◌≢◌, ℕ, ◌+◌, ◌*◌, ◌≤◌, ◌≤ℤ◌, List, [], ◌∷◌, ◌++◌, length, All, AllPairs, Contains}
+use Rattle.std.proofs.Common.{refl, sym, ap, subst, arith, pos}
 use Rattle.std.proofs.Math.ListN.{replicate}
 use Rattle.std.proofs.lemmas.Int.{ints}
 use Rattle.std.proofs.lemmas.List.Elements.{All-nil, All-cons}
 use Rattle.std.proofs.lemmas.List.Kept.{AllPairs-cons}
 use Rattle.prefix_lattice.specs.{NodeValue, node_index, PrefixValue, node_of_prefix, prefix_key, IsPrefixKey}
-use Rattle.prefix_lattice.specs.{node_count}
+use Rattle.prefix_lattice.specs.{node_count, deepest_level, IsGrainLength}
+use Rattle.prefix_lattice.specs.declared.grain.Grain.TheVariants.{Byte, Nibble}
 use Rattle.cut_merge.specs.{NodeMergeValue, MergedValue, nothing_merged, candidates_at}
 use Rattle.hhh_report.specs.declared.line.Line.{Line}
 use Rattle.hhh_report.specs.{line_limit}
@@ -17,18 +18,28 @@ use Rattle.hhh_output.specs.Selecting.{AreDistinct, AreOfLevel, AreDownTo}
 use Rattle.hhh_output.proofs.Examples.{root, whole, whole_is_prefix, own, of_all, alike}
 use Rattle.conditioned_bounds.specs.{member_limit}
 
--- of the nodes one has level 8, and two have level 7
-pub nodes_of_the_first_levels : nodes_down 2 ≡ 3
+-- of the nodes by whole bytes one has level 64, and two have level 56
+pub nodes_of_the_first_levels : nodes_down Byte 9 ≡ 3
 nodes_of_the_first_levels = refl
 
-pub nodes_of_level_4 : nodes_before 4 25 ≡ 5
-nodes_of_level_4 = refl
+-- of those by half bytes one has level 64, two have level 60, and three have level 56
+pub nodes_of_the_first_levels_by_half_bytes : nodes_down Nibble 9 ≡ 6
+nodes_of_the_first_levels_by_half_bytes = refl
 
-pub a_node_has_the_entries_of_128_tables_at_most : most_candidates ≡ 128 * 4096
+pub nodes_of_level_32 : nodes_before Byte 32 25 ≡ 5
+nodes_of_level_32 = refl
+
+pub nodes_of_level_32_by_half_bytes : nodes_before Nibble 32 81 ≡ 9
+nodes_of_level_32_by_half_bytes = refl
+
+pub no_node_of_level_33 : nodes_before Nibble 33 81 ≡ 0
+no_node_of_level_33 = refl
+
+pub a_node_has_the_entries_of_128_tables_at_most : most_candidates Byte ≡ 128 * 4096
 a_node_has_the_entries_of_128_tables_at_most = refl
 
-pub candidates_of_all_nodes_are_below_the_limit : node_count * most_candidates < member_limit
-candidates_of_all_nodes_are_below_the_limit = omega arith
+pub and_of_smaller_ones_by_half_bytes : most_candidates Nibble ≡ 128 * 1024
+and_of_smaller_ones_by_half_bytes = refl
 
 -- the index of lines, by which they are selected, has room for all lines of a report
 pub limit_of_an_index_is_that_of_lines : member_limit ≡ line_limit
@@ -39,7 +50,7 @@ lines_of_two_prefixes_are_distinct =
     let Other : Line → Line → Type 0 = λ line other. line.prefix ≢ other.prefix in
     AllPairs-cons Other own (of_all ∷ [])
     (All-cons (Other own) of_all []
-    (λ same. let kept : 4
+    (λ same. let kept : 32
     ≡ 0 = ap (λ (prefix : PrefixValue). length prefix.source) same in omega (arith, kept))
     (All-nil (Other own)))
     (AllPairs-cons Other of_all [] (All-nil (Other of_all)) (λ place later other before within. absurd (omega arith)))
@@ -50,7 +61,7 @@ a_prefix_has_one_line distinct = distinct 0 1 own (omega arith) (omega arith) re
 -- merged tables that know the packet's own prefix, 100 to 100, at the last of the 25 nodes, and nothing elsewhere
 abbrev merged : MergedValue
 merged = record {
-  capacity = 4;
+  shape = record { grain = Byte; capacity = 4 };
   total = 100;
   nodes =
       replicate 24 nothing_merged
@@ -62,7 +73,11 @@ merged = record {
 
 -- those that know nothing at all
 abbrev nothing : MergedValue
-nothing = record { capacity = 4; total = 0; nodes = replicate 25 nothing_merged }
+nothing = record {
+  shape = record { grain = Byte; capacity = 4 };
+  total = 0;
+  nodes = replicate (node_count Byte) nothing_merged;
+}
 
 pub low_of_the_own_prefix : low_of merged whole ≡ 100
 low_of_the_own_prefix = refl
@@ -89,7 +104,8 @@ selected_line = record {
 }
 
 no_candidates : (node : NodeValue) → candidates_at nothing node ≡ []
-no_candidates node = ap (λ (merge : NodeMergeValue). merge.keys) (alike nothing_merged 25 (node_index node))
+no_candidates node = ap (λ (merge : NodeMergeValue). merge.keys) (alike nothing_merged (node_count Byte)
+    (node_index node))
 
 pub nothing_has_no_candidates : AreCandidates nothing
 nothing_has_no_candidates = record {
@@ -98,15 +114,16 @@ nothing_has_no_candidates = record {
       subst (AllPairs (λ key other. key ≢ other)) (sym (no_candidates node))
       (λ place later other before within. absurd (omega arith));
   few = λ node is_node.
-      subst (λ (keys : List ℕ). length keys ≤ most_candidates) (sym (no_candidates node)) (omega arith);
+      subst (λ (keys : List ℕ). length keys ≤ most_candidates Byte) (sym (no_candidates node)) (omega arith);
 }
 
 -- the root keeps no bit, so its only key is 0
 pub root_has_no_key_1 : ¬ AreCandidates
     (record nothing { nodes = record { runs = []; keys = 1 ∷ [] } ∷ [] })
 root_has_no_key_1 candidates =
+    let none : IsGrainLength Byte 0 = record { few = omega arith; whole = refl } in
     let loose : 1 ≡ 0 =
-    (candidates.keyed (node_of_prefix root) (record { source = omega arith; dest = omega arith }) 0 1
+    (candidates.keyed (node_of_prefix Byte root) (record { of_grain = refl; source = none; dest = none }) 0 1
     (omega arith)).dest in
     omega (arith, loose)
 
@@ -114,22 +131,23 @@ root_has_no_key_1 candidates =
 none_selected : (threshold : ℕ) (lines : List PrefixValue) (line : Line) → ¬ IsSelected nothing threshold lines line
 none_selected threshold lines line selected =
     let none =
-    subst (λ keys. Contains keys (prefix_key line.prefix)) (no_candidates (node_of_prefix line.prefix)) selected.candidate in
+    subst (λ keys. Contains keys (prefix_key line.prefix)) (no_candidates
+    (node_of_prefix Byte line.prefix)) selected.candidate in
     omega (arith, none.1)
 
-pub nothing_has_no_line_of_level_8 : AreOfLevel nothing 1 [] 8 []
-nothing_has_no_line_of_level_8 = record {
+pub nothing_has_no_line_of_the_deepest_level : AreOfLevel nothing 1 [] deepest_level []
+nothing_has_no_line_of_the_deepest_level = record {
   members = λ line.
       ((λ inside. absurd (omega (arith, inside.1))), (λ selected. absurd (none_selected 1 [] line selected.1)));
   rising = λ place later other before within. absurd (omega arith);
   few = omega arith;
 }
 
-pub a_selected_line_is_not_left_out : ¬ AreOfLevel merged 100 [] 8 []
+pub a_selected_line_is_not_left_out : ¬ AreOfLevel merged 100 [] deepest_level []
 a_selected_line_is_not_left_out level =
     let inside = (level.members own).1 (refl, selected_line) in omega (arith, inside.1)
 
-pub nothing_has_no_line_of_any_level : AreDownTo nothing 1 9 []
+pub nothing_has_no_line_of_any_level : AreDownTo nothing 1 (deepest_level + 1) []
 nothing_has_no_line_of_any_level = record {
   above = λ line inside. absurd (omega (arith, inside.1));
   members = λ line of_level.
@@ -138,7 +156,7 @@ nothing_has_no_line_of_any_level = record {
   few = omega arith;
 }
 
--- before level 8 no line is found, whatever is merged
+-- before the deepest level no line is found, whatever is merged
 pub no_level_has_no_line : AreDownTo merged 100 0 []
 no_level_has_no_line = record {
   above = λ line inside. absurd (omega (arith, inside.1));
@@ -150,5 +168,6 @@ no_level_has_no_line = record {
   few = omega arith;
 }
 
-pub level_8_is_not_left_out : ¬ AreDownTo merged 100 1 []
-level_8_is_not_left_out down = let inside = (down.members own (omega arith)).1 selected_line in omega (arith, inside.1)
+pub deepest_level_is_not_left_out : ¬ AreDownTo merged 100 1 []
+deepest_level_is_not_left_out down = let inside = (down.members own (omega arith)).1 selected_line in omega
+    (arith, inside.1)

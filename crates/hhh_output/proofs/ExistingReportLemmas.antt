@@ -5,7 +5,7 @@ use Rattle.std.proofs.lemmas.Bool.{cases_lt}
 use Rattle.std.proofs.lemmas.List.{length-map}
 use Rattle.std.proofs.lemmas.List.Elements.{All-weaker, All-contains, All-contains_itself, All-map}
 use Rattle.std.proofs.lemmas.List.Kept.{AllPairs-cons}
-use Rattle.prefix_lattice.specs.{PrefixValue, IsPrefix, node_index, node_of_prefix}
+use Rattle.prefix_lattice.specs.{PrefixValue, IsPrefix, node_count}
 use Rattle.shard_state.specs.{CutValue, IsCut, cut_positions, total_of_cut}
 use Rattle.cut_merge.specs.{interval_in_cut, FitsTotal}
 use Rattle.hhh_report.specs.declared.line.Line.{Line}
@@ -14,6 +14,8 @@ use Rattle.hhh_report.specs.{IsThreshold, prefixes_of_lines, AreReportLines, lin
 use Rattle.hhh_output.specs.Reporting.{IsMonitored, low_in, high_in, IsUnexplained, IsLineOf, IsReportOf}
 use Rattle.prefix_lattice.proofs.ListLemmas.{Contains-list_head, Contains-list_tail, Contains-list_cons}
 use Rattle.prefix_lattice.proofs.ListLemmas.{Contains-empty_list, AllPairs-list_head, AllPairs-list_tail}
+use Rattle.hhh_output.proofs.PrefixNodeLemmas.{prefix_node_place_is_small}
+use Rattle.hhh_output.proofs.AppendedLineLemmas.{appended_line_candidates_are_few}
 use Rattle.hhh_output.proofs.OneReportLemmas.{BeforeInOneReport}
 use Rattle.hhh_output.proofs.NearLineLemmas.{NearLineLevelsFall}
 use Rattle.hhh_output.proofs.SortedPrefixLemmas.{ComesBeforePrefix, PrefixesCanBeSorted}
@@ -125,24 +127,27 @@ pub record ExistingReportLaws (cut : CutValue) : Type 0 where
   pub sortable : PrefixesCanBeSorted
   pub falls : NearLineLevelsFall
   pub few : MonitoredPrefixesAreFew cut
-  pub within : (prefix : PrefixValue) → IsPrefix prefix → FitsTotal (total_of_cut cut) (interval_in_cut cut prefix)
+  pub within : (prefix : PrefixValue) → IsPrefix cut.shape.grain prefix
+      → FitsTotal (total_of_cut cut) (interval_in_cut cut prefix)
 
 -- the lines of prefixes in order, if they are few, are lines of a report
 existing_report_lines_are_kept : (cut : CutValue) (prefixes : List PrefixValue) → ExistingReportLaws cut
-    → All IsPrefix prefixes → AllPairs ComesBeforePrefix prefixes → length prefixes < line_limit
+    → All (IsPrefix cut.shape.grain) prefixes → AllPairs ComesBeforePrefix prefixes → length prefixes < line_limit
     → AreReportLines (existing_report_lines cut prefixes)
 existing_report_lines_are_kept cut prefixes laws are_prefixes rising few = record {
   few = omega (arith, few, length-map prefixes (existing_report_line cut));
   ordered =
       All-map (λ (line : Line). line.lo ≤ line.hi) (existing_report_line cut) prefixes
-      (All-weaker IsPrefix (λ prefix. low_in cut prefix ≤ high_in cut prefix)
+      (All-weaker (IsPrefix cut.shape.grain) (λ prefix. low_in cut prefix ≤ high_in cut prefix)
       (λ prefix is. (laws.within prefix is).ordered) prefixes are_prefixes);
   rising = existing_report_lines_rise cut prefixes rising;
 }
 
 -- what is chosen of all that the cut monitors makes the lines of its report
-module _ (cut : CutValue) (threshold : ℕ) (sorted chosen : List PrefixValue) (are_prefixes : All IsPrefix sorted)
-    (are_there : (prefix : PrefixValue) → IsPrefix prefix → IsMonitored cut prefix → Contains sorted prefix)
+module _ (cut : CutValue) (threshold : ℕ) (sorted chosen : List PrefixValue) (are_prefixes : All
+    (IsPrefix cut.shape.grain) sorted)
+    (are_there : (prefix : PrefixValue) → IsPrefix cut.shape.grain prefix → IsMonitored cut prefix
+    → Contains sorted prefix)
     (are_chosen : AreChosenLines cut threshold [] sorted chosen) where
   existing_report_gives_line : (line : Line) → Contains (existing_report_lines cut chosen) line
       → IsLineOf cut threshold (prefixes_of_lines (existing_report_lines cut chosen)) line
@@ -150,7 +155,7 @@ module _ (cut : CutValue) (threshold : ℕ) (sorted chosen : List PrefixValue) (
       let shows = existing_report_line_shows cut chosen line there in
       let part = are_chosen.there line.prefix shows.there in
       record {
-        is_prefix = All-contains IsPrefix sorted line.prefix are_prefixes part.0;
+        is_prefix = All-contains (IsPrefix cut.shape.grain) sorted line.prefix are_prefixes part.0;
         low = shows.low;
         high = shows.high;
         monitored = part.1.monitored;
@@ -181,17 +186,25 @@ pub each_cut_has_existing_report : (cut : CutValue) (phi : ℕ) → IsCut cut �
     → (report : Report) × IsReportOf cut phi report
 each_cut_has_existing_report cut phi kept laws =
     let threshold = existing_report_threshold phi (total_of_cut cut) in
-    let monitored = each_cut_has_monitored_prefixes cut kept laws.few 25 (omega arith) in
-    let sorted = each_list_has_sorted_prefixes laws.sortable monitored.0 monitored.1.are_prefixes in
+    let monitored = each_cut_has_monitored_prefixes cut kept laws.few (node_count cut.shape.grain) (omega arith) in
+    let sorted = each_list_has_sorted_prefixes laws.sortable cut.shape.grain monitored.0 monitored.1.are_prefixes in
     let chosen = each_list_has_chosen_lines cut threshold.0 laws.falls [] sorted.0 sorted.1.rising in
-    let are_prefixes : All IsPrefix chosen.0 =
-    All-weaker (Contains chosen.0) IsPrefix
-    (λ prefix there. All-contains IsPrefix sorted.0 prefix sorted.1.are_prefixes (chosen.1.there prefix there).0)
+    let are_prefixes : All (IsPrefix cut.shape.grain) chosen.0 =
+    All-weaker (Contains chosen.0) (IsPrefix cut.shape.grain)
+    (λ prefix there. All-contains (IsPrefix cut.shape.grain) sorted.0 prefix sorted.1.are_prefixes
+    (chosen.1.there prefix there).0)
     chosen.0 (All-contains_itself chosen.0) in
-    let few : length chosen.0 < line_limit = omega (arith, chosen.1.few, sorted.1.few, monitored.1.few) in
-    let are_there : (prefix : PrefixValue) → IsPrefix prefix → IsMonitored cut prefix → Contains sorted.0 prefix =
+    let few : length chosen.0 < line_limit = omega (
+      arith,
+      chosen.1.few,
+      sorted.1.few,
+      monitored.1.few,
+      appended_line_candidates_are_few cut.shape.grain,
+    ) in
+    let are_there : (prefix : PrefixValue) → IsPrefix cut.shape.grain prefix → IsMonitored cut prefix
+    → Contains sorted.0 prefix =
     λ prefix is has_entry.
-    sorted.1.there prefix (monitored.1.there prefix is has_entry (existing_report_node prefix is)) in (
+    sorted.1.there prefix (monitored.1.there prefix is has_entry (prefix_node_place_is_small prefix is)) in (
       record {
         positions = cut_positions cut;
         total = total_of_cut cut;
@@ -209,6 +222,3 @@ each_cut_has_existing_report cut phi kept laws =
         );
       },
     )
-  where
-    existing_report_node : (prefix : PrefixValue) → IsPrefix prefix → node_index (node_of_prefix prefix) < 25
-    existing_report_node prefix is = omega (arith, is.source.few, is.dest.few)

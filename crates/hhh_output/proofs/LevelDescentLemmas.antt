@@ -1,5 +1,5 @@
 -- The lines of a report, level after level.
-use Rattle.std.proofs.Common.{◌≡◌, ℕ, ◌+◌, ◌-◌, ◌<◌, ◌≤◌, inl, inr, eqb, cond, List, [], ◌++◌, length, get_or}
+use Rattle.std.proofs.Common.{◌≡◌, ℕ, ◌+◌, ◌-◌, ◌*◌, ◌<◌, ◌≤◌, inl, inr, eqb, cond, List, [], ◌++◌, length, get_or}
 use Rattle.std.proofs.Common.{sum_by, AllPairs, Contains, pos, ◌-ℤ◌, ◌≤ℤ◌, refl, sym, ap, ◌∙◌, subst, add-one}
 use Rattle.std.proofs.Common.{length-append, arith}
 use Rattle.std.specs.declared.cmp.Ordering.TheVariants.{Less, Equal, Greater}
@@ -8,15 +8,16 @@ use Rattle.std.proofs.lemmas.Bool.{cases_lt, lt-ltb}
 use Rattle.std.proofs.lemmas.List.{map-append, get_or_append_left, get_or-append_right}
 use Rattle.std.proofs.lemmas.List.Elements.{All-weaker, All-contains_itself, All-map, Contains-append_left}
 use Rattle.std.proofs.lemmas.List.Elements.{Contains-append_right, Contains-append_cases, Contains-get_or}
-use Rattle.prefix_lattice.specs.{address_of, PrefixValue, closest, kept_pairs}
+use Rattle.std.proofs.Math.Nat.{add-mul}
+use Rattle.prefix_lattice.specs.{address_of, PrefixValue, closest, kept_pairs, prefix_level, deepest_level, node_count}
 use Rattle.cut_merge.specs.{MergedValue}
 use Rattle.hhh_report.specs.declared.line.Line.{Line}
 use Rattle.hhh_report.specs.{prefixes_of_lines}
 use Rattle.hhh_output.specs.Selecting.{low_of, high_of, IsSelected, AreOfLevel, AreDownTo}
-use Rattle.hhh_output.specs.Selecting.{nodes_before}
-use Rattle.hhh_output.specs.Selecting.{nodes_down}
+use Rattle.hhh_output.specs.Selecting.{nodes_before, nodes_down, most_candidates}
 use Rattle.hhh_output.proofs.OneReportLemmas.{BeforeInOneReport}
-use Rattle.hhh_output.proofs.NearLineLemmas.{near_line_level, NearLineLevelsFall, near_lines-append}
+use Rattle.hhh_output.proofs.PrefixNodeLemmas.{prefix_level-few}
+use Rattle.hhh_output.proofs.NearLineLemmas.{NearLineLevelsFall, near_lines-append}
 
 -- whether merged tables give a line depends only on its closest lines
 level_descent_asks_by_closest : (merged : MergedValue) (threshold : ℕ) (lines other : List PrefixValue) (line : Line)
@@ -38,12 +39,14 @@ level_descent_asks_by_closest merged threshold lines other line same is = record
 }
 
 -- lines of a greater level come first
-level_descent_puts_greater_first : (line later : Line) → near_line_level later.prefix < near_line_level line.prefix → BeforeInOneReport line later
+level_descent_puts_greater_first : (line later : Line) → prefix_level later.prefix < prefix_level line.prefix
+    → BeforeInOneReport line later
 level_descent_puts_greater_first line later falls =
     let p = line.prefix in
     let q = later.prefix in
-    let less : nat_cmp (near_line_level q) (near_line_level p) ≡ Less =
-    ap (λ b. cond b Less (cond (eqb (near_line_level q) (near_line_level p)) Equal Greater)) (lt-ltb (near_line_level q) (near_line_level p) falls) in
+    let less : nat_cmp (prefix_level q) (prefix_level p) ≡ Less =
+    ap (λ b. cond b Less (cond (eqb (prefix_level q) (prefix_level p)) Equal Greater)) (lt-ltb (prefix_level q)
+    (prefix_level p) falls) in
     ap (λ o. ordering_then o (ordering_then (nat_cmp (address_of p.source) (address_of q.source))
     (ordering_then (nat_cmp (length p.source) (length q.source))
     (nat_cmp (address_of p.dest) (address_of q.dest))))) less
@@ -81,8 +84,8 @@ level_descent_starts_empty merged threshold = record {
   members = λ line high. (
     λ there. absurd (no_line line there),
     λ selected.
-        let few : near_line_level line.prefix ≤ 8 =
-        omega (arith, selected.is_prefix.source.few, selected.is_prefix.dest.few) in
+        let few : prefix_level line.prefix ≤ deepest_level =
+        prefix_level-few line.prefix selected.is_prefix in
         absurd (omega arith),
   );
   rising = λ i j d before below. absurd (omega arith);
@@ -93,26 +96,28 @@ level_descent_starts_empty merged threshold = record {
     no_line line (k, below, at) = omega arith
 
 -- one more level
-module _ (merged : MergedValue) (threshold levels : ℕ) (lines found : List Line) (law : NearLineLevelsFall) (some : levels < 9)
+module _ (merged : MergedValue) (threshold levels : ℕ) (lines found : List Line) (law : NearLineLevelsFall)
+    (some : levels < deepest_level + 1)
     (down : AreDownTo merged threshold levels lines)
-    (of_level : AreOfLevel merged threshold (prefixes_of_lines lines) (8 - levels) found) where
-  level_descent_reaches_level : (line : Line) → Contains found line → near_line_level line.prefix ≡ 8 - levels
+    (of_level : AreOfLevel merged threshold (prefixes_of_lines lines) (deepest_level - levels) found) where
+  level_descent_reaches_level : (line : Line) → Contains found line → prefix_level line.prefix ≡ deepest_level - levels
   level_descent_reaches_level line there = ((of_level.members line).0 there).0
 
   -- the new lines don't change which lines are closest to one of no smaller level
-  level_descent_keeps_closest : (line : Line) → 8 < near_line_level line.prefix + (levels + 1)
+  level_descent_keeps_closest : (line : Line) → deepest_level < prefix_level line.prefix + (levels + 1)
       → closest line.prefix (prefixes_of_lines (lines ++ found)) ≡ closest line.prefix (prefixes_of_lines lines)
   level_descent_keeps_closest line high =
       ap (closest line.prefix) (map-append (λ (l : Line). l.prefix) lines found)
       ∙ near_lines-append line.prefix (prefixes_of_lines lines) (prefixes_of_lines found) law
-      (All-map (λ p. near_line_level p ≤ near_line_level line.prefix) (λ (l : Line). l.prefix) found
-      (All-weaker (Contains found) (λ (l : Line). near_line_level l.prefix ≤ near_line_level line.prefix)
+      (All-map (λ p. prefix_level p ≤ prefix_level line.prefix) (λ (l : Line). l.prefix) found
+      (All-weaker (Contains found) (λ (l : Line). prefix_level l.prefix ≤ prefix_level line.prefix)
       (λ other there. omega (arith, level_descent_reaches_level other there, high)) found (All-contains_itself found)))
 
   pub level_descent_goes_on : AreDownTo merged threshold (levels + 1) (lines ++ found)
   level_descent_goes_on = record {
     above = λ line there. elim (Contains-append_cases lines found line there) [
-      | inl earlier ↦ let high : 8 < near_line_level line.prefix + levels = down.above line earlier in omega arith
+      | inl earlier ↦ let high : deepest_level < prefix_level line.prefix + levels = down.above line earlier in omega
+          arith
       | inr new ↦ omega (arith, level_descent_reaches_level line new)
     ];
     members = λ line high. (
@@ -125,18 +130,22 @@ module _ (merged : MergedValue) (threshold levels : ℕ) (lines found : List Lin
           let before =
           level_descent_asks_by_closest merged threshold (prefixes_of_lines (lines ++ found)) (prefixes_of_lines lines) line
           (level_descent_keeps_closest line high) selected in
-          elim (cases_lt 8 (near_line_level line.prefix + levels)) [
+          elim (cases_lt deepest_level (prefix_level line.prefix + levels)) [
             | inl above ↦ Contains-append_left lines found line ((down.members line above).1 before)
-            | inr not_above ↦ let here : near_line_level line.prefix ≡ 8 - levels = omega arith in
+            | inr not_above ↦ let here : prefix_level line.prefix ≡ deepest_level - levels = omega arith in
                 Contains-append_right lines found line ((of_level.members line).1 (here, before))
           ],
     );
     rising = level_descent_pairs-append BeforeInOneReport lines found down.rising of_level.rising
         (λ line later earlier new.
-        let high : 8 < near_line_level line.prefix + levels = down.above line earlier in
+        let high : deepest_level < prefix_level line.prefix + levels = down.above line earlier in
         level_descent_puts_greater_first line later (omega (arith, level_descent_reaches_level later new)));
     few =
-        let more : nodes_down (levels + 1) ≡ nodes_down levels + nodes_before (8 - levels) 25 =
-        ap nodes_down (add-one levels) in
+        let grain = merged.shape.grain in
+        let here = nodes_before grain (deepest_level - levels) (node_count grain) in
+        let more : nodes_down grain (levels + 1) * most_candidates grain
+        ≡ nodes_down grain levels * most_candidates grain + here * most_candidates grain =
+        ap (λ n. nodes_down grain n * most_candidates grain) (add-one levels)
+        ∙ add-mul (nodes_down grain levels) here (most_candidates grain) in
         omega (arith, more, down.few, of_level.few, length-append lines found);
   }

@@ -6,7 +6,7 @@ use Rattle.std.specs.Option.{option_to_list}
 use Rattle.std.proofs.lemmas.List.Elements.{Contains-push, Contains-push_cases, Contains-append_left, All-contains}
 use Rattle.std.proofs.lemmas.List.Elements.{Contains-get_or}
 use Rattle.std.proofs.lemmas.List.Quantifiers.{all_pairs_push}
-use Rattle.prefix_lattice.specs.{NodeValue, PrefixValue, node_of_prefix, prefix_key, HasPrefixKey}
+use Rattle.prefix_lattice.specs.{NodeValue, PrefixValue, IsPrefix, node_of_prefix, prefix_key, HasPrefixKey}
 use Rattle.cut_merge.specs.{MergedValue, candidates_at}
 use Rattle.hhh_report.specs.declared.line.Line.{Line}
 use Rattle.hhh_output.specs.Selecting.{CanSelect, IsSelected, AreDistinct}
@@ -61,7 +61,8 @@ node_line_candidate_is_new keys place key distinct within read (k, below, at) =
 module _ (merged : MergedValue) (threshold : ℕ) (reported : List PrefixValue) (node : NodeValue) (keys : List ℕ)
     (old now : List Line) (place key : ℕ) (found : Option Line)
     (judged : HasJudgedNodeLines merged threshold reported node keys old now place)
-    (elsewhere : All (λ (line : Line). node_of_prefix line.prefix ≢ node) old)
+    (of_grain : node.grain ≡ merged.shape.grain)
+    (elsewhere : All (λ (line : Line). node_of_prefix merged.shape.grain line.prefix ≢ node) old)
     (distinct : AllPairs (λ k other. k ≢ other) keys) (within : place < length keys)
     (read : key ≡ get_or keys place key)
     (asked : (line : Line) → HasPrefixKey node key line.prefix
@@ -123,8 +124,10 @@ module _ (merged : MergedValue) (threshold : ℕ) (reported : List PrefixValue) 
       let other_prefix : (k : ℕ) (d : Line) → k < length now → (get_or now k d).prefix ≢ new.prefix = λ k d below same.
       elim ((judged.members (get_or now k d)).0 (Contains-get_or now k d below)) [
         | inl old_one ↦
-            All-contains (λ (l : Line). node_of_prefix l.prefix ≢ node) old (get_or now k d) elsewhere old_one
-            (ap node_of_prefix same ∙ its.of_node)
+            All-contains (λ (l : Line). node_of_prefix merged.shape.grain l.prefix ≢ node) old
+            (get_or now k d) elsewhere old_one
+            (ap (node_of_prefix merged.shape.grain) same ∙ ap (λ g. node_of_prefix g new.prefix) (sym of_grain)
+            ∙ its.of_node)
         | inr among ↦
             node_line_candidate_is_new keys place key distinct within read
             (subst (Contains (take place keys)) (ap prefix_key same ∙ new_key) among.key)
@@ -154,30 +157,36 @@ module _ (merged : MergedValue) (threshold : ℕ) (reported : List PrefixValue) 
 -- all candidates judged
 pub all_node_lines_judged : (merged : MergedValue) (threshold : ℕ) (reported : List PrefixValue) (node : NodeValue)
     (old now : List Line) (place : ℕ)
-    → length (candidates_at merged node) ≤ place
+    → node.grain ≡ merged.shape.grain → length (candidates_at merged node) ≤ place
     → HasJudgedNodeLines merged threshold reported node (candidates_at merged node) old now place
     → (line : Line) → Contains now line
-    ↔ (Contains old line ⊎ ((node_of_prefix line.prefix ≡ node) × IsSelected merged threshold reported line))
-all_node_lines_judged merged threshold reported node old now place done judged line =
+    ↔ (Contains old line ⊎ ((node_of_prefix merged.shape.grain line.prefix ≡ node)
+    × IsSelected merged threshold reported line))
+all_node_lines_judged merged threshold reported node old now place of_grain done judged line =
     let all : take place (candidates_at merged node) ≡ candidates_at merged node =
     take_all place (candidates_at merged node) done in (
       λ there. elim ((judged.members line).0 there) [
         | inl old_one ↦ inl old_one
-        | inr among ↦ inr (
-          among.has_key.of_node,
-          record {
-            is_prefix = among.has_key.is_prefix;
-            candidate =
-                subst (λ n. Contains (candidates_at merged n) (prefix_key line.prefix)) (sym among.has_key.of_node)
-                (subst (λ ks. Contains ks (prefix_key line.prefix)) all among.key);
-            asked = among.asked;
-          },
-        )
+        | inr among ↦ let of_node : node_of_prefix merged.shape.grain line.prefix ≡ node =
+            ap (λ g. node_of_prefix g line.prefix) (sym of_grain) ∙ among.has_key.of_node in inr (
+              of_node,
+              record {
+                is_prefix = subst (λ g. IsPrefix g line.prefix) of_grain among.has_key.is_prefix;
+                candidate =
+                    subst (λ n. Contains (candidates_at merged n) (prefix_key line.prefix)) (sym of_node)
+                    (subst (λ ks. Contains ks (prefix_key line.prefix)) all among.key);
+                asked = among.asked;
+              },
+            )
       ],
       λ either. elim either [
         | inl old_one ↦ (judged.members line).1 (inl old_one)
         | inr selected ↦ (judged.members line).1 (inr (record {
-          has_key = record { is_prefix = selected.1.is_prefix; of_node = selected.0; of_key = refl };
+          has_key = record {
+            is_prefix = subst (λ g. IsPrefix g line.prefix) (sym of_grain) selected.1.is_prefix;
+            of_node = ap (λ g. node_of_prefix g line.prefix) of_grain ∙ selected.0;
+            of_key = refl;
+          };
           key =
               subst (λ ks. Contains ks (prefix_key line.prefix)) (sym all)
               (subst (λ n. Contains (candidates_at merged n) (prefix_key line.prefix)) selected.0
@@ -191,7 +200,8 @@ all_node_lines_judged merged threshold reported node old now place done judged l
 module _ (merged : MergedValue) (threshold : ℕ) (reported : List PrefixValue) (node : NodeValue) (keys : List ℕ)
     (old now : List Line) (place key : ℕ)
     (judged : HasJudgedNodeLines merged threshold reported node keys old now place)
-    (elsewhere : All (λ (line : Line). node_of_prefix line.prefix ≢ node) old)
+    (of_grain : node.grain ≡ merged.shape.grain)
+    (elsewhere : All (λ (line : Line). node_of_prefix merged.shape.grain line.prefix ≢ node) old)
     (distinct : AllPairs (λ k other. k ≢ other) keys) (within : place < length keys)
     (read : key ≡ get_or keys place key) where
   pub next_node_line_judged : (found : Option Line)
@@ -200,8 +210,9 @@ module _ (merged : MergedValue) (threshold : ℕ) (reported : List PrefixValue) 
       → HasJudgedNodeLines merged threshold reported node keys old (now ++ option_to_list found) (place + 1)
   next_node_line_judged None asked its_prefix =
       subst (λ lines. HasJudgedNodeLines merged threshold reported node keys old lines (place + 1)) (sym (append-nil now))
-      (node_line_missing_is_judged merged threshold reported node keys old now place key None judged elsewhere distinct
-      within read asked its_prefix refl)
+      (node_line_missing_is_judged merged threshold reported node keys old now place key None judged of_grain elsewhere
+      distinct within read asked its_prefix refl)
   next_node_line_judged (Some line) asked its_prefix =
-      node_line_found_is_judged merged threshold reported node keys old now place key (Some line) judged elsewhere distinct
-      within read asked its_prefix line refl
+      node_line_found_is_judged merged threshold reported node keys old now place key
+      (Some line) judged of_grain elsewhere
+      distinct within read asked its_prefix line refl

@@ -8,7 +8,9 @@ use Rattle.std.specs.Cmp.{IsTotalOrder}
 use Rattle.std.proofs.lemmas.List.Elements.{All-nil, All-cons, All-head, All-tail, All-weaker, All-contains}
 use Rattle.std.proofs.lemmas.List.Elements.{All-contains_itself}
 use Rattle.std.proofs.lemmas.List.Kept.{AllPairs-cons}
-use Rattle.prefix_lattice.specs.{PrefixValue, IsPrefix, report_order}
+use Rattle.prefix_lattice.specs.{PrefixValue, IsPrefix, finest_grain, report_order}
+use Rattle.prefix_lattice.specs.declared.grain.Grain.{Grain}
+use Rattle.hhh_output.proofs.PrefixNodeLemmas.{prefix_is_of_finest_grain}
 use Rattle.prefix_lattice.proofs.ListLemmas.{Contains-list_head, Contains-list_tail, Contains-list_cons}
 use Rattle.prefix_lattice.proofs.ListLemmas.{AllPairs-list_head, AllPairs-list_tail}
 
@@ -19,7 +21,7 @@ ComesBeforePrefix prefix later = report_order prefix later ≡ Less
 -- the laws of the order of prefixes
 pub record PrefixesCanBeSorted : Type 0 where
   pub total : IsTotalOrder report_order
-  pub apart : (prefix other : PrefixValue) → IsPrefix prefix → IsPrefix other
+  pub apart : (prefix other : PrefixValue) → IsPrefix finest_grain prefix → IsPrefix finest_grain other
       → (report_order prefix other ≡ Equal) ↔ (prefix ≡ other)
 
 -- a sorted list, and the same with one more prefix
@@ -37,8 +39,8 @@ sorted_prefix_in_front prefix rest other (inl same) =
 sorted_prefix_in_front prefix rest other (inr later) = Contains-list_tail prefix rest other later
 
 -- each prefix can be put into a sorted list
-sorted_prefix_is_put : PrefixesCanBeSorted → (prefix : PrefixValue) (sorted : List PrefixValue) → IsPrefix prefix
-    → All IsPrefix sorted → AllPairs ComesBeforePrefix sorted
+sorted_prefix_is_put : PrefixesCanBeSorted → {grain : Grain} (prefix : PrefixValue) (sorted : List PrefixValue)
+    → IsPrefix grain prefix → All (IsPrefix grain) sorted → AllPairs ComesBeforePrefix sorted
     → (more : List PrefixValue) × PutsSortedPrefix prefix sorted more
 sorted_prefix_is_put laws prefix [] is_prefix are_prefixes rising = (
   prefix ∷ [],
@@ -49,9 +51,9 @@ sorted_prefix_is_put laws prefix [] is_prefix are_prefixes rising = (
     few = omega arith;
   },
 )
-sorted_prefix_is_put laws prefix (first ∷ rest) is_prefix are_prefixes rising =
+sorted_prefix_is_put laws {grain} prefix (first ∷ rest) is_prefix are_prefixes rising =
     by (report_order prefix first) refl
-    (sorted_prefix_is_put laws prefix rest is_prefix (All-tail IsPrefix first rest are_prefixes)
+    (sorted_prefix_is_put laws prefix rest is_prefix (All-tail (IsPrefix grain) first rest are_prefixes)
     (AllPairs-list_tail ComesBeforePrefix first rest rising))
   where
     first_before : All (ComesBeforePrefix first) rest
@@ -74,8 +76,11 @@ sorted_prefix_is_put laws prefix (first ∷ rest) is_prefix are_prefixes rising 
       },
     )
     by Equal equal _ =
-        let is_first : IsPrefix first = All-head IsPrefix first rest are_prefixes in
-        let same : prefix ≡ first = (laws.apart prefix first is_prefix is_first).0 equal in (
+        let is_first : IsPrefix grain first = All-head (IsPrefix grain) first rest are_prefixes in
+        let same : prefix ≡ first =
+        (laws.apart prefix first (prefix_is_of_finest_grain prefix is_prefix)
+        (prefix_is_of_finest_grain first is_first)).0
+        equal in (
           first ∷ rest,
           record {
             there = λ other there. inr there;
@@ -117,17 +122,17 @@ sorted_prefix_is_put laws prefix (first ∷ rest) is_prefix are_prefixes rising 
           },
         )
 
--- a list of prefixes and a sorted one that has them all, each once
-pub record SortsPrefixes (prefixes sorted : List PrefixValue) : Type 0 where
+-- a list of prefixes of a grain and a sorted one that has them all, each once
+pub record SortsPrefixes (grain : Grain) (prefixes sorted : List PrefixValue) : Type 0 where
   pub there : (prefix : PrefixValue) → Contains prefixes prefix → Contains sorted prefix
-  pub are_prefixes : All IsPrefix sorted
+  pub are_prefixes : All (IsPrefix grain) sorted
   pub rising : AllPairs ComesBeforePrefix sorted
   pub few : length sorted ≤ length prefixes
 
 -- each list of prefixes has a sorted one
-pub each_list_has_sorted_prefixes : PrefixesCanBeSorted → (prefixes : List PrefixValue) → All IsPrefix prefixes
-    → (sorted : List PrefixValue) × SortsPrefixes prefixes sorted
-each_list_has_sorted_prefixes laws [] are_prefixes = (
+pub each_list_has_sorted_prefixes : PrefixesCanBeSorted → (grain : Grain) (prefixes : List PrefixValue)
+    → All (IsPrefix grain) prefixes → (sorted : List PrefixValue) × SortsPrefixes grain prefixes sorted
+each_list_has_sorted_prefixes laws grain [] are_prefixes = (
   [],
   record {
     there = λ prefix there. there;
@@ -136,9 +141,10 @@ each_list_has_sorted_prefixes laws [] are_prefixes = (
     few = omega arith;
   },
 )
-each_list_has_sorted_prefixes laws (prefix ∷ prefixes) are_prefixes =
-    let older = each_list_has_sorted_prefixes laws prefixes (All-tail IsPrefix prefix prefixes are_prefixes) in
-    let is_prefix : IsPrefix prefix = All-head IsPrefix prefix prefixes are_prefixes in
+each_list_has_sorted_prefixes laws grain (prefix ∷ prefixes) are_prefixes =
+    let older = each_list_has_sorted_prefixes laws grain prefixes (All-tail
+    (IsPrefix grain) prefix prefixes are_prefixes) in
+    let is_prefix : IsPrefix grain prefix = All-head (IsPrefix grain) prefix prefixes are_prefixes in
     let put = sorted_prefix_is_put laws prefix older.0 is_prefix older.1.are_prefixes older.1.rising in (
       put.0,
       record {
@@ -147,10 +153,10 @@ each_list_has_sorted_prefixes laws (prefix ∷ prefixes) are_prefixes =
           | inr later ↦ put.1.back other (inr (older.1.there other later))
         ];
         are_prefixes =
-            All-weaker (Contains put.0) IsPrefix
+            All-weaker (Contains put.0) (IsPrefix grain)
             (λ other there. elim (put.1.there other there) [
-              | inl is ↦ subst IsPrefix is is_prefix
-              | inr later ↦ All-contains IsPrefix older.0 other older.1.are_prefixes later
+              | inl is ↦ subst (IsPrefix grain) is is_prefix
+              | inr later ↦ All-contains (IsPrefix grain) older.0 other older.1.are_prefixes later
             ]) put.0 (All-contains_itself put.0);
         rising = put.1.rising;
         few = omega (arith, put.1.few, older.1.few);

@@ -21,7 +21,7 @@ use Rattle.cut_merge.specs.{interval_in_cut, monitored_in_cut}
 use Rattle.conditioned_bounds.specs.{bound_of, prefixes_asked, HoldWeights, AreNarrow}
 use Rattle.hhh_report.specs.declared.line.Line.{Line}
 use Rattle.hhh_report.specs.declared.report.Report.{Report}
-use Rattle.hhh_report.specs.{LineHoldsWeight, IsNarrowLine, IsJustified}
+use Rattle.hhh_report.specs.{AreOfGrain, LineHoldsWeight, IsNarrowLine, IsJustified}
 use Rattle.hhh_output.specs.Reporting.{IsMonitored, low_in, high_in, IsLineOf, IsReportOf}
 use Rattle.prefix_lattice.proofs.ListLemmas.{AllPairs-list_head, AllPairs-list_tail, Contains-list_head}
 use Rattle.prefix_lattice.proofs.ListLemmas.{Contains-list_tail}
@@ -32,15 +32,16 @@ use Rattle.hhh_output.proofs.OneReportLemmas.{BeforeInOneReport, BeforeInOneRepo
 pub record SoundReportLawsHold (cut : CutValue) (lists : List (List RecordValue)) : Type 0 where
   pub order : IsTotalOrder report_order
   pub stands : CutRepresents cut lists
-  pub intervals : (prefix : PrefixValue) → IsPrefix prefix
-      → HoldsNarrowly (interval_in_cut cut prefix) cut.capacity
+  pub intervals : (prefix : PrefixValue) → IsPrefix cut.shape.grain prefix
+      → HoldsNarrowly (interval_in_cut cut prefix) cut.shape.capacity
       (prefix_weight prefix (records_before lists (cut_positions cut)))
       (total_of_cut cut)
-  pub light : (prefix : PrefixValue) → IsPrefix prefix → ¬ IsMonitored cut prefix
-      → (interval_in_cut cut prefix).high * cut.capacity ≤ total_of_cut cut
+  pub light : (prefix : PrefixValue) → IsPrefix cut.shape.grain prefix → ¬ IsMonitored cut prefix
+      → (interval_in_cut cut prefix).high * cut.shape.capacity ≤ total_of_cut cut
   pub total : total_of_cut cut ≡ total_weight (records_before lists (cut_positions cut))
-  pub asked : (prefix : PrefixValue) (lines : List PrefixValue) → IsPrefix prefix → All IsPrefix lines
-      → All IsPrefix (prefixes_asked prefix lines)
+  pub asked : (prefix : PrefixValue) (lines : List PrefixValue) → IsPrefix cut.shape.grain prefix
+      → All (IsPrefix cut.shape.grain) lines
+      → All (IsPrefix cut.shape.grain) (prefixes_asked prefix lines)
   pub at_least : (low high : PrefixValue → ℕ) (prefix : PrefixValue) (lines : List PrefixValue)
       (records : List RecordValue)
       → AllPairs (λ line other. line ≢ other) lines → HoldWeights low high records (prefixes_asked prefix lines)
@@ -80,6 +81,13 @@ sound_report_prefixes_differ order (line ∷ lines) rising =
 -- what holds of each line of a report, shown of any line that it contains
 each_sound_report_line : (P : Line → Type 0) (lines : List Line) → ((line : Line) → Contains lines line → P line) → All P lines
 each_sound_report_line P lines shown = All-weaker (Contains lines) P shown lines (All-contains_itself lines)
+
+-- the lines of the report of a cut are of the cut's grain
+pub sound_report_is_of_grain : (cut : CutValue) (phi : ℕ) (report : Report) → IsReportOf cut phi report
+    → AreOfGrain cut.shape.grain report.lines
+sound_report_is_of_grain cut phi report is =
+    each_sound_report_line (λ line. IsPrefix cut.shape.grain line.prefix) report.lines
+    (λ line there. ((is.lines line).0 there).is_prefix)
 
 -- the conditioned weight of a prefix is at most its weight
 sound_report_leaves_no_more : (prefix : PrefixValue) (lines : List PrefixValue) (records : List RecordValue)
@@ -140,51 +148,56 @@ sound_report_key_or_not key (first ∷ keys) = by (eqb first key) refl (sound_re
 
 -- the intervals that a bound is made of hold the weights, and are narrow
 sound_report_intervals_hold : (cut : CutValue) (lists : List (List RecordValue)) → SoundReportLawsHold cut lists
-    → (prefix : PrefixValue) (lines : List PrefixValue) → IsPrefix prefix → All IsPrefix lines
+    → (prefix : PrefixValue) (lines : List PrefixValue) → IsPrefix cut.shape.grain prefix
+    → All (IsPrefix cut.shape.grain) lines
     → HoldWeights (low_in cut) (high_in cut) (records_before lists (cut_positions cut)) (prefixes_asked prefix lines)
 sound_report_intervals_hold cut lists holds prefix lines is_prefix are_prefixes =
     let records = records_before lists (cut_positions cut) in
-    All-weaker IsPrefix (λ p. HoldsWeight (low_in cut p) (high_in cut p) (prefix_weight p records))
+    All-weaker (IsPrefix cut.shape.grain) (λ p. HoldsWeight (low_in cut p) (high_in cut p) (prefix_weight p records))
     (λ p is. (holds.intervals p is).holds) (prefixes_asked prefix lines)
     (holds.asked prefix lines is_prefix are_prefixes)
 
 sound_report_intervals_are_narrow : (cut : CutValue) (lists : List (List RecordValue)) → SoundReportLawsHold cut lists
-    → (prefix : PrefixValue) (lines : List PrefixValue) → IsPrefix prefix → All IsPrefix lines
-    → AreNarrow (low_in cut) (high_in cut) cut.capacity (total_weight (records_before lists (cut_positions cut)))
+    → (prefix : PrefixValue) (lines : List PrefixValue) → IsPrefix cut.shape.grain prefix
+    → All (IsPrefix cut.shape.grain) lines
+    → AreNarrow (low_in cut) (high_in cut) cut.shape.capacity (total_weight (records_before lists (cut_positions cut)))
     (prefixes_asked prefix lines)
 sound_report_intervals_are_narrow cut lists holds prefix lines is_prefix are_prefixes =
-    All-weaker IsPrefix
-    (λ p. IsNarrow (low_in cut p) (high_in cut p) cut.capacity (total_weight (records_before lists (cut_positions cut))))
-    (λ p is. subst (IsNarrow (low_in cut p) (high_in cut p) cut.capacity) holds.total (holds.intervals p is).narrow)
+    All-weaker (IsPrefix cut.shape.grain)
+    (λ p. IsNarrow (low_in cut p) (high_in cut p) cut.shape.capacity (total_weight (records_before lists
+    (cut_positions cut))))
+    (λ p is. subst (IsNarrow (low_in cut p) (high_in cut p) cut.shape.capacity) holds.total
+    (holds.intervals p is).narrow)
     (prefixes_asked prefix lines) (holds.asked prefix lines is_prefix are_prefixes)
 
 -- the report of a cut, the lists that it represents, and what holds of both
 pub record CanBeSoundReport (cut : CutValue) (lists : List (List RecordValue)) (phi : ℕ) (report : Report) : Type 0 where
   pub holds : SoundReportLawsHold cut lists
   pub kept : AreReportLines report.lines
-  pub wide : 2000000 ≤ phi * cut.capacity
+  pub wide : 2000000 ≤ phi * cut.shape.capacity
   pub is_report : IsReportOf cut phi report
 
 -- its lines have prefixes, and no two the same
 sound_report_has_prefixes : (cut : CutValue) (lists : List (List RecordValue)) (phi : ℕ) (report : Report)
-    → CanBeSoundReport cut lists phi report → All IsPrefix (prefixes_of_lines report.lines)
+    → CanBeSoundReport cut lists phi report → All (IsPrefix cut.shape.grain) (prefixes_of_lines report.lines)
 sound_report_has_prefixes cut lists phi report reports =
-    All-map IsPrefix (λ (l : Line). l.prefix) report.lines
-    (each_sound_report_line (λ l. IsPrefix l.prefix) report.lines (λ line there. ((reports.is_report.lines line).0 there).is_prefix))
+    All-map (IsPrefix cut.shape.grain) (λ (l : Line). l.prefix) report.lines
+    (sound_report_is_of_grain cut phi report reports.is_report)
 
 -- a prefix that has no line is light once the lines are accounted for
 sound_report_leaves_out_light : (cut : CutValue) (lists : List (List RecordValue)) (phi : ℕ) (report : Report)
-    → CanBeSoundReport cut lists phi report → (prefix : PrefixValue) → IsPrefix prefix
+    → CanBeSoundReport cut lists phi report → (prefix : PrefixValue) → IsPrefix cut.shape.grain prefix
     → ¬ Contains (prefixes_of_lines report.lines) prefix
     → conditioned_weight prefix (prefixes_of_lines report.lines) (records_before lists (cut_positions cut))
     < report.threshold
 sound_report_leaves_out_light cut lists phi report reports prefix is_prefix missing =
-    elim (sound_report_key_or_not (prefix_key prefix) (monitored_in_cut cut (node_of_prefix prefix))) [
+    elim (sound_report_key_or_not (prefix_key prefix) (monitored_in_cut cut (node_of_prefix cut.shape.grain prefix))) [
       | inr unknown ↦
           let light : high_in cut prefix < report.threshold =
-          sound_report_light_below phi cut.capacity report.total report.threshold (high_in cut prefix) reports.wide
+          sound_report_light_below phi cut.shape.capacity report.total report.threshold
+          (high_in cut prefix) reports.wide
           reports.is_report.threshold
-          (subst (λ n. high_in cut prefix * cut.capacity ≤ n) (sym reports.is_report.total)
+          (subst (λ n. high_in cut prefix * cut.shape.capacity ≤ n) (sym reports.is_report.total)
           (holds.light prefix is_prefix unknown)) in
           omega (arith, light, few, interval_holds.holds.high)
       | inl monitored ↦ elim (cases_lt (high_in cut prefix) report.threshold) [
@@ -220,7 +233,7 @@ sound_report_leaves_out_light cut lists phi report reports prefix is_prefix miss
     holds : SoundReportLawsHold cut lists
     holds = reports.holds
 
-    interval_holds : HoldsNarrowly (interval_in_cut cut prefix) cut.capacity (prefix_weight prefix records)
+    interval_holds : HoldsNarrowly (interval_in_cut cut prefix) cut.shape.capacity (prefix_weight prefix records)
         (total_of_cut cut)
     interval_holds = holds.intervals prefix is_prefix
 
@@ -238,7 +251,7 @@ sound_report_leaves_out_light cut lists phi report reports prefix is_prefix miss
 
 -- the report is sound
 pub report_is_sound : (cut : CutValue) (lists : List (List RecordValue)) (phi : ℕ) (report : Report)
-    → CanBeSoundReport cut lists phi report → IsSound report lists cut.capacity phi
+    → CanBeSoundReport cut lists phi report → IsSound cut.shape.grain report lists cut.shape.capacity phi
 report_is_sound cut lists phi report reports =
     let holds = reports.holds in
     let is = reports.is_report in
@@ -263,20 +276,23 @@ report_is_sound cut lists phi report reports =
             high =
                 omega (arith, l.high, interval_holds.holds.high);
           }));
-      width = each_sound_report_line (IsNarrowLine cut.capacity report.total) report.lines (λ line there.
+      width = each_sound_report_line (IsNarrowLine cut.shape.capacity report.total) report.lines (λ line there.
           let l = line_of line there in
-          subst (λ n. (n - line.lo) * cut.capacity ≤ report.total) (sym l.high)
-          (subst (λ n. (high_in cut line.prefix - n) * cut.capacity ≤ report.total) (sym l.low)
-          (subst (λ n. (high_in cut line.prefix - low_in cut line.prefix) * cut.capacity ≤ n) (sym is.total)
+          subst (λ n. (n - line.lo) * cut.shape.capacity ≤ report.total) (sym l.high)
+          (subst (λ n. (high_in cut line.prefix - n) * cut.shape.capacity ≤ report.total) (sym l.low)
+          (subst (λ n. (high_in cut line.prefix - low_in cut line.prefix) * cut.shape.capacity ≤ n) (sym is.total)
           (holds.intervals line.prefix l.is_prefix).narrow)));
       heavy = each_sound_report_line (λ line. report.threshold ≤ line.hi) report.lines (λ line there. (line_of line there).heavy);
       justified =
-          subst (λ rs. All (IsJustified cut.capacity report.threshold (prefixes_of_lines report.lines) rs) report.lines)
+          subst (λ rs. All (IsJustified cut.shape.capacity report.threshold
+          (prefixes_of_lines report.lines) rs) report.lines)
           (sym at)
-          (each_sound_report_line (IsJustified cut.capacity report.threshold (prefixes_of_lines report.lines) records) report.lines
+          (each_sound_report_line (IsJustified cut.shape.capacity report.threshold
+          (prefixes_of_lines report.lines) records) report.lines
           (λ line there.
           let l = line_of line there in
-          holds.reached (low_in cut) (high_in cut) line.prefix (prefixes_of_lines report.lines) records cut.capacity
+          holds.reached (low_in cut) (high_in cut) line.prefix
+          (prefixes_of_lines report.lines) records cut.shape.capacity
           (total_weight records) report.threshold
           (sound_report_prefixes_differ holds.order report.lines reports.kept.rising)
           (sound_report_intervals_hold cut lists holds line.prefix (prefixes_of_lines report.lines) l.is_prefix prefixes)

@@ -10,7 +10,7 @@ use Rattle.hhh_report.specs.{prefixes_of_lines, IsThreshold, million}
 
 -- some shard of the cut monitors the prefix: its table at the prefix's node has an entry for it
 abbrev pub IsMonitored : CutValue → PrefixValue → Type 0
-IsMonitored cut prefix = Contains (monitored_in_cut cut (node_of_prefix prefix)) (prefix_key prefix)
+IsMonitored cut prefix = Contains (monitored_in_cut cut (node_of_prefix cut.shape.grain prefix)) (prefix_key prefix)
 
 -- the low of a prefix in a cut
 abbrev pub low_in : CutValue → PrefixValue → ℕ
@@ -24,10 +24,10 @@ high_in cut prefix = (interval_in_cut cut prefix).high
 abbrev pub IsUnexplained : CutValue → ℕ → List PrefixValue → PrefixValue → Type 0
 IsUnexplained cut threshold lines prefix = pos threshold ≤ℤ bound_of (low_in cut) (high_in cut) prefix lines
 
--- the line of a prefix over these lines: it shows the merged interval of the prefix, which some shard monitors,
--- which is heavy, and which the lines leave unexplained
+-- the line of a prefix of the cut's grain over these lines: it shows the merged interval of the prefix, which some
+-- shard monitors, which is heavy, and which the lines leave unexplained
 pub record IsLineOf (cut : CutValue) (threshold : ℕ) (lines : List PrefixValue) (line : Line) : Type 0 where
-  pub is_prefix : IsPrefix line.prefix
+  pub is_prefix : IsPrefix cut.shape.grain line.prefix
   pub low : line.lo ≡ low_in cut line.prefix
   pub high : line.hi ≡ high_in cut line.prefix
   pub monitored : IsMonitored cut line.prefix

@@ -2,7 +2,7 @@
 
 use conditioned_bounds::Intervals;
 use cut_merge::Merged;
-use prefix_lattice::Prefix;
+use prefix_lattice::{Grain, Prefix};
 
 /// The intervals of merged tables.
 #[derive(Clone, Copy)]
@@ -16,6 +16,12 @@ impl Intervals for MergedIntervals<'_> {
     ghost low = { λ s. low_of s.merged.now };
 
     ghost high = { λ s. high_of s.merged.now };
+
+    ghost grain_of = { λ s. s.merged.now.shape.grain };
+
+    fn grain(&self) -> Grain {
+        self.merged.grain()
+    }
 
     fn interval(&self, prefix: &Prefix) -> (u64, u64) {
         self.merged.interval(prefix)

@@ -3,7 +3,7 @@
 ghost use Rattle.std.specs.Prelude.{◌≡◌, ◌≤◌, ◌<◌, List, All, IfOk};
 ghost use Rattle.prefix_lattice.specs.{RecordValue, total_limit};
 ghost use Rattle.shard_state.specs.{total_of_cut, CutRepresents};
-ghost use Rattle.hhh_report.specs.{IsSound, million};
+ghost use Rattle.hhh_report.specs.{AreOfGrain, IsSound, million};
 ghost use Rattle.hhh_output.specs.Reporting.{IsReportOf, IsWideShare};
 
 use crate::reports_are_sound;
@@ -14,9 +14,10 @@ use hhh_report::{Report, threshold};
 use shard_state::Cut;
 use std::alloc::{AllocError, Global};
 
-/// The report of a cut (Mitzenmacher, Steinke, Thaler 2012): the prefixes that some shard monitors, that can
-/// weigh at least `phi` parts per million of the total, and that still can once the lines of more specific
-/// prefixes are accounted for. Each candidate is judged once, level by level from the most specific prefixes up.
+/// The report of a cut (Mitzenmacher, Steinke, Thaler 2012): the prefixes that some shard monitors, that can weigh at
+/// least `phi` parts per million of the total, and that still can once the lines of more specific prefixes are
+/// accounted for. All are of the grain of the cut. Each candidate is judged once, level by level from the most specific
+/// prefixes up.
 ///
 /// If the cut represents lists of records, the report is sound over them: each interval holds the exact weight
 /// of its prefix and is no wider than the total divided by the capacity, and each prefix without a line has a
@@ -27,11 +28,13 @@ use std::alloc::{AllocError, Global};
 pub fn report_of(alloc: Global, cut: &Cut, phi: u32) -> Result<Report, AllocError>
     requires some { 1 ≤ phi }
     requires most { phi ≤ million }
-    requires wide { IsWideShare phi cut.now.capacity }
+    requires wide { IsWideShare phi cut.now.shape.capacity }
     requires bounded { total_of_cut cut.now < total_limit }
     ensures report { IfOk result (IsReportOf cut.now phi) }
+    ensures of_grain { IfOk result (λ report. AreOfGrain cut.now.shape.grain report.lines) }
     ensures sound { IfOk result (λ report. (lists : List (List RecordValue)) → CutRepresents cut.now lists
-        → All (λ list. All (λ rec. 1 ≤ rec.weight) list) lists → IsSound report lists cut.now.capacity phi) }
+        → All (λ list. All (λ rec. 1 ≤ rec.weight) list) lists
+        → IsSound cut.now.shape.grain report lists cut.now.shape.capacity phi) }
 {
     reports_are_sound();
     monitored_keys_are_few();

@@ -1,14 +1,14 @@
 //! Selects the lines of a report: level by level, from the most specific prefixes up. Each candidate is judged
-//! over the lines of greater level.
+//! over the lines of greater level. A level is a number of bits, so that most levels have no node.
 
 ghost use Rattle.std.specs.Prelude.{◌≡◌, ◌≢◌, ◌+◌, ◌≤◌, ◌<◌, ◌^◌, ◌↔◌, ◌⊎◌, [], ◌++◌, length, All, AllPairs, Contains};
 ghost use Rattle.std.specs.Prelude.{IfOk, OnOk, Some};
 ghost use Rattle.std.specs.Option.{option_to_list};
-ghost use Rattle.prefix_lattice.specs.{HasPrefixKey, IsNode, IsPrefixKey, deepest_level, node_level, node_of_prefix};
+ghost use Rattle.prefix_lattice.specs.{HasPrefixKey, IsNode, IsPrefix, IsPrefixKey, deepest_level, node_of_prefix};
 ghost use Rattle.cut_merge.specs.{candidates_at};
 ghost use Rattle.conditioned_bounds.specs.{member_limit};
 ghost use Rattle.hhh_report.specs.declared.line.Line.{Line as LineValue};
-ghost use Rattle.hhh_report.specs.{prefixes_of_lines};
+ghost use Rattle.hhh_report.specs.{AreOfGrain, prefixes_of_lines};
 ghost use Rattle.hhh_output.specs.Selecting.{CanSelect, IsSelected, AreCandidates, AreDistinct};
 ghost use Rattle.hhh_output.specs.Selecting.{AreOfLevel, AreDownTo};
 
@@ -18,6 +18,9 @@ use cut_merge::Merged;
 use hhh_report::{Line, Lines};
 use prefix_lattice::{Node, Prefix, prefixes_are_ordered, report_order_is_total};
 use std::alloc::{AllocError, Global};
+
+/// The level of the prefixes that keep all bits of both addresses.
+const DEEPEST_LEVEL: u8 = 64;
 
 /// The lines that merged tables give, in the order of a report. It stays a function of its own in the binary, so that
 /// measurements can see where it begins.
@@ -33,20 +36,22 @@ pub(crate) fn select_lines(
     prefixes_are_ordered();
     report_order_is_total();
     let mut lines = Lines::new(alloc);
-    let mut reported = LineIndex::new(alloc);
-    for levels in 0..9 {
-        let found = select_level(alloc, merged, threshold, &reported, 8 - levels)?;
+    let mut reported = LineIndex::new(alloc, merged.grain());
+    for levels in 0..DEEPEST_LEVEL + 1 {
+        let found = select_level(alloc, merged, threshold, &reported, DEEPEST_LEVEL - levels)?;
         append(&mut lines, &mut reported, &found)?;
     }
     Ok(lines)
 }
 
-// Appends lines, and their prefixes.
+// Appends lines of the grain of the reported ones, and their prefixes.
 fn append(lines: &mut Lines, reported: &mut LineIndex, found: &[Line]) -> Result<(), AllocError>
-    requires distinct { AllPairs (λ prefix other. prefix ≢ other) (reported.old ++ prefixes_of_lines found.now) }
-    requires few { length reported.old + length found.now < member_limit }
+    requires of_grain { AreOfGrain reported.old.grain found.now }
+    requires distinct { AllPairs (λ prefix other. prefix ≢ other) (reported.old.lines ++ prefixes_of_lines found.now) }
+    requires few { length reported.old.lines + length found.now < member_limit }
     ensures lines { OnOk result (lines.new ≡ lines.old ++ found.now) }
-    ensures prefixes { OnOk result (reported.new ≡ reported.old ++ prefixes_of_lines found.now) }
+    ensures prefixes { OnOk result (reported.new.lines ≡ reported.old.lines ++ prefixes_of_lines found.now) }
+    ensures grain { OnOk result (reported.new.grain ≡ reported.old.grain) }
 {
     for line in found {
         lines.push(*line)?;
@@ -63,14 +68,16 @@ fn select_level(
     reported: &LineIndex,
     level: u8,
 ) -> Result<Vec<Line>, AllocError>
-    requires { AreCandidates merged.now }
-    ensures { IfOk result (λ found. AreOfLevel merged.now threshold reported.now level found.items) }
+    requires candidates { AreCandidates merged.now }
+    requires grain { reported.now.grain ≡ merged.now.shape.grain }
+    ensures { IfOk result (λ found. AreOfLevel merged.now threshold reported.now.lines level found.items) }
 {
     prefixes_are_ordered();
     report_order_is_total();
     let mut found = Vec::new(alloc);
-    for place in 0..25 {
-        let node = Node::from_index(place).unwrap();
+    let grain = merged.grain();
+    for place in 0..grain.nodes() {
+        let node = Node::from_index(grain, place).unwrap();
         if node.level() != level {
             continue;
         }
@@ -88,12 +95,14 @@ fn select_at(
     node: Node,
     found: &mut Vec<Line>,
 ) -> Result<(), AllocError>
-    requires is_node { IsNode node }
+    requires is_node { IsNode merged.now.shape.grain node }
     requires candidates { AreCandidates merged.now }
-    requires apart { All (λ line. node_of_prefix line.prefix ≢ node) found.old.items }
+    requires grain { reported.now.grain ≡ merged.now.shape.grain }
+    requires apart { All (λ line. node_of_prefix merged.now.shape.grain line.prefix ≢ node) found.old.items }
     requires distinct { AreDistinct found.old.items }
     ensures members { OnOk result ((line : LineValue) → Contains found.new.items line
-        ↔ (Contains found.old.items line ⊎ ((node_of_prefix line.prefix ≡ node) × IsSelected merged.now threshold reported.now line))) }
+        ↔ (Contains found.old.items line ⊎ ((node_of_prefix merged.now.shape.grain line.prefix ≡ node)
+        × IsSelected merged.now threshold reported.now.lines line))) }
     ensures distinct { OnOk result (AreDistinct found.new.items) }
     ensures few { OnOk result (length found.new.items ≤ length found.old.items + length (candidates_at merged.now node)) }
 {
@@ -123,9 +132,11 @@ fn line_at(
     node: Node,
     key: u64,
 ) -> Result<Option<Line>, AllocError>
-    requires { IsPrefixKey node key }
+    requires is_node { node.grain ≡ merged.now.shape.grain }
+    requires keyed { IsPrefixKey node key }
+    requires grain { reported.now.grain ≡ merged.now.shape.grain }
     ensures asked { IfOk result (λ found. (line : LineValue) → HasPrefixKey node key line.prefix
-        → (found ≡ Some line) ↔ CanSelect merged.now threshold reported.now line) }
+        → (found ≡ Some line) ↔ CanSelect merged.now threshold reported.now.lines line) }
     ensures prefix { IfOk result (λ found. (line : LineValue) → found ≡ Some line → HasPrefixKey node key line.prefix) }
 {
     if merged.at_most(node, key) < threshold {
@@ -146,8 +157,10 @@ fn line_for(
     reported: &LineIndex,
     prefix: Prefix,
 ) -> Result<Option<Line>, AllocError>
+    requires prefix { IsPrefix merged.now.shape.grain prefix }
+    requires grain { reported.now.grain ≡ merged.now.shape.grain }
     ensures asked { IfOk result (λ found. (line : LineValue) → line.prefix ≡ prefix
-        → (found ≡ Some line) ↔ CanSelect merged.now threshold reported.now line) }
+        → (found ≡ Some line) ↔ CanSelect merged.now threshold reported.now.lines line) }
     ensures prefix { IfOk result (λ found. (line : LineValue) → found ≡ Some line → line.prefix ≡ prefix) }
 {
     let (lo, hi) = merged.interval(&prefix);

@@ -5,7 +5,8 @@ use Rattle.std.specs.Prelude.{slice_index}
 use Rattle.std.proofs.lemmas.List.Elements.{All-from_recursion}
 use Rattle.std.proofs.lemmas.Option.{same_Some}
 use Rattle.prefix_lattice.specs.{RecordValue}
-use Rattle.shard_state.specs.{ShardValue, empty_snapshot, folded_shard, shard_state_at}
+use Rattle.prefix_lattice.specs.declared.grain.Grain.TheVariants.{Byte}
+use Rattle.shard_state.specs.{TableShape, ShardValue, empty_snapshot, folded_shard, shard_state_at}
 use Rattle.shard_state.specs.declared.shard_state.Folded.{Folded}
 use Rattle.position_words.specs.{IsOddWord, SeatValue, WordsValue, first_view, after_look, after_loss}
 use Rattle.position_words.specs.{seen_in, after_win}
@@ -17,16 +18,20 @@ use Rattle.pass_tokens.specs.Board.{IsPassOf}
 use Rattle.pass_tokens.specs.TryFold.{folded_once, IsFoldOf, Folds, TriesFold, after_losses, FoldsAtLast}
 use Rattle.pass_tokens.specs.TryFold.{WaitsToFold}
 
+-- tables of whole bytes, each of 4 entries
+abbrev pub four : TableShape
+four = record { grain = Byte; capacity = 4 }
+
 -- a packet from 1.0.0.1 to 101.0.0.1
 abbrev pub x : RecordValue
 x = record { src = 0x01000001; dst = 0x65000001; weight = 1 }
 
 -- two shards, of two packets and of one, none of which is counted
 abbrev pub pair : ShardValue
-pair = record { list = x ∷ x ∷ []; base = empty_snapshot 4; position = 0 }
+pair = record { list = x ∷ x ∷ []; base = empty_snapshot four; position = 0 }
 
 abbrev pub single : ShardValue
-single = record { list = x ∷ []; base = empty_snapshot 4; position = 0 }
+single = record { list = x ∷ []; base = empty_snapshot four; position = 0 }
 
 abbrev pub shards : List ShardValue
 shards = pair ∷ single ∷ []

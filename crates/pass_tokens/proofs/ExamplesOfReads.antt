@@ -12,17 +12,17 @@ use Rattle.pass_tokens.specs.TryFold.{after_losses}
 use Rattle.pass_tokens.specs.TryRead.{read_once, ReadsShard, TriesToRead, ShardRead, after_read, after_reads}
 use Rattle.pass_tokens.specs.TryRead.{states_of}
 use Rattle.pass_tokens.specs.TryRead.{ReadsCut, ReadsAtLast, ReadsSoFar}
-use Rattle.pass_tokens.proofs.Examples.{pair, single, shards, first, trail, try_that_loses}
+use Rattle.pass_tokens.proofs.Examples.{four, pair, single, shards, first, trail, try_that_loses}
 
 pub read_is_kept : read_once 1 (trail 0) ≡ record (trail 1) { reads = 1 ∷ [] }
 read_is_kept = refl
 
 -- a cut of the two shards, and after the first was read at position 1
 abbrev cut : CutValue
-cut = record { capacity = 4; shards = empty_snapshot 4 ∷ empty_snapshot 4 ∷ [] }
+cut = record { shape = four; shards = empty_snapshot four ∷ empty_snapshot four ∷ [] }
 
 abbrev with_first : CutValue
-with_first = record { capacity = 4; shards = snapshot_of (shard_state_at 1 pair) ∷ empty_snapshot 4 ∷ [] }
+with_first = record { shape = four; shards = snapshot_of (shard_state_at 1 pair) ∷ empty_snapshot four ∷ [] }
 
 -- the view after that
 abbrev after_one : View
@@ -89,7 +89,7 @@ one_is_odd : All IsOddWord one.losses
 one_is_odd = All-from_recursion IsOddWord (3 ∷ []) (refl, tt)
 
 abbrev with_both : CutValue
-with_both = record { capacity = 4; shards = snapshot_of (shard_state_at 1 pair) ∷ snapshot_of (shard_state_at 0 single) ∷ [] }
+with_both = record { shape = four; shards = snapshot_of (shard_state_at 1 pair) ∷ snapshot_of (shard_state_at 0 single) ∷ [] }
 
 pub reads_both : All IsShard (shard_state_at 1 pair ∷ shard_state_at 0 single ∷ [])
     → ReadsCut shards first cut (record first { trails = trails_of_both }) with_both

@@ -8,7 +8,7 @@ use Rattle.std.proofs.lemmas.List.{length-map}
 use Rattle.std.proofs.lemmas.List.Elements.{All-nil, All-cons, All-append}
 use Rattle.std.proofs.lemmas.Option.{same_Some}
 use Rattle.shard_state.specs.{CutValue, HasCoreShape, IsShard, ShardValue, changed_in, snapshot_of}
-use Rattle.shard_state.specs.{shard_state_at, with_shard}
+use Rattle.shard_state.specs.{TableShape, shard_state_at, with_shard}
 use Rattle.position_words.specs.{IsOddWord, seen_in, with_trail}
 use Rattle.position_words.specs.declared.view.Trail.{Trail}
 use Rattle.position_words.specs.declared.view.View.{View}
@@ -90,11 +90,11 @@ pass_cut_begins_unread opening view cut = record {
 }
 
 -- one shard more
-pub pass_cut_reads_next : (opening : List ShardValue) (capacity count : ℕ) (before now after : View)
-    (cut mid changed : CutValue) → count < length opening → HasCoreShape (length opening) capacity cut
+pub pass_cut_reads_next : (opening : List ShardValue) (shape : TableShape) (count : ℕ) (before now after : View)
+    (cut mid changed : CutValue) → count < length opening → HasCoreShape (length opening) shape cut
     → ReadsSoFar opening count before cut now mid → ReadsAtLast opening count now mid after changed
     → ReadsSoFar opening (count + 1) before cut after changed
-pass_cut_reads_next opening capacity count before now after cut mid changed_cut inside shape far one =
+pass_cut_reads_next opening shape count before now after cut mid changed_cut inside has far one =
     let reads : List ShardRead = far.reads in
     let at : slice_get opening (length reads) ≡ Some one.state = ap (slice_get opening) far.as_many ∙ one.is in
     let state : ShardValue = shard_state_at one.read.position one.state in
@@ -132,7 +132,7 @@ pass_cut_reads_next opening capacity count before now after cut mid changed_cut 
           subst (λ k. set (map snapshot_of (states_of opening reads) ++ drop k cut.shards) k (snapshot_of state)
           ≡ (map snapshot_of (states_of opening reads) ++ snapshot_of state ∷ []) ++ drop (suc k) cut.shards) many
           (pass_cut_next_element_set (map snapshot_of (states_of opening reads)) cut.shards (snapshot_of state)
-          (omega (arith, many, inside, shape.as_many)))
+          (omega (arith, many, inside, has.as_many)))
           ∙ ap (λ n. (map snapshot_of (states_of opening reads) ++ snapshot_of state ∷ []) ++ drop n cut.shards)
           (pass_cut_next_number count)
           ∙ ap (λ ss. ss ++ drop (count + 1) cut.shards)
@@ -145,12 +145,12 @@ pass_cut_reads_next opening capacity count before now after cut mid changed_cut 
     map-snoc (first ∷ rest) state = ap (λ ss. snapshot_of first ∷ ss) (map-snoc rest state)
 
 -- all of them
-pub pass_cut_reads_all : (opening : List ShardValue) (capacity count : ℕ) (before now : View) (cut changed : CutValue)
-    → HasCoreShape (length opening) capacity cut → count ≡ length opening
+pub pass_cut_reads_all : (opening : List ShardValue) (shape : TableShape) (count : ℕ) (before now : View) (cut changed : CutValue)
+    → HasCoreShape (length opening) shape cut → count ≡ length opening
     → ReadsSoFar opening count before cut now changed → ReadsCut opening before cut now changed
-pass_cut_reads_all opening capacity count before now cut changed_cut shape all far =
+pass_cut_reads_all opening shape count before now cut changed_cut has all far =
     let past : drop count cut.shards ≡ [] =
-    ap (λ n. drop n cut.shards) (all ∙ sym shape.as_many) ∙ drop-length cut.shards in
+    ap (λ n. drop n cut.shards) (all ∙ sym has.as_many) ∙ drop-length cut.shards in
     record {
       reads = far.reads;
       as_many = far.as_many ∙ all;

@@ -1,7 +1,7 @@
 //! The shards of a board, folded and read by many threads.
 
 ghost use Rattle.std.specs.Prelude.{◌≡◌, ◌≤◌, ◌<◌, length, IfOk};
-ghost use Rattle.shard_state.specs.{AreCoreShards, HasCoreShape, core_capacity};
+ghost use Rattle.shard_state.specs.{AreCoreShards, HasCoreShape, core_shape};
 ghost use Rattle.position_words.specs.{StepMeets, first_view, after_join, after_look, newcomer_view};
 ghost use Rattle.position_words.specs.{after_split, view, IsUnderRule};
 ghost use Rattle.pass_tokens.specs.Board.{IsPassOf};
@@ -38,7 +38,7 @@ pub enum TryRead {
     Busy,
 }
 
-/// 1 to 16 shards of one capacity, which threads share. Contracts see the shards as they were at the start.
+/// 1 to 16 shards of one grain and capacity, which threads share. Contracts see the shards as they were at the start.
 #[derive(Drop)]
 pub struct Board {
     pub(crate) words: Words,
@@ -55,7 +55,7 @@ impl Model for Board {
 }
 
 impl Board {
-    /// The board of 1 to 16 shards of one capacity, and its first pass, which has seen their positions. On an error,
+    /// The board of 1 to 16 shards of one grain and capacity, and its first pass, which has seen their positions. On an error,
     /// which means that memory ran out, the states are dropped.
     pub fn start(alloc: Global, states: Vec<ShardState>) -> Result<(Board, Pass), AllocError>
         requires { AreCoreShards states.items }
@@ -142,9 +142,9 @@ impl Board {
     pub fn try_read(&self, shard: u32, pass: &mut Pass, cut: &mut Cut) -> TryRead
         requires within { shard < length self.now.opening }
         requires pass { IsPassOf self.now pass.old }
-        requires shape { HasCoreShape (length self.now.opening) (core_capacity self.now.opening) cut.old }
+        requires shape { HasCoreShape (length self.now.opening) (core_shape self.now.opening) cut.old }
         ensures read { TriesToRead self.now.opening shard (view pass.old) cut.old (view pass.new) cut.new result }
-        ensures shape { HasCoreShape (length self.now.opening) (core_capacity self.now.opening) cut.new }
+        ensures shape { HasCoreShape (length self.now.opening) (core_shape self.now.opening) cut.new }
         ensures pass { IsPassOf self.now pass.new }
     {
         let _shards = self.words.shards();
@@ -182,9 +182,9 @@ impl Board {
     /// and lets other threads run between two tries. It allocates no memory.
     pub fn read_cut<R: Wait>(&self, rt: &R, pass: &mut Pass, cut: &mut Cut)
         requires pass { IsPassOf self.now pass.old }
-        requires shape { HasCoreShape (length self.now.opening) (core_capacity self.now.opening) cut.old }
+        requires shape { HasCoreShape (length self.now.opening) (core_shape self.now.opening) cut.old }
         ensures read { ReadsCut self.now.opening (view pass.old) cut.old (view pass.new) cut.new }
-        ensures shape { HasCoreShape (length self.now.opening) (core_capacity self.now.opening) cut.new }
+        ensures shape { HasCoreShape (length self.now.opening) (core_shape self.now.opening) cut.new }
         ensures pass { IsPassOf self.now pass.new }
     {
         for shard in 0..self.shards() {
@@ -197,9 +197,9 @@ impl Board {
     fn read<R: Wait>(&self, rt: &R, shard: u32, pass: &mut Pass, cut: &mut Cut)
         requires within { shard < length self.now.opening }
         requires pass { IsPassOf self.now pass.old }
-        requires shape { HasCoreShape (length self.now.opening) (core_capacity self.now.opening) cut.old }
+        requires shape { HasCoreShape (length self.now.opening) (core_shape self.now.opening) cut.old }
         ensures read { ReadsAtLast self.now.opening shard (view pass.old) cut.old (view pass.new) cut.new }
-        ensures shape { HasCoreShape (length self.now.opening) (core_capacity self.now.opening) cut.new }
+        ensures shape { HasCoreShape (length self.now.opening) (core_shape self.now.opening) cut.new }
         ensures pass { IsPassOf self.now pass.new }
     {
         for _ in rt.forever() {

@@ -1,6 +1,6 @@
 use super::*;
 use position_words::{Aim, Take};
-use prefix_lattice::{Record, RecordList};
+use prefix_lattice::{Grain, Record, RecordList};
 use shard_state::{Cut, Folded, ShardState};
 use std::test::Fail;
 
@@ -12,9 +12,9 @@ fn a_held_shard_is_busy(rt: HostRuntime) -> Result<(), Fail> {
     list.push(Record::new(1, 2, 3).ok_or("a weight of 0")?)?;
     assert!(rt; list.len() <= 1);
     let mut states = Vec::new(alloc);
-    states.push(ShardState::start(alloc, list, 4)?)?;
+    states.push(ShardState::start(alloc, Grain::Byte, list, 4)?)?;
     let (board, mut pass) = Board::start(alloc, states)?;
-    let mut cut = Cut::with_room(alloc, 1, 4)?;
+    let mut cut = Cut::with_room(alloc, Grain::Byte, 1, 4)?;
     assert_eq!(rt;
         board.try_fold(0, 4, &mut pass),
         TryFold::Done(Folded { from: 0, to: 1 })

@@ -1,7 +1,8 @@
 -- Worked examples of what seats know, by computing.
 use Rattle.std.proofs.Common.{◌≡◌, List, [], ◌∷◌, None, Some, true, false, refl, ap}
 use Rattle.prefix_lattice.specs.{RecordValue}
-use Rattle.shard_state.specs.{ShardValue, empty_snapshot}
+use Rattle.prefix_lattice.specs.declared.grain.Grain.TheVariants.{Byte}
+use Rattle.shard_state.specs.{TableShape, ShardValue, empty_snapshot}
 use Rattle.position_words.specs.declared.view.Aim.TheVariants.{Fold, Read}
 use Rattle.position_words.specs.declared.view.Held.{Held}
 use Rattle.position_words.specs.declared.view.Joined.{Joined}
@@ -14,16 +15,20 @@ use Rattle.position_words.specs.View.{after_giving, after_split, newcomer_view, 
 use Rattle.position_words.specs.View.{joined_view, after_join, spent_view}
 use Rattle.position_words.specs.Seat.{slots_out}
 
+-- tables of whole bytes, each of 4 entries
+abbrev pub four : TableShape
+four = record { grain = Byte; capacity = 4 }
+
 -- a packet from 1.0.0.1 to 101.0.0.1
 abbrev pub x : RecordValue
 x = record { src = 0x01000001; dst = 0x65000001; weight = 1 }
 
 -- two shards, of two packets and of one, none of which is counted
 abbrev pub pair : ShardValue
-pair = record { list = x ∷ x ∷ []; base = empty_snapshot 4; position = 0 }
+pair = record { list = x ∷ x ∷ []; base = empty_snapshot four; position = 0 }
 
 abbrev pub single : ShardValue
-single = record { list = x ∷ []; base = empty_snapshot 4; position = 0 }
+single = record { list = x ∷ []; base = empty_snapshot four; position = 0 }
 
 abbrev pub shards : List ShardValue
 shards = pair ∷ single ∷ []

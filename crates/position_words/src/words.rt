@@ -69,7 +69,7 @@ impl Model for Words {
 }
 
 impl Words {
-    /// The words of 1 to 16 shards of one capacity, and the first seat, which has seen the shards' positions. On an
+    /// The words of 1 to 16 shards of one grain and capacity, and the first seat, which has seen the shards' positions. On an
     /// error, which means that memory ran out, the states are dropped.
     pub fn start(alloc: Global, states: Vec<ShardState>) -> Result<(Words, Seat), AllocError>
         requires { AreCoreShards states.items }

@@ -9,10 +9,11 @@ use Rattle.checkpoint.specs.declared.settings.StoreSettings.{StoreSettings}
 use Rattle.checkpoint.specs.{IsSaved, SavedValue, StoreHolds, newest_in}
 use Rattle.recovery.specs.Reopening.{ContinuesList}
 use Rattle.recovery.specs.Reopening.{BelongingOpen}
+use Rattle.checkpoint.specs.{settings_shape}
 
 -- a snapshot that represents a list has the weight of the records before its position
 abbrev BelongingStoreHasWeights : Type 0
-BelongingStoreHasWeights = (snapshot : SnapshotValue) (list : List RecordValue) → SnapshotRepresents snapshot list → 1 ≤ snapshot.capacity
+BelongingStoreHasWeights = (snapshot : SnapshotValue) (list : List RecordValue) → SnapshotRepresents snapshot list → 1 ≤ snapshot.shape.capacity
     → snapshot_total snapshot ≡ total_weight (take snapshot.position list)
 
 -- so it may be continued from
@@ -29,23 +30,23 @@ belonging_store_continues total (shard ∷ shards) (list ∷ lists) kept represe
 
 -- what is the newest may be saved
 belonging_store_has_newest_save : (settings : StoreSettings) (image : List ℕ) (first second : Option SavedValue) (saved : SavedValue)
-    → StoreHolds settings image first second → newest_in first second ≡ Some saved → IsSaved settings.shards settings.capacity saved
+    → StoreHolds settings image first second → newest_in first second ≡ Some saved → IsSaved settings.shards (settings_shape settings) saved
 belonging_store_has_newest_save settings image None None saved holds is = absurd (cc is)
 belonging_store_has_newest_save settings image None (Some one) saved holds is =
     let same : one ≡ saved = cc is in
-    subst (IsSaved settings.shards settings.capacity) same holds.second_slot.2.is_saved
+    subst (IsSaved settings.shards (settings_shape settings)) same holds.second_slot.2.is_saved
 belonging_store_has_newest_save settings image (Some one) None saved holds is =
     let same : one ≡ saved = cc is in
-    subst (IsSaved settings.shards settings.capacity) same holds.first_slot.2.is_saved
+    subst (IsSaved settings.shards (settings_shape settings)) same holds.first_slot.2.is_saved
 belonging_store_has_newest_save settings image (Some one) (Some two) saved holds is = by_test (nat_lt one.sequence two.sequence) is
   where
-    by_test : (b : Bool) → (if b then Some two else Some one) ≡ Some saved → IsSaved settings.shards settings.capacity saved
+    by_test : (b : Bool) → (if b then Some two else Some one) ≡ Some saved → IsSaved settings.shards (settings_shape settings) saved
     by_test true is =
         let same : two ≡ saved = cc is in
-        subst (IsSaved settings.shards settings.capacity) same holds.second_slot.2.is_saved
+        subst (IsSaved settings.shards (settings_shape settings)) same holds.second_slot.2.is_saved
     by_test false is =
         let same : one ≡ saved = cc is in
-        subst (IsSaved settings.shards settings.capacity) same holds.first_slot.2.is_saved
+        subst (IsSaved settings.shards (settings_shape settings)) same holds.first_slot.2.is_saved
 
 pub belonging_stores_are_opened : BelongingStoreHasWeights → BelongingOpen
 belonging_stores_are_opened total settings lists image None opens of early = (None, opens, tt, refl)

@@ -23,6 +23,8 @@ use Rattle.recovery.specs.Found.{IsFrontFault, IsBodyFault, IsFoundFault}
 use Rattle.recovery.specs.Found.{IsListFault, MatchesDigest, HoldsFound}
 use Rattle.recovery.specs.Found.{base_in_parts}
 use Rattle.recovery.proofs.OpenSlotLemmas.{store_open_slot_is_sound}
+use Rattle.shard_state.specs.{TableShape}
+use Rattle.checkpoint.specs.{settings_shape}
 
 -- however records are weighed and dealt
 module _ (any : StoreSettings) where
@@ -38,14 +40,17 @@ module _ (any : StoreSettings) where
   abbrev list : List RecordValue
   list = record { src = 0x0a010203; dst = 0x14010203; weight = 100 } ∷ []
 
+  abbrev shape : TableShape
+  shape = settings_shape (settings 1)
+
   abbrev none_counted : SnapshotValue
-  none_counted = empty_snapshot 2
+  none_counted = empty_snapshot shape
 
   abbrev two_counted : SnapshotValue
-  two_counted = record { capacity = 2; position = 2; tables = no_entries }
+  two_counted = record { shape = shape; position = 2; tables = no_entries shape.grain }
 
   abbrev cut : CutValue
-  cut = record { capacity = 2; shards = none_counted ∷ [] }
+  cut = record { shape = shape; shards = none_counted ∷ [] }
 
   abbrev saved : ℕ → SavedValue
   saved sequence = record { sequence = sequence; digest = []; cut = cut }

@@ -10,6 +10,7 @@ use Rattle.checkpoint.specs.declared.fault.DecodeFault.TheVariants as decode
 use Rattle.recovery.specs.OpenFault.{decode_fault}
 use Rattle.recovery.specs.Reopening.{IsDamaged}
 use Rattle.recovery.specs.Found.{IsBodyFault}
+use Rattle.checkpoint.specs.{settings_shape}
 
 -- under an open gate a slot shows what is stored
 pub open_slot_shows_stored : (settings : StoreSettings) (slot : ℕ) (image : List ℕ) → is_gate_open slot image ≡ true
@@ -48,13 +49,13 @@ open_slot_is_known slots (suc (suc slot)) image within same gate = absurd (omega
 -- an open gate over bytes that are no body
 pub open_slot_is_damaged : (settings : StoreSettings) (slot : ℕ) (image body : List ℕ) → is_gate_open slot image ≡ true
     → slot_body (span_of settings) slot image ≡ Some body
-    → ((saved : SavedValue) → IsBody settings.shards settings.capacity saved body → ⊥) → IsDamaged settings slot image
+    → ((saved : SavedValue) → IsBody settings.shards (settings_shape settings) saved body → ⊥) → IsDamaged settings slot image
 open_slot_is_damaged settings slot image body gate stored none = record {
   gate = gate;
   no_body = λ saved holds.
       let whole : Whole body ≡ Whole holds.0 = sym (open_slot_shows_stored settings slot image gate ∙ ap shown_in stored) ∙ holds.1 in
       let same : body ≡ holds.0 = cc whole in
-      none saved (subst (IsBody settings.shards settings.capacity saved) (sym same) holds.2);
+      none saved (subst (IsBody settings.shards (settings_shape settings) saved) (sym same) holds.2);
 }
 
 -- the fault of a body that wasn't decoded

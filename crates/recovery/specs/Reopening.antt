@@ -13,6 +13,7 @@ use Rattle.recovery.specs.declared.fault.OpenFault.{OpenFault}
 use Rattle.recovery.specs.declared.fault.OpenFault.TheVariants.{DiskFault, NotFormatted, OtherSettings, Damaged}
 use Rattle.recovery.specs.declared.fault.OpenFault.TheVariants.{OtherCapture, OutOfMemory}
 use Rattle.recovery.specs.declared.opened.Opened.{Opened}
+use Rattle.checkpoint.specs.{settings_shape}
 
 -- the bytes have a header, and it spells these settings
 pub record HasHeader (settings : StoreSettings) (image : List ℕ) : Type 0 where
@@ -83,7 +84,7 @@ base_positions settings (Some cut) = cut_positions cut
 
 -- a cut of the settings' shape, from which a run over the lists may go on
 pub record IsBaseFor (settings : StoreSettings) (lists : List (List RecordValue)) (cut : CutValue) : Type 0 where
-  pub shape : HasCoreShape settings.shards settings.capacity cut
+  pub shape : HasCoreShape settings.shards (settings_shape settings) cut
   pub continues : ContinuesLists cut lists
 
 -- what was opened can be gone on with, whether or not the disk's bytes are known: the base may be continued from, and

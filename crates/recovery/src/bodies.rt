@@ -6,6 +6,7 @@ ghost use Rattle.slot_disk.specs.{IfImageKnown, CrashLeaves, IsUnchangedAt, know
 ghost use Rattle.slot_disk.specs.{known_slots_of};
 ghost use Rattle.checkpoint.specs.{AreSettings, IsSaved, SlotHolds, saved_value};
 ghost use Rattle.recovery.specs.Found.{IsBodyFault};
+ghost use Rattle.checkpoint.specs.{settings_shape};
 
 use crate::OpenFault;
 use crate::fault::{fault_of_body, fault_of_decode};
@@ -24,7 +25,7 @@ pub(crate) fn read_slot<D: Disk>(
     requires slot { slot < 2 }
     requires settings { AreSettings settings.now }
     ensures gate { IfOk result (λ held. is_some held ≡ known_slot_open slots.now slot) }
-    ensures saved { IfOk result (λ held. IfSome held (λ saved. IsSaved settings.now.shards settings.now.capacity (saved_value saved))) }
+    ensures saved { IfOk result (λ held. IfSome held (λ saved. IsSaved settings.now.shards (settings_shape settings.now) (saved_value saved))) }
     ensures holds { IfOk result (λ held. IfImageKnown (D.reads disk.old)
         (λ image. slots.now ≡ known_slots_of image → SlotHolds settings.now slot image (option_map saved_value held))) }
     ensures refused { IfErr result (λ fault. IfImageKnown (D.reads disk.old)

@@ -1,23 +1,32 @@
 -- Tables with no entry.
-use Rattle.std.proofs.Common.{◌≡◌, ℕ, ◌≤◌, zero, suc, List, [], length, get_or, map, replicate, All, refl, sym, ap, ◌∙◌}
+use Rattle.std.proofs.Common.{◌≡◌, ℕ, ◌≤◌, zero, suc, List, [], ◌∷◌, length, get_or, map, replicate, All, refl, sym, ap, ◌∙◌}
 use Rattle.std.proofs.Common.{arith, subst, lit<}
 use Rattle.std.proofs.lemmas.List.Elements.{All-nil, All-replicate}
-use Rattle.prefix_lattice.specs.{NodeValue, node_index, IsPrefixKey}
+use Rattle.prefix_lattice.specs.{NodeValue, node_index, IsPrefixKey, node_count}
+use Rattle.prefix_lattice.specs.declared.grain.Grain.{Grain}
 use Rattle.space_saving.specs.declared.entry.Entry.{Entry}
 use Rattle.space_saving.specs.{TableValue, table_total, AreTableEntries, HasSmallError}
-use Rattle.shard_state.specs.Snapshot.{IsTableAt, SnapshotValue, IsSnapshot, no_entries}
+use Rattle.shard_state.specs.Snapshot.{IsTableAt, SnapshotValue, IsSnapshot, no_entries, TableShape}
 use Rattle.shard_state.specs.Snapshot.{empty_snapshot, entries_at}
 use Rattle.shard_state.specs.Cut.{IsCut, empty_cut}
 use Rattle.std.proofs.lemmas.List.{length-replicate}
+use Rattle.prefix_lattice.specs.{most_grain_capacity}
 
 -- an empty table of this capacity
 abbrev pub empty_table : ℕ → TableValue
 empty_table capacity = record { capacity = capacity; entries = [] }
 
 -- the entries of empty tables
-pub row_of_empty_tables : (capacity : ℕ) → map (λ (t : TableValue). t.entries) (replicate 25 (empty_table capacity)) ≡ no_entries
+empty_tables_in_row : (n capacity : ℕ)
+    → map (λ (t : TableValue). t.entries) (replicate n (empty_table capacity)) ≡ replicate n (let none : List Entry = [] in none)
+empty_tables_in_row zero capacity = refl
+empty_tables_in_row (suc n) capacity = ap (λ ts. [] ∷ ts) (empty_tables_in_row n capacity)
+
+pub row_of_empty_tables : (shape : TableShape)
+    → map (λ (t : TableValue). t.entries) (replicate (node_count shape.grain) (empty_table shape.capacity))
+    ≡ no_entries shape.grain
 unfolding no_entries
-row_of_empty_tables capacity = refl
+row_of_empty_tables shape = empty_tables_in_row (node_count shape.grain) shape.capacity
 
 empty_table_in_row : (n k : ℕ) → get_or (replicate n (let none : List Entry = [] in none)) k [] ≡ []
 empty_table_in_row zero k = refl
@@ -25,13 +34,13 @@ empty_table_in_row (suc n) zero = refl
 empty_table_in_row (suc n) (suc k) = empty_table_in_row n k
 
 -- each of the empty tables has no entry
-pub empty_table_at_place : (k : ℕ) → get_or no_entries k [] ≡ []
+pub empty_table_at_place : (grain : Grain) (k : ℕ) → get_or (no_entries grain) k [] ≡ []
 unfolding no_entries
-empty_table_at_place k = empty_table_in_row 25 k
+empty_table_at_place grain k = empty_table_in_row (node_count grain) k
 
-pub number_of_empty_tables : length no_entries ≡ 25
+pub number_of_empty_tables : (grain : Grain) → length (no_entries grain) ≡ node_count grain
 unfolding no_entries
-number_of_empty_tables = refl
+number_of_empty_tables grain = length-replicate (node_count grain) (let none : List Entry = [] in none)
 
 -- an empty list has the entries of a table
 empty_table_is_valid : (capacity : ℕ) → AreTableEntries capacity []
@@ -49,47 +58,53 @@ IsTableAt-empty_table capacity node = record {
 }
 
 -- the snapshot of no record is a snapshot
-pub IsSnapshot-empty_tables : (capacity : ℕ) → 2 ≤ capacity → capacity ≤ 4096 → IsSnapshot (empty_snapshot capacity)
-IsSnapshot-empty_tables capacity least most = record {
+pub IsSnapshot-empty_tables : (shape : TableShape) → 2 ≤ shape.capacity → shape.capacity ≤ 4096
+    → shape.capacity ≤ most_grain_capacity shape.grain → IsSnapshot (empty_snapshot shape)
+IsSnapshot-empty_tables shape least most of_grain = record {
   least = least;
   most = most;
+  of_grain = of_grain;
   placed = omega arith;
-  shape = number_of_empty_tables;
+  as_many = number_of_empty_tables shape.grain;
   tables = λ node valid.
-      let no_total : 0 ≡ table_total (get_or no_entries 0 []) = sym (ap table_total (empty_table_at_place 0)) in
-      subst (λ total. IsTableAt capacity total node (entries_at node (empty_snapshot capacity))) no_total
-      (subst (IsTableAt capacity 0 node) (sym (empty_table_at_place (node_index node))) (IsTableAt-empty_table capacity node));
+      let no_total : 0 ≡ table_total (get_or (no_entries shape.grain) 0 []) = sym (ap table_total (empty_table_at_place shape.grain 0)) in
+      subst (λ total. IsTableAt shape.capacity total node (entries_at node (empty_snapshot shape))) no_total
+      (subst (IsTableAt shape.capacity 0 node) (sym (empty_table_at_place shape.grain (node_index node)))
+      (IsTableAt-empty_table shape.capacity node));
 }
 
 -- what is made of empty tables
-pub record EmptyTables (capacity : ℕ) (tables : List TableValue) : Type 0 where
-  pub alike : All (λ (t : TableValue). t.capacity ≡ capacity) tables
-  pub entries : map (λ (t : TableValue). t.entries) tables ≡ no_entries
-  pub is_snapshot : IsSnapshot (record { capacity = capacity; position = 0; tables = map (λ (t : TableValue). t.entries) tables })
+pub record EmptyTables (shape : TableShape) (tables : List TableValue) : Type 0 where
+  pub alike : All (λ (t : TableValue). t.capacity ≡ shape.capacity) tables
+  pub entries : map (λ (t : TableValue). t.entries) tables ≡ no_entries shape.grain
+  pub is_snapshot : IsSnapshot (record { shape = shape; position = 0; tables = map (λ (t : TableValue). t.entries) tables })
 
-pub empty_tables_are_made : (capacity : ℕ) (tables : List TableValue) → tables ≡ replicate 25 (empty_table capacity)
-    → 2 ≤ capacity → capacity ≤ 4096 → EmptyTables capacity tables
-empty_tables_are_made capacity tables are least most =
-    let entries : map (λ (t : TableValue). t.entries) tables ≡ no_entries = ap (map (λ (t : TableValue). t.entries)) are
-    ∙ row_of_empty_tables capacity in
+pub empty_tables_are_made : (shape : TableShape) (tables : List TableValue)
+    → tables ≡ replicate (node_count shape.grain) (empty_table shape.capacity) → 2 ≤ shape.capacity → shape.capacity ≤ 4096
+    → shape.capacity ≤ most_grain_capacity shape.grain → EmptyTables shape tables
+empty_tables_are_made shape tables are least most of_grain =
+    let entries : map (λ (t : TableValue). t.entries) tables ≡ no_entries shape.grain = ap (map (λ (t : TableValue). t.entries)) are
+    ∙ row_of_empty_tables shape in
     record {
       alike =
-          subst (All (λ (t : TableValue). t.capacity ≡ capacity)) (sym are)
-          (All-replicate (λ (t : TableValue). t.capacity ≡ capacity) 25 (empty_table capacity) refl);
+          subst (All (λ (t : TableValue). t.capacity ≡ shape.capacity)) (sym are)
+          (All-replicate (λ (t : TableValue). t.capacity ≡ shape.capacity) (node_count shape.grain) (empty_table shape.capacity) refl);
       entries = entries;
-      is_snapshot = subst (λ ts. IsSnapshot (record { capacity = capacity; position = 0; tables = ts })) (sym entries)
-          (IsSnapshot-empty_tables capacity least most);
+      is_snapshot = subst (λ ts. IsSnapshot (record { shape = shape; position = 0; tables = ts })) (sym entries)
+          (IsSnapshot-empty_tables shape least most of_grain);
     }
 
 -- the cut of no record is a cut
-pub empty_tables_make_shard_cut : (shards capacity : ℕ) → 1 ≤ shards → shards ≤ 128 → 2 ≤ capacity → capacity ≤ 4096 → IsCut (empty_cut shards capacity)
-empty_tables_make_shard_cut shards capacity some few least most =
-    let many : length (replicate shards (empty_snapshot capacity)) ≡ shards = length-replicate shards (empty_snapshot capacity) in
+pub empty_tables_make_shard_cut : (shards : ℕ) (shape : TableShape) → 1 ≤ shards → shards ≤ 128 → 2 ≤ shape.capacity
+    → shape.capacity ≤ 4096 → shape.capacity ≤ most_grain_capacity shape.grain → IsCut (empty_cut shards shape)
+empty_tables_make_shard_cut shards shape some few least most of_grain =
+    let many : length (replicate shards (empty_snapshot shape)) ≡ shards = length-replicate shards (empty_snapshot shape) in
     record {
       least = least;
       most = most;
+      of_grain = of_grain;
       some = omega arith;
       few = omega arith;
-      alike = All-replicate (λ (s : SnapshotValue). s.capacity ≡ capacity) shards (empty_snapshot capacity) refl;
-      kept = All-replicate IsSnapshot shards (empty_snapshot capacity) (IsSnapshot-empty_tables capacity least most);
+      alike = All-replicate (λ (s : SnapshotValue). s.shape ≡ shape) shards (empty_snapshot shape) refl;
+      kept = All-replicate IsSnapshot shards (empty_snapshot shape) (IsSnapshot-empty_tables shape least most of_grain);
     }

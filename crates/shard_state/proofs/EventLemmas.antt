@@ -4,11 +4,11 @@ use Rattle.std.proofs.Common.{◌∷◌, length, slice_get, slice_set, Option, S
 use Rattle.std.proofs.Common.{subst, length-set}
 use Rattle.std.proofs.Math.Nat.{min-le_left}
 use Rattle.std.proofs.lemmas.Bool.{cases_eq, eq-eqb, ne_eqb}
-use Rattle.shard_state.specs.Snapshot.{SnapshotValue}
+use Rattle.shard_state.specs.Snapshot.{SnapshotValue, TableShape}
 use Rattle.shard_state.specs.Cut.{CutValue}
 use Rattle.shard_state.specs.ShardState.{ShardValue, folded_shard, snapshot_of}
 use Rattle.shard_state.specs.ShardCore.{CoreValue, ShardMovedOn, core_after, changed_in, with_shard}
-use Rattle.shard_state.specs.ShardCore.{core_capacity, HasCoreShape, position_met, position_in_core}
+use Rattle.shard_state.specs.ShardCore.{core_shape, HasCoreShape, position_met, position_in_core}
 use Rattle.shard_state.specs.ShardCore.{latest_snapshot, shard_in_cut, snapshot_in}
 use Rattle.shard_state.specs.declared.event.Event.{Event}
 use Rattle.shard_state.specs.declared.event.Event.TheVariants.{Fold, Read}
@@ -118,20 +118,20 @@ shard_snapshot_after_event core (Fold at block) caller shard state before is hol
 shard_snapshot_after_event core (Read by at) caller shard state before is holds = shard_after_read_event core by at caller shard state before is holds
 
 -- the shape of cuts and shards stays
-HasCoreShape-after_event : (shards capacity at : ℕ) (o : Option ShardValue) (cut : CutValue) → HasCoreShape shards capacity cut
-    → HasCoreShape shards capacity (with_shard at o cut)
-HasCoreShape-after_event shards capacity at None cut shape = shape
-HasCoreShape-after_event shards capacity at (Some state) cut shape = record {
-  as_many = length-set cut.shards at (snapshot_of state) ∙ shape.as_many;
-  alike = shape.alike;
+HasCoreShape-after_event : (shards : ℕ) (shape : TableShape) (at : ℕ) (o : Option ShardValue) (cut : CutValue) → HasCoreShape shards shape cut
+    → HasCoreShape shards shape (with_shard at o cut)
+HasCoreShape-after_event shards shape at None cut has = has
+HasCoreShape-after_event shards shape at (Some state) cut has = record {
+  as_many = length-set cut.shards at (snapshot_of state) ∙ has.as_many;
+  alike = has.alike;
 }
 
-pub shapes_after_event : (core : CoreValue) (event : Event) (shards capacity : ℕ)
-    → All (HasCoreShape shards capacity) core.cuts → All (HasCoreShape shards capacity) (core_after core event).cuts
-shapes_after_event core (Fold at block) shards capacity shapes = shapes
-shapes_after_event core (Read by at) shards capacity shapes =
-    All-changed_element (HasCoreShape shards capacity) (with_shard at (slice_get core.shards at)) by core.cuts
-    (HasCoreShape-after_event shards capacity at (slice_get core.shards at)) shapes
+pub shapes_after_event : (core : CoreValue) (event : Event) (shards : ℕ) (shape : TableShape)
+    → All (HasCoreShape shards shape) core.cuts → All (HasCoreShape shards shape) (core_after core event).cuts
+shapes_after_event core (Fold at block) shards shape shapes = shapes
+shapes_after_event core (Read by at) shards shape shapes =
+    All-changed_element (HasCoreShape shards shape) (with_shard at (slice_get core.shards at)) by core.cuts
+    (HasCoreShape-after_event shards shape at (slice_get core.shards at)) shapes
 
 pub shards_as_many_after_event : (core : CoreValue) (event : Event) → length (core_after core event).shards ≡ length core.shards
 shards_as_many_after_event core (Fold at block) = changed_in-element_keeps_length (folded_shard block) at core.shards
@@ -141,12 +141,12 @@ pub callers_after_event : (core : CoreValue) (event : Event) → length (core_af
 callers_after_event core (Fold at block) = refl
 callers_after_event core (Read by at) = changed_in-element_keeps_length (with_shard at (slice_get core.shards at)) by core.cuts
 
-pub capacity_after_fold_event : (block at : ℕ) (shards : List ShardValue) → core_capacity (changed_in (folded_shard block) at shards) ≡ core_capacity
+pub shape_after_fold_event : (block at : ℕ) (shards : List ShardValue) → core_shape (changed_in (folded_shard block) at shards) ≡ core_shape
     shards
-capacity_after_fold_event block at [] = refl
-capacity_after_fold_event block zero (first ∷ rest) = refl
-capacity_after_fold_event block (suc at) (first ∷ rest) = refl
+shape_after_fold_event block at [] = refl
+shape_after_fold_event block zero (first ∷ rest) = refl
+shape_after_fold_event block (suc at) (first ∷ rest) = refl
 
-pub capacity_after_event : (core : CoreValue) (event : Event) → core_capacity (core_after core event).shards ≡ core_capacity core.shards
-capacity_after_event core (Fold at block) = capacity_after_fold_event block at core.shards
-capacity_after_event core (Read by at) = refl
+pub shape_after_event : (core : CoreValue) (event : Event) → core_shape (core_after core event).shards ≡ core_shape core.shards
+shape_after_event core (Fold at block) = shape_after_fold_event block at core.shards
+shape_after_event core (Read by at) = refl

@@ -6,11 +6,11 @@ use Rattle.std.proofs.lemmas.List.{length-map}
 use Rattle.std.proofs.lemmas.List.Elements.{All-nil, All-cons, All-head, All-tail, All-get_or}
 use Rattle.std.proofs.lemmas.Option.{slice_get-map, slice_get-get_or, slice_get_within, same_Some}
 use Rattle.std.proofs.lemmas.Option.{get_or_from_slice_get}
-use Rattle.prefix_lattice.specs.{RecordValue}
-use Rattle.shard_state.specs.Snapshot.{SnapshotValue, SnapshotRepresents}
+use Rattle.prefix_lattice.specs.{RecordValue, finest_grain}
+use Rattle.shard_state.specs.Snapshot.{SnapshotValue, SnapshotRepresents, TableShape}
 use Rattle.shard_state.specs.Cut.{CutValue, cut_positions, CutRepresents}
 use Rattle.shard_state.specs.ShardState.{ShardValue, IsShard, snapshot_of}
-use Rattle.shard_state.specs.ShardCore.{CoreValue, ShardMovedOn, core_after, core_after_run, core_capacity}
+use Rattle.shard_state.specs.ShardCore.{CoreValue, ShardMovedOn, core_after, core_after_run, core_shape}
 use Rattle.shard_state.specs.ShardCore.{HasCoreShape, IsCore, position_met, position_in_core}
 use Rattle.shard_state.specs.ShardCore.{reads_of, last_core_read, NeverFall, latest_snapshot}
 use Rattle.shard_state.specs.ShardCore.{shard_in_cut, snapshot_in, core_lists}
@@ -19,7 +19,7 @@ use Rattle.shard_state.specs.declared.event.Event.{Event}
 use Rattle.shard_state.specs.declared.event.Event.TheVariants.{Fold, Read}
 use Rattle.shard_state.proofs.RepresentationLemmas.{representation_of_shard}
 use Rattle.shard_state.proofs.EventLemmas.{event_moves_shard_on, shard_snapshot_after_event, shapes_after_event}
-use Rattle.shard_state.proofs.EventLemmas.{shards_as_many_after_event, callers_after_event, capacity_after_event}
+use Rattle.shard_state.proofs.EventLemmas.{shards_as_many_after_event, callers_after_event, shape_after_event}
 
 -- reads may come in parts
 latest_snapshot-parts_of_event_run : (state : ShardValue) (before : SnapshotValue) (earlier later : List ℕ)
@@ -127,9 +127,9 @@ event_run_read_stands state before (position ∷ later) least base begun rise wi
     latest_snapshot-stands_in_event_run state (snapshot_of (record state { position = position })) later position base from rise.1
     (All-tail (λ p. p ≤ length state.list) position later within) (representation_of_shard (record state { position = position }) base from here)
 
--- after a read a cut has tables of the shard's capacity
+-- after a read a cut has tables of the shard's shape
 latest_snapshot-alike_in_event_run : (state : ShardValue) (before : SnapshotValue) (reads : List ℕ)
-    → before.capacity ≡ state.base.capacity → (latest_snapshot state before reads).capacity ≡ state.base.capacity
+    → before.shape ≡ state.base.shape → (latest_snapshot state before reads).shape ≡ state.base.shape
 latest_snapshot-alike_in_event_run state before [] alike = alike
 latest_snapshot-alike_in_event_run state before (position ∷ later) alike = latest_snapshot-alike_in_event_run state
     (snapshot_of (record state { position = position }))
@@ -137,18 +137,18 @@ latest_snapshot-alike_in_event_run state before (position ∷ later) alike = lat
     refl
 
 event_run_read_is_alike : (state : ShardValue) (before : SnapshotValue) (reads : List ℕ) → 1 ≤ length reads
-    → (latest_snapshot state before reads).capacity ≡ state.base.capacity
+    → (latest_snapshot state before reads).shape ≡ state.base.shape
 event_run_read_is_alike state before [] some = absurd (omega arith)
 event_run_read_is_alike state before (position ∷ later) some = latest_snapshot-alike_in_event_run state
     (snapshot_of (record state { position = position }))
     later refl
 
 -- what a run keeps of shapes
-pub event_run_keeps_shapes : (events : List Event) (core : CoreValue) (shards capacity : ℕ)
-    → All (HasCoreShape shards capacity) core.cuts → All (HasCoreShape shards capacity) (core_after_run core events).cuts
-event_run_keeps_shapes [] core shards capacity shapes = shapes
-event_run_keeps_shapes (event ∷ rest) core shards capacity shapes = event_run_keeps_shapes rest (core_after core event) shards capacity
-    (shapes_after_event core event shards capacity shapes)
+pub event_run_keeps_shapes : (events : List Event) (core : CoreValue) (shards : ℕ) (shape : TableShape)
+    → All (HasCoreShape shards shape) core.cuts → All (HasCoreShape shards shape) (core_after_run core events).cuts
+event_run_keeps_shapes [] core shards shape shapes = shapes
+event_run_keeps_shapes (event ∷ rest) core shards shape shapes = event_run_keeps_shapes rest (core_after core event) shards shape
+    (shapes_after_event core event shards shape shapes)
 
 pub event_run_keeps_shards : (events : List Event) (core : CoreValue) → length (core_after_run core events).shards ≡ length core.shards
 event_run_keeps_shards [] core = refl
@@ -158,9 +158,9 @@ pub event_run_keeps_callers : (events : List Event) (core : CoreValue) → lengt
 event_run_keeps_callers [] core = refl
 event_run_keeps_callers (event ∷ rest) core = event_run_keeps_callers rest (core_after core event) ∙ callers_after_event core event
 
-pub event_run_keeps_capacity : (events : List Event) (core : CoreValue) → core_capacity (core_after_run core events).shards ≡ core_capacity core.shards
-event_run_keeps_capacity [] core = refl
-event_run_keeps_capacity (event ∷ rest) core = event_run_keeps_capacity rest (core_after core event) ∙ capacity_after_event core event
+pub event_run_keeps_shape : (events : List Event) (core : CoreValue) → core_shape (core_after_run core events).shards ≡ core_shape core.shards
+event_run_keeps_shape [] core = refl
+event_run_keeps_shape (event ∷ rest) core = event_run_keeps_shape rest (core_after core event) ∙ shape_after_event core event
 
 -- two lists that agree at each index
 event_run_agrees_by_place : {A B : Type 0} → (R : A → B → Type 0) (xs : List A) (ys : List B) → length xs ≡ length ys
@@ -179,21 +179,24 @@ record HeldBeforeEventRun (caller shard : ℕ) (cuts : List CutValue) : Type 0 w
   pub before : SnapshotValue
   pub holds : snapshot_in caller shard cuts ≡ Some before
 
+no_shape_in_event_run : TableShape
+no_shape_in_event_run = record { grain = finest_grain; capacity = 0 }
+
 no_snapshot_in_event_run : SnapshotValue
-no_snapshot_in_event_run = record { capacity = 0; position = 0; tables = [] }
+no_snapshot_in_event_run = record { shape = no_shape_in_event_run; position = 0; tables = [] }
 
 no_cut_in_event_run : CutValue
-no_cut_in_event_run = record { capacity = 0; shards = [] }
+no_cut_in_event_run = record { shape = no_shape_in_event_run; shards = [] }
 
 no_shard_in_event_run : ShardValue
-no_shard_in_event_run = record { list = []; base = record { capacity = 0; position = 0; tables = [] }; position = 0 }
+no_shard_in_event_run = record { list = []; base = record { shape = no_shape_in_event_run; position = 0; tables = [] }; position = 0 }
 
-held_before_event_run : (caller shard shards capacity : ℕ) (cuts : List CutValue) → All (HasCoreShape shards capacity) cuts
+held_before_event_run : (caller shard shards : ℕ) (shape : TableShape) (cuts : List CutValue) → All (HasCoreShape shards shape) cuts
     → caller < length cuts → shard < shards → HeldBeforeEventRun caller shard cuts
-held_before_event_run caller shard shards capacity cuts shapes in_cuts in_shards =
+held_before_event_run caller shard shards shape cuts shapes in_cuts in_shards =
     let cut = get_or cuts caller no_cut_in_event_run in
-    let shape : HasCoreShape shards capacity cut = All-get_or (HasCoreShape shards capacity) cuts caller no_cut_in_event_run in_cuts shapes in
-    let in_cut : shard < length cut.shards = omega (arith, shape.as_many) in
+    let has : HasCoreShape shards shape cut = All-get_or (HasCoreShape shards shape) cuts caller no_cut_in_event_run in_cuts shapes in
+    let in_cut : shard < length cut.shards = omega (arith, has.as_many) in
     record {
       before = get_or cut.shards shard no_snapshot_in_event_run;
       holds = ap (shard_in_cut shard) (slice_get-get_or cuts caller no_cut_in_event_run in_cuts)
@@ -209,13 +212,13 @@ pub record LeftByEventRun (events : List Event) (core : CoreValue) (caller shard
   pub holds : slice_get cut.shards shard ≡ Some (latest_snapshot state before (reads_of caller shard core events))
 
 pub left_by_event_run : (events : List Event) (core : CoreValue) (caller shard : ℕ) (cut : CutValue) → All IsShard core.shards
-    → All (HasCoreShape (length core.shards) (core_capacity core.shards)) core.cuts → slice_get (core_after_run core events).cuts caller ≡ Some cut
+    → All (HasCoreShape (length core.shards) (core_shape core.shards)) core.cuts → slice_get (core_after_run core events).cuts caller ≡ Some cut
     → shard < length core.shards
     → LeftByEventRun events core caller shard cut
 left_by_event_run events core caller shard cut kept shapes is_cut in_shards =
     let in_run : caller < length (core_after_run core events).cuts = slice_get_within (core_after_run core events).cuts caller cut is_cut in
     let in_cuts : caller < length core.cuts = omega (arith, event_run_keeps_callers events core) in
-    let had : HeldBeforeEventRun caller shard core.cuts = held_before_event_run caller shard (length core.shards) (core_capacity core.shards) core.cuts
+    let had : HeldBeforeEventRun caller shard core.cuts = held_before_event_run caller shard (length core.shards) (core_shape core.shards) core.cuts
     shapes in_cuts in_shards in
     let state = get_or core.shards shard no_shard_in_event_run in
     let is : slice_get core.shards shard ≡ Some state = slice_get-get_or core.shards shard no_shard_in_event_run in_shards in
@@ -231,33 +234,33 @@ left_by_event_run events core caller shard cut kept shapes is_cut in_shards =
 
 -- a cut in which each shard was read represents the shards' lists, if their bases do
 pub event_run_cut_stands : (events : List Event) (core : CoreValue) (caller : ℕ) (cut : CutValue) → IsCore core.shards
-    → All (HasCoreShape (length core.shards) (core_capacity core.shards)) core.cuts → BasesRepresent core.shards
+    → All (HasCoreShape (length core.shards) (core_shape core.shards)) core.cuts → BasesRepresent core.shards
     → slice_get (core_after_run core events).cuts caller ≡ Some cut
     → ReadsEachShard caller core events → CutRepresents cut (core_lists core.shards)
 event_run_cut_stands events core caller cut is_core shapes bases is_cut reads =
     let kept : All IsShard core.shards = is_core.kept in
     let in_run : caller < length (core_after_run core events).cuts = slice_get_within (core_after_run core events).cuts caller cut is_cut in
-    let shape : HasCoreShape (length core.shards) (core_capacity core.shards) (get_or (core_after_run core events).cuts caller cut) =
-    All-get_or (HasCoreShape (length core.shards) (core_capacity core.shards)) (core_after_run core events).cuts caller cut in_run
-    (event_run_keeps_shapes events core (length core.shards) (core_capacity core.shards) shapes) in
+    let shape : HasCoreShape (length core.shards) (core_shape core.shards) (get_or (core_after_run core events).cuts caller cut) =
+    All-get_or (HasCoreShape (length core.shards) (core_shape core.shards)) (core_after_run core events).cuts caller cut in_run
+    (event_run_keeps_shapes events core (length core.shards) (core_shape core.shards) shapes) in
     let many : length cut.shards ≡ length core.shards =
     ap (λ (c : CutValue). length c.shards) (sym (get_or_from_slice_get (core_after_run core events).cuts caller cut cut is_cut)) ∙ shape.as_many in
     let list_of : ShardValue → List RecordValue = λ s. s.list in
-    let same_capacity : cut.capacity ≡ core_capacity core.shards =
-    ap (λ (c : CutValue). c.capacity) (sym (get_or_from_slice_get (core_after_run core events).cuts caller cut cut is_cut)) ∙ shape.alike in
+    let same_shape : cut.shape ≡ core_shape core.shards =
+    ap (λ (c : CutValue). c.shape) (sym (get_or_from_slice_get (core_after_run core events).cuts caller cut cut is_cut)) ∙ shape.alike in
     record {
       alike = λ k default in_cut.
           let in_shards : k < length core.shards = omega (arith, many, in_cut) in
           let here : LeftByEventRun events core caller k cut = left_by_event_run events core caller k cut kept shapes is_cut in_shards in
           let met_here = reads_of caller k core events in
-          let of_core : here.state.base.capacity ≡ core_capacity core.shards =
-          subst (λ (s : ShardValue). s.base.capacity ≡ core_capacity core.shards) (get_or_from_slice_get core.shards k here.state no_shard_in_event_run here.is)
-          (All-get_or (λ (s : ShardValue). s.base.capacity ≡ core_capacity core.shards) core.shards k no_shard_in_event_run in_shards
+          let of_core : here.state.base.shape ≡ core_shape core.shards =
+          subst (λ (s : ShardValue). s.base.shape ≡ core_shape core.shards) (get_or_from_slice_get core.shards k here.state no_shard_in_event_run here.is)
+          (All-get_or (λ (s : ShardValue). s.base.shape ≡ core_shape core.shards) core.shards k no_shard_in_event_run in_shards
           is_core.are_shards.alike) in
-          ap (λ (s : SnapshotValue). s.capacity) (get_or_from_slice_get cut.shards k (latest_snapshot here.state here.before met_here) default here.holds)
+          ap (λ (s : SnapshotValue). s.shape) (get_or_from_slice_get cut.shards k (latest_snapshot here.state here.before met_here) default here.holds)
           ∙ event_run_read_is_alike here.state here.before met_here (reads k in_shards)
           ∙ of_core
-          ∙ sym same_capacity;
+          ∙ sym same_shape;
       shards = event_run_agrees_by_place SnapshotRepresents cut.shards (core_lists core.shards) (many ∙ sym (length-map core.shards list_of))
           (λ k snapshot list is_snapshot is_list.
           let in_cut : k < length cut.shards = slice_get_within cut.shards k snapshot is_snapshot in
@@ -282,7 +285,7 @@ event_run_cut_stands events core caller cut is_core shapes bases is_cut reads =
 
 -- the position of a shard in the cut is that of the last read
 pub event_run_tells_last_read : (events : List Event) (core : CoreValue) (caller shard position : ℕ) (cut : CutValue) → All IsShard core.shards
-    → All (HasCoreShape (length core.shards) (core_capacity core.shards)) core.cuts → shard < length core.shards
+    → All (HasCoreShape (length core.shards) (core_shape core.shards)) core.cuts → shard < length core.shards
     → slice_get (core_after_run core events).cuts caller ≡ Some cut
     → last_core_read (reads_of caller shard core events) ≡ Some position → slice_get (cut_positions cut) shard ≡ Some position
 event_run_tells_last_read events core caller shard position cut kept shapes in_shards is_cut last =

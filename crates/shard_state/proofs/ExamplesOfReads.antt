@@ -5,7 +5,7 @@ use Rattle.shard_state.specs.Snapshot.{empty_snapshot, SnapshotRepresents}
 use Rattle.shard_state.specs.Cut.{empty_cut, most_snapshots}
 use Rattle.shard_state.specs.ShardState.{ShardValue, IsShard, folded_shard, snapshot_of}
 use Rattle.shard_state.specs.ShardCore.{CoreValue, changed_in, with_shard, core_after, core_after_run}
-use Rattle.shard_state.specs.ShardCore.{core_capacity, AreCoreShards, IsCore}
+use Rattle.shard_state.specs.ShardCore.{core_shape, AreCoreShards, IsCore}
 use Rattle.shard_state.specs.ShardCore.{HasCoreShape, IsCoreEvent, position_in_core, position_met}
 use Rattle.shard_state.specs.ShardCore.{reads_of, last_core_read, NeverFall}
 use Rattle.shard_state.specs.ShardCore.{latest_snapshot, shard_in_cut, snapshot_in, core_lists}
@@ -13,7 +13,7 @@ use Rattle.shard_state.specs.ShardCore.{BasesRepresent, ReadsEachShard}
 use Rattle.shard_state.specs.declared.event.Event.{Event}
 use Rattle.shard_state.specs.declared.event.Event.TheVariants.{Fold, Read}
 use Rattle.shard_state.proofs.RepresentationLemmas.{representation_when_empty}
-use Rattle.shard_state.proofs.Examples.{first, shard, begun_shard}
+use Rattle.shard_state.proofs.Examples.{first, shard, begun_shard, four}
 use Rattle.prefix_lattice.specs.{shard_limit}
 
 pub second_changed : changed_in (λ n. n + 10) 1 (1 ∷ 2 ∷ 3 ∷ []) ≡ 1 ∷ 12 ∷ 3 ∷ []
@@ -24,16 +24,16 @@ nothing_changed_past_the_end = refl
 
 -- one shard of six packets, and the cuts of two callers
 abbrev core : CoreValue
-core = record { shards = shard ∷ []; cuts = empty_cut 1 4 ∷ empty_cut 1 4 ∷ [] }
+core = record { shards = shard ∷ []; cuts = empty_cut 1 four ∷ empty_cut 1 four ∷ [] }
 
-pub read_puts_its_snapshot : with_shard 0 (Some (folded_shard 4 shard)) (empty_cut 1 4) ≡ record {
-  capacity = 4;
+pub read_puts_its_snapshot : with_shard 0 (Some (folded_shard 4 shard)) (empty_cut 1 four) ≡ record {
+  shape = four;
   shards = snapshot_of (folded_shard 4 shard)
       ∷ [];
 }
 read_puts_its_snapshot = refl
 
-pub read_of_no_shard : with_shard 1 None (empty_cut 1 4) ≡ empty_cut 1 4
+pub read_of_no_shard : with_shard 1 None (empty_cut 1 four) ≡ empty_cut 1 four
 read_of_no_shard = refl
 
 -- a fold moves its shard, and changes no cut
@@ -42,7 +42,7 @@ fold_moves = refl
 
 -- a read changes only its caller's cut
 pub read_leaves : core_after (record core { shards = folded_shard 4 shard ∷ [] }) (Read 1 0)
-    ≡ record { shards = folded_shard 4 shard ∷ []; cuts = empty_cut 1 4 ∷ record { capacity = 4; shards = snapshot_of (folded_shard 4 shard) ∷ [] } ∷ [] }
+    ≡ record { shards = folded_shard 4 shard ∷ []; cuts = empty_cut 1 four ∷ record { shape = four; shards = snapshot_of (folded_shard 4 shard) ∷ [] } ∷ [] }
 read_leaves = refl
 
 -- the first caller reads between two folds and after them, the other only after them
@@ -51,22 +51,22 @@ events = Fold 0 4 ∷ Read 0 0 ∷ Fold 0 4 ∷ Read 1 0 ∷ Read 0 0 ∷ []
 
 pub run_leaves : core_after_run core events ≡ record {
   shards = folded_shard 4 (folded_shard 4 shard) ∷ [];
-  cuts = record { capacity = 4; shards = snapshot_of (folded_shard 9 shard) ∷ [] } ∷ record {
-    capacity = 4;
+  cuts = record { shape = four; shards = snapshot_of (folded_shard 9 shard) ∷ [] } ∷ record {
+    shape = four;
     shards = snapshot_of (folded_shard 9 shard) ∷
         [];
   } ∷ [];
 }
 run_leaves = refl
 
-pub capacity_of_the_core : core_capacity core.shards ≡ 4
-capacity_of_the_core = refl
+pub shape_of_the_core : core_shape core.shards ≡ four
+shape_of_the_core = refl
 
 pub one_shard_is_some : AreCoreShards core.shards
 one_shard_is_some = record {
   some = omega arith;
   few = omega arith;
-  alike = All-from_recursion (λ (s : ShardValue). s.base.capacity ≡ 4) core.shards (refl, tt);
+  alike = All-from_recursion (λ (s : ShardValue). s.base.shape ≡ four) core.shards (refl, tt);
 }
 
 pub core_of_one_shard : IsCore core.shards
@@ -75,11 +75,11 @@ core_of_one_shard = record { are_shards = one_shard_is_some; kept = All-from_rec
 pub core_of_no_shard : IsCore [] → ⊥
 core_of_no_shard kept = omega (arith, kept.are_shards.some)
 
-pub cut_for_the_core : HasCoreShape 1 4 (empty_cut 1 4)
+pub cut_for_the_core : HasCoreShape 1 four (empty_cut 1 four)
 cut_for_the_core = record { as_many = refl; alike = refl }
 
-pub cut_of_two_shards : HasCoreShape 1 4 (empty_cut 2 4) → ⊥
-cut_of_two_shards shape = omega (arith, shape.as_many)
+pub cut_of_two_shards : HasCoreShape 1 four (empty_cut 2 four) → ⊥
+cut_of_two_shards has = omega (arith, has.as_many)
 
 pub fold_for_the_core : IsCoreEvent 1 2 (Fold 0 4)
 fold_for_the_core = (omega arith, omega arith)
@@ -125,13 +125,13 @@ pub reads_that_fall : NeverFall 0 (6 ∷ 4 ∷ []) → ⊥
 reads_that_fall never = omega (arith, never.1.0)
 
 -- the snapshot at the last read, or the earlier one
-pub latest_of_two_reads : latest_snapshot shard (empty_snapshot 4) (4 ∷ 6 ∷ []) ≡ snapshot_of (folded_shard 9 shard)
+pub latest_of_two_reads : latest_snapshot shard (empty_snapshot four) (4 ∷ 6 ∷ []) ≡ snapshot_of (folded_shard 9 shard)
 latest_of_two_reads = refl
 
-pub latest_of_no_read : latest_snapshot shard (empty_snapshot 4) [] ≡ empty_snapshot 4
+pub latest_of_no_read : latest_snapshot shard (empty_snapshot four) [] ≡ empty_snapshot four
 latest_of_no_read = refl
 
-pub snapshot_of_a_shard : shard_in_cut 0 (Some (empty_cut 1 4)) ≡ Some (empty_snapshot 4)
+pub snapshot_of_a_shard : shard_in_cut 0 (Some (empty_cut 1 four)) ≡ Some (empty_snapshot four)
 snapshot_of_a_shard = refl
 
 pub snapshot_in_no_cut : shard_in_cut 0 None ≡ None
@@ -148,7 +148,7 @@ one_list = refl
 
 -- no record is counted at the start
 pub base_stands : BasesRepresent core.shards
-base_stands = All-from_recursion (λ (s : ShardValue). SnapshotRepresents s.base s.list) core.shards (representation_when_empty 4 first, tt)
+base_stands = All-from_recursion (λ (s : ShardValue). SnapshotRepresents s.base s.list) core.shards (representation_when_empty four first, tt)
 
 pub both_callers_read_each : ReadsEachShard 1 core events
 both_callers_read_each zero below = omega arith

@@ -1,3 +1,4 @@
+pub mod RootTableLemmas
 pub mod EmptyTableLemmas
 pub mod SnapshotPartLemmas
 pub mod KeyPropertyLemmas

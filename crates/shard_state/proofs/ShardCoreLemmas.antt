@@ -5,9 +5,9 @@ use Rattle.std.proofs.lemmas.List.Elements.{All-set}
 use Rattle.std.proofs.lemmas.Option.{slice_get_read}
 use Rattle.shard_state.specs.Cut.{CutValue}
 use Rattle.shard_state.specs.ShardState.{ShardValue, IsShard, folded_shard, snapshot_of}
-use Rattle.shard_state.specs.ShardCore.{IsCore, changed_in, with_shard, core_capacity}
+use Rattle.shard_state.specs.ShardCore.{IsCore, changed_in, with_shard, core_shape}
 use Rattle.shard_state.proofs.ChangedElementLemmas.{changed_in-element_is_set, All-changed_element}
-use Rattle.shard_state.proofs.EventLemmas.{capacity_after_fold_event}
+use Rattle.shard_state.proofs.EventLemmas.{shape_after_fold_event}
 
 -- a fold writes its shard
 pub shard_core_fold_is_change : (shards : List ShardValue) (at block : ℕ) (before left : ShardValue) → at < length shards
@@ -24,15 +24,15 @@ IsCore-fold_of_shard shards at block before left within read is is_shard core =
     let same : slice_set shards at left ≡ changed_in (folded_shard block) at shards = shard_core_fold_is_change shards at block before left within read
     is in
     let many : length (slice_set shards at left) ≡ length shards = length-set shards at left in
-    let capacities : core_capacity (slice_set shards at left) ≡ core_capacity shards = ap core_capacity same ∙ capacity_after_fold_event block at shards in
-    let alike : All (λ (s : ShardValue). s.base.capacity ≡ core_capacity shards) (changed_in (folded_shard block) at shards) =
-    All-changed_element (λ (s : ShardValue). s.base.capacity ≡ core_capacity shards) (folded_shard block) at shards (λ s has. has) core.are_shards.alike in
+    let shapes : core_shape (slice_set shards at left) ≡ core_shape shards = ap core_shape same ∙ shape_after_fold_event block at shards in
+    let alike : All (λ (s : ShardValue). s.base.shape ≡ core_shape shards) (changed_in (folded_shard block) at shards) =
+    All-changed_element (λ (s : ShardValue). s.base.shape ≡ core_shape shards) (folded_shard block) at shards (λ s has. has) core.are_shards.alike in
     record {
       are_shards = record {
         some = omega (arith, core.are_shards.some);
         few = omega (arith, core.are_shards.few);
-        alike = subst (λ c. All (λ (s : ShardValue). s.base.capacity ≡ c) (slice_set shards at left)) (sym capacities)
-            (subst (All (λ (s : ShardValue). s.base.capacity ≡ core_capacity shards)) (sym same) alike);
+        alike = subst (λ c. All (λ (s : ShardValue). s.base.shape ≡ c) (slice_set shards at left)) (sym shapes)
+            (subst (All (λ (s : ShardValue). s.base.shape ≡ core_shape shards)) (sym same) alike);
       };
       kept = All-set IsShard shards at left is_shard core.kept;
     }

@@ -6,11 +6,11 @@ use Rattle.std.proofs.Math.Seq.{take-add}
 use Rattle.std.proofs.lemmas.List.{drop-drop, get_or-drop, length-take-le}
 use Rattle.std.proofs.lemmas.List.Sums.{sum_by-append, sum_by-le}
 use Rattle.std.proofs.lemmas.List.Elements.{All-take, All-drop, All-weaker, All-map, All-from_get_or}
-use Rattle.prefix_lattice.specs.{RecordValue, node_index, node_at, total_weight}
+use Rattle.prefix_lattice.specs.{RecordValue, node_index, node_at, node_count, total_weight}
 use Rattle.space_saving.specs.declared.entry.Entry.{Entry}
 use Rattle.space_saving.specs.{TableValue, table_total}
 use Rattle.shard_state.specs.Snapshot.{fold_from, SnapshotValue, IsSnapshot, snapshot_total}
-use Rattle.shard_state.specs.Snapshot.{tables_of, copied_from, tables_after}
+use Rattle.shard_state.specs.Snapshot.{tables_of, copied_from, tables_after, TableShape}
 use Rattle.shard_state.specs.ShardState.{ShardValue, IsShard, snapshot_of}
 use Rattle.prefix_lattice.proofs.NodePlaceLemmas.{IsNode-node_at_place, node_index-node_at_place}
 use Rattle.shard_state.proofs.SnapshotPartLemmas.{snapshot_part_with_entries, snapshot_part_entries}
@@ -53,15 +53,15 @@ shard_state_is_light list to few within bounded =
 -- a shard at a later position
 pub record ShardStateFoldedOn (shard : ShardValue) (to : ℕ) : Type 0 where
   pub is_shard : IsShard (record shard { position = to })
-  pub tables : fold_from 0 shard.base.capacity shard.base.tables (slice_range shard.list shard.base.position to)
-      ≡ fold_from 0 shard.base.capacity (snapshot_of shard).tables (slice_range shard.list shard.position to)
+  pub tables : fold_from 0 shard.base.shape shard.base.tables (slice_range shard.list shard.base.position to)
+      ≡ fold_from 0 shard.base.shape (snapshot_of shard).tables (slice_range shard.list shard.position to)
 
 shard_state_tables_further : (shard : ShardValue) (to : ℕ) → IsShard shard → shard.position ≤ to
-    → fold_from 0 shard.base.capacity shard.base.tables (slice_range shard.list shard.base.position to)
-    ≡ fold_from 0 shard.base.capacity (snapshot_of shard).tables (slice_range shard.list shard.position to)
+    → fold_from 0 shard.base.shape shard.base.tables (slice_range shard.list shard.base.position to)
+    ≡ fold_from 0 shard.base.shape (snapshot_of shard).tables (slice_range shard.list shard.position to)
 shard_state_tables_further shard to is later =
-    ap (fold_from 0 shard.base.capacity shard.base.tables) (shard_state_range_further shard.list shard.base.position shard.position to is.begun later)
-    ∙ fold_from-append_in_tables 0 shard.base.capacity shard.base.tables
+    ap (fold_from 0 shard.base.shape shard.base.tables) (shard_state_range_further shard.list shard.base.position shard.position to is.begun later)
+    ∙ fold_from-append_in_tables 0 shard.base.shape shard.base.tables
     (slice_range shard.list shard.base.position shard.position) (slice_range shard.list shard.position to)
 
 -- the weight up to a later position
@@ -86,7 +86,7 @@ shard_state_folds_on shard to keep is later within =
     let more : TableFoldAdvances (snapshot_of shard) to records = table_fold_advances (snapshot_of shard) to records keep is.tables placed weighed
     (omega arith) in
     let same = shard_state_tables_further shard to is later in
-    let with_tables : List (List Entry) → SnapshotValue = λ ts. record { capacity = shard.base.capacity; position = to; tables = ts } in
+    let with_tables : List (List Entry) → SnapshotValue = λ ts. record { shape = shard.base.shape; position = to; tables = ts } in
     record {
       is_shard = record {
         few = is.few;
@@ -110,24 +110,25 @@ shard_state_has_room shard to is later within =
     let weight : snapshot_total (snapshot_of shard) + total_weight records ≡ total_weight (take to shard.list) = shard_state_weight_further shard to
     is later in
     let small : total_weight (take to shard.list) < 2 ^ 56 = shard_state_is_light shard.list to is.few within is.bounded in
-    All-map (λ (t : TableValue). table_total t.entries + total_weight records < 2 ^ 56) (snapshot_part_with_entries shard.base.capacity) tables
+    All-map (λ (t : TableValue). table_total t.entries + total_weight records < 2 ^ 56) (snapshot_part_with_entries shard.base.shape.capacity) tables
     (All-from_get_or (λ (es : List Entry). table_total es + total_weight records < 2 ^ 56) tables []
     (λ k in_tables.
-    let place : k < 25 = omega (arith, is.tables.shape) in
-    let at : table_total (get_or tables (node_index (node_at k)) []) ≡ snapshot_total (snapshot_of shard) =
-    (is.tables.tables (node_at k) (IsNode-node_at_place k place)).counted in
+    let grain = shard.base.shape.grain in
+    let place : k < node_count grain = omega (arith, is.tables.as_many) in
+    let at : table_total (get_or tables (node_index (node_at grain k)) []) ≡ snapshot_total (snapshot_of shard) =
+    (is.tables.tables (node_at grain k) (IsNode-node_at_place grain k place)).counted in
     let here : table_total (get_or tables k []) ≡ snapshot_total (snapshot_of shard) =
-    subst (λ n. table_total (get_or tables n []) ≡ snapshot_total (snapshot_of shard)) (node_index-node_at_place k) at in
+    subst (λ n. table_total (get_or tables n []) ≡ snapshot_total (snapshot_of shard)) (node_index-node_at_place grain k) at in
     omega arith))
 
 -- the tables of a shard at a later position
 pub shard_state_folded_tables : (shard : ShardValue) (to : ℕ) (tables : List TableValue) → ShardStateFoldedOn shard to
     → tables ≡ tables_of (snapshot_of shard)
-    → tables_after 0 tables (slice_range shard.list shard.position to) ≡ tables_of (snapshot_of (record shard { position = to }))
+    → tables_after shard.base.shape.grain 0 tables (slice_range shard.list shard.position to) ≡ tables_of (snapshot_of (record shard { position = to }))
 shard_state_folded_tables shard to tables on are =
-    ap (λ ts. tables_after 0 ts (slice_range shard.list shard.position to)) are
-    ∙ tables_after-entries 0 shard.base.capacity (snapshot_of shard).tables (slice_range shard.list shard.position to)
-    ∙ ap (map (snapshot_part_with_entries shard.base.capacity)) (sym on.tables)
+    ap (λ ts. tables_after shard.base.shape.grain 0 ts (slice_range shard.list shard.position to)) are
+    ∙ tables_after-entries 0 shard.base.shape (snapshot_of shard).tables (slice_range shard.list shard.position to)
+    ∙ ap (map (snapshot_part_with_entries shard.base.shape.capacity)) (sym on.tables)
 
 -- a shard that goes on from a snapshot
 pub record BegunShardState (list : List RecordValue) (base : SnapshotValue) (position : ℕ) : Type 0 where
@@ -144,10 +145,10 @@ shard_state_is_begun list base position at_base is few within weighed bounded co
     let none : slice_range list base.position position ≡ [] =
     let nothing : position - base.position ≡ 0 = omega arith in
     ap (λ n. take n (drop base.position list)) nothing in
-    let tables : (snapshot_of shard).tables ≡ base.tables = ap (fold_from 0 base.capacity base.tables) none
-    ∙ fold_from-none_in_tables 0 base.capacity base.tables in
-    let with_tables : List (List Entry) → SnapshotValue = λ ts. record { capacity = base.capacity; position = position; tables = ts } in
-    let with_position : ℕ → SnapshotValue = λ p. record { capacity = base.capacity; position = p; tables = base.tables } in
+    let tables : (snapshot_of shard).tables ≡ base.tables = ap (fold_from 0 base.shape base.tables) none
+    ∙ fold_from-none_in_tables 0 base.shape base.tables in
+    let with_tables : List (List Entry) → SnapshotValue = λ ts. record { shape = base.shape; position = position; tables = ts } in
+    let with_position : ℕ → SnapshotValue = λ p. record { shape = base.shape; position = p; tables = base.tables } in
     let same : snapshot_of shard ≡ base = ap with_tables tables ∙ ap with_position at_base in
     record {
       snapshot = same;
@@ -163,15 +164,15 @@ shard_state_is_begun list base position at_base is few within weighed bounded co
     }
 
 -- a copy of the tables of a snapshot is that snapshot
-pub shard_state_copy_is_same : (snapshot : SnapshotValue) (capacity position : ℕ) (tables : List TableValue)
-    → tables ≡ tables_of snapshot → capacity ≡ snapshot.capacity → position ≡ snapshot.position
-    → copied_from capacity position tables ≡ snapshot
-shard_state_copy_is_same snapshot capacity position tables are same_capacity same_position =
-    let made : ℕ → ℕ → List (List Entry) → SnapshotValue = λ c p ts. record { capacity = c; position = p; tables = ts } in
-    ap (λ c. made c position (map snapshot_part_entries tables)) same_capacity
-    ∙ ap (λ p. made snapshot.capacity p (map snapshot_part_entries tables)) same_position
-    ∙ ap (made snapshot.capacity snapshot.position) (ap (map snapshot_part_entries) are ∙ entries_back snapshot.tables)
+pub shard_state_copy_is_same : (snapshot : SnapshotValue) (shape : TableShape) (position : ℕ) (tables : List TableValue)
+    → tables ≡ tables_of snapshot → shape ≡ snapshot.shape → position ≡ snapshot.position
+    → copied_from shape position tables ≡ snapshot
+shard_state_copy_is_same snapshot shape position tables are same_shape same_position =
+    let made : TableShape → ℕ → List (List Entry) → SnapshotValue = λ s p ts. record { shape = s; position = p; tables = ts } in
+    ap (λ s. made s position (map snapshot_part_entries tables)) same_shape
+    ∙ ap (λ p. made snapshot.shape p (map snapshot_part_entries tables)) same_position
+    ∙ ap (made snapshot.shape snapshot.position) (ap (map snapshot_part_entries) are ∙ entries_back snapshot.tables)
   where
-    entries_back : (tables : List (List Entry)) → map snapshot_part_entries (map (snapshot_part_with_entries snapshot.capacity) tables) ≡ tables
+    entries_back : (tables : List (List Entry)) → map snapshot_part_entries (map (snapshot_part_with_entries snapshot.shape.capacity) tables) ≡ tables
     entries_back [] = refl
     entries_back (entries ∷ tables) = ap (λ ts. entries ∷ ts) (entries_back tables)

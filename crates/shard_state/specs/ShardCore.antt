@@ -5,8 +5,8 @@ use Rattle.shard_state.specs.Cut.{CutValue}
 use Rattle.shard_state.specs.ShardState.{ShardValue, IsShard, folded_shard, snapshot_of, shard_state_at}
 use Rattle.shard_state.specs.declared.event.Event.{Event}
 use Rattle.shard_state.specs.declared.event.Event.TheVariants.{Fold, Read}
-use Rattle.prefix_lattice.specs.{RecordValue, shard_limit}
-use Rattle.shard_state.specs.Snapshot.{SnapshotValue, SnapshotRepresents}
+use Rattle.prefix_lattice.specs.{RecordValue, shard_limit, finest_grain}
+use Rattle.shard_state.specs.Snapshot.{SnapshotValue, SnapshotRepresents, TableShape}
 
 -- what events act on: the states of the shards, and one cut for each caller
 pub record CoreValue : Type 0 where
@@ -33,26 +33,26 @@ core_after core (Read caller shard) = record core { cuts = changed_in (with_shar
 abbrev pub core_after_run : CoreValue → List Event → CoreValue
 core_after_run core events = fold core_after core events
 
--- the capacity of the first shard, which is that of all
-abbrev pub core_capacity : List ShardValue → ℕ
-core_capacity [] = 0
-core_capacity (first ∷ rest) = first.base.capacity
+-- the shape of the first shard, which is that of all
+abbrev pub core_shape : List ShardValue → TableShape
+core_shape [] = record { grain = finest_grain; capacity = 0 }
+core_shape (first ∷ rest) = first.base.shape
 
--- 1 to 16 shards of one capacity
+-- 1 to 16 shards of one shape
 pub record AreCoreShards (shards : List ShardValue) : Type 0 where
   pub some : 1 ≤ length shards
   pub few : length shards ≤ shard_limit
-  pub alike : All (λ shard. shard.base.capacity ≡ core_capacity shards) shards
+  pub alike : All (λ shard. shard.base.shape ≡ core_shape shards) shards
 
--- what always holds of the core: 1 to 16 shards of one capacity, each within its limits
+-- what always holds of the core: 1 to 16 shards of one shape, each within its limits
 pub record IsCore (shards : List ShardValue) : Type 0 where
   pub are_shards : AreCoreShards shards
   pub kept : All IsShard shards
 
--- a cut of this many shards and of this capacity
-pub record HasCoreShape (shards capacity : ℕ) (cut : CutValue) : Type 0 where
+-- a cut of this many shards and of this shape
+pub record HasCoreShape (shards : ℕ) (shape : TableShape) (cut : CutValue) : Type 0 where
   pub as_many : length cut.shards ≡ shards
-  pub alike : cut.capacity ≡ capacity
+  pub alike : cut.shape ≡ shape
 
 -- an event for this many shards and this many callers
 abbrev pub IsCoreEvent : ℕ → ℕ → Event → Type 0

@@ -17,9 +17,9 @@ shard_state_at position shard = record shard { position = position }
 -- the tables of a shard: those of its base, after the records from the base's position up to the shard's
 abbrev pub snapshot_of : ShardValue → SnapshotValue
 snapshot_of shard = record {
-  capacity = shard.base.capacity;
+  shape = shard.base.shape;
   position = shard.position;
-  tables = fold_from 0 shard.base.capacity shard.base.tables (slice_range shard.list shard.base.position shard.position);
+  tables = fold_from 0 shard.base.shape shard.base.tables (slice_range shard.list shard.base.position shard.position);
 }
 
 -- a shard after its next `block` records, or its remaining records if they are fewer

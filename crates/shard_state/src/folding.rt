@@ -5,21 +5,20 @@ ghost use Rattle.prefix_lattice.specs.{node_count, total_weight};
 ghost use Rattle.space_saving.specs.{TableValue, table_limit, table_total};
 ghost use Rattle.shard_state.specs.Snapshot.{table_after, tables_after};
 
-use crate::snapshot_parts::NODES;
 use crate::table::Table;
-use prefix_lattice::{Node, Prefix, Record};
+use prefix_lattice::{Grain, Node, Prefix, Record};
 use space_saving::{Flat, Summary};
 use std::alloc::{AllocError, Global};
 
-/// Counts records in each of 25 tables, one table after the other, so that the entries of a table stay in the
+/// Counts records in each table of a grain, one table after the other, so that the entries of a table stay in the
 /// nearest cache.
-pub(crate) fn count_in_tables(tables: &mut [Table], records: &[Record])
-    requires shape { length tables.old ≡ node_count }
+pub(crate) fn count_in_tables(grain: Grain, tables: &mut [Table], records: &[Record])
+    requires as_many { length tables.old ≡ node_count grain }
     requires room { All (λ table. table_total table.entries + total_weight records.now < table_limit) tables.old }
-    ensures { tables.new ≡ tables_after 0 tables.old records.now }
+    ensures { tables.new ≡ tables_after grain 0 tables.old records.now }
 {
-    for place in 0..NODES {
-        let node = Node::from_index(place).unwrap();
+    for place in 0..grain.nodes() {
+        let node = Node::from_index(grain, place).unwrap();
         count_in_table(&mut tables[usize::from(place)], node, records);
     }
 }

@@ -5,7 +5,7 @@ ghost use Rattle.shard_state.specs.Snapshot.{SnapshotValue};
 ghost use Rattle.shard_state.specs.Cut.{CutValue, cut_positions, CutRepresents};
 ghost use Rattle.shard_state.specs.ShardState.{ShardValue, IsShard, folded_shard};
 ghost use Rattle.shard_state.specs.ShardCore.{AreCoreShards, HasCoreShape, IsCore, IsCoreEvent, core_after};
-ghost use Rattle.shard_state.specs.ShardCore.{core_capacity, changed_in, core_after_run, with_shard};
+ghost use Rattle.shard_state.specs.ShardCore.{core_shape, changed_in, core_after_run, with_shard};
 ghost use Rattle.shard_state.specs.ShardCore.{BasesRepresent, ShardMovedOn, NeverFall};
 ghost use Rattle.shard_state.specs.ShardCore.{ReadsEachShard, last_core_read, latest_snapshot, core_lists};
 ghost use Rattle.shard_state.specs.ShardCore.{reads_of, snapshot_in};
@@ -13,7 +13,7 @@ ghost use Rattle.shard_state.specs.ShardCore.{reads_of, snapshot_in};
 use crate::{Cut, Event, ShardState};
 use std::marker::Model;
 
-/// The states of 1 to 16 shards of one capacity, on which events act one after the other.
+/// The states of 1 to 16 shards of one grain and capacity, on which events act one after the other.
 #[derive(Drop)]
 pub struct Core {
     states: Vec<ShardState>,
@@ -45,7 +45,7 @@ impl Core {
     /// allocates no memory.
     pub fn step(&mut self, event: Event, cuts: &mut Vec<Cut>)
         requires event { IsCoreEvent (length self.old) (length cuts.old.items) event }
-        requires cuts { All (HasCoreShape (length self.old) (core_capacity self.old)) cuts.old.items }
+        requires cuts { All (HasCoreShape (length self.old) (core_shape self.old)) cuts.old.items }
         ensures shards { self.new ≡ (core_after (record { shards = self.old; cuts = cuts.old.items }) event).shards }
         ensures cuts { cuts.new.items ≡ (core_after (record { shards = self.old; cuts = cuts.old.items }) event).cuts }
 
@@ -55,7 +55,7 @@ impl Core {
         // The numbers of shards and callers are unchanged, and the cuts still have the core's shape.
         ensures shards_stay { length self.new ≡ length self.old }
         ensures callers_stay { length cuts.new.items ≡ length cuts.old.items }
-        ensures shapes { All (HasCoreShape (length self.new) (core_capacity self.new)) cuts.new.items }
+        ensures shapes { All (HasCoreShape (length self.new) (core_shape self.new)) cuts.new.items }
     {
         self.keeps();
         self.act(event, cuts);
@@ -64,7 +64,7 @@ impl Core {
     /// Performs a run of events, in order. It allocates no memory.
     pub fn run_events(&mut self, events: &[Event], cuts: &mut Vec<Cut>)
         requires events { All (IsCoreEvent (length self.old) (length cuts.old.items)) events.now }
-        requires cuts { All (HasCoreShape (length self.old) (core_capacity self.old)) cuts.old.items }
+        requires cuts { All (HasCoreShape (length self.old) (core_shape self.old)) cuts.old.items }
         ensures shards { self.new ≡ (core_after_run (record { shards = self.old; cuts = cuts.old.items }) events.now).shards }
         ensures cuts { cuts.new.items ≡ (core_after_run (record { shards = self.old; cuts = cuts.old.items }) events.now).cuts }
 
@@ -87,7 +87,7 @@ impl Core {
         // The numbers of shards and callers are unchanged, and the cuts still have the core's shape.
         ensures shards_stay { length self.new ≡ length self.old }
         ensures callers_stay { length cuts.new.items ≡ length cuts.old.items }
-        ensures shapes { All (HasCoreShape (length self.new) (core_capacity self.new)) cuts.new.items }
+        ensures shapes { All (HasCoreShape (length self.new) (core_shape self.new)) cuts.new.items }
     {
         self.keeps();
         self.run_in_order(events, cuts);
@@ -102,7 +102,7 @@ impl Core {
 
     fn run_in_order(&mut self, events: &[Event], cuts: &mut Vec<Cut>)
         requires events { All (IsCoreEvent (length self.old) (length cuts.old.items)) events.now }
-        requires cuts { All (HasCoreShape (length self.old) (core_capacity self.old)) cuts.old.items }
+        requires cuts { All (HasCoreShape (length self.old) (core_shape self.old)) cuts.old.items }
         ensures shards { self.new ≡ (core_after_run (record { shards = self.old; cuts = cuts.old.items }) events.now).shards }
         ensures cuts { cuts.new.items ≡ (core_after_run (record { shards = self.old; cuts = cuts.old.items }) events.now).cuts }
     {
@@ -114,7 +114,7 @@ impl Core {
     // Performs one event.
     fn act(&mut self, event: Event, cuts: &mut Vec<Cut>)
         requires event { IsCoreEvent (length self.old) (length cuts.old.items) event }
-        requires cuts { All (HasCoreShape (length self.old) (core_capacity self.old)) cuts.old.items }
+        requires cuts { All (HasCoreShape (length self.old) (core_shape self.old)) cuts.old.items }
         ensures shards { self.new ≡ (core_after (record { shards = self.old; cuts = cuts.old.items }) event).shards }
         ensures cuts { cuts.new.items ≡ (core_after (record { shards = self.old; cuts = cuts.old.items }) event).cuts }
     {
@@ -137,7 +137,7 @@ impl Core {
     fn read(&self, caller: u32, shard: u32, cuts: &mut Vec<Cut>)
         requires caller { caller < length cuts.old.items }
         requires shard { shard < length self.now }
-        requires cuts { All (HasCoreShape (length self.now) (core_capacity self.now)) cuts.old.items }
+        requires cuts { All (HasCoreShape (length self.now) (core_shape self.now)) cuts.old.items }
         ensures { cuts.new.items ≡ changed_in (with_shard shard (slice_get self.now shard)) caller cuts.old.items }
     {
         cuts[caller as usize].copy_shard(shard, &self.states[shard as usize]);

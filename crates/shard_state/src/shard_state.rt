@@ -6,11 +6,12 @@ ghost use Rattle.prefix_lattice.specs.{total_weight, record_limit};
 ghost use Rattle.shard_state.specs.Snapshot.{fold_from, empty_snapshot, snapshot_total};
 ghost use Rattle.shard_state.specs.ShardState.{IsShard, folded_shard, snapshot_of};
 ghost use Rattle.space_saving.specs.{least_capacity, most_capacity};
+ghost use Rattle.prefix_lattice.specs.{most_grain_capacity};
 
 use crate::Snapshot;
 use crate::folding::{count_in_tables, restored};
 use crate::table::Table;
-use prefix_lattice::{RecordList, keys_are_of_their_node};
+use prefix_lattice::{Grain, RecordList, keys_are_of_their_node};
 use space_saving::steps_leave_a_table;
 use std::alloc::{AllocError, Global};
 use std::marker::Model;
@@ -24,7 +25,7 @@ pub struct Folded {
     pub to: u64,
 }
 
-/// The records of a shard, and 25 tables that count them up to a position: the tables of the snapshot that the
+/// The records of a shard, and tables that count them up to a position, one for each node of a grain: the tables of the snapshot that the
 /// state started from, and each record since, added at each node for the key of its prefix there.
 #[derive(Drop)]
 pub struct ShardState {
@@ -48,15 +49,26 @@ impl Model for ShardState {
 }
 
 impl ShardState {
-    /// The state with no record counted. The list has at most 16,777,216 records, and each table 2 to 4096 entries.
-    /// On an error, which means that memory ran out, the list is dropped.
-    pub fn start(alloc: Global, list: RecordList, capacity: u32) -> Result<ShardState, AllocError>
+    /// The state with no record counted, and one empty table for each node of the grain. The list has at most 16,777,216
+    /// records, and each table 2 to 4096 entries, at most 1024 for half bytes. On an error, which means that memory ran out,
+    /// the list is dropped.
+    pub fn start(
+        alloc: Global,
+        grain: Grain,
+        list: RecordList,
+        capacity: u32,
+    ) -> Result<ShardState, AllocError>
         requires few { length list ≤ record_limit }
         requires least { least_capacity ≤ capacity }
         requires most { capacity ≤ most_capacity }
-        ensures { IfOk result (λ state. state ≡ record { list = list; base = empty_snapshot capacity; position = 0 }) }
+        requires of_grain { capacity ≤ most_grain_capacity grain }
+        ensures { IfOk result (λ state. state ≡ record {
+          list = list;
+          base = empty_snapshot (record { grain = grain; capacity = capacity });
+          position = 0;
+        }) }
     {
-        let base = Snapshot::with_room(alloc, capacity)?;
+        let base = Snapshot::with_room(alloc, grain, capacity)?;
         ShardState::resume(alloc, list, base)
     }
 
@@ -84,7 +96,7 @@ impl ShardState {
     pub fn fold_block(&mut self, block: u32) -> Folded
         requires { 1 ≤ block }
         ensures state { self.new ≡ folded_shard block self.old }
-        ensures tables { (snapshot_of self.new).tables ≡ fold_from 0 self.old.base.capacity (snapshot_of self.old).tables
+        ensures tables { (snapshot_of self.new).tables ≡ fold_from 0 self.old.base.shape (snapshot_of self.old).tables
             (slice_range self.old.list result.from result.to) }
         ensures from { result.from ≡ self.old.position }
         ensures to { result.to ≡ self.new.position }
@@ -96,7 +108,7 @@ impl ShardState {
         let from = self.position;
         let to = (from + u64::from(block)).min(self.list.len() as u64);
         let records = &self.list.as_slice()[from as usize..to as usize];
-        count_in_tables(&mut self.tables, records);
+        count_in_tables(self.base.grain(), &mut self.tables, records);
         self.position = to;
         Folded { from, to }
     }
@@ -119,17 +131,25 @@ impl ShardState {
         self.list.len() as u64
     }
 
-    /// The most entries of each table, 2 to 4096.
+    /// The grain whose nodes have the tables.
+    pub fn grain(&self) -> Grain
+        ensures grain { result ≡ self.now.base.shape.grain }
+        ensures kept { IsShard self.now }
+    {
+        self.base.grain()
+    }
+
+    /// The most entries of each table, 2 to 4096, and at most 1024 for half bytes.
     pub fn capacity(&self) -> u32
-        ensures capacity { result ≡ self.now.base.capacity }
+        ensures capacity { result ≡ self.now.base.shape.capacity }
         ensures kept { IsShard self.now }
     {
         self.base.capacity()
     }
 
-    /// Makes a snapshot of the shard's capacity equal to the shard's. It allocates no memory.
+    /// Makes a snapshot of the shard's shape equal to the shard's. It allocates no memory.
     pub fn copy_into(&self, into: &mut Snapshot)
-        requires { into.old.capacity ≡ self.now.base.capacity }
+        requires { into.old.shape ≡ self.now.base.shape }
         ensures { into.new ≡ snapshot_of self.now }
     {
         into.copy_from(self.position, &self.tables);

@@ -1,5 +1,6 @@
 ghost use Rattle.std.specs.Prelude.{◌≡◌, ◌≤◌, length, IfOk};
-ghost use Rattle.shard_state.specs.{AreCoreShards, core_capacity};
+ghost use Rattle.prefix_lattice.specs.declared.grain.Grain.TheVariants.{Byte};
+ghost use Rattle.shard_state.specs.{AreCoreShards, core_shape};
 ghost use Rattle.pass_tokens.specs.{IsPassOf};
 
 mod of_cut_merge;
@@ -11,13 +12,14 @@ mod of_shard_state;
 mod worked_records;
 
 use pass_tokens::{Board, Pass};
-use prefix_lattice::{Record, RecordList};
+use prefix_lattice::{Grain, Record, RecordList};
 use shard_state::{Cut, ShardState};
 use std::alloc::{AllocError, Global};
 
 // The shards of eleven packets that were dealt to two shards in turn: six and five packets, in tables of capacity 4.
 pub(crate) fn worked_states(alloc: Global) -> Result<Vec<ShardState>, AllocError>
-    ensures { IfOk result (λ states. AreCoreShards states.items × (length states.items ≡ 2) × (core_capacity states.items ≡ 4)) }
+    ensures { IfOk result (λ states. AreCoreShards states.items × (length states.items ≡ 2)
+        × (core_shape states.items ≡ record { grain = Byte; capacity = 4 })) }
 {
     let mut states = Vec::new(alloc);
     states.push(shard_of(alloc, &[1, 1, 1, 1, 1, 2])?)?;
@@ -27,7 +29,7 @@ pub(crate) fn worked_states(alloc: Global) -> Result<Vec<ShardState>, AllocError
 
 // A board of the worked shards, and its first pass.
 pub(crate) fn worked_board(alloc: Global) -> Result<(Board, Pass), AllocError>
-    ensures { IfOk result (λ made. (length made.0.opening ≡ 2) × (core_capacity made.0.opening ≡ 4) × IsPassOf made.0 made.1) }
+    ensures { IfOk result (λ made. (length made.0.opening ≡ 2) × (core_shape made.0.opening ≡ record { grain = Byte; capacity = 4 }) × IsPassOf made.0 made.1) }
 {
     Board::start(alloc, worked_states(alloc)?)
 }
@@ -35,7 +37,7 @@ pub(crate) fn worked_board(alloc: Global) -> Result<(Board, Pass), AllocError>
 // A board of one shard with these packets, and its first pass.
 pub(crate) fn board_of_one(alloc: Global, packets: &[u8]) -> Result<(Board, Pass), AllocError>
     requires { length packets.now ≤ 256 }
-    ensures { IfOk result (λ made. (length made.0.opening ≡ 1) × (core_capacity made.0.opening ≡ 4) × IsPassOf made.0 made.1) }
+    ensures { IfOk result (λ made. (length made.0.opening ≡ 1) × (core_shape made.0.opening ≡ record { grain = Byte; capacity = 4 }) × IsPassOf made.0 made.1) }
 {
     Board::start(alloc, one_shard(alloc, packets)?)
 }
@@ -43,7 +45,8 @@ pub(crate) fn board_of_one(alloc: Global, packets: &[u8]) -> Result<(Board, Pass
 // One shard with these packets.
 fn one_shard(alloc: Global, packets: &[u8]) -> Result<Vec<ShardState>, AllocError>
     requires { length packets.now ≤ 256 }
-    ensures { IfOk result (λ states. AreCoreShards states.items × (length states.items ≡ 1) × (core_capacity states.items ≡ 4)) }
+    ensures { IfOk result (λ states. AreCoreShards states.items × (length states.items ≡ 1)
+        × (core_shape states.items ≡ record { grain = Byte; capacity = 4 })) }
 {
     let mut states = Vec::new(alloc);
     states.push(shard_of(alloc, packets)?)?;
@@ -53,10 +56,10 @@ fn one_shard(alloc: Global, packets: &[u8]) -> Result<Vec<ShardState>, AllocErro
 // A shard with packets from N.0.0.1 to (100 + N).0.0.1.
 fn shard_of(alloc: Global, packets: &[u8]) -> Result<ShardState, AllocError>
     requires { length packets.now ≤ 256 }
-    ensures { IfOk result (λ state. state.base.capacity ≡ 4) }
+    ensures { IfOk result (λ state. state.base.shape ≡ record { grain = Byte; capacity = 4 }) }
 {
     let list = packets_from(alloc, packets)?;
-    ShardState::start(alloc, list, 4)
+    ShardState::start(alloc, Grain::Byte, list, 4)
 }
 
 fn packets_from(alloc: Global, packets: &[u8]) -> Result<RecordList, AllocError>

@@ -1,10 +1,11 @@
 //! The tables of a cut, merged.
 
 ghost use Rattle.std.specs.Prelude.{◌≡◌, ◌^◌, ◌≤◌, length, IfOk};
+ghost use Rattle.prefix_lattice.specs.declared.grain.Grain.TheVariants.{Byte};
 
 use super::worked_records::{FIRST, SECOND, U, V, W, X, Y, Z, fold, key, started};
 use cut_merge::Merged;
-use prefix_lattice::{Node, Prefix, Record};
+use prefix_lattice::{Grain, Node, Prefix, Record};
 use shard_state::{Cut, ShardState};
 use std::alloc::{AllocError, Global};
 use std::test::Fail;
@@ -12,7 +13,7 @@ use std::test::Fail;
 // The state of a shard with these packets, all counted in tables of capacity 4.
 fn folded(alloc: Global, records: &[Record]) -> Result<ShardState, AllocError>
     requires { length records.now ≤ 2 ^ 24 }
-    ensures { IfOk result (λ shard. shard.base.capacity ≡ 4) }
+    ensures { IfOk result (λ shard. shard.base.shape ≡ record { grain = Byte; capacity = 4 }) }
 {
     let mut shard = started(alloc, records)?;
     fold(&mut shard, 16);
@@ -23,7 +24,7 @@ fn folded(alloc: Global, records: &[Record]) -> Result<ShardState, AllocError>
 fn cut_of_both(alloc: Global) -> Result<Cut, AllocError> {
     let first = folded(alloc, &FIRST)?;
     let second = folded(alloc, &SECOND)?;
-    let mut cut = Cut::with_room(alloc, 2, 4)?;
+    let mut cut = Cut::with_room(alloc, Grain::Byte, 2, 4)?;
     cut.copy_shard(0, &first);
     cut.copy_shard(1, &second);
     Ok(cut)
@@ -77,7 +78,10 @@ fn first_wrong_in(merged: &Merged, cases: &[Weighed]) -> Result<Option<usize>, F
 }
 
 fn interval_of(merged: &Merged, source: &str, dest: &str) -> Result<(u64, u64), Fail> {
-    let prefix = Prefix::parse(source.as_bytes(), dest.as_bytes())?;
+    let prefix = Prefix::parse(merged.grain(), source.as_bytes(), dest.as_bytes())?;
+    if !prefix.of_grain(merged.grain()) {
+        return Err("a prefix of the grain".into());
+    }
     Ok(merged.interval(&prefix))
 }
 
@@ -95,7 +99,7 @@ fn merged_intervals_add_up_over_shards(rt: HostRuntime) -> Result<(), Fail> {
 
 // Whether these are the candidates of the node that keeps so many bytes of each address.
 fn has_candidates(merged: &Merged, bytes: u8, keys: &[u64]) -> bool {
-    match Node::new(bytes, bytes) {
+    match Node::new(merged.grain(), bytes, bytes) {
         Some(node) => merged.candidates(node) == keys,
         None => false,
     }

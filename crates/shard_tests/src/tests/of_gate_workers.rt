@@ -1,7 +1,8 @@
 //! Workers and callers at a gate.
 
 ghost use Rattle.std.specs.Prelude.{◌≡◌, ◌<◌, ◌≤◌, length};
-ghost use Rattle.shard_state.specs.{HasCoreShape, core_capacity};
+ghost use Rattle.prefix_lattice.specs.declared.grain.Grain.TheVariants.{Byte};
+ghost use Rattle.shard_state.specs.{HasCoreShape, core_shape};
 ghost use Rattle.pass_tokens.specs.{IsPassOf};
 
 use super::{board_of_one, worked_board};
@@ -10,6 +11,7 @@ use gate_workers::{
 };
 use hhh_report::Reports;
 use pass_tokens::{Board, Pass};
+use prefix_lattice::Grain;
 use shard_state::Cut;
 use std::alloc::{AllocError, Global};
 use std::marker::Sync;
@@ -43,8 +45,8 @@ fn calls<R: Wait, G: Gate>(
     gate: &G,
 ) -> Result<Reports, AllocError>
     requires pass { IsPassOf board.now pass }
-    requires capacity { core_capacity board.now.opening ≡ 4 }
-    requires shape { HasCoreShape (length board.now.opening) 4 cut }
+    requires shape_of_board { core_shape board.now.opening ≡ record { grain = Byte; capacity = 4 } }
+    requires shape { HasCoreShape (length board.now.opening) (core_shape board.now.opening) cut }
 {
     let (_pass, reports) = call_reports(rt, alloc, board, pass, 0, 2, 500_000, cut, gate);
     reports
@@ -206,8 +208,8 @@ fn calls_between<R: Wait, G: Gate>(
     gate: &G,
 ) -> Result<bool, AllocError>
     requires pass { IsPassOf board.now pass }
-    requires capacity { core_capacity board.now.opening ≡ 4 }
-    requires shape { HasCoreShape (length board.now.opening) 4 cut }
+    requires shape_of_board { core_shape board.now.opening ≡ record { grain = Byte; capacity = 4 } }
+    requires shape { HasCoreShape (length board.now.opening) (core_shape board.now.opening) cut }
 {
     let reports = calls(rt, alloc, board, pass, cut, gate)?;
     Ok(reports.len() == 2 && reads_two_first(&reports))
@@ -228,11 +230,11 @@ fn feeds_beside_a_caller<R: Threads + Wait + Sync>(
     mut first: Pass,
     gate: &Turnstile,
 ) -> Result<(u64, bool), AllocError>
-    requires shards { (length board.now.opening ≡ 1) × (core_capacity board.now.opening ≡ 4) }
+    requires shards { (length board.now.opening ≡ 1) × (core_shape board.now.opening ≡ record { grain = Byte; capacity = 4 }) }
     requires pass { IsPassOf board.now first }
 {
     let second = board.split(&mut first);
-    let cut = Cut::with_room(alloc, 1, 4)?;
+    let cut = Cut::with_room(alloc, Grain::Byte, 1, 4)?;
     let (mut first, between) = join(
         rt,
         || feeds(rt, board, first, 0, gate),
@@ -266,12 +268,12 @@ fn calls_after<R: Wait>(
     board: &Board,
     mut pass: Pass,
 ) -> Result<bool, AllocError>
-    requires shards { (length board.now.opening ≡ 2) × (core_capacity board.now.opening ≡ 4) }
+    requires shards { (length board.now.opening ≡ 2) × (core_shape board.now.opening ≡ record { grain = Byte; capacity = 4 }) }
     requires pass { IsPassOf board.now pass }
 {
     let other = board.split(&mut pass);
     let _fed = feeds(rt, board, pass, 1, &OpenGate);
-    let cut = Cut::with_room(alloc, 2, 4)?;
+    let cut = Cut::with_room(alloc, Grain::Byte, 2, 4)?;
     Ok(reads_all_last(&calls(rt, alloc, board, other, cut, &OpenGate)?))
 }
 
@@ -305,9 +307,9 @@ struct Watching {
 
 impl Rounds for Watching {
     ghost use Rattle.std.specs.Prelude.{length, refl};
-    ghost use Rattle.shard_state.specs.{HasCoreShape, core_capacity};
+    ghost use Rattle.shard_state.specs.{HasCoreShape, core_shape};
 
-    ghost ready = { λ r board view. HasCoreShape (length board.opening) (core_capacity board.opening) r.cut };
+    ghost ready = { λ r board view. HasCoreShape (length board.opening) (core_shape board.opening) r.cut };
 
     ghost stays = { λ rounds board before now later ready. ready };
 
@@ -322,9 +324,10 @@ impl Rounds for Watching {
 }
 
 fn plan(workers: u32, callers: u32) -> ThreadPlan
-    ensures { result ≡ record { workers = workers; callers = callers; rounds = 2; block = 1; phi = 500000; capacity = 4 } }
+    ensures { result ≡ record { grain = Byte; workers = workers; callers = callers; rounds = 2; block = 1; phi = 500000; capacity = 4 } }
 {
     ThreadPlan {
+        grain: Grain::Byte,
         workers,
         callers,
         rounds: 2,
@@ -345,9 +348,9 @@ fn gathered<R: Threads + Wait + Sync, G: Gate + Sync>(
     gate: &G,
 ) -> Result<(u32, Gathered), AllocError>
     requires pass { IsPassOf board.now pass }
-    requires capacity { core_capacity board.now.opening ≡ 4 }
-    requires shape { HasCoreShape (length board.now.opening) (core_capacity board.now.opening) cut }
-    requires plan { (1 ≤ plan.now.workers) × (plan.now.block ≡ 1) × (plan.now.phi ≡ 500000) × (plan.now.capacity ≡ 4) }
+    requires shape_of_board { core_shape board.now.opening ≡ record { grain = Byte; capacity = 4 } }
+    requires shape { HasCoreShape (length board.now.opening) (core_shape board.now.opening) cut }
+    requires plan { (1 ≤ plan.now.workers) × (plan.now.block ≡ 1) × (plan.now.phi ≡ 500000) × (plan.now.grain ≡ Byte) × (plan.now.capacity ≡ 4) }
 {
     let mut work = Watching {
         cut,
@@ -370,10 +373,10 @@ fn done_with<R: Threads + Wait + Sync, G: Gate + Sync>(
     gate: &G,
 ) -> Result<Done, AllocError>
     requires pass { IsPassOf board.now pass }
-    requires shards { (length board.now.opening ≡ 2) × (core_capacity board.now.opening ≡ 4) }
-    requires plan { (1 ≤ plan.now.workers) × (plan.now.block ≡ 1) × (plan.now.phi ≡ 500000) × (plan.now.capacity ≡ 4) }
+    requires shards { (length board.now.opening ≡ 2) × (core_shape board.now.opening ≡ record { grain = Byte; capacity = 4 }) }
+    requires plan { (1 ≤ plan.now.workers) × (plan.now.block ≡ 1) × (plan.now.phi ≡ 500000) × (plan.now.grain ≡ Byte) × (plan.now.capacity ≡ 4) }
 {
-    let cut = Cut::with_room(alloc, 2, 4)?;
+    let cut = Cut::with_room(alloc, Grain::Byte, 2, 4)?;
     let (made, gathered) = gathered(rt, alloc, board, pass, cut, plan, gate)?;
     Ok((
         made,
@@ -388,7 +391,7 @@ fn done_on_a_board<R: Threads + Wait + Sync, G: Gate + Sync>(
     plan: &ThreadPlan,
     gate: &G,
 ) -> Result<Done, AllocError>
-    requires { (1 ≤ plan.now.workers) × (plan.now.block ≡ 1) × (plan.now.phi ≡ 500000) × (plan.now.capacity ≡ 4) }
+    requires { (1 ≤ plan.now.workers) × (plan.now.block ≡ 1) × (plan.now.phi ≡ 500000) × (plan.now.grain ≡ Byte) × (plan.now.capacity ≡ 4) }
 {
     let (board, pass) = worked_board(alloc)?;
     done_with(rt, alloc, &board, pass, plan, gate)
@@ -420,9 +423,9 @@ fn caller_reads_between<R: Threads + Wait + Sync>(
     gate: &Turnstile,
 ) -> Result<bool, AllocError>
     requires pass { IsPassOf board.now pass }
-    requires shards { (length board.now.opening ≡ 1) × (core_capacity board.now.opening ≡ 4) }
+    requires shards { (length board.now.opening ≡ 1) × (core_shape board.now.opening ≡ record { grain = Byte; capacity = 4 }) }
 {
-    let cut = Cut::with_room(alloc, 1, 4)?;
+    let cut = Cut::with_room(alloc, Grain::Byte, 1, 4)?;
     let (_made, gathered) = gathered(rt, alloc, board, pass, cut, &plan(1, 1), gate)?;
     Ok(first_reads_two(&gathered.called))
 }

@@ -1,10 +1,11 @@
 //! The lines of a report.
 
-ghost use Rattle.std.specs.Prelude.{◌≤◌};
+ghost use Rattle.std.specs.Prelude.{◌≡◌, ◌≤◌, IfOk};
+ghost use Rattle.shard_state.specs.{most_grain_capacity};
 
 use hhh_output::report_of;
 use hhh_report::{Line, Lines, Positions, Report, Reported, Reports};
-use prefix_lattice::{Prefix, Record, RecordList};
+use prefix_lattice::{Grain, Prefix, Record, RecordList};
 use shard_state::{Cut, ShardState};
 use std::alloc::Global;
 use std::test::Fail;
@@ -48,6 +49,9 @@ const CROSSING: [&[Packet]; 1] = [&[
     (0x2b00_0001, 0x3500_0001),
 ]];
 
+// Two sources whose addresses first differ in the last half of their second byte, and one destination.
+const HALVES: [&[Packet]; 1] = [&[(0x0a10_0001, 0x1400_0001), (0x0a1f_0001, 0x1400_0001)]];
+
 /// A record of one packet for each of these, in order.
 fn list_of(alloc: Global, packets: &[Packet]) -> Result<RecordList, Fail> {
     let mut list = RecordList::new(alloc);
@@ -60,26 +64,32 @@ fn list_of(alloc: Global, packets: &[Packet]) -> Result<RecordList, Fail> {
 /// A shard with these packets, folded up to a position.
 fn shard_at(
     alloc: Global,
+    grain: Grain,
     packets: &[Packet],
     capacity: u32,
     position: u32,
 ) -> Result<ShardState, Fail>
     requires least { 2 ≤ capacity }
     requires most { capacity ≤ 4096 }
+    requires of_grain { capacity ≤ most_grain_capacity grain }
+    ensures { IfOk result (λ state. state.base.shape ≡ record { grain = grain; capacity = capacity }) }
 {
     let list = list_of(alloc, packets)?;
     if list.len() > 16 {
         return Err("at most 16 packets".into());
     }
-    let mut state = ShardState::start(alloc, list, capacity)?;
+    let mut state = ShardState::start(alloc, grain, list, capacity)?;
     if position > 0 {
         state.fold_block(position);
     }
     Ok(state)
 }
 
-fn put_shard(cut: &mut Cut, shard: usize, state: &ShardState) -> Result<(), Fail> {
-    if shard >= cut.shards() as usize || cut.capacity() != state.capacity() {
+fn put_shard(cut: &mut Cut, shard: usize, state: &ShardState) -> Result<(), Fail>
+    requires { state.now.base.shape ≡ cut.old.shape }
+    ensures { cut.new.shape ≡ cut.old.shape }
+{
+    if shard >= cut.shards() as usize {
         return Err("a shard of the cut".into());
     }
     cut.copy_shard(shard as u32, state);
@@ -87,20 +97,27 @@ fn put_shard(cut: &mut Cut, shard: usize, state: &ShardState) -> Result<(), Fail
 }
 
 /// The cut of shards with these lists, each folded up to its position.
-fn cut_at(alloc: Global, capacity: u32, lists: &[&[Packet]], positions: &[u32]) -> Result<Cut, Fail>
+fn cut_at(
+    alloc: Global,
+    grain: Grain,
+    capacity: u32,
+    lists: &[&[Packet]],
+    positions: &[u32],
+) -> Result<Cut, Fail>
     requires least { 2 ≤ capacity }
     requires most { capacity ≤ 4096 }
+    requires of_grain { capacity ≤ most_grain_capacity grain }
 {
     if lists.is_empty() || lists.len() > 16 {
         return Err("1 to 16 lists".into());
     }
-    let mut cut = Cut::with_room(alloc, lists.len() as u32, capacity)?;
+    let mut cut = Cut::with_room(alloc, grain, lists.len() as u32, capacity)?;
     for (shard, packets) in lists.iter().enumerate() {
         let position = positions.get(shard).copied().ok_or("a position")?;
         put_shard(
             &mut cut,
             shard,
-            &shard_at(alloc, packets, capacity, position)?,
+            &shard_at(alloc, grain, packets, capacity, position)?,
         )?;
     }
     Ok(cut)
@@ -109,8 +126,9 @@ fn cut_at(alloc: Global, capacity: u32, lists: &[&[Packet]], positions: &[u32]) 
 /// The source, the destination, the least and the greatest weight of a line.
 type Wanted = (&'static str, &'static str, u64, u64);
 
-/// A case: the lists, the positions, the capacity, phi, and what is reported.
+/// A case: the grain, the lists, the positions, the capacity, phi, and what is reported.
 struct Case {
+    grain: Grain,
     lists: &'static [&'static [Packet]],
     positions: &'static [u32],
     capacity: u32,
@@ -120,9 +138,10 @@ struct Case {
     lines: &'static [Wanted],
 }
 
-const CASES: [Case; 6] = [
+const CASES: [Case; 9] = [
     // The first of six packets is heavy only by the sum over both shards.
     Case {
+        grain: Grain::Byte,
         lists: &DEALT,
         positions: &[6, 5],
         capacity: 4,
@@ -136,6 +155,7 @@ const CASES: [Case; 6] = [
     },
     // The same shards, read before their ends.
     Case {
+        grain: Grain::Byte,
         lists: &DEALT,
         positions: &[4, 2],
         capacity: 4,
@@ -146,6 +166,7 @@ const CASES: [Case; 6] = [
     },
     // No source is heavy, but their network is.
     Case {
+        grain: Grain::Byte,
         lists: &NETWORK,
         positions: &[4],
         capacity: 512,
@@ -156,6 +177,7 @@ const CASES: [Case; 6] = [
     },
     // What both lines cover is subtracted from the root once.
     Case {
+        grain: Grain::Byte,
         lists: &CROSSING,
         positions: &[8],
         capacity: 512,
@@ -170,6 +192,7 @@ const CASES: [Case; 6] = [
     },
     // Nothing was counted yet.
     Case {
+        grain: Grain::Byte,
         lists: &DEALT,
         positions: &[0, 0],
         capacity: 4,
@@ -180,6 +203,7 @@ const CASES: [Case; 6] = [
     },
     // The least share that the capacity allows.
     Case {
+        grain: Grain::Byte,
         lists: &NETWORK,
         positions: &[4],
         capacity: 16,
@@ -193,14 +217,46 @@ const CASES: [Case; 6] = [
             ("10.0.0.4/32", "20.0.0.1/32", 1, 1),
         ],
     },
+    // The same four sources by half bytes: they share 28 bits.
+    Case {
+        grain: Grain::Nibble,
+        lists: &NETWORK,
+        positions: &[4],
+        capacity: 512,
+        phi: 500_000,
+        total: 4,
+        threshold: 2,
+        lines: &[("10.0.0.0/28", "20.0.0.1/32", 4, 4)],
+    },
+    // Two sources share one whole byte, and three half bytes.
+    Case {
+        grain: Grain::Byte,
+        lists: &HALVES,
+        positions: &[2],
+        capacity: 512,
+        phi: 1_000_000,
+        total: 2,
+        threshold: 2,
+        lines: &[("10.0.0.0/8", "20.0.0.1/32", 2, 2)],
+    },
+    Case {
+        grain: Grain::Nibble,
+        lists: &HALVES,
+        positions: &[2],
+        capacity: 512,
+        phi: 1_000_000,
+        total: 2,
+        threshold: 2,
+        lines: &[("10.16.0.0/12", "20.0.0.1/32", 2, 2)],
+    },
 ];
 
 /// The report of a case.
 fn report_for(alloc: Global, case: &Case) -> Result<Report, Fail> {
-    if case.capacity < 2 || case.capacity > 4096 {
+    if case.capacity < 2 || case.capacity > 4096 || case.capacity > case.grain.greatest_capacity() {
         return Err("a capacity".into());
     }
-    let cut = cut_at(alloc, case.capacity, case.lists, case.positions)?;
+    let cut = cut_at(alloc, case.grain, case.capacity, case.lists, case.positions)?;
     report_at(alloc, &cut, case.phi)
 }
 
@@ -219,7 +275,7 @@ fn shows(report: &Report, case: &Case) -> Result<bool, Fail> {
         report.total == case.total
             && report.threshold == case.threshold
             && has_these_positions(&report.positions, case.positions)
-            && has_these_lines(&report.lines, case.lines)?,
+            && has_these_lines(&report.lines, case)?,
     )
 }
 
@@ -239,21 +295,22 @@ fn is_at(wanted: &[u32], place: usize, position: u64) -> bool {
     }
 }
 
-fn has_these_lines(lines: &Lines, wanted: &[Wanted]) -> Result<bool, Fail> {
+fn has_these_lines(lines: &Lines, case: &Case) -> Result<bool, Fail> {
+    let wanted = case.lines;
     if lines.len() != wanted.len() || lines.is_empty() != wanted.is_empty() {
         return Ok(false);
     }
     for (place, want) in wanted.iter().enumerate() {
-        if !has_line(lines, place, line_of(want)?) {
+        if !has_line(lines, place, line_of(case.grain, want)?) {
             return Ok(false);
         }
     }
     Ok(true)
 }
 
-fn line_of(wanted: &Wanted) -> Result<Line, Fail> {
+fn line_of(grain: Grain, wanted: &Wanted) -> Result<Line, Fail> {
     let (source, dest, lo, hi) = *wanted;
-    let prefix = Prefix::parse(source.as_bytes(), dest.as_bytes())?;
+    let prefix = Prefix::parse(grain, source.as_bytes(), dest.as_bytes())?;
     Ok(Line { prefix, lo, hi })
 }
 

@@ -1,11 +1,13 @@
 //! A board, and passes that fold and read its shards.
 
 ghost use Rattle.std.specs.Prelude.{◌≡◌, ◌<◌, length};
-ghost use Rattle.shard_state.specs.{HasCoreShape, core_capacity};
+ghost use Rattle.prefix_lattice.specs.declared.grain.Grain.TheVariants.{Byte};
+ghost use Rattle.shard_state.specs.{HasCoreShape, core_shape};
 ghost use Rattle.pass_tokens.specs.{IsPassOf};
 
 use super::{board_of_one, stands_at, worked_board};
 use pass_tokens::{Board, Pass, TryFold, TryRead};
+use prefix_lattice::Grain;
 use shard_state::{Cut, Folded};
 use std::alloc::{AllocError, Global};
 use std::sync::Wait;
@@ -15,11 +17,11 @@ use std::thread::{Threads, join};
 
 // Whether a cut that is read after a fold of four records has them.
 fn reads_four(alloc: Global, board: &Board, mut pass: Pass) -> Result<bool, AllocError>
-    requires shards { (length board.now.opening ≡ 2) × (core_capacity board.now.opening ≡ 4) }
+    requires shards { (length board.now.opening ≡ 2) × (core_shape board.now.opening ≡ record { grain = Byte; capacity = 4 }) }
     requires pass { IsPassOf board.now pass }
 {
     let done = board.try_fold(0, 4, &mut pass) == TryFold::Done(Folded { from: 0, to: 4 });
-    let mut cut = Cut::with_room(alloc, 2, 4)?;
+    let mut cut = Cut::with_room(alloc, Grain::Byte, 2, 4)?;
     let read = board.try_read(0, &mut pass, &mut cut) == TryRead::Done;
     Ok(done && read && stands_at(alloc, &cut, &[4, 0])?)
 }
@@ -71,10 +73,10 @@ fn reads_the_start<R: Wait>(
     board: &Board,
     mut pass: Pass,
 ) -> Result<bool, AllocError>
-    requires shards { (length board.now.opening ≡ 2) × (core_capacity board.now.opening ≡ 4) }
+    requires shards { (length board.now.opening ≡ 2) × (core_shape board.now.opening ≡ record { grain = Byte; capacity = 4 }) }
     requires pass { IsPassOf board.now pass }
 {
-    let mut cut = Cut::with_room(alloc, 2, 4)?;
+    let mut cut = Cut::with_room(alloc, Grain::Byte, 2, 4)?;
     board.read_cut(rt, &mut pass, &mut cut);
     stands_at(alloc, &cut, &[0, 0])
 }
@@ -139,7 +141,7 @@ fn reads_to_the_end<R: Wait>(
     mut pass: Pass,
     mut cut: Cut,
 ) -> Result<Vec<u64>, AllocError>
-    requires { IsPassOf board.now pass × HasCoreShape (length board.now.opening) (core_capacity board.now.opening) cut }
+    requires { IsPassOf board.now pass × HasCoreShape (length board.now.opening) (core_shape board.now.opening) cut }
 {
     let mut positions = Vec::new(alloc);
     for _ in 0..1_000_000 {
@@ -168,7 +170,7 @@ fn fold_and_read<R: Threads + Wait + Sync>(
     cut: Cut,
 ) -> Result<bool, AllocError>
     requires folding { (0 < length board.now.opening) × IsPassOf board.now first × IsPassOf board.now second }
-    requires reading { IsPassOf board.now third × HasCoreShape (length board.now.opening) (core_capacity board.now.opening) cut }
+    requires reading { IsPassOf board.now third × HasCoreShape (length board.now.opening) (core_shape board.now.opening) cut }
 {
     let (folded, read) = join(
         rt,
@@ -217,7 +219,7 @@ fn reads_rise<R: Wait>(
     pass: Pass,
     cut: Cut,
 ) -> Result<bool, AllocError>
-    requires { IsPassOf board.now pass × HasCoreShape (length board.now.opening) (core_capacity board.now.opening) cut }
+    requires { IsPassOf board.now pass × HasCoreShape (length board.now.opening) (core_shape board.now.opening) cut }
 {
     let positions = reads_to_the_end(rt, alloc, board, pass, cut)?;
     Ok(never_fall(&positions) && positions.as_slice().last() == Some(&200))
@@ -239,7 +241,7 @@ fn three_threads_agree<R: Threads + Wait + Sync>(
     let (board, mut first) = board_of_one(alloc, &[1; 200])?;
     let second = board.split(&mut first);
     let third = board.split(&mut first);
-    let cut = Cut::with_room(alloc, 1, 4)?;
+    let cut = Cut::with_room(alloc, Grain::Byte, 1, 4)?;
     fold_and_read(rt, alloc, &board, first, second, third, cut)
 }
 

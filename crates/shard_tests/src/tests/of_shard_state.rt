@@ -1,34 +1,35 @@
 //! Shards, snapshots and cuts.
 
 ghost use Rattle.std.specs.Prelude.{◌≡◌, ◌^◌, ◌<◌, ◌≤◌, length, All, IfOk};
-ghost use Rattle.shard_state.specs.{HasCoreShape, core_capacity};
+ghost use Rattle.prefix_lattice.specs.declared.grain.Grain.TheVariants.{Byte};
+ghost use Rattle.shard_state.specs.{HasCoreShape, core_shape};
 
 use super::stands_at;
 use super::worked_records::{FIRST, SECOND, U, V, W, X, Y, Z, fold, key, list_of, started};
 use hhh_report::Positions;
-use prefix_lattice::{Node, Record, RecordList};
+use prefix_lattice::{Grain, Node, Record, RecordList};
 use shard_state::{Core, Cut, Event, Folded, ShardState, Snapshot};
 use space_saving::{Flat, PlainTable, Summary};
 use std::alloc::{AllocError, Global};
 use std::test::Fail;
 
 fn snapshot_of(alloc: Global, shard: &ShardState) -> Result<Snapshot, AllocError>
-    requires { shard.now.base.capacity ≡ 4 }
-    ensures { IfOk result (λ snapshot. snapshot.capacity ≡ 4) }
+    requires { shard.now.base.shape ≡ record { grain = Byte; capacity = 4 } }
+    ensures { IfOk result (λ snapshot. snapshot.shape ≡ record { grain = Byte; capacity = 4 }) }
 {
-    let mut snapshot = Snapshot::with_room(alloc, 4)?;
+    let mut snapshot = Snapshot::with_room(alloc, Grain::Byte, 4)?;
     shard.copy_into(&mut snapshot);
     Ok(snapshot)
 }
 
 // A shard with these packets that goes on from the snapshot of another shard.
 fn resumed(alloc: Global, list: RecordList, shard: &ShardState) -> Result<ShardState, AllocError>
-    requires capacity { shard.now.base.capacity ≡ 4 }
+    requires shape { shard.now.base.shape ≡ record { grain = Byte; capacity = 4 } }
     requires list { list ≡ shard.now.list }
-    ensures { IfOk result (λ again. again.base.capacity ≡ 4) }
+    ensures { IfOk result (λ again. again.base.shape ≡ record { grain = Byte; capacity = 4 }) }
 {
     let _kept = shard.position();
-    let mut base = Snapshot::with_room(alloc, 4)?;
+    let mut base = Snapshot::with_room(alloc, Grain::Byte, 4)?;
     shard.copy_into(&mut base);
     ShardState::resume(alloc, list, base)
 }
@@ -38,9 +39,17 @@ type Counted = (u64, u64, u64);
 
 // Whether these are the entries of the table where both addresses are kept whole.
 fn has_entries(snapshot: &Snapshot, wanted: &[Counted]) -> bool {
-    let Some(node) = Node::from_index(24) else {
+    let units = 32 / snapshot.grain().bits();
+    let Some(node) = Node::new(snapshot.grain(), units, units) else {
         return false;
     };
+    has_entries_at(snapshot, node, wanted)
+}
+
+// Whether these are the entries of the table of a node.
+fn has_entries_at(snapshot: &Snapshot, node: Node, wanted: &[Counted]) -> bool
+    requires { node.grain ≡ snapshot.now.shape.grain }
+{
     let table = snapshot.table(node);
     for place in 0..table.len() {
         if wanted.get(place) != Some(&entry_at(table, place)) {
@@ -60,8 +69,8 @@ fn entry_at(table: &Flat, place: usize) -> Counted
 // Copies of the tables of a snapshot.
 fn tables_of(alloc: Global, snapshot: &Snapshot) -> Result<Vec<Flat>, Fail> {
     let mut tables = Vec::new(alloc);
-    for place in 0..25 {
-        let node = Node::from_index(place).ok_or("a node")?;
+    for place in 0..snapshot.grain().nodes() {
+        let node = Node::from_index(snapshot.grain(), place).ok_or("a node")?;
         tables.push(copy_of(alloc, snapshot.table(node))?)?;
     }
     Ok(tables)
@@ -173,14 +182,14 @@ fn tables_at_end(alloc: Global) -> Result<Vec<Flat>, Fail> {
 }
 
 fn whole_is_taken(tables: Vec<Flat>) -> bool {
-    match Snapshot::from_tables(1 << 24, tables) {
+    match Snapshot::from_tables(Grain::Byte, 1 << 24, tables) {
         Some(whole) => whole.position() == 1 << 24 && whole.total() == 5,
         None => false,
     }
 }
 
 fn is_refused(position: u64, tables: Vec<Flat>) -> bool {
-    Snapshot::from_tables(position, tables).is_none()
+    Snapshot::from_tables(Grain::Byte, position, tables).is_none()
 }
 
 fn first_taken(alloc: Global, cases: &[(usize, u32)]) -> Result<Option<usize>, Fail> {
@@ -211,9 +220,92 @@ fn swapped_are_refused(mut tables: Vec<Flat>) -> bool {
     is_refused(5, tables)
 }
 
+// The grain, the number and the capacity of empty tables, and whether they are those of a snapshot.
+type Emptied = (Grain, usize, u32, bool);
+
+const EMPTIED: [Emptied; 6] = [
+    (Grain::Byte, 25, 4096, true),
+    (Grain::Byte, 81, 4, false),
+    (Grain::Nibble, 81, 4, true),
+    (Grain::Nibble, 25, 4, false),
+    (Grain::Nibble, 81, 1024, true),
+    (Grain::Nibble, 81, 1025, false),
+];
+
+#[test]
+fn each_grain_has_its_tables(rt: HostRuntime) -> Result<(), Fail> {
+    assert_eq!(rt; first_mistaken(rt.alloc(), &EMPTIED)?, None);
+    assert!(rt;
+        Grain::Byte.greatest_capacity() == 4096 && Grain::Nibble.greatest_capacity() == 1024
+    );
+    Ok(())
+}
+
+fn first_mistaken(alloc: Global, cases: &[Emptied]) -> Result<Option<usize>, Fail> {
+    for (place, (grain, number, capacity, taken)) in cases.iter().enumerate() {
+        let tables = empty_tables(alloc, *number, *capacity)?;
+        if Snapshot::from_tables(*grain, 0, tables).is_some() != *taken {
+            return Ok(Some(place));
+        }
+    }
+    Ok(None)
+}
+
+fn empty_tables(alloc: Global, number: usize, capacity: u32) -> Result<Vec<Flat>, Fail> {
+    if !(2..=4096).contains(&capacity) {
+        return Err("a capacity".into());
+    }
+    let mut tables = Vec::new(alloc);
+    for _table in 0..number {
+        tables.push(Flat::with_room(alloc, capacity)?)?;
+    }
+    Ok(tables)
+}
+
+// A packet from 10.SECOND.0.1 to 20.0.0.1.
+fn packet_from(second: u32) -> Record {
+    Record {
+        src: 0x0a00_0001 | (second & 0xff) << 16,
+        dst: 0x1400_0001,
+        weight: 1,
+    }
+}
+
+// The tables of half bytes of two packets, from 10.16.0.1 and from 10.31.0.1.
+fn halves_of_two(alloc: Global) -> Result<Snapshot, AllocError> {
+    let list = list_of(alloc, &[packet_from(16), packet_from(31)])?;
+    let mut shard = ShardState::start(alloc, Grain::Nibble, list, 4)?;
+    fold(&mut shard, 9);
+    let mut snapshot = Snapshot::with_room(alloc, Grain::Nibble, 4)?;
+    shard.copy_into(&mut snapshot);
+    Ok(snapshot)
+}
+
+// Whether this is the only entry of the node that keeps so many half bytes of the source, and the whole destination.
+fn has_alone(snapshot: &Snapshot, source_halves: u8, entry: Counted) -> bool {
+    match Node::new(snapshot.grain(), source_halves, 8) {
+        Some(node) => has_entries_at(snapshot, node, &[entry]),
+        None => false,
+    }
+}
+
+#[test]
+fn half_bytes_tell_networks_apart(rt: HostRuntime) -> Result<(), Fail> {
+    let snapshot = halves_of_two(rt.alloc())?;
+    assert!(rt; has_alone(&snapshot, 3, (0x0a10_0000_1400_0001, 2, 0)));
+    assert!(rt; has_alone(&snapshot, 2, (0x0a00_0000_1400_0001, 2, 0)));
+    assert!(rt;
+        has_entries(
+            &snapshot,
+            &[(key(packet_from(16)), 1, 0), (key(packet_from(31)), 1, 0)]
+        )
+    );
+    Ok(())
+}
+
 // A cut of three shards: the third has the first two packets, and the second has all.
 fn cut_of_three(alloc: Global) -> Result<Cut, AllocError> {
-    let mut cut = Cut::with_room(alloc, 3, 4)?;
+    let mut cut = Cut::with_room(alloc, Grain::Byte, 3, 4)?;
     let mut shard = started(alloc, &FIRST)?;
     fold(&mut shard, 2);
     cut.put_shard(2, snapshot_of(alloc, &shard)?);
@@ -256,17 +348,17 @@ fn core_with_cut(
     first: ShardState,
     second: ShardState,
 ) -> Result<Machine, AllocError>
-    requires first { first.base.capacity ≡ 4 }
-    requires second { second.base.capacity ≡ 4 }
+    requires first { first.base.shape ≡ record { grain = Byte; capacity = 4 } }
+    requires second { second.base.shape ≡ record { grain = Byte; capacity = 4 } }
     ensures two { IfOk result (λ m. length m.core ≡ 2) }
     ensures one { IfOk result (λ m. length m.cuts.items ≡ 1) }
-    ensures shapes { IfOk result (λ m. All (HasCoreShape (length m.core) (core_capacity m.core)) m.cuts.items) }
+    ensures shapes { IfOk result (λ m. All (HasCoreShape (length m.core) (core_shape m.core)) m.cuts.items) }
 {
     let mut states = Vec::new(alloc);
     states.push(first)?;
     states.push(second)?;
     let mut cuts = Vec::new(alloc);
-    cuts.push(Cut::with_room(alloc, 2, 4)?)?;
+    cuts.push(Cut::with_room(alloc, Grain::Byte, 2, 4)?)?;
     Ok(Machine {
         core: Core::new(states),
         cuts,
@@ -277,7 +369,7 @@ fn core_with_cut(
 fn run_worked_events(core: &mut Core, cuts: &mut Vec<Cut>)
     requires two { length core.old ≡ 2 }
     requires one { length cuts.old.items ≡ 1 }
-    requires shapes { All (HasCoreShape (length core.old) (core_capacity core.old)) cuts.old.items }
+    requires shapes { All (HasCoreShape (length core.old) (core_shape core.old)) cuts.old.items }
 {
     let events = [
         Event::Fold { shard: 0, block: 4 },

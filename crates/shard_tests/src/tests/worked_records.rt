@@ -1,8 +1,9 @@
 //! The records of eleven packets, which are dealt to two shards in turn, and shards of such records.
 
 ghost use Rattle.std.specs.Prelude.{◌≡◌, ◌^◌, ◌≤◌, length, IfOk};
+ghost use Rattle.prefix_lattice.specs.declared.grain.Grain.TheVariants.{Byte};
 
-use prefix_lattice::{Record, RecordList};
+use prefix_lattice::{Grain, Record, RecordList};
 use shard_state::{Folded, ShardState};
 use std::alloc::{AllocError, Global};
 
@@ -66,17 +67,17 @@ pub(crate) fn list_of(alloc: Global, records: &[Record]) -> Result<RecordList, A
 // A shard with these packets, and with tables of capacity 4.
 pub(crate) fn started(alloc: Global, records: &[Record]) -> Result<ShardState, AllocError>
     requires { length records.now ≤ 2 ^ 24 }
-    ensures capacity { IfOk result (λ shard. shard.base.capacity ≡ 4) }
+    ensures shape { IfOk result (λ shard. shard.base.shape ≡ record { grain = Byte; capacity = 4 }) }
     ensures list { IfOk result (λ shard. shard.list ≡ records.now) }
 {
     let list = list_of(alloc, records)?;
-    ShardState::start(alloc, list, 4)
+    ShardState::start(alloc, Grain::Byte, list, 4)
 }
 
 // A fold with a short contract, so that the proofs of the tests stay short.
 pub(crate) fn fold(shard: &mut ShardState, block: u32) -> Folded
     requires { 1 ≤ block }
-    ensures capacity { shard.new.base.capacity ≡ shard.old.base.capacity }
+    ensures shape { shard.new.base.shape ≡ shard.old.base.shape }
     ensures list { shard.new.list ≡ shard.old.list }
 {
     shard.fold_block(block)

@@ -333,15 +333,19 @@ fn many_records(alloc: Global) -> Result<RecordList, Fail> {
     Ok(list)
 }
 
+// Whether the tables of pairs of whole addresses are the same.
 fn have_same_table(cut: &Cut, read: &Cut) -> bool {
-    let Some(node) = Node::from_index(24) else {
+    let Some(node) = Node::from_index(cut.grain(), 24) else {
         return false;
     };
-    if cut.shards() != 1 || read.shards() != 1 {
+    let Some(read_node) = Node::from_index(read.grain(), 24) else {
+        return false;
+    };
+    if node != read_node || cut.shards() != 1 || read.shards() != 1 {
         return false;
     }
     let table = cut.shard(0).table(node);
-    let read = read.shard(0).table(node);
+    let read = read.shard(0).table(read_node);
     for place in 0..read.len() {
         if place >= table.len() || read.entry(place) != table.entry(place) {
             return false;

@@ -2,12 +2,13 @@
 
 ghost use Rattle.std.specs.Prelude.{◌≡◌, ◌≤◌, ◌%◌, ◌^◌, [], ◌∷◌, length, IfOk};
 ghost use Rattle.deal_rules.specs.{IsAsked};
+ghost use Rattle.prefix_lattice.specs.declared.grain.Grain.TheVariants.{Byte};
 ghost use Rattle.shard_state.specs.{cut_positions};
 
 use checkpoint::StoreSettings;
 use deal_rules::{DealKind, Dealer, Dealt, deal};
 use frame_records::Weigh;
-use prefix_lattice::{Record, RecordList};
+use prefix_lattice::{Grain, Record, RecordList};
 use shard_state::{Cut, ShardState};
 use slot_disk::MemoryDisk;
 use std::alloc::{AllocError, Global};
@@ -84,12 +85,12 @@ pub(crate) fn cut_of(alloc: Global, list: RecordList, capacity: u32) -> Result<C
     requires least { 2 ≤ capacity }
     requires most { capacity ≤ 4096 }
     ensures shards { IfOk result (λ cut. length cut.shards ≡ 1) }
-    ensures capacity { IfOk result (λ cut. cut.capacity ≡ capacity) }
+    ensures shape { IfOk result (λ cut. cut.shape ≡ record { grain = Byte; capacity = capacity }) }
     ensures positions { IfOk result (λ cut. cut_positions cut ≡ length list ∷ []) }
 {
-    let mut shard = ShardState::start(alloc, list, capacity)?;
+    let mut shard = ShardState::start(alloc, Grain::Byte, list, capacity)?;
     shard.fold_block(u32::MAX);
-    let mut cut = Cut::with_room(alloc, 1, capacity)?;
+    let mut cut = Cut::with_room(alloc, Grain::Byte, 1, capacity)?;
     cut.copy_shard(0, &shard);
     Ok(cut)
 }

@@ -5,7 +5,7 @@ ghost use Rattle.std.specs.Prelude.{◌≤◌};
 use super::three_tables::{Three, add_to_each, are_equal, three_with_capacity};
 use frame_records::{Records, Weigh, read_records};
 use outside_io::{MemorySource, Source};
-use prefix_lattice::{Node, Prefix, Record};
+use prefix_lattice::{Grain, Node, Prefix, Record};
 use std::alloc::{AllocError, Global};
 use std::test::Fail;
 use traffic_maker::make_bytes;
@@ -51,7 +51,7 @@ fn are_counted_alike(alloc: Global, capacity: u32, records: &[Record]) -> Result
 }
 
 fn add_record(tables: &mut Three, rec: &Record) -> bool {
-    match Node::new(2, 2) {
+    match Node::new(Grain::Byte, 2, 2) {
         Some(node) => add_to_each(tables, Prefix::of(rec, node).key(), rec.weight),
         None => false,
     }

@@ -14,4 +14,4 @@ returns-clause-body c =
 
 pub returns-clause-fits : goal.returns-clause-fits
 returns-clause-fits c =
-    body_parts_fit_span (length c.args.cut.now.shards) c.args.cut.now.capacity _ c.push_snapshots.new.out.items (returns-clause-body c)
+    body_parts_fit_span (length c.args.cut.now.shards) c.args.cut.now.shape _ c.push_snapshots.new.out.items (returns-clause-body c)

@@ -1,7 +1,8 @@
 use Rattle.std.proofs.Common.{◌≡◌, ◌≢◌, true, None, Some, Contains, refl, sym, ap, ◌∙◌}
 use Rattle.std.proofs.Common.{subst}
 use Rattle.std.proofs.lemmas.Bool.{and_from, false≢true}
-use Rattle.prefix_lattice.specs.{node_of_prefix, strictly_under, upper_at}
+use Rattle.prefix_lattice.specs.{NodeValue, node_of_prefix, strictly_under, upper_at, finest_grain}
+use Rattle.conditioned_bounds.proofs.MemberLemmas.{member_node_is_finest}
 use Rattle.conditioned_bounds.proofs.UpperLemmas.{same_upper_node, other_upper_node}
 use Rattle.conditioned_bounds.proofs.CodeLemmas.{CodeOrderHolds, code_above-by_node}
 use Rattle.conditioned_bounds.proofs.SearchLemmas.{search_explains, search_explained, search-one_more_node}
@@ -12,6 +13,10 @@ use Rattle.conditioned_bounds.proofs.line_index.is_under_another.Goals as goal
 
 pub loop-node-preserved-then-eq : goal.loop-node-preserved-then-eq
 loop-node-preserved-then-eq c =
+    let finest : c.node-item.result.grain ≡ finest_grain =
+    member_node_is_finest c.nodes-node-items.result.now c.loop-node.node-index c.node-item.result
+    c.nodes-node-items.ensures.finest
+    c.loop-node-test.true c.node-item.is in
     let order : CodeOrderHolds = record {
       reflexive = c.prefixes_are_ordered.ensures.reflexive;
       antisymmetric = c.prefixes_are_ordered.ensures.antisymmetric;
@@ -22,7 +27,9 @@ loop-node-preserved-then-eq c =
     c.loop-node.node-index c.node-item.result c.loop-node.invariant c.loop-node-test.true c.node-item.is
     (λ member there at.
     search_own_node-explains_none order c.args.line.now c.args.prefix.now member
-    (at ∙ same_upper_node c.node-item.result c.node-own.result c.if-eq.ensures ∙ c.node-own.ensures))
+    (at ∙ same_upper_node c.node-item.result c.member_node-own.result (finest
+    ∙ sym (ap (λ (n : NodeValue). n.grain) c.member_node-own.ensures)) c.if-eq.ensures
+    ∙ c.member_node-own.ensures))
 
 pub loop-node-preserved-in_default : goal.loop-node-preserved-in_default
 loop-node-preserved-in_default c =
@@ -57,6 +64,10 @@ loop-node-preserved-then-not-strictly_under c =
 
 pub returns-then-has : goal.returns-then-has
 returns-then-has c =
+    let finest : c.node-item.result.grain ≡ finest_grain =
+    member_node_is_finest c.nodes-node-items.result.now c.loop-node.node-index c.node-item.result
+    c.nodes-node-items.ensures.finest
+    c.loop-node-test.true c.node-item.is in
     let order : CodeOrderHolds = record {
       reflexive = c.prefixes_are_ordered.ensures.reflexive;
       antisymmetric = c.prefixes_are_ordered.ensures.antisymmetric;
@@ -67,14 +78,15 @@ returns-then-has c =
     let prefix = c.args.prefix.now in
     let other = c.in-Some.other in
     let found : upper_at line c.node-item.result ≡ Some other = sym c.upper.ensures.value ∙ c.in-Some.is in
-    let is = c.uppers_are_above.ensures.above line other c.node-item.result c.upper.ensures.prefix found in
-    let apart : node_of_prefix line ≢ node_of_prefix other =
-    λ same. other_upper_node c.node-item.result c.node-own.result c.if-eq.ensures
-    (sym is.of_node ∙ sym same ∙ sym c.node-own.ensures) in
+    let is = c.uppers_are_above.ensures.above line other c.node-item.result c.upper.ensures.prefix
+    c.upper.ensures.node found in
+    let apart : node_of_prefix finest_grain line ≢ node_of_prefix finest_grain other =
+    λ same. other_upper_node c.node-item.result c.member_node-own.result c.if-eq.ensures
+    (sym is.of_node ∙ ap (λ g. node_of_prefix g other) finest ∙ sym same ∙ sym c.member_node-own.ensures) in
     let passes : search_explains line prefix other ≡ true =
     and_from (strictly_under other prefix) (strictly_under line other)
     (sym c.strictly_under.ensures.value ∙ c.if-not-strictly_under.false)
-    (code_above-by_node order line other is.is_under apart) in
+    (code_above-by_node order finest_grain line other is.is_under apart) in
     sym (sym (search_explained c.args.lines.now line prefix)
     ∙ search_finds_one c.args.lines.now (search_explains line prefix) other (c.if-has.ensures.0 refl) passes)
 
@@ -99,4 +111,4 @@ pub returns : goal.returns
 returns c =
     sym (sym (search_explained c.args.lines.now c.args.line.now c.args.prefix.now)
     ∙ search_ends_with_none c.args.lines.now (search_explains c.args.line.now c.args.prefix.now) c.nodes-node-items.result.now
-    c.loop-node.node-index c.nodes-node-items.ensures c.loop-node.invariant c.loop-node-test.false)
+    c.loop-node.node-index c.nodes-node-items.ensures.have c.loop-node.invariant c.loop-node-test.false)

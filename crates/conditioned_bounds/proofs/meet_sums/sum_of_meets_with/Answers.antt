@@ -1,11 +1,21 @@
-use Rattle.std.proofs.Common.{◌≡◌, ◌+◌, ◌++◌, ◌∷◌, [], length, sum_by, take, sym, ap, ◌∙◌, arith}
+use Rattle.std.proofs.Common.{◌≡◌, ◌+◌, ◌++◌, ◌∷◌, [], length, sum_by, take, subst, sym, ap, ◌∙◌, arith}
 use Rattle.std.specs.List.{filter_map}
 use Rattle.std.proofs.lemmas.List.{length_push}
 use Rattle.std.proofs.lemmas.List.Sums.{sum_by_push}
-use Rattle.prefix_lattice.specs.{pair_meet}
+use Rattle.prefix_lattice.specs.{IsPrefix, pair_meet}
 use Rattle.conditioned_bounds.proofs.MeetSumLemmas.{meet_sum-more, meet_sum-no_more}
 use Rattle.conditioned_bounds.proofs.meet_sums.sum_of_meets_with.Goals as goal
 use Rattle.conditioned_bounds.proofs.meet_sums.sum_of_meets_with.Goals.{in-Some, in_default}
+
+pub interval-high-requires : goal.interval-high-requires
+interval-high-requires g c =
+    let grain = g.I.Intervals.grain_of c.args.intervals.now in
+    let second : IsPrefix grain c.second-item.result =
+    subst (IsPrefix grain) (sym c.second-item.is)
+    (c.requires.seconds c.loop-second.second-index c.second-item.result c.loop-second-test.true) in
+    c.meets_are_greatest.ensures.of_grain grain c.args.first.now c.second-item.result c.in-Some.meet c.requires.first
+    second
+    c.in-Some.ensures.meet
 
 pub loop-second-preserved : goal.loop-second-preserved
 loop-second-preserved g c =
@@ -20,7 +30,7 @@ loop-second-preserved g c =
           let meet = w.in-Some.meet in
           let more : filter_map kept (take (at + 1) seconds) ≡ before ++ meet ∷ [] =
           meet_sum-more kept seconds at c.second-item.result meet c.loop-second-test.true c.second-item.is
-          (sym c.kept_meet.ensures ∙ w.in-Some.is) in
+          (sym c.kept_meet.ensures.value ∙ w.in-Some.is) in
           let sum : sum_by high (filter_map kept (take (at + 1) seconds)) ≡ sum_by high before + high meet =
           ap (sum_by high) more ∙ sum_by_push high before meet in
           let count : length (filter_map kept (take (at + 1) seconds)) ≡ length before + 1 =
@@ -38,7 +48,7 @@ loop-second-preserved g c =
       | in_default w ↦
           let more : filter_map kept (take (at + 1) seconds) ≡ before =
           meet_sum-no_more kept seconds at c.second-item.result c.loop-second-test.true c.second-item.is
-          (sym c.kept_meet.ensures ∙ w.in_default.is) in
+          (sym c.kept_meet.ensures.value ∙ w.in_default.is) in
           let sum : sum_by high (filter_map kept (take (at + 1) seconds)) ≡ sum_by high before = ap (sum_by high) more in
           let count : length (filter_map kept (take (at + 1) seconds)) ≡ length before = ap length more in
           let highs = ap (λ s. s.highs) w.sum-is in

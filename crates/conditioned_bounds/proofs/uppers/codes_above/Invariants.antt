@@ -3,4 +3,4 @@ use Rattle.conditioned_bounds.proofs.uppers.codes_above.Given as goal
 
 -- the codes of those above at the nodes so far
 abbrev pub invariant-loop-place : goal.invariant-loop-place
-invariant-loop-place l = CodesBefore l.prefix l.place l.codes.items
+invariant-loop-place l = CodesBefore l.grain l.prefix l.place l.codes.items

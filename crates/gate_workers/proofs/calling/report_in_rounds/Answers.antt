@@ -1,6 +1,6 @@
 use Rattle.std.proofs.Common.{◌≡◌, ◌+◌, [], ◌∷◌, ◌++◌, None, Result, Ok, Err, OnErr, All, subst, sym, arith}
 use Rattle.std.proofs.lemmas.List.Elements.{All-nil, All-cons, All-append}
-use Rattle.shard_state.specs.{core_capacity, core_lists}
+use Rattle.shard_state.specs.{core_shape, core_lists}
 use Rattle.hhh_report.specs.{IsSound}
 use Rattle.hhh_report.specs.declared.reports.Reported.{Reported}
 use Rattle.pass_tokens.specs.{view}
@@ -17,10 +17,10 @@ loop-round-init g c =
       c.requires.shape,
       λ _.
           subst (All
-          (λ (reported : Reported). IsSound reported.report (core_lists opening) (core_capacity opening) c.args.phi))
+          (λ (reported : Reported). IsSound (core_shape opening).grain reported.report (core_lists opening) (core_shape opening).capacity c.args.phi))
           (sym none)
           (All-nil
-          (λ (reported : Reported). IsSound reported.report (core_lists opening) (core_capacity opening) c.args.phi)),
+          (λ (reported : Reported). IsSound (core_shape opening).grain reported.report (core_lists opening) (core_shape opening).capacity c.args.phi)),
       subst (Calls opening c.args.phi 0 (view c.args.pass.now) (view c.args.pass.now)) (sym none)
           (no_calls opening c.args.phi (view c.args.pass.now)),
     )
@@ -36,13 +36,13 @@ loop-round-preserved g c =
       once.shape,
       λ bases.
           subst (All
-          (λ (reported : Reported). IsSound reported.report (core_lists opening) (core_capacity opening) c.args.phi))
+          (λ (reported : Reported). IsSound (core_shape opening).grain reported.report (core_lists opening) (core_shape opening).capacity c.args.phi))
           (sym pushed)
-          (All-append (λ (reported : Reported). IsSound reported.report (core_lists opening) (core_capacity opening)
+          (All-append (λ (reported : Reported). IsSound (core_shape opening).grain reported.report (core_lists opening) (core_shape opening).capacity
           c.args.phi) c.loop-round.reports (reported ∷ []) (far.2 bases)
-          (All-cons (λ (reported : Reported). IsSound reported.report (core_lists opening) (core_capacity opening)
+          (All-cons (λ (reported : Reported). IsSound (core_shape opening).grain reported.report (core_lists opening) (core_shape opening).capacity
           c.args.phi) reported [] (once.sound bases)
-          (All-nil (λ (reported : Reported). IsSound reported.report (core_lists opening) (core_capacity opening)
+          (All-nil (λ (reported : Reported). IsSound (core_shape opening).grain reported.report (core_lists opening) (core_shape opening).capacity
           c.args.phi)))),
       subst
           (Calls opening c.args.phi (c.loop-round.round + 1) (view c.args.pass.now) (view c.report_once.new.pass))

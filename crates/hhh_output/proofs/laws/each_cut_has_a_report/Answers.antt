@@ -12,7 +12,13 @@ returns c = λ cut phi kept.
       falls = record { falls = c.prefixes_are_ordered.ensures.level };
       few = record {
         few = λ node is_node. c.monitored_keys_are_few.ensures.few cut node kept is_node;
-        made = λ node rec is_node. (c.keys_are_of_their_node.ensures.of_record node rec is_node).is_prefix;
+        keys = record {
+          made = c.keys_are_of_their_node.ensures.of_record;
+          apart = c.keys_are_of_their_node.ensures.apart;
+          covering = c.keys_tell_covering.ensures;
+          own = c.prefixes_cover_their_own_addresses.ensures.covers;
+          small = c.prefixes_cover_their_own_addresses.ensures.dest;
+        };
       };
       within = λ prefix is_prefix. c.merged_intervals_are_narrow.ensures.within cut prefix kept is_prefix;
     })

@@ -10,7 +10,7 @@ returns c = λ cut lists phi report kept stands weighed wide are_lines is.
           c.merged_intervals_hold_weights.ensures cut lists prefix kept stands weighed is_prefix;
       light = λ prefix is_prefix missing. c.merged_intervals_are_narrow.ensures.light cut prefix kept is_prefix missing;
       total = c.snapshots_hold_weights.ensures.cut_total cut lists kept stands;
-      asked = c.only_prefixes_are_asked.ensures;
+      asked = c.only_prefixes_are_asked.ensures cut.shape.grain;
       at_least = c.bounds_hold.ensures.at_least;
       reached = c.bounds_hold.ensures.reached;
     } in

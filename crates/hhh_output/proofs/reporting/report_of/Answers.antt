@@ -1,6 +1,6 @@
 use Rattle.std.proofs.Common.{◌∙◌}
 use Rattle.hhh_output.proofs.SelectionLemmas.{selection_has_candidates, selection_gives_all_lines}
-use Rattle.hhh_output.proofs.SelectionLemmas.{selection_lines_are_kept}
+use Rattle.hhh_output.proofs.SelectionLemmas.{selection_lines_are_kept, selection_lines_are_of_grain}
 use Rattle.hhh_output.proofs.reporting.report_of.Goals as goal
 
 pub select_lines-requires : goal.select_lines-requires
@@ -36,6 +36,11 @@ returns-clause-report c =
           c.only_prefixes_are_asked.ensures c.threshold-threshold.result c.in_ok-lines.lines
           c.in_ok-lines.ensures;
     }
+
+pub returns-clause-of_grain : goal.returns-clause-of_grain
+returns-clause-of_grain c =
+    selection_lines_are_of_grain c.in_ok-merged.merged c.args.cut.now c.in_ok-merged.ensures
+    c.only_prefixes_are_asked.ensures c.threshold-threshold.result c.in_ok-lines.lines c.in_ok-lines.ensures
 
 pub returns-clause-sound : goal.returns-clause-sound
 returns-clause-sound c = λ lists stands weighed.

@@ -12,11 +12,13 @@ loop-key-preserved c =
     subst (AllPairs (λ (key : ℕ) other. key ≢ other)) (sym c.candidates-key-items.ensures.known)
     (c.requires.candidates.distinct c.args.node c.requires.is_node) in
     subst (λ lines.
-    HasJudgedNodeLines c.args.merged.now c.args.threshold c.args.reported.now c.args.node keys c.args.found.now.items lines
+    HasJudgedNodeLines c.args.merged.now c.args.threshold c.args.reported.now.lines c.args.node keys
+    c.args.found.now.items lines
     (c.loop-key.key-index + 1)) (sym c.in_ok-push_found.ensures)
-    (next_node_line_judged c.args.merged.now c.args.threshold c.args.reported.now c.args.node keys c.args.found.now.items
+    (next_node_line_judged c.args.merged.now c.args.threshold c.args.reported.now.lines c.args.node keys
+    c.args.found.now.items
     c.loop-key.found.items c.loop-key.key-index key
-    c.loop-key.invariant c.requires.apart distinct c.loop-key-test.true
+    c.loop-key.invariant c.requires.is_node.of_grain c.requires.apart distinct c.loop-key-test.true
     (get_or_default keys c.loop-key.key-index 0 key c.loop-key-test.true)
     c.in_ok-line.line c.in_ok-line.ensures.asked c.in_ok-line.ensures.prefix)
 
@@ -26,8 +28,10 @@ returns-clause-members c =
     let done : length (candidates_at c.args.merged.now c.args.node) ≤ c.loop-key.key-index =
     subst (λ (ks : List ℕ). length ks ≤ c.loop-key.key-index) c.candidates-key-items.ensures.known
     c.loop-key-test.false in
-    all_node_lines_judged c.args.merged.now c.args.threshold c.args.reported.now c.args.node c.args.found.now.items
-    c.loop-key.found.items c.loop-key.key-index done
+    all_node_lines_judged c.args.merged.now c.args.threshold c.args.reported.now.lines c.args.node
+    c.args.found.now.items
+    c.loop-key.found.items c.loop-key.key-index c.requires.is_node.of_grain done
     (subst (λ ks.
-    HasJudgedNodeLines c.args.merged.now c.args.threshold c.args.reported.now c.args.node ks c.args.found.now.items
+    HasJudgedNodeLines c.args.merged.now c.args.threshold c.args.reported.now.lines c.args.node ks
+    c.args.found.now.items
     c.loop-key.found.items c.loop-key.key-index) c.candidates-key-items.ensures.known c.loop-key.invariant)

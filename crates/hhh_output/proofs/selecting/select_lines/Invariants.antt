@@ -4,4 +4,8 @@ use Rattle.hhh_output.specs.Selecting.{AreDownTo}
 use Rattle.hhh_output.proofs.selecting.select_lines.Given as goal
 
 abbrev pub invariant-loop-levels : goal.invariant-loop-levels
-invariant-loop-levels l = (l.reported ≡ prefixes_of_lines l.lines) × AreDownTo l.merged l.threshold l.levels l.lines
+invariant-loop-levels l = record {
+  grain : l.reported.grain ≡ l.merged.shape.grain;
+  prefixes : l.reported.lines ≡ prefixes_of_lines l.lines;
+  down : AreDownTo l.merged l.threshold l.levels l.lines;
+}

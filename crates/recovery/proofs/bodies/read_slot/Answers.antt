@@ -5,6 +5,7 @@ use Rattle.recovery.specs.Found.{IsBodyFault}
 use Rattle.recovery.specs.declared.fault.OpenFault.{OpenFault}
 use Rattle.recovery.proofs.OpenSlotLemmas.{open_slot_is_damaged, open_slot_is_known, open_slot_shows_stored}
 use Rattle.recovery.proofs.OpenSlotLemmas.{open_slot_fault_without_body}
+use Rattle.checkpoint.specs.{settings_shape}
 use Rattle.recovery.proofs.bodies.read_slot.Goals as goal
 
 pub returns-in-Ok-decode-clause-holds : goal.returns-in-Ok-decode-clause-holds
@@ -16,7 +17,7 @@ returns-in-Ok-decode-clause-holds g c = λ image is slots.
     subst (λ (n : ℕ). slot_body n c.args.slot image ≡ Some c.in-Ok.body.items) c.span.ensures.span (c.in-Ok.ensures.body image is) in (
       c.in-Ok.body.items,
       shows ∙ ap shown_in stored,
-      subst (IsBody c.args.settings.now.shards c.args.settings.now.capacity (saved_value c.in-Ok-decode.saved)) c.deref.ensures.value
+      subst (IsBody c.args.settings.now.shards (settings_shape c.args.settings.now) (saved_value c.in-Ok-decode.saved)) c.deref.ensures.value
           c.in-Ok-decode.ensures.body,
     )
 
@@ -30,4 +31,4 @@ returns-clause-refused g c = λ image is slots.
     (λ same. open_slot_is_damaged c.args.settings.now c.args.slot image c.in-Ok.body.items
     (open_slot_is_known c.args.slots.now c.args.slot image c.requires.slot slots gate) stored
     (λ saved body. c.in-Err-decode.ensures.damaged (ap Err same) saved
-    (subst (IsBody c.args.settings.now.shards c.args.settings.now.capacity saved) (sym c.deref.ensures.value) body))))
+    (subst (IsBody c.args.settings.now.shards (settings_shape c.args.settings.now) saved) (sym c.deref.ensures.value) body))))

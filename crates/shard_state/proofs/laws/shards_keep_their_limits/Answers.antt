@@ -7,9 +7,9 @@ use Rattle.shard_state.proofs.TableFoldLemmas.{TableFoldKeeps}
 use Rattle.shard_state.proofs.laws.shards_keep_their_limits.Goals as goal
 
 pub returns-clause-begins : goal.returns-clause-begins
-returns-clause-begins c = λ capacity list least most few weighed bounded.
-    (shard_state_is_begun list (empty_snapshot capacity) 0 refl (IsSnapshot-empty_tables capacity least most) few (omega arith)
-    weighed bounded (ap table_total (empty_table_at_place 0))).is_shard
+returns-clause-begins c = λ shape list least most of_grain few weighed bounded.
+    (shard_state_is_begun list (empty_snapshot shape) 0 refl (IsSnapshot-empty_tables shape least most of_grain) few (omega arith)
+    weighed bounded (ap table_total (empty_table_at_place shape.grain 0))).is_shard
 
 pub returns-clause-resumes : goal.returns-clause-resumes
 returns-clause-resumes c = λ base list is within few weighed bounded counted.

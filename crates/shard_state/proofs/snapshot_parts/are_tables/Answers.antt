@@ -12,7 +12,7 @@ loop-place-preserved c =
     let here = c.index-tables-from.result in
     let read : here ≡ get_or tables c.loop-place.place here = subst (λ n. here ≡ get_or tables n here) c.from-in-loop-place.ensures c.index-tables-from.is in
     record {
-      alike = more_snapshot_parts (λ k t. IsLikeTable c.capacity-capacity.result c.total-total.result (node_at k) t) tables c.loop-place.place here
+      alike = more_snapshot_parts (λ k t. IsLikeTable c.capacity-capacity.result c.total-total.result (node_at c.args.grain k) t) tables c.loop-place.place here
           (omega arith) read
           (c.is_like.ensures.like.0 c.if-not-is_like.false) c.loop-place.invariant.alike;
       kept =
@@ -25,7 +25,8 @@ returns-clause-tables c = (
   λ _. record {
     capacity = c.capacity-capacity.result;
     total = c.total-total.result;
-    shape = omega arith;
+    of_grain = omega arith;
+    as_many = omega arith;
     alike = λ place table is_table.
         let within : place < length c.args.tables.now = slice_get_within c.args.tables.now place table is_table in
         c.loop-place.invariant.alike place table (omega arith) is_table;

@@ -5,6 +5,6 @@ use Rattle.shard_state.proofs.cut.Cut.put_shard.Goals as goal
 
 pub invariant_of-self : goal.invariant_of-self
 invariant_of-self c =
-    let inside : CutValue = record { capacity = c.self.inside.capacity; shards = c.self.inside.shards.items } in
+    let inside : CutValue = record { shape = record { grain = c.self.inside.grain; capacity = c.self.inside.capacity }; shards = c.self.inside.shards.items } in
     IsCut-set_snapshot inside c.args.shard c.args.snapshot c.self.invariant c.position-kept.ensures.kept
-    (c.requires.capacity ∙ ap (λ (cut : CutValue). cut.capacity) (sym c.self.view_is))
+    (c.requires.shape ∙ ap (λ (cut : CutValue). cut.shape) (sym c.self.view_is))

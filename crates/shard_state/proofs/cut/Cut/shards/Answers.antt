@@ -6,4 +6,7 @@ use Rattle.shard_state.proofs.cut.Cut.shards.Goals as goal
 pub returns-clause-bounded : goal.returns-clause-bounded
 returns-clause-bounded c =
     subst (λ (cut : CutValue). length cut.shards ≤ 16 → total_of_cut cut < 2 ^ 60) c.self.view_is
-    (total_of_cut-few_snapshots (record { capacity = c.self.inside.capacity; shards = c.self.inside.shards.items }) c.self.invariant)
+    (total_of_cut-few_snapshots (record {
+      shape = record { grain = c.self.inside.grain; capacity = c.self.inside.capacity };
+      shards = c.self.inside.shards.items;
+    }) c.self.invariant)

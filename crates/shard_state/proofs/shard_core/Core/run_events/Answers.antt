@@ -1,8 +1,8 @@
 use Rattle.std.proofs.Common.{◌≡◌, length, slice_get, All, ap, sym, ◌∙◌, subst}
-use Rattle.shard_state.specs.ShardCore.{CoreValue, HasCoreShape, core_capacity, snapshot_in}
+use Rattle.shard_state.specs.ShardCore.{CoreValue, HasCoreShape, core_shape, snapshot_in}
 use Rattle.shard_state.proofs.EventRunLemmas.{latest_snapshot-after_event_run, event_run_reads_never_fall}
 use Rattle.shard_state.proofs.EventRunLemmas.{event_run_tells_last_read, event_run_cut_stands, event_run_keeps_shapes}
-use Rattle.shard_state.proofs.EventRunLemmas.{event_run_keeps_shards, event_run_keeps_callers, event_run_keeps_capacity}
+use Rattle.shard_state.proofs.EventRunLemmas.{event_run_keeps_shards, event_run_keeps_callers, event_run_keeps_shape}
 use Rattle.shard_state.proofs.EventRunLemmas.{event_run_shard_within}
 use Rattle.shard_state.proofs.shard_core.Core.run_events.Goals as goal
 
@@ -46,8 +46,8 @@ returns-clause-shapes c =
     let events = c.args.events.now in
     let left = c.run_in_order.new.self in
     let many : length left ≡ length start.shards = ap length c.run_in_order.ensures.shards ∙ event_run_keeps_shards events start in
-    let capacity : core_capacity left ≡ core_capacity start.shards = ap core_capacity c.run_in_order.ensures.shards ∙ event_run_keeps_capacity events start in
-    subst (λ m. All (HasCoreShape m (core_capacity left)) c.run_in_order.new.cuts.items) (sym many)
-    (subst (λ n. All (HasCoreShape (length start.shards) n) c.run_in_order.new.cuts.items) (sym capacity)
-    (subst (All (HasCoreShape (length start.shards) (core_capacity start.shards))) (sym c.run_in_order.ensures.cuts)
-    (event_run_keeps_shapes events start (length start.shards) (core_capacity start.shards) c.requires.cuts)))
+    let shape : core_shape left ≡ core_shape start.shards = ap core_shape c.run_in_order.ensures.shards ∙ event_run_keeps_shape events start in
+    subst (λ m. All (HasCoreShape m (core_shape left)) c.run_in_order.new.cuts.items) (sym many)
+    (subst (λ n. All (HasCoreShape (length start.shards) n) c.run_in_order.new.cuts.items) (sym shape)
+    (subst (All (HasCoreShape (length start.shards) (core_shape start.shards))) (sym c.run_in_order.ensures.cuts)
+    (event_run_keeps_shapes events start (length start.shards) (core_shape start.shards) c.requires.cuts)))

@@ -1,8 +1,8 @@
 use Rattle.std.proofs.Common.{◌≡◌, length, take, get_or, All, ap, sym, ◌∙◌, subst, arith}
-use Rattle.shard_state.specs.ShardCore.{CoreValue, HasCoreShape, IsCoreEvent, core_capacity}
+use Rattle.shard_state.specs.ShardCore.{CoreValue, HasCoreShape, IsCoreEvent, core_shape}
 use Rattle.shard_state.specs.declared.event.Event.TheVariants.{Fold}
 use Rattle.shard_state.proofs.EventRunLemmas.{event_run_keeps_shapes, event_run_keeps_shards, event_run_keeps_callers}
-use Rattle.shard_state.proofs.EventRunLemmas.{event_run_keeps_capacity}
+use Rattle.shard_state.proofs.EventRunLemmas.{event_run_keeps_shape}
 use Rattle.shard_state.proofs.shard_core.Core.run_in_order.Goals as goal
 
 pub step-requires-clause-event : goal.step-requires-clause-event
@@ -20,9 +20,9 @@ step-requires-clause-cuts c =
     let start : CoreValue = record { shards = c.args.self.now; cuts = c.args.cuts.now.items } in
     let so_far = take c.loop-event.event-index c.args.events.now in
     let many : length c.loop-event.self ≡ length start.shards = ap length c.loop-event.invariant.shards ∙ event_run_keeps_shards so_far start in
-    let capacity : core_capacity c.loop-event.self ≡ core_capacity start.shards = ap core_capacity c.loop-event.invariant.shards
-    ∙ event_run_keeps_capacity so_far start in
-    subst (λ m. All (HasCoreShape m (core_capacity c.loop-event.self)) c.loop-event.cuts.items) (sym many)
-    (subst (λ n. All (HasCoreShape (length start.shards) n) c.loop-event.cuts.items) (sym capacity)
-    (subst (All (HasCoreShape (length start.shards) (core_capacity start.shards))) (sym c.loop-event.invariant.cuts)
-    (event_run_keeps_shapes so_far start (length start.shards) (core_capacity start.shards) c.requires.cuts)))
+    let shape : core_shape c.loop-event.self ≡ core_shape start.shards = ap core_shape c.loop-event.invariant.shards
+    ∙ event_run_keeps_shape so_far start in
+    subst (λ m. All (HasCoreShape m (core_shape c.loop-event.self)) c.loop-event.cuts.items) (sym many)
+    (subst (λ n. All (HasCoreShape (length start.shards) n) c.loop-event.cuts.items) (sym shape)
+    (subst (All (HasCoreShape (length start.shards) (core_shape start.shards))) (sym c.loop-event.invariant.cuts)
+    (event_run_keeps_shapes so_far start (length start.shards) (core_shape start.shards) c.requires.cuts)))

@@ -38,10 +38,13 @@ invariant_of-self c =
       key = c.keys_are_of_their_node.ensures.of_record_key;
     } in
     let on : ShardStateFoldedOn shard to = shard_state_folds_on shard to keep c.self.invariant.0 later within in
-    let counted : c.count_in_tables.new.tables ≡ tables_after 0 inside.tables.items (slice_range inside.list inside.position to) =
+    let counted : c.count_in_tables.new.tables ≡ tables_after inside.base.shape.grain 0 inside.tables.items (slice_range inside.list inside.position to) =
     c.count_in_tables.ensures
-    ∙ ap (λ ts. tables_after 0 ts (take (to - inside.position) (drop inside.position c.as_slice.result.now))) c.deref_mut.ensures.value
-    ∙ ap (λ list. tables_after 0 inside.tables.items (take (to - inside.position) (drop inside.position list))) c.as_slice.ensures.value in
+    ∙ ap (λ grain. tables_after grain 0 c.deref_mut.result.now (take (to - inside.position) (drop inside.position c.as_slice.result.now)))
+    c.grain.ensures.grain
+    ∙ ap (λ ts. tables_after inside.base.shape.grain 0 ts (take (to - inside.position) (drop inside.position c.as_slice.result.now))) c.deref_mut.ensures.value
+    ∙ ap (λ list. tables_after inside.base.shape.grain 0 inside.tables.items (take (to - inside.position)
+    (drop inside.position list))) c.as_slice.ensures.value in
     let many : length c.count_in_tables.new.tables ≡ inside.tables.len = cc in (
       on.is_shard,
       take_at c.count_in_tables.new.tables (drop (length c.count_in_tables.new.tables) inside.tables.items) inside.tables.len many
@@ -61,8 +64,8 @@ returns-clause-tables c =
       key = c.keys_are_of_their_node.ensures.of_record_key;
     } in
     let on : ShardStateFoldedOn shard to = shard_state_folds_on shard to keep c.self.invariant.0 later within in
-    subst (λ (v : ShardValue). fold_from 0 inside.base.capacity inside.base.tables (slice_range inside.list inside.base.position to)
-    ≡ fold_from 0 v.base.capacity (snapshot_of v).tables (slice_range v.list inside.position to)) c.self.view_is on.tables
+    subst (λ (v : ShardValue). fold_from 0 inside.base.shape inside.base.tables (slice_range inside.list inside.base.position to)
+    ≡ fold_from 0 v.base.shape (snapshot_of v).tables (slice_range v.list inside.position to)) c.self.view_is on.tables
 
 pub returns-clause-kept : goal.returns-clause-kept
 returns-clause-kept c =

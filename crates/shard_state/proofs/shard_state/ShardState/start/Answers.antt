@@ -8,4 +8,4 @@ use Rattle.shard_state.proofs.shard_state.ShardState.start.Goals as goal
 pub resume-requires-clause-counted : goal.resume-requires-clause-counted
 resume-requires-clause-counted c =
     subst (λ (base : SnapshotValue). snapshot_total base ≡ total_weight (take base.position c.args.list)) (sym c.in_ok-base.ensures)
-    (ap table_total (empty_table_at_place 0))
+    (ap table_total (empty_table_at_place c.args.grain 0))
