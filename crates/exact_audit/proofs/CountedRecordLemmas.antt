@@ -5,6 +5,7 @@ use Rattle.std.proofs.Common.{arith, append_assoc, append-nil, add-one}
 use Rattle.std.proofs.lemmas.List.{map-append, length-take}
 use Rattle.std.proofs.lemmas.List.Elements.{All-push}
 use Rattle.prefix_lattice.specs.{RecordValue, PrefixValue}
+use Rattle.prefix_lattice.specs.declared.grain.Grain.{Grain}
 use Rattle.hhh_report.specs.{records_before, AreWithinLists}
 use Rattle.exact_audit.specs.declared.counted.Counted.{Counted}
 use Rattle.exact_audit.specs.Counted.{part_at}
@@ -12,7 +13,8 @@ use Rattle.exact_audit.specs.Depths.{AreDepths}
 use Rattle.exact_audit.specs.NodeSums.{AreCountedIn}
 
 -- positions are within lists where there are as many, and each is within its list
-pub counted_record_positions_fit : (positions : List ℕ) (lists : List (List RecordValue)) → length positions ≡ length lists
+pub counted_record_positions_fit : (positions : List ℕ) (lists : List (List RecordValue))
+    → length positions ≡ length lists
     → ((place : ℕ) → place < length lists → get_or positions place 0 ≤ length (get_or lists place []))
     → AreWithinLists positions lists
 counted_record_positions_fit [] [] same each = tt
@@ -24,7 +26,8 @@ counted_record_positions_fit (position ∷ positions) (list ∷ lists) same each
 )
 
 -- and positions within lists are as many, each within its list
-pub counted_record_positions_as_many : (positions : List ℕ) (lists : List (List RecordValue)) → AreWithinLists positions lists
+pub counted_record_positions_as_many : (positions : List ℕ) (lists : List (List RecordValue))
+    → AreWithinLists positions lists
     → length positions ≡ length lists
 counted_record_positions_as_many [] [] within = refl
 counted_record_positions_as_many [] (list ∷ lists) within = absurd within
@@ -32,7 +35,8 @@ counted_record_positions_as_many (position ∷ positions) [] within = absurd wit
 counted_record_positions_as_many (position ∷ positions) (list ∷ lists) within =
     let rest = counted_record_positions_as_many positions lists within.1 in omega arith
 
-pub each_counted_record_position_fits : (positions : List ℕ) (lists : List (List RecordValue)) (place : ℕ) → AreWithinLists positions lists
+pub each_counted_record_position_fits : (positions : List ℕ) (lists : List (List RecordValue)) (place : ℕ)
+    → AreWithinLists positions lists
     → place < length lists → get_or positions place 0 ≤ length (get_or lists place [])
 each_counted_record_position_fits [] [] place within less = absurd (omega arith)
 each_counted_record_position_fits [] (list ∷ lists) place within less = absurd within
@@ -69,10 +73,11 @@ counted_records_gain_part lists positions shard same within =
     rw add-one (counted_records_gain_shard lists positions shard same within)
 
 -- one more counted record
-pub AreCountedIn-push : (lines : List PrefixValue) (records : List RecordValue) (counted : List Counted) (one : Counted)
-    → AreDepths lines one.rec one.depths → AreCountedIn lines records counted
-    → AreCountedIn lines (records ++ one.rec ∷ []) (counted ++ one ∷ [])
-AreCountedIn-push lines records counted one depths before = record {
+pub AreCountedIn-push : {grain : Grain} (lines : List PrefixValue) (records : List RecordValue) (counted : List Counted) (one : Counted)
+    → AreDepths grain lines one.rec one.depths → AreCountedIn grain lines records counted
+    → AreCountedIn grain lines (records ++ one.rec ∷ []) (counted ++ one ∷ [])
+AreCountedIn-push {grain} lines records counted one depths before = record {
+  prefixes = before.prefixes;
   same = map-append (λ (c : Counted). c.rec) counted (one ∷ []) ∙ ap (λ rs. rs ++ one.rec ∷ []) before.same;
-  depths = All-push (λ (c : Counted). AreDepths lines c.rec c.depths) counted one before.depths depths;
+  depths = All-push (λ (c : Counted). AreDepths grain lines c.rec c.depths) counted one before.depths depths;
 }

@@ -1,10 +1,12 @@
 -- Worked examples of audits, most by computing: one packet of 100 bytes from 10.1.2.3 to 20.1.2.3, and its reports.
-use Rattle.std.proofs.Common.{◌≡◌, ℕ, ◌<◌, ◌≤◌, zero, suc, List, [], ◌∷◌, get_or}
+use Rattle.std.proofs.Common.{◌≡◌, ℕ, ◌≤◌, List, [], ◌∷◌}
 use Rattle.std.proofs.Common.{Some}
 use Rattle.std.proofs.Common.{true, false, refl, arith}
 use Rattle.std.proofs.lemmas.List.Elements.{All-nil, All-cons}
 use Rattle.prefix_lattice.specs.{RecordValue, NodeValue, PrefixValue, IsPrefix, one_line_covers, lines_under}
-use Rattle.prefix_lattice.specs.{prefix_key}
+use Rattle.prefix_lattice.specs.{prefix_key, address_bits}
+use Rattle.prefix_lattice.specs.declared.grain.Grain.TheVariants.{Byte, Nibble}
+use Rattle.prefix_lattice.proofs.Examples.{front, leading_bits_of_an_address}
 use Rattle.hhh_report.specs.declared.line.Line.{Line}
 use Rattle.hhh_report.specs.declared.report.Report.{Report}
 use Rattle.hhh_report.specs.{AreReportLines, LineHoldsWeight, IsThreshold}
@@ -23,16 +25,16 @@ packet = record { src = 0x0a010203; dst = 0x14010203; weight = 100 }
 
 -- 10.1.2.3/32 20.1.2.3/32
 abbrev whole : PrefixValue
-whole = record { source = 10 ∷ 1 ∷ 2 ∷ 3 ∷ []; dest = 20 ∷ 1 ∷ 2 ∷ 3 ∷ [] }
+whole = record { source = address_bits 0x0a010203; dest = address_bits 0x14010203 }
 
 abbrev root : PrefixValue
 root = record { source = []; dest = [] }
 
 abbrev root_node : NodeValue
-root_node = record { source_bytes = 0; dest_bytes = 0 }
+root_node = record { grain = Byte; source_bits = 0; dest_bits = 0 }
 
 abbrev host_node : NodeValue
-host_node = record { source_bytes = 4; dest_bytes = 4 }
+host_node = record { grain = Byte; source_bits = 32; dest_bits = 32 }
 
 -- a line of the whole prefix, and one with another interval
 abbrev own : Line
@@ -61,13 +63,13 @@ report_with position total threshold line ordered = record {
 abbrev dealt : List (List RecordValue)
 dealt = (packet ∷ []) ∷ []
 
-pub two_records_of_one : IsVerdict dealt 512 10000 (report_with 2 100 1 own (omega arith)) BadPositions
+pub two_records_of_one : IsVerdict Byte dealt 512 10000 (report_with 2 100 1 own (omega arith)) BadPositions
 two_records_of_one = λ within. omega (arith, within.0)
 
-pub a_total_too_small : IsVerdict dealt 512 10000 (report_with 1 99 1 own (omega arith)) BadTotal
+pub a_total_too_small : IsVerdict Byte dealt 512 10000 (report_with 1 99 1 own (omega arith)) BadTotal
 a_total_too_small = ((omega arith, tt), λ same. omega (arith, same))
 
-pub a_threshold_too_high : IsVerdict dealt 512 10000 (report_with 1 100 2 own (omega arith)) BadThreshold
+pub a_threshold_too_high : IsVerdict Byte dealt 512 10000 (report_with 1 100 2 own (omega arith)) BadThreshold
 a_threshold_too_high = (
   (omega arith, tt),
   refl,
@@ -75,7 +77,7 @@ a_threshold_too_high = (
       omega (arith, is.least 1 (record { some = omega arith; share = omega arith })),
 )
 
-pub an_interval_below_the_weight : IsVerdict dealt 512 10000 (report_with 1 100 1 light (omega arith)) (BadInterval 1)
+pub an_interval_below_the_weight : IsVerdict Byte dealt 512 10000 (report_with 1 100 1 light (omega arith)) (BadInterval 1)
 an_interval_below_the_weight = record {
   head = record {
     positions = (omega arith, tt);
@@ -95,22 +97,16 @@ an_interval_below_the_weight = record {
   };
 }
 
-pub whole_is_prefix : IsPrefix whole
+pub whole_is_prefix : IsPrefix Byte whole
 whole_is_prefix = record {
-  source = record { few = omega arith; bytes = small 10 1 2 3 (omega arith) (omega arith) (omega arith) (omega arith) };
-  dest = record { few = omega arith; bytes = small 20 1 2 3 (omega arith) (omega arith) (omega arith) (omega arith) };
+  source = leading_bits_of_an_address 0x0a010203 32 (omega arith);
+  dest = leading_bits_of_an_address 0x14010203 32 (omega arith);
+  source_steps = refl;
+  dest_steps = refl;
 }
-  where
-    small : (a b c d : ℕ) → a < 256 → b < 256 → c < 256 → d < 256 → (place : ℕ)
-        → get_or (a ∷ b ∷ c ∷ d ∷ []) place 0 < 256
-    small a b c d a_small b_small c_small d_small zero = a_small
-    small a b c d a_small b_small c_small d_small (suc zero) = b_small
-    small a b c d a_small b_small c_small d_small (suc (suc zero)) = c_small
-    small a b c d a_small b_small c_small d_small (suc (suc (suc zero))) = d_small
-    small a b c d a_small b_small c_small d_small (suc (suc (suc (suc place)))) = omega arith
 
 -- without its line the packet's own prefix is left out with all of its weight
-pub own_prefix_is_left_out : IsLeftOut [] (packet ∷ []) 1 whole 100
+pub own_prefix_is_left_out : IsLeftOut Byte [] (packet ∷ []) 1 whole 100
 own_prefix_is_left_out = record {
   is_prefix = whole_is_prefix;
   no_line = λ there. omega (arith, there.1);
@@ -119,19 +115,23 @@ own_prefix_is_left_out = record {
 }
 
 -- with it, it isn't
-pub no_line_is_left_out : ¬ IsLeftOut (whole ∷ []) (packet ∷ []) 1 whole 100
+pub no_line_is_left_out : ¬ IsLeftOut Byte (whole ∷ []) (packet ∷ []) 1 whole 100
 no_line_is_left_out out = out.no_line (0, omega arith, refl)
 
--- the line reaches down to four bytes on both sides, and no further
-pub the_line_reaches_the_hosts : reaches (whole ∷ []) packet 4 4 ≡ true
+-- the line reaches down to four steps of a byte on both sides, and no further
+pub the_line_reaches_the_hosts : reaches Byte (whole ∷ []) packet 4 4 ≡ true
 the_line_reaches_the_hosts = refl
 
-pub but_no_further : reaches (whole ∷ []) packet 4 5 ≡ false
+pub but_no_further : reaches Byte (whole ∷ []) packet 4 5 ≡ false
 but_no_further = refl
 
--- so each depth is 5
+-- by half bytes, to eight
+pub the_line_reaches_by_half_bytes : reaches Nibble (whole ∷ []) packet 8 8 ≡ true
+the_line_reaches_by_half_bytes = refl
+
+-- so by bytes each depth is 5
 abbrev deep : Depths
-deep = record { zero = 5; one = 5; two = 5; three = 5; four = 5 }
+deep = record { by_steps = 5 ∷ 5 ∷ 5 ∷ 5 ∷ 5 ∷ 0 ∷ 0 ∷ 0 ∷ 0 ∷ 0 ∷ [] }
 
 pub the_root_is_explained : explained_by deep root_node ≡ true
 the_root_is_explained = refl
@@ -154,6 +154,29 @@ none_of_it_is_left = refl
 
 pub all_of_it_is_left_to_the_line : sum_left host_node (prefix_key whole) counted ≡ 100
 all_of_it_is_left_to_the_line = refl
+
+-- 10.0.0.0/12 20.1.2.3/32, which is a prefix by half bytes, and none by bytes
+abbrev half : PrefixValue
+half = record { source = front 0x0a000000 12; dest = address_bits 0x14010203 }
+
+pub half_is_prefix : IsPrefix Nibble half
+half_is_prefix = record {
+  source = leading_bits_of_an_address 0x0a000000 12 (omega arith);
+  dest = leading_bits_of_an_address 0x14010203 32 (omega arith);
+  source_steps = refl;
+  dest_steps = refl;
+}
+
+pub half_is_left_out : IsLeftOut Nibble [] (packet ∷ []) 1 half 100
+half_is_left_out = record {
+  is_prefix = half_is_prefix;
+  no_line = λ there. omega (arith, there.1);
+  weighs = refl;
+  heavy = omega arith;
+}
+
+pub but_not_by_bytes : ¬ IsLeftOut Byte [] (packet ∷ []) 1 half 100
+but_not_by_bytes out = omega (arith, out.is_prefix.source_steps)
 
 -- a more specific prefix comes first, whichever was found first
 abbrev at_root : LeftOut

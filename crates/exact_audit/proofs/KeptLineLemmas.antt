@@ -9,7 +9,8 @@ use Rattle.std.proofs.lemmas.List.Elements.{filter_map-append, filter_more}
 use Rattle.prefix_lattice.specs.{PrefixValue}
 
 -- what passes a test, after one more element
-pub passing_line_is_kept : (p : PrefixValue → Bool) (xs kept : List PrefixValue) (i : ℕ) (x : PrefixValue) → i < length xs
+pub passing_line_is_kept : (p : PrefixValue → Bool) (xs kept : List PrefixValue) (i : ℕ) (x : PrefixValue)
+    → i < length xs
     → x ≡ get_or xs i x → p x ≡ true
     → kept ≡ filter p (take i xs) → kept ++ x ∷ [] ≡ filter p (take (i + 1) xs)
 passing_line_is_kept p xs kept i x within is passes before =
@@ -18,7 +19,8 @@ passing_line_is_kept p xs kept i x within is passes before =
     ap (λ y. cond (p y) (y ∷ []) []) (sym is) ∙ cond-true (p x) (x ∷ []) [] passes in
     cc
 
-pub failing_line_is_not_kept : (p : PrefixValue → Bool) (xs kept : List PrefixValue) (i : ℕ) (x : PrefixValue) → i < length xs
+pub failing_line_is_not_kept : (p : PrefixValue → Bool) (xs kept : List PrefixValue) (i : ℕ) (x : PrefixValue)
+    → i < length xs
     → x ≡ get_or xs i x → p x ≡ false
     → kept ≡ filter p (take i xs) → kept ≡ filter p (take (i + 1) xs)
 failing_line_is_not_kept p xs kept i x within is fails before =

@@ -14,18 +14,20 @@ use Rattle.std.proofs.lemmas.Bool.{false≢true, eqb-true, eq-eqb, or_cases, or_
 use Rattle.std.proofs.lemmas.Bool.{true_from_ne_false}
 use Rattle.std.proofs.lemmas.List.Folds.{list_any_more}
 use Rattle.prefix_lattice.specs.{RecordValue, NodeValue, IsNode, node_index, node_at, PrefixValue, IsPrefix}
-use Rattle.prefix_lattice.specs.{HasPrefixKey, prefix_code}
+use Rattle.prefix_lattice.specs.{HasPrefixKey}
 use Rattle.prefix_lattice.specs.{node_of_prefix, prefix_key}
 use Rattle.prefix_lattice.specs.{report_order, conditioned_weight}
+use Rattle.prefix_lattice.specs.declared.grain.Grain.{Grain}
 use Rattle.prefix_lattice.proofs.NodePlaceLemmas.{node_at_own_place}
 use Rattle.exact_audit.specs.declared.node_sums.Sums.{Sums}
 use Rattle.exact_audit.specs.declared.left_out.LeftOut.{LeftOut}
 use Rattle.exact_audit.specs.LeftOut.{IsLeftOut}
-use Rattle.exact_audit.specs.LineCodes.{AreLineCodes}
+use Rattle.exact_audit.specs.LineCodes.{AreLineCodes, line_code}
 use Rattle.exact_audit.specs.NodeSums.{no_sums, sums_for, sums_of, AreNodeSums}
 use Rattle.exact_audit.specs.Findings.{first_by, first_with, IsFirst, IsFirstBefore}
 use Rattle.exact_audit.specs.Findings.{IsFirstWith}
 use Rattle.exact_audit.proofs.DepthLemmas.{coded_depth_has_line, uncoded_depth_has_no_line}
+use Rattle.exact_audit.proofs.DepthLemmas.{IsNode-depth, IsPrefix-depth_finest, DepthLineKeysAreApart}
 
 -- the first of those that meet a condition is the first of those that meet an equivalent one
 pub IsFirst-same_left_out : (Meets Others : PrefixValue → ℕ → Type 0) (found : Option LeftOut)
@@ -37,7 +39,8 @@ IsFirst-same_left_out Meets Others (Some found) to from first =
     (to found.prefix found.weight first.0, λ prefix weight other. first.1 prefix weight (from prefix weight other))
 
 -- one more, which meets the condition too
-pub IsFirst-more_left_out : IsTotalOrder report_order → (Meets Others : PrefixValue → ℕ → Type 0) (found : Option LeftOut)
+pub IsFirst-more_left_out : IsTotalOrder report_order
+    → (Meets Others : PrefixValue → ℕ → Type 0) (found : Option LeftOut)
     (one : LeftOut) → Others one.prefix one.weight
     → ((prefix : PrefixValue) (weight : ℕ) → Meets prefix weight → Others prefix weight)
     → ((prefix : PrefixValue) (weight : ℕ) → Others prefix weight → Meets prefix weight ⊎ (prefix ≡ one.prefix))
@@ -91,19 +94,19 @@ IsFirst-more_left_out order Meets Others (Some found) one meets to from first =
     by Greater is = keeps (λ less. let same : Less ≡ Greater = sym less ∙ is in cc)
 
 -- before the first key
-pub first_left_out_before_keys : (index : ℕ) (lines : List PrefixValue) (records : List RecordValue) (threshold : ℕ)
-    (found : Option LeftOut) → IsFirstBefore index lines records threshold found
-    → IsFirstWith index [] lines records threshold found
-first_left_out_before_keys index lines records threshold found =
+pub first_left_out_before_keys : (grain : Grain) (index : ℕ) (lines : List PrefixValue) (records : List RecordValue) (threshold : ℕ)
+    (found : Option LeftOut) → IsFirstBefore grain index lines records threshold found
+    → IsFirstWith grain index [] lines records threshold found
+first_left_out_before_keys grain index lines records threshold found =
     IsFirst-same_left_out
-    (λ prefix weight. IsLeftOut lines records threshold prefix weight × (node_index (node_of_prefix prefix) < index))
-    (λ prefix weight. IsLeftOut lines records threshold prefix weight
-    × ((node_index (node_of_prefix prefix) < index) ⊎ ((node_index (node_of_prefix prefix) ≡ index) × (false ≡ true)))) found
+    (λ prefix weight. IsLeftOut grain lines records threshold prefix weight × (node_index (node_of_prefix grain prefix) < index))
+    (λ prefix weight. IsLeftOut grain lines records threshold prefix weight
+    × ((node_index (node_of_prefix grain prefix) < index) ⊎ ((node_index (node_of_prefix grain prefix) ≡ index) × (false ≡ true)))) found
     (λ prefix weight met. (met.0, inl met.1))
     (λ prefix weight met. (
       met.0,
-      ⊎_elim (λ (before : node_index (node_of_prefix prefix) < index). before)
-          (λ (at : (node_index (node_of_prefix prefix) ≡ index) × (false ≡ true)). absurd (false≢true at.1)) met.1,
+      ⊎_elim (λ (before : node_index (node_of_prefix grain prefix) < index). before)
+          (λ (at : (node_index (node_of_prefix grain prefix) ≡ index) × (false ≡ true)). absurd (false≢true at.1)) met.1,
     ))
 
 -- what a look-up finds is under a key that is there
@@ -119,42 +122,44 @@ left_out_lookup_has_key {X} test (e ∷ es) none =
     split false rest none = rest none
 
 -- a prefix of the node of an index is a prefix of the node
-pub left_out_node_by_index : (node : NodeValue) (prefix : PrefixValue) → IsNode node → IsPrefix prefix
-    → node_index (node_of_prefix prefix) ≡ node_index node → node_of_prefix prefix ≡ node
-left_out_node_by_index node prefix is prefix_is same =
-    sym (node_at_own_place (node_of_prefix prefix) (record { source = prefix_is.source.few; dest = prefix_is.dest.few }))
-    ∙ ap node_at same ∙ node_at_own_place node is
+pub left_out_node_by_index : {grain : Grain} (node : NodeValue) (prefix : PrefixValue) → IsNode grain node
+    → IsPrefix grain prefix → node_index (node_of_prefix grain prefix) ≡ node_index node
+    → node_of_prefix grain prefix ≡ node
+left_out_node_by_index {grain} node prefix is prefix_is same =
+    sym (node_at_own_place (node_of_prefix grain prefix) (IsNode-depth prefix prefix_is))
+    ∙ ap (node_at grain) same ∙ node_at_own_place node is
 
 -- after the last key
 pub first_left_out_after_keys : {S : Type 0} (node : NodeValue) (lines : List PrefixValue) (records : List RecordValue) (threshold : ℕ)
-    (sums : HashMap ℕ Sums S) (found : Option LeftOut) → IsNode node → 1 ≤ threshold → AreNodeSums node lines records
+    (sums : HashMap ℕ Sums S) (found : Option LeftOut) → IsNode node.grain node → 1 ≤ threshold → AreNodeSums node lines records
     sums
-    → IsFirstWith (node_index node) (keys sums) lines records threshold found
-    → IsFirstBefore (node_index node + 1) lines records threshold found
+    → IsFirstWith node.grain (node_index node) (keys sums) lines records threshold found
+    → IsFirstBefore node.grain (node_index node + 1) lines records threshold found
 first_left_out_after_keys {S} node lines records threshold sums found node_is some are =
     IsFirst-same_left_out
-    (λ prefix weight. IsLeftOut lines records threshold prefix weight × ((node_index (node_of_prefix prefix) < node_index node)
-    ⊎ ((node_index (node_of_prefix prefix) ≡ node_index node) × (list_any (nat_eq (prefix_key prefix)) (keys sums) ≡ true))))
-    (λ prefix weight. IsLeftOut lines records threshold prefix weight × (node_index (node_of_prefix prefix) < node_index node + 1))
+    (λ prefix weight. IsLeftOut node.grain lines records threshold prefix weight × ((node_index (node_of_prefix node.grain prefix) < node_index node)
+    ⊎ ((node_index (node_of_prefix node.grain prefix) ≡ node_index node) × (list_any (nat_eq (prefix_key prefix)) (keys sums) ≡ true))))
+    (λ prefix weight. IsLeftOut node.grain lines records threshold prefix weight × (node_index (node_of_prefix node.grain prefix) < node_index node + 1))
     found
     (λ prefix weight met. (
       met.0,
-      ⊎_elim (λ (before : node_index (node_of_prefix prefix) < node_index node). omega (arith, before))
-          (λ (at : (node_index (node_of_prefix prefix) ≡ node_index node)
+      ⊎_elim (λ (before : node_index (node_of_prefix node.grain prefix) < node_index node). omega (arith, before))
+          (λ (at : (node_index (node_of_prefix node.grain prefix) ≡ node_index node)
           × (list_any (nat_eq (prefix_key prefix)) (keys sums) ≡ true)).
           omega (arith, at.0)) met.1,
     ))
     (λ prefix weight met. (
       met.0,
-      ⊎_elim (λ (before : node_index (node_of_prefix prefix) < node_index node). inl before)
-          (λ (past : node_index node ≤ node_index (node_of_prefix prefix)).
-          let at : node_index (node_of_prefix prefix) ≡ node_index node = omega (arith, past, met.1) in
+      ⊎_elim (λ (before : node_index (node_of_prefix node.grain prefix) < node_index node). inl before)
+          (λ (past : node_index node ≤ node_index (node_of_prefix node.grain prefix)).
+          let at : node_index (node_of_prefix node.grain prefix) ≡ node_index node = omega (arith, past, met.1) in
           inr (at, there prefix weight met.0 at))
-          (cases_lt (node_index (node_of_prefix prefix)) (node_index node)),
+          (cases_lt (node_index (node_of_prefix node.grain prefix)) (node_index node)),
     ))
   where
-    there : (prefix : PrefixValue) (weight : ℕ) → IsLeftOut lines records threshold prefix weight
-        → node_index (node_of_prefix prefix) ≡ node_index node → list_any (nat_eq (prefix_key prefix)) (keys sums) ≡ true
+    there : (prefix : PrefixValue) (weight : ℕ) → IsLeftOut node.grain lines records threshold prefix weight
+        → node_index (node_of_prefix node.grain prefix) ≡ node_index node
+        → list_any (nat_eq (prefix_key prefix)) (keys sums) ≡ true
     there prefix weight left_out at =
         true_from_ne_false (list_any (nat_eq (prefix_key prefix)) (keys sums)) (λ none.
         let is : sums_for sums (prefix_key prefix) ≡ sums_of lines records prefix =
@@ -167,17 +172,17 @@ first_left_out_after_keys {S} node lines records threshold sums found node_is so
 -- one more key, whose conditioned weight is below the threshold
 pub first_left_out_skips_light : {S : Type 0} (node : NodeValue) (lines : List PrefixValue) (records : List RecordValue)
     (threshold : ℕ)
-    (sums : HashMap ℕ Sums S) (place key left : ℕ) (found : Option LeftOut) → IsNode node
+    (sums : HashMap ℕ Sums S) (place key left : ℕ) (found : Option LeftOut) → IsNode node.grain node
     → AreNodeSums node lines records sums → place < length (keys sums) → get_or (keys sums) place 0 ≡ key
     → (sums_for sums key).left ≡ left → left < threshold
-    → IsFirstWith (node_index node) (take place (keys sums)) lines records threshold found
-    → IsFirstWith (node_index node) (take (place + 1) (keys sums)) lines records threshold found
+    → IsFirstWith node.grain (node_index node) (take place (keys sums)) lines records threshold found
+    → IsFirstWith node.grain (node_index node) (take (place + 1) (keys sums)) lines records threshold found
 first_left_out_skips_light node lines records threshold sums place key left found node_is are within at of_key light =
     IsFirst-same_left_out (With (take place (keys sums))) (With (take (place + 1) (keys sums))) found
     (λ prefix weight met. (
       met.0,
-      ⊎_elim (λ (before : node_index (node_of_prefix prefix) < node_index node). inl before)
-          (λ (is : (node_index (node_of_prefix prefix) ≡ node_index node)
+      ⊎_elim (λ (before : node_index (node_of_prefix node.grain prefix) < node_index node). inl before)
+          (λ (is : (node_index (node_of_prefix node.grain prefix) ≡ node_index node)
           × (list_any (nat_eq (prefix_key prefix)) (take place (keys sums)) ≡ true)).
           inr (
             is.0,
@@ -188,8 +193,8 @@ first_left_out_skips_light node lines records threshold sums place key left foun
     ))
     (λ prefix weight met. (
       met.0,
-      ⊎_elim (λ (before : node_index (node_of_prefix prefix) < node_index node). inl before)
-          (λ (is : (node_index (node_of_prefix prefix) ≡ node_index node)
+      ⊎_elim (λ (before : node_index (node_of_prefix node.grain prefix) < node_index node). inl before)
+          (λ (is : (node_index (node_of_prefix node.grain prefix) ≡ node_index node)
           × (list_any (nat_eq (prefix_key prefix)) (take (place + 1) (keys sums)) ≡ true)).
           ⊎_elim (λ (old : list_any (nat_eq (prefix_key prefix)) (take place (keys sums)) ≡ true). inr (is.0, old))
           (λ (new : nat_eq (prefix_key prefix) (get_or (keys sums) place 0) ≡ true). absurd
@@ -200,12 +205,13 @@ first_left_out_skips_light node lines records threshold sums place key left foun
     ))
   where
     With : List ℕ → PrefixValue → ℕ → Type 0
-    With some prefix weight = IsLeftOut lines records threshold prefix weight
-        × ((node_index (node_of_prefix prefix) < node_index node)
-        ⊎ ((node_index (node_of_prefix prefix) ≡ node_index node) × (list_any (nat_eq (prefix_key prefix)) some ≡ true)))
+    With some prefix weight = IsLeftOut node.grain lines records threshold prefix weight
+        × ((node_index (node_of_prefix node.grain prefix) < node_index node)
+        ⊎ ((node_index (node_of_prefix node.grain prefix) ≡ node_index node) × (list_any (nat_eq (prefix_key prefix)) some ≡ true)))
 
-    no : (prefix : PrefixValue) (weight : ℕ) → IsLeftOut lines records threshold prefix weight
-        → node_index (node_of_prefix prefix) ≡ node_index node → nat_eq (prefix_key prefix) (get_or (keys sums) place 0) ≡ true → ⊥
+    no : (prefix : PrefixValue) (weight : ℕ) → IsLeftOut node.grain lines records threshold prefix weight
+        → node_index (node_of_prefix node.grain prefix) ≡ node_index node
+        → nat_eq (prefix_key prefix) (get_or (keys sums) place 0) ≡ true → ⊥
     no prefix weight left_out node_same key_same =
         let is : sums_for sums (prefix_key prefix) ≡ sums_of lines records prefix =
         are prefix left_out.is_prefix (left_out_node_by_index node prefix node_is left_out.is_prefix node_same) in
@@ -215,43 +221,41 @@ first_left_out_skips_light node lines records threshold sums place key left foun
         omega (arith, lefts, left_out.weighs, left_out.heavy, light)
 
 -- one more key, whose conditioned weight reaches the threshold
-pub first_left_out_takes_heavy : {S : Type 0} → IsTotalOrder report_order
-    → ((prefix other : PrefixValue) → IsPrefix prefix → IsPrefix other
-    → node_of_prefix prefix ≡ node_of_prefix other → prefix_key prefix ≡ prefix_key other → prefix ≡ other)
+pub first_left_out_takes_heavy : {S : Type 0} → IsTotalOrder report_order → DepthLineKeysAreApart
     → (node : NodeValue) (lines : List PrefixValue) (records : List RecordValue) (codes : List ℕ) (threshold : ℕ)
-    (sums : HashMap ℕ Sums S) (place key left : ℕ) (one : PrefixValue) (found : Option LeftOut) → IsNode node
-    → AreNodeSums node lines records sums → AreLineCodes lines codes → place < length (keys sums)
+    (sums : HashMap ℕ Sums S) (place key left : ℕ) (one : PrefixValue) (found : Option LeftOut) → IsNode node.grain node
+    → AreNodeSums node lines records sums → AreLineCodes node.grain lines codes → place < length (keys sums)
     → get_or (keys sums) place 0 ≡ key → (sums_for sums key).left ≡ left → threshold ≤ left
     → HasPrefixKey node key one → key < 2 ^ 64
-    → IsFirstWith (node_index node) (take place (keys sums)) lines records threshold found
-    → IsFirstWith (node_index node) (take (place + 1) (keys sums)) lines records threshold
-    (cond (list_any (nat_eq (prefix_code one)) codes) found
+    → IsFirstWith node.grain (node_index node) (take place (keys sums)) lines records threshold found
+    → IsFirstWith node.grain (node_index node) (take (place + 1) (keys sums)) lines records threshold
+    (cond (list_any (nat_eq (line_code one)) codes) found
     (Some (first_with found (record { prefix = one; weight = left }))))
 first_left_out_takes_heavy order apart node lines records codes threshold sums place key left one found node_is are coded within at
     of_key
     heavy one_is small before =
-    cond_both (list_any (nat_eq (prefix_code one)) codes) found
+    cond_both (list_any (nat_eq (line_code one)) codes) found
     (Some (first_with found (record { prefix = one; weight = left })))
-    (IsFirstWith (node_index node) (take (place + 1) (keys sums)) lines records threshold)
+    (IsFirstWith node.grain (node_index node) (take (place + 1) (keys sums)) lines records threshold)
     (λ has. IsFirst-same_left_out (With (take place (keys sums))) (With (take (place + 1) (keys sums))) found to
     (λ prefix weight met. ⊎_elim (λ (old : With (take place (keys sums)) prefix weight). old)
     (λ (same : prefix ≡ one). absurd (met.0.no_line (subst (Contains lines) (sym same)
-    (coded_depth_has_line apart lines codes one coded one_is.is_prefix (omega (arith, one_is.of_key, small)) has))))
+    (coded_depth_has_line apart lines codes one coded (IsPrefix-depth_finest one one_is.is_prefix) (omega (arith, one_is.of_key, small)) has))))
     (from prefix weight met)) before)
     (λ has_not. IsFirst-more_left_out order (With (take place (keys sums))) (With (take (place + 1) (keys sums))) found
     (record { prefix = one; weight = left }) (meets has_not) to from before)
   where
     With : List ℕ → PrefixValue → ℕ → Type 0
-    With some prefix weight = IsLeftOut lines records threshold prefix weight
-        × ((node_index (node_of_prefix prefix) < node_index node)
-        ⊎ ((node_index (node_of_prefix prefix) ≡ node_index node) × (list_any (nat_eq (prefix_key prefix)) some ≡ true)))
+    With some prefix weight = IsLeftOut node.grain lines records threshold prefix weight
+        × ((node_index (node_of_prefix node.grain prefix) < node_index node)
+        ⊎ ((node_index (node_of_prefix node.grain prefix) ≡ node_index node) × (list_any (nat_eq (prefix_key prefix)) some ≡ true)))
 
     to : (prefix : PrefixValue) (weight : ℕ) → With (take place (keys sums)) prefix weight
         → With (take (place + 1) (keys sums)) prefix weight
     to prefix weight met = (
       met.0,
-      ⊎_elim (λ (before : node_index (node_of_prefix prefix) < node_index node). inl before)
-          (λ (is : (node_index (node_of_prefix prefix) ≡ node_index node)
+      ⊎_elim (λ (before : node_index (node_of_prefix node.grain prefix) < node_index node). inl before)
+          (λ (is : (node_index (node_of_prefix node.grain prefix) ≡ node_index node)
           × (list_any (nat_eq (prefix_key prefix)) (take place (keys sums)) ≡ true)).
           inr (
             is.0,
@@ -264,20 +268,20 @@ first_left_out_takes_heavy order apart node lines records codes threshold sums p
     from : (prefix : PrefixValue) (weight : ℕ) → With (take (place + 1) (keys sums)) prefix weight
         → With (take place (keys sums)) prefix weight ⊎ (prefix ≡ one)
     from prefix weight met =
-        ⊎_elim (λ (before : node_index (node_of_prefix prefix) < node_index node). inl (met.0, inl before))
-        (λ (is : (node_index (node_of_prefix prefix) ≡ node_index node)
+        ⊎_elim (λ (before : node_index (node_of_prefix node.grain prefix) < node_index node). inl (met.0, inl before))
+        (λ (is : (node_index (node_of_prefix node.grain prefix) ≡ node_index node)
         × (list_any (nat_eq (prefix_key prefix)) (take (place + 1) (keys sums)) ≡ true)).
         ⊎_elim (λ (old : list_any (nat_eq (prefix_key prefix)) (take place (keys sums)) ≡ true). inl
         (met.0, inr (is.0, old)))
         (λ (new : nat_eq (prefix_key prefix) (get_or (keys sums) place 0) ≡ true).
-        inr (apart prefix one met.0.is_prefix one_is.is_prefix
+        inr (apart node.grain prefix one met.0.is_prefix one_is.is_prefix
         (left_out_node_by_index node prefix node_is met.0.is_prefix is.0 ∙ sym one_is.of_node)
         (eqb-true (prefix_key prefix) (get_or (keys sums) place 0) new ∙ at ∙ sym one_is.of_key)))
         (or_cases (list_any (nat_eq (prefix_key prefix)) (take place (keys sums)))
         (nat_eq (prefix_key prefix) (get_or (keys sums) place 0))
         (sym (list_any_more (nat_eq (prefix_key prefix)) (keys sums) place 0 within) ∙ is.1))) met.1
 
-    meets : list_any (nat_eq (prefix_code one)) codes ≡ false → With (take (place + 1) (keys sums)) one left
+    meets : list_any (nat_eq (line_code one)) codes ≡ false → With (take (place + 1) (keys sums)) one left
     meets has_not =
         let is : sums_for sums (prefix_key one) ≡ sums_of lines records one = are one one_is.is_prefix one_is.of_node in (
           record {

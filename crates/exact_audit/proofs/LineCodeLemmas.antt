@@ -11,28 +11,30 @@ use Rattle.std.proofs.lemmas.List.{map_more, map_push, get_or-map, get_or-take, 
 use Rattle.std.proofs.lemmas.List.Elements.{All-push, All-map, All-weaker}
 use Rattle.std.proofs.lemmas.List.Kept.{AllPairs-cons}
 use Rattle.std.proofs.lemmas.List.Folds.{list_any-append}
-use Rattle.prefix_lattice.specs.{PrefixValue, IsPrefix, node_of_prefix, prefix_key, prefix_code, report_order}
+use Rattle.prefix_lattice.specs.{PrefixValue, IsPrefix, finest_grain, prefix_key, report_order}
+use Rattle.prefix_lattice.specs.declared.grain.Grain.{Grain}
 use Rattle.prefix_lattice.proofs.ListLemmas.{AllPairs-list_head, AllPairs-list_tail}
 use Rattle.hhh_report.specs.declared.line.Line.{Line}
-use Rattle.hhh_report.specs.{prefixes_of_lines}
-use Rattle.exact_audit.specs.LineCodes.{AreLineCodes}
+use Rattle.hhh_report.specs.{AreOfGrain, prefixes_of_lines}
+use Rattle.exact_audit.specs.LineCodes.{AreLineCodes, line_code}
 use Rattle.exact_audit.proofs.ListAnyLemmas.{list_any_truths_are_equal}
-use Rattle.exact_audit.proofs.DepthLemmas.{coded_depth_has_line}
+use Rattle.exact_audit.proofs.DepthLemmas.{coded_depth_has_line, DepthLineKeysAreApart}
 
 -- one more prefix
-AreLineCodes-push : (lines : List PrefixValue) (prefix : PrefixValue) (codes new : List ℕ) → IsPrefix prefix
+AreLineCodes-push : {grain : Grain} (lines : List PrefixValue) (prefix : PrefixValue) (codes new : List ℕ)
+    → IsPrefix grain prefix
     → prefix_key prefix < 2 ^ 64
-    → ((code : ℕ) → list_any (nat_eq code) new ≡ cond (nat_eq (prefix_code prefix) code) true
+    → ((code : ℕ) → list_any (nat_eq code) new ≡ cond (nat_eq (line_code prefix) code) true
     (list_any (nat_eq code) codes))
-    → AreLineCodes lines codes → AreLineCodes (lines ++ prefix ∷ []) new
-AreLineCodes-push lines prefix codes new is small adds before = record {
-  prefixes = All-push IsPrefix lines prefix before.prefixes is;
+    → AreLineCodes grain lines codes → AreLineCodes grain (lines ++ prefix ∷ []) new
+AreLineCodes-push {grain} lines prefix codes new is small adds before = record {
+  prefixes = All-push (IsPrefix grain) lines prefix before.prefixes is;
   small = All-push (λ line. prefix_key line < 2 ^ 64) lines prefix before.small small;
   coded = λ code. adds code
-      ∙ ap (cond (nat_eq (prefix_code prefix) code) true) (before.coded code)
-      ∙ joined (nat_eq (prefix_code prefix) code) (nat_eq code (prefix_code prefix))
-      (list_any (λ line. nat_eq code (prefix_code line)) lines) (turned (prefix_code prefix) code)
-      ∙ sym (list_any-append (λ line. nat_eq code (prefix_code line)) lines (prefix ∷ []));
+      ∙ ap (cond (nat_eq (line_code prefix) code) true) (before.coded code)
+      ∙ joined (nat_eq (line_code prefix) code) (nat_eq code (line_code prefix))
+      (list_any (λ line. nat_eq code (line_code line)) lines) (turned (line_code prefix) code)
+      ∙ sym (list_any-append (λ line. nat_eq code (line_code line)) lines (prefix ∷ []));
 }
   where
     turned : (a b : ℕ) → nat_eq a b ≡ nat_eq b a
@@ -48,16 +50,27 @@ AreLineCodes-push lines prefix codes new is small adds before = record {
     joined false false false same = refl
 
 -- one more line
-pub AreLineCodes-more : (lines : List Line) (index : ℕ) (line : Line) (codes new : List ℕ) → index < length lines
-    → line ≡ get_or lines index line → IsPrefix line.prefix → prefix_key line.prefix < 2 ^ 64
+pub AreLineCodes-more : {grain : Grain} (lines : List Line) (index : ℕ) (line : Line) (codes new : List ℕ)
+    → index < length lines
+    → line ≡ get_or lines index line → IsPrefix grain line.prefix → prefix_key line.prefix < 2 ^ 64
     → ((code : ℕ)
-    → list_any (nat_eq code) new ≡ cond (nat_eq (prefix_code line.prefix) code) true (list_any (nat_eq code) codes))
-    → AreLineCodes (prefixes_of_lines (take index lines)) codes → AreLineCodes (prefixes_of_lines (take (index + 1) lines)) new
-AreLineCodes-more lines index line codes new within at is small adds before =
-    subst (λ prefixes. AreLineCodes prefixes new)
+    → list_any (nat_eq code) new ≡ cond (nat_eq (line_code line.prefix) code) true (list_any (nat_eq code) codes))
+    → AreLineCodes grain (prefixes_of_lines (take index lines)) codes
+    → AreLineCodes grain (prefixes_of_lines (take (index + 1) lines)) new
+AreLineCodes-more {grain} lines index line codes new within at is small adds before =
+    subst (λ prefixes. AreLineCodes grain prefixes new)
     (sym (map_more (λ line. line.prefix) lines index line within
     ∙ ap (λ (l : Line). prefixes_of_lines (take index lines) ++ l.prefix ∷ []) (sym at)))
     (AreLineCodes-push (prefixes_of_lines (take index lines)) line.prefix codes new is small adds before)
+
+-- the codes of lines are their codes for each grain that the lines are of
+pub AreLineCodes-of_grain : {grain : Grain} (lines : List Line) (codes : List ℕ) → AreOfGrain grain lines
+    → AreLineCodes finest_grain (prefixes_of_lines lines) codes → AreLineCodes grain (prefixes_of_lines lines) codes
+AreLineCodes-of_grain {grain} lines codes of_grain coded = record {
+  prefixes = All-map (IsPrefix grain) (λ (l : Line). l.prefix) lines of_grain;
+  small = coded.small;
+  coded = coded.coded;
+}
 
 -- no two lines in the strict order of a report have the same prefix
 pub line_prefixes_differ : IsTotalOrder report_order → (lines : List Line)
@@ -81,15 +94,15 @@ line_prefixes_differ order (line ∷ lines) rising =
     (AllPairs-list_tail (λ (line later : Line). report_order line.prefix later.prefix ≡ Less) line lines rising))
 
 -- the code of the next line is a new one
-pub next_line_code_is_new : ((prefix other : PrefixValue) → IsPrefix prefix → IsPrefix other
-    → node_of_prefix prefix ≡ node_of_prefix other → prefix_key prefix ≡ prefix_key other → prefix ≡ other)
+pub next_line_code_is_new : {grain : Grain} → DepthLineKeysAreApart
     → (lines : List Line) (index : ℕ) (line : Line) (codes : List ℕ)
     → AllPairs (λ prefix other. prefix ≢ other) (prefixes_of_lines lines)
-    → index < length lines → line ≡ get_or lines index line → IsPrefix line.prefix → prefix_key line.prefix < 2 ^ 64
-    → AreLineCodes (prefixes_of_lines (take index lines)) codes
-    → list_any (nat_eq (prefix_code line.prefix)) codes ≡ false
+    → index < length lines → line ≡ get_or lines index line → IsPrefix finest_grain line.prefix
+    → prefix_key line.prefix < 2 ^ 64
+    → AreLineCodes grain (prefixes_of_lines (take index lines)) codes
+    → list_any (nat_eq (line_code line.prefix)) codes ≡ false
 next_line_code_is_new apart lines index line codes differ within at is small coded =
-    false_from_ne_true (list_any (nat_eq (prefix_code line.prefix)) codes) (λ has.
+    false_from_ne_true (list_any (nat_eq (line_code line.prefix)) codes) (λ has.
     twice (coded_depth_has_line apart (prefixes_of_lines (take index lines)) codes line.prefix coded is small has))
   where
     all : List PrefixValue
@@ -115,14 +128,14 @@ next_line_code_is_new apart lines index line codes differ within at is small cod
 -- so it is appended, and stands at the line's place
 pub codes_stay_placed : (lines : List Line) (index : ℕ) (line : Line) (codes new : List ℕ)
     → index < length lines → line ≡ get_or lines index line
-    → list_any (nat_eq (prefix_code line.prefix)) codes ≡ false
-    → new ≡ cond (list_any (nat_eq (prefix_code line.prefix)) codes) codes (codes ++ prefix_code line.prefix ∷ [])
-    → codes ≡ map prefix_code (prefixes_of_lines (take index lines))
-    → new ≡ map prefix_code (prefixes_of_lines (take (index + 1) lines))
+    → list_any (nat_eq (line_code line.prefix)) codes ≡ false
+    → new ≡ cond (list_any (nat_eq (line_code line.prefix)) codes) codes (codes ++ line_code line.prefix ∷ [])
+    → codes ≡ map line_code (prefixes_of_lines (take index lines))
+    → new ≡ map line_code (prefixes_of_lines (take (index + 1) lines))
 codes_stay_placed lines index line codes new within at none is before =
     is
-    ∙ cond-false (list_any (nat_eq (prefix_code line.prefix)) codes) codes (codes ++ prefix_code line.prefix ∷ []) none
-    ∙ ap (λ l. l ++ prefix_code line.prefix ∷ []) before
-    ∙ sym (map_push prefix_code (prefixes_of_lines (take index lines)) line.prefix)
-    ∙ ap (λ (l : Line). map prefix_code (prefixes_of_lines (take index lines) ++ l.prefix ∷ [])) at
-    ∙ ap (map prefix_code) (sym (map_more (λ (l : Line). l.prefix) lines index line within))
+    ∙ cond-false (list_any (nat_eq (line_code line.prefix)) codes) codes (codes ++ line_code line.prefix ∷ []) none
+    ∙ ap (λ l. l ++ line_code line.prefix ∷ []) before
+    ∙ sym (map_push line_code (prefixes_of_lines (take index lines)) line.prefix)
+    ∙ ap (λ (l : Line). map line_code (prefixes_of_lines (take index lines) ++ l.prefix ∷ [])) at
+    ∙ ap (map line_code) (sym (map_more (λ (l : Line). l.prefix) lines index line within))

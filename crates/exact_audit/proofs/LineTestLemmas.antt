@@ -9,13 +9,15 @@ use Rattle.std.proofs.lemmas.List.Elements.{All-more}
 use Rattle.hhh_report.specs.declared.line.Line.{Line}
 use Rattle.hhh_report.specs.{prefixes_of_lines}
 use Rattle.prefix_lattice.specs.{RecordValue, node_index, node_of_prefix}
+use Rattle.prefix_lattice.specs.declared.grain.Grain.{Grain}
 use Rattle.exact_audit.specs.declared.node_sums.Sums.{Sums}
 use Rattle.exact_audit.specs.NodeSums.{sums_of}
 use Rattle.exact_audit.specs.LineTests.{FailsFirst}
 use Rattle.exact_audit.specs.Findings.{AreSumsOf}
 
 -- a line that fails after those that pass
-pub line_test_fails_after_passes : (Passes : Line → Type 0) (lines : List Line) (place : ℕ) (line : Line) → place < length lines
+pub line_test_fails_after_passes : (Passes : Line → Type 0) (lines : List Line) (place : ℕ) (line : Line)
+    → place < length lines
     → line ≡ get_or lines place line → ¬ Passes line → All Passes (take place lines)
     → FailsFirst Passes lines (place + 1)
 line_test_fails_after_passes Passes lines place line within at fails passed = record {
@@ -28,7 +30,8 @@ line_test_fails_after_passes Passes lines place line within at fails passed = re
 }
 
 -- a line that passes after those that pass
-pub line_test_passes_one_more : (Passes : Line → Type 0) (lines : List Line) (place : ℕ) (line : Line) → place < length lines
+pub line_test_passes_one_more : (Passes : Line → Type 0) (lines : List Line) (place : ℕ) (line : Line)
+    → place < length lines
     → line ≡ get_or lines place line → Passes line → All Passes (take place lines) → All Passes (take (place + 1) lines)
 line_test_passes_one_more Passes lines place line within at passes passed =
     All-more Passes lines place line within passed (subst Passes at passes)
@@ -56,16 +59,16 @@ line_test_reads_other_place xs place other x apart within =
     ∙ ap Some (get_or-set_other xs place other x x apart) ∙ sym (slice_get-get_or xs other x within)
 
 -- one more line, of the node
-pub line_test_notes_line : (index place : ℕ) (lines : List Line) (records : List RecordValue) (sums : List Sums) (line : Line)
+pub line_test_notes_line : (grain : Grain) (index place : ℕ) (lines : List Line) (records : List RecordValue) (sums : List Sums) (line : Line)
     (own : Sums) → length sums ≡ length lines → place < length lines → line ≡ get_or lines place line
     → own ≡ sums_of (prefixes_of_lines lines) records line.prefix
     → ((other : ℕ) (line : Line) → slice_get lines other ≡ Some line
-    → (node_index (node_of_prefix line.prefix) < index) ⊎ ((node_index (node_of_prefix line.prefix) ≡ index) × (other < place))
+    → (node_index (node_of_prefix grain line.prefix) < index) ⊎ ((node_index (node_of_prefix grain line.prefix) ≡ index) × (other < place))
     → slice_get sums other ≡ Some (sums_of (prefixes_of_lines lines) records line.prefix))
     → (other : ℕ) (line : Line) → slice_get lines other ≡ Some line
-    → (node_index (node_of_prefix line.prefix) < index) ⊎ ((node_index (node_of_prefix line.prefix) ≡ index) × (other < place + 1))
+    → (node_index (node_of_prefix grain line.prefix) < index) ⊎ ((node_index (node_of_prefix grain line.prefix) ≡ index) × (other < place + 1))
     → slice_get (set sums place own) other ≡ Some (sums_of (prefixes_of_lines lines) records line.prefix)
-line_test_notes_line index place lines records sums line own same within at is before other its there when =
+line_test_notes_line grain index place lines records sums line own same within at is before other its there when =
     ⊎_elim (λ (here : other ≡ place).
     let one : its ≡ line = some-line its line
     (sym there ∙ ap (slice_get lines) here ∙ slice_get_read lines (length lines) place line refl within at) in
@@ -74,8 +77,8 @@ line_test_notes_line index place lines records sums line own same within at is b
     (λ (apart : other ≢ place).
     line_test_reads_other_place sums place other own apart (omega (arith, same, slice_get_within lines other its there))
     ∙ before other its there
-    (⊎_elim (λ (less : node_index (node_of_prefix its.prefix) < index). inl less)
-    (λ (equal : (node_index (node_of_prefix its.prefix) ≡ index) × (other < place + 1)).
+    (⊎_elim (λ (less : node_index (node_of_prefix grain its.prefix) < index). inl less)
+    (λ (equal : (node_index (node_of_prefix grain its.prefix) ≡ index) × (other < place + 1)).
     inr (equal.0, less_than apart equal.1)) when))
     (cases_eq other place)
   where
@@ -90,24 +93,24 @@ line_test_notes_line index place lines records sums line own same within at is b
         (cases_lt a b)
 
 -- one more line, of another node
-pub line_test_skips_other_node : (index place : ℕ) (lines : List Line) (records : List RecordValue) (sums : List Sums) (line : Line)
-    → place < length lines → line ≡ get_or lines place line → node_index (node_of_prefix line.prefix) ≢ index
+pub line_test_skips_other_node : (grain : Grain) (index place : ℕ) (lines : List Line) (records : List RecordValue) (sums : List Sums) (line : Line)
+    → place < length lines → line ≡ get_or lines place line → node_index (node_of_prefix grain line.prefix) ≢ index
     → ((other : ℕ) (line : Line) → slice_get lines other ≡ Some line
-    → (node_index (node_of_prefix line.prefix) < index) ⊎ ((node_index (node_of_prefix line.prefix) ≡ index) × (other < place))
+    → (node_index (node_of_prefix grain line.prefix) < index) ⊎ ((node_index (node_of_prefix grain line.prefix) ≡ index) × (other < place))
     → slice_get sums other ≡ Some (sums_of (prefixes_of_lines lines) records line.prefix))
     → (other : ℕ) (line : Line) → slice_get lines other ≡ Some line
-    → (node_index (node_of_prefix line.prefix) < index) ⊎ ((node_index (node_of_prefix line.prefix) ≡ index) × (other < place + 1))
+    → (node_index (node_of_prefix grain line.prefix) < index) ⊎ ((node_index (node_of_prefix grain line.prefix) ≡ index) × (other < place + 1))
     → slice_get sums other ≡ Some (sums_of (prefixes_of_lines lines) records line.prefix)
-line_test_skips_other_node index place lines records sums line within at differs before other its there when =
+line_test_skips_other_node grain index place lines records sums line within at differs before other its there when =
     before other its there
-    (⊎_elim (λ (less : node_index (node_of_prefix its.prefix) < index). inl less)
-    (λ (equal : (node_index (node_of_prefix its.prefix) ≡ index) × (other < place + 1)).
+    (⊎_elim (λ (less : node_index (node_of_prefix grain its.prefix) < index). inl less)
+    (λ (equal : (node_index (node_of_prefix grain its.prefix) ≡ index) × (other < place + 1)).
     ⊎_elim (λ (less : other < place). inr (equal.0, less))
     (λ (not_less : place ≤ other).
     let here : other ≡ place = omega (arith, not_less, equal.1) in
     let one : its ≡ line = some-line its line
     (sym there ∙ ap (slice_get lines) here ∙ slice_get_read lines (length lines) place line refl within at) in
-    absurd (differs (sym (ap (λ (l : Line). node_index (node_of_prefix l.prefix)) one) ∙ equal.0)))
+    absurd (differs (sym (ap (λ (l : Line). node_index (node_of_prefix grain l.prefix)) one) ∙ equal.0)))
     (cases_lt other place)) when)
   where
     some-line : (x y : Line) → ◌≡◌ {A = Option Line} (Some x) (Some y) → x ≡ y

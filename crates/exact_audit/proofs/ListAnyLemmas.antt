@@ -1,14 +1,16 @@
 -- Tests of lists: whether one of the elements passes.
 use Rattle.std.proofs.Common.{◌≡◌, ℕ, Bool, true, false, ◌&&◌, ◌||◌, ◌<◌, List, [], ◌∷◌, length, suc, cond, filter}
-use Rattle.std.proofs.Common.{refl, sym, ap, ◌∙◌, arith, get_or}
+use Rattle.std.proofs.Common.{refl, sym, ap, ◌∙◌, arith, get_or, All}
 use Rattle.std.specs.List.{list_any}
+use Rattle.std.proofs.lemmas.List.Elements.{All-head, All-tail}
 
 -- two tests that agree on each element
-pub list_any-same : {X : Type 0} (p q : X → Bool) (xs : List X) → ((x : X) → p x ≡ q x)
+pub list_any-same : {X : Type 0} (p q : X → Bool) (xs : List X) → All (λ x. p x ≡ q x) xs
     → list_any p xs ≡ list_any q xs
 list_any-same p q [] same = refl
 list_any-same p q (x ∷ xs) same =
-    ap (λ b. b || list_any p xs) (same x) ∙ ap (λ b. q x || b) (list_any-same p q xs same)
+    ap (λ b. b || list_any p xs) (All-head (λ x. p x ≡ q x) x xs same)
+    ∙ ap (λ b. q x || b) (list_any-same p q xs (All-tail (λ x. p x ≡ q x) x xs same))
 
 -- one of the elements that pass a test passes another
 pub list_any-filter : {X : Type 0} (p q : X → Bool) (xs : List X)

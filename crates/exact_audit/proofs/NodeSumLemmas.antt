@@ -1,6 +1,6 @@
 -- The sums of a node, by keys and by prefixes.
 use Rattle.std.proofs.Common.{◌≡◌, ℕ, ◌+◌, ◌<◌, ◌≤◌, nat_eq, Bool, true, false, ◌&&◌, not, cond, List, [], ◌∷◌}
-use Rattle.std.proofs.Common.{length, take, get_or, All, map, filter, refl, sym, ap, ◌∙◌, subst, arith}
+use Rattle.std.proofs.Common.{length, take, get_or, All, map, filter, refl, sym, ap, ◌∙◌, arith}
 use Rattle.std.specs.List.{sum_by}
 use Rattle.std.specs.HashMap.{HashMap}
 use Rattle.std.proofs.lemmas.Bool.{false≢true, eqb-true}
@@ -10,13 +10,14 @@ use Rattle.prefix_lattice.specs.{RecordValue, NodeValue, IsNode, PrefixValue, Is
 use Rattle.prefix_lattice.specs.{node_of_prefix}
 use Rattle.prefix_lattice.specs.{prefix_key, prefix_at}
 use Rattle.prefix_lattice.specs.{prefix_weight, total_weight, conditioned_weight, one_line_covers, lines_under}
+use Rattle.prefix_lattice.specs.declared.grain.Grain.{Grain}
 use Rattle.exact_audit.specs.declared.counted.Counted.{Counted}
 use Rattle.exact_audit.specs.declared.node_sums.Sums.{Sums}
 use Rattle.exact_audit.specs.Depths.{AreDepths, explained_by}
 use Rattle.exact_audit.specs.NodeSums.{records_in, AreCountedIn, has_sum, sum_weight}
 use Rattle.exact_audit.specs.NodeSums.{sum_left, sums_for, AreKeySums}
 use Rattle.exact_audit.specs.NodeSums.{AreNodeSums}
-use Rattle.exact_audit.proofs.DepthLemmas.{explained_by_depths}
+use Rattle.exact_audit.proofs.DepthLemmas.{explained_by_depths, IsNode-depth, DepthLineKeysAreApart}
 
 -- a sum over elements that pass a test is the sum over those that a filter of what they hold keeps
 node_sum_by_test : {X Y : Type 0} (test : X → Bool) (keep : Y → Bool) (hold : X → Y) (weigh : Y → ℕ) (xs : List X)
@@ -59,7 +60,8 @@ node_sum_is_record_weight (c ∷ counted) =
     ∙ sym (sum_by-cons (λ (r : RecordValue). r.weight) c.rec (records_in counted))
 
 -- what some of the records so far weigh, and the next one, is at most the total
-pub partial_node_sum_fits : (counted : List Counted) (test : Counted → Bool) (index : ℕ) (one : Counted) → index < length counted
+pub partial_node_sum_fits : (counted : List Counted) (test : Counted → Bool) (index : ℕ) (one : Counted)
+    → index < length counted
     → one ≡ get_or counted index one
     → sum_by (λ (c : Counted). cond (test c) c.rec.weight 0) (take index counted) + one.rec.weight
     ≤ total_weight (records_in counted)
@@ -98,37 +100,42 @@ AreKeySums-next_in_node node counted index one key old new within at is weight l
 
 -- what the laws of keys say of a prefix and its node
 pub record AreNodeSumLaws : Type 0 where
-  pub covering : (prefix : PrefixValue) (rec : RecordValue) → IsPrefix prefix
-      → covers prefix rec ≡ nat_eq (prefix_key (prefix_at (node_of_prefix prefix) rec)) (prefix_key prefix)
-  pub of_record : (node : NodeValue) (rec : RecordValue) → IsNode node
+  pub covering : (grain : Grain) (prefix : PrefixValue) (rec : RecordValue) → IsPrefix grain prefix
+      → covers prefix rec ≡ nat_eq (prefix_key (prefix_at (node_of_prefix grain prefix) rec)) (prefix_key prefix)
+  pub of_record : (node : NodeValue) (rec : RecordValue) → IsNode node.grain node
       → HasPrefixKey node (prefix_key (prefix_at node rec)) (prefix_at node rec)
-  pub apart : (prefix other : PrefixValue) → IsPrefix prefix → IsPrefix other
-      → node_of_prefix prefix ≡ node_of_prefix other → prefix_key prefix ≡ prefix_key other → prefix ≡ other
+  pub apart : DepthLineKeysAreApart
 
 -- the weight of the records with the key of a prefix is the weight of the prefix
-sum_weight-node_sum : AreNodeSumLaws → (prefix : PrefixValue) (counted : List Counted) → IsPrefix prefix
-    → sum_weight (node_of_prefix prefix) (prefix_key prefix) counted ≡ prefix_weight prefix (records_in counted)
-sum_weight-node_sum laws prefix counted is =
-    node_sum_by_test (has_sum (node_of_prefix prefix) (prefix_key prefix)) (covers prefix) (λ (c : Counted). c.rec)
+sum_weight-node_sum : AreNodeSumLaws → (grain : Grain) (prefix : PrefixValue) (counted : List Counted)
+    → IsPrefix grain prefix
+    → sum_weight (node_of_prefix grain prefix) (prefix_key prefix) counted ≡ prefix_weight prefix (records_in counted)
+sum_weight-node_sum laws grain prefix counted is =
+    node_sum_by_test (has_sum (node_of_prefix grain prefix) (prefix_key prefix)) (covers prefix) (λ (c : Counted). c.rec)
     (λ (r : RecordValue). r.weight) counted
-    (λ place d within. sym (laws.covering prefix (get_or counted place d).rec is))
+    (λ place d within. sym (laws.covering grain prefix (get_or counted place d).rec is))
 
 -- and the weight of those that no line explains is its conditioned weight
-sum_left-node_sum : AreNodeSumLaws → (lines : List PrefixValue) (prefix : PrefixValue) (counted : List Counted) → IsPrefix prefix
-    → IsNode (node_of_prefix prefix) → All (λ (c : Counted). AreDepths lines c.rec c.depths) counted
-    → sum_left (node_of_prefix prefix) (prefix_key prefix) counted ≡ conditioned_weight prefix lines (records_in counted)
-sum_left-node_sum laws lines prefix counted is node depths =
-    node_sum_by_test (λ (c : Counted). has_sum (node_of_prefix prefix) (prefix_key prefix) c && not
-    (explained_by c.depths (node_of_prefix prefix)))
+sum_left-node_sum : AreNodeSumLaws
+    → (grain : Grain) (lines : List PrefixValue) (prefix : PrefixValue) (counted : List Counted)
+    → IsPrefix grain prefix → All (IsPrefix grain) lines
+    → All (λ (c : Counted). AreDepths grain lines c.rec c.depths) counted
+    → sum_left (node_of_prefix grain prefix) (prefix_key prefix) counted
+    ≡ conditioned_weight prefix lines (records_in counted)
+sum_left-node_sum laws grain lines prefix counted is prefixes depths =
+    node_sum_by_test (λ (c : Counted). has_sum node (prefix_key prefix) c && not (explained_by c.depths node))
     (λ (r : RecordValue). covers prefix r && not (one_line_covers (lines_under prefix lines) r)) (λ (c : Counted). c.rec)
     (λ (r : RecordValue). r.weight) counted
     (λ place d within. same (get_or counted place d) (depths place d within))
   where
-    own : (c : Counted) → has_sum (node_of_prefix prefix) (prefix_key prefix) c ≡ true → prefix_at (node_of_prefix prefix) c.rec ≡ prefix
+    node : NodeValue
+    node = node_of_prefix grain prefix
+
+    own : (c : Counted) → has_sum node (prefix_key prefix) c ≡ true → prefix_at node c.rec ≡ prefix
     own c has =
-        let at = laws.of_record (node_of_prefix prefix) c.rec node in
-        laws.apart (prefix_at (node_of_prefix prefix) c.rec) prefix at.is_prefix is at.of_node
-        (eqb-true (prefix_key (prefix_at (node_of_prefix prefix) c.rec)) (prefix_key prefix) has)
+        let at = laws.of_record node c.rec (IsNode-depth prefix is) in
+        laws.apart grain (prefix_at node c.rec) prefix at.is_prefix is at.of_node
+        (eqb-true (prefix_key (prefix_at node c.rec)) (prefix_key prefix) has)
 
     split : (a b x y : Bool) → a ≡ b → (a ≡ true → x ≡ y) → (a && not x) ≡ (b && not y)
     split true true x y same more = ap not (more refl)
@@ -136,25 +143,25 @@ sum_left-node_sum laws lines prefix counted is node depths =
     split false true x y same more = absurd (false≢true same)
     split false false x y same more = refl
 
-    same : (c : Counted) → AreDepths lines c.rec c.depths
-        → (has_sum (node_of_prefix prefix) (prefix_key prefix) c && not (explained_by c.depths (node_of_prefix prefix)))
+    same : (c : Counted) → AreDepths grain lines c.rec c.depths
+        → (has_sum node (prefix_key prefix) c && not (explained_by c.depths node))
         ≡ (covers prefix c.rec && not (one_line_covers (lines_under prefix lines) c.rec))
     same c are =
-        split (has_sum (node_of_prefix prefix) (prefix_key prefix) c) (covers prefix c.rec) (explained_by c.depths (node_of_prefix prefix))
-        (one_line_covers (lines_under prefix lines) c.rec) (sym (laws.covering prefix c.rec is))
-        (λ has. explained_by_depths lines c.rec c.depths (node_of_prefix prefix) are node
+        split (has_sum node (prefix_key prefix) c) (covers prefix c.rec) (explained_by c.depths node)
+        (one_line_covers (lines_under prefix lines) c.rec) (sym (laws.covering grain prefix c.rec is))
+        (λ has. explained_by_depths lines c.rec c.depths node are prefixes (IsNode-depth prefix is)
         ∙ ap (λ p. one_line_covers (lines_under p lines) c.rec) (own c has))
 
 -- sums by keys are sums by prefixes
 pub AreNodeSums-by_prefix : {S : Type 0} → AreNodeSumLaws → (node : NodeValue) (lines : List PrefixValue)
-    (records : List RecordValue) (counted : List Counted) (sums : HashMap ℕ Sums S) → IsNode node
-    → AreKeySums node counted sums → AreCountedIn lines records counted → AreNodeSums node lines records sums
-AreNodeSums-by_prefix laws node lines records counted sums node_is by_key are prefix is of_node =
+    (records : List RecordValue) (counted : List Counted) (sums : HashMap ℕ Sums S)
+    → AreKeySums node counted sums → AreCountedIn node.grain lines records counted → AreNodeSums node lines records sums
+AreNodeSums-by_prefix laws node lines records counted sums by_key are prefix is of_node =
     let make : ℕ → ℕ → Sums = λ weight left. record { weight = weight; left = left } in
     ap (λ weight. make weight (sums_for sums (prefix_key prefix)).left)
     (by_key.weight (prefix_key prefix) ∙ ap (λ n. sum_weight n (prefix_key prefix) counted) (sym of_node)
-    ∙ sum_weight-node_sum laws prefix counted is ∙ ap (prefix_weight prefix) are.same)
+    ∙ sum_weight-node_sum laws node.grain prefix counted is ∙ ap (prefix_weight prefix) are.same)
     ∙ ap (make (prefix_weight prefix records))
     (by_key.left (prefix_key prefix) ∙ ap (λ n. sum_left n (prefix_key prefix) counted) (sym of_node)
-    ∙ sum_left-node_sum laws lines prefix counted is (subst IsNode (sym of_node) node_is) are.depths
+    ∙ sum_left-node_sum laws node.grain lines prefix counted is are.prefixes are.depths
     ∙ ap (conditioned_weight prefix lines) are.same)

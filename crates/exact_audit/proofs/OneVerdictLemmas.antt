@@ -9,7 +9,8 @@ use Rattle.std.specs.declared.cmp.Ordering.TheVariants.{Less, Equal, Greater}
 use Rattle.std.proofs.lemmas.Bool.{cases_lt, cases_order, cases_eq}
 use Rattle.std.proofs.lemmas.List.{get_or-take, length-take-le}
 use Rattle.std.proofs.lemmas.Option.{get_or_from_slice_get, slice_get_within}
-use Rattle.prefix_lattice.specs.{RecordValue, PrefixValue, IsPrefix, report_order, conditioned_weight}
+use Rattle.prefix_lattice.specs.{RecordValue, PrefixValue, IsPrefix, finest_grain, report_order, conditioned_weight}
+use Rattle.prefix_lattice.specs.declared.grain.Grain.{Grain}
 use Rattle.hhh_report.specs.{records_before, AreWithinLists, IsThreshold, LineHoldsWeight}
 use Rattle.hhh_report.specs.declared.line.Line.{Line}
 use Rattle.hhh_report.specs.declared.report.Report.{Report}
@@ -23,10 +24,12 @@ use Rattle.exact_audit.specs.Verdict.{IsVerdict, IsTotal}
 use Rattle.exact_audit.specs.LineTests.{PassWeight, PassWidth, PassHeavy}
 use Rattle.exact_audit.specs.LineTests.{PassJustified, PassesJustified}
 use Rattle.exact_audit.specs.Verdict.{ReachesLines}
+use Rattle.exact_audit.proofs.DepthLemmas.{IsPrefix-depth_finest}
 use Rattle.exact_audit.proofs.VerdictLemmas.{no_verdict_where_all_pass}
 
 -- two first lines that fail a test are the same
-one_verdict_names_one_line : (Passes : Line → Type 0) (lines : List Line) (number other : ℕ) → FailsFirst Passes lines number
+one_verdict_names_one_line : (Passes : Line → Type 0) (lines : List Line) (number other : ℕ)
+    → FailsFirst Passes lines number
     → FailsFirst Passes lines other → number ≡ other
 one_verdict_names_one_line Passes lines number other is other_is =
     ⊎_elim (λ (same : is.before ≡ other_is.before). omega (arith, same, is.counted, other_is.counted))
@@ -47,15 +50,17 @@ one_verdict_names_one_line Passes lines number other is other_is =
 
 -- two first prefixes that are left out are the same
 one_verdict_names_one_prefix : IsTotalOrder report_order
-    → ((prefix other : PrefixValue) → IsPrefix prefix → IsPrefix other → report_order prefix other ≡ Equal → prefix
+    → ((prefix other : PrefixValue) → IsPrefix finest_grain prefix → IsPrefix finest_grain other → report_order prefix other ≡ Equal → prefix
     ≡ other)
-    → (lines : List PrefixValue) (records : List RecordValue) (threshold : ℕ) (prefix other : PrefixValue)
+    → {grain : Grain} (lines : List PrefixValue) (records : List RecordValue) (threshold : ℕ) (prefix other : PrefixValue)
     (weight more : ℕ)
-    → IsFirstLeftOut lines records threshold prefix weight → IsFirstLeftOut lines records threshold other more
+    → IsFirstLeftOut grain lines records threshold prefix weight
+    → IsFirstLeftOut grain lines records threshold other more
     → LeftOut prefix weight ≡ LeftOut other more
 one_verdict_names_one_prefix order apart lines records threshold prefix other weight more is other_is =
     let same : prefix ≡ other =
-    apart prefix other is.left_out.is_prefix other_is.left_out.is_prefix
+    apart prefix other (IsPrefix-depth_finest prefix is.left_out.is_prefix)
+    (IsPrefix-depth_finest other other_is.left_out.is_prefix)
     (equal (report_order prefix other) refl) in
     let weights : weight ≡ more =
     is.left_out.weighs ∙ ap (λ p. conditioned_weight p lines records) same ∙ sym other_is.left_out.weighs in
@@ -68,8 +73,9 @@ one_verdict_names_one_prefix order apart lines records threshold prefix other we
         absurd (is.first other more other_is.left_out
         (order.antisymm other prefix ∙ ap ordering_reverse greater))
 
--- what a verdict is on: the lists, the capacity, the share and the report
+-- what a verdict is on: the grain, the lists, the capacity, the share and the report
 record OneVerdictSubject : Type 0 where
+  pub grain : Grain
   pub lists : List (List RecordValue)
   pub capacity : ℕ
   pub phi : ℕ
@@ -77,7 +83,12 @@ record OneVerdictSubject : Type 0 where
 
 -- what the tests of lines are made with
 abbrev one_verdict_tested_by : OneVerdictSubject → TestMeasures
-one_verdict_tested_by of = record { capacity = of.capacity; threshold = of.report.threshold; total = of.report.total }
+one_verdict_tested_by of = record {
+  grain = of.grain;
+  capacity = of.capacity;
+  threshold = of.report.threshold;
+  total = of.report.total;
+}
 
 -- the records that the report counts
 abbrev one_verdict_records : OneVerdictSubject → List RecordValue
@@ -93,7 +104,7 @@ OneVerdictTest of (suc (suc (suc (suc zero)))) = PassWidth (one_verdict_tested_b
 OneVerdictTest of (suc (suc (suc (suc (suc zero))))) = PassHeavy (one_verdict_tested_by of) of.report.lines
 OneVerdictTest of (suc (suc (suc (suc (suc (suc zero)))))) = PassJustified (one_verdict_tested_by of) (one_verdict_records of) of.report.lines
 OneVerdictTest of (suc (suc (suc (suc (suc (suc (suc zero))))))) =
-    AreComplete of.report.threshold (prefixes_of_lines of.report.lines) (one_verdict_records of)
+    AreComplete of.grain of.report.threshold (prefixes_of_lines of.report.lines) (one_verdict_records of)
 OneVerdictTest of (suc (suc (suc (suc (suc (suc (suc (suc n)))))))) = ⊥
 
 -- this many of the first tests hold
@@ -114,7 +125,7 @@ tests_before_one_verdict (LeftOut prefix weight) = 7
 tests_before_one_verdict Good = 8
 
 abbrev IsOneVerdictOn : OneVerdictSubject → Verdict → Type 0
-IsOneVerdictOn of verdict = IsVerdict of.lists of.capacity of.phi of.report verdict
+IsOneVerdictOn of verdict = IsVerdict of.grain of.lists of.capacity of.phi of.report verdict
 
 one_verdict_passes_head : (of : OneVerdictSubject) → ReachesLines of.lists of.phi of.report → OneVerdictTestsHold of 3
 one_verdict_passes_head of passes = (((tt, passes.positions), passes.total), passes.threshold)
@@ -134,7 +145,8 @@ tests_hold_before_one_verdict of Good is =
     ((((((((tt, is.positions), is.total), is.threshold), is.interval), is.width), is.heavy), is.justified), is.complete)
 
 -- and that one fails
-test_fails_at_one_verdict : (of : OneVerdictSubject) (verdict : Verdict) → IsOneVerdictOn of verdict → ¬ OneVerdictTest of (tests_before_one_verdict verdict)
+test_fails_at_one_verdict : (of : OneVerdictSubject) (verdict : Verdict) → IsOneVerdictOn of verdict
+    → ¬ OneVerdictTest of (tests_before_one_verdict verdict)
 test_fails_at_one_verdict of BadPositions is = is
 test_fails_at_one_verdict of BadTotal is = is.1
 test_fails_at_one_verdict of BadThreshold is = is.2
@@ -154,7 +166,8 @@ test_fails_at_one_verdict of (LeftOut prefix weight) is = λ complete.
 test_fails_at_one_verdict of Good is = λ none. none
 
 -- each of the first tests
-each_test_before_one_verdict : (of : OneVerdictSubject) (n k : ℕ) → k < n → OneVerdictTestsHold of n → OneVerdictTest of k
+each_test_before_one_verdict : (of : OneVerdictSubject) (n k : ℕ) → k < n → OneVerdictTestsHold of n
+    → OneVerdictTest of k
 each_test_before_one_verdict of zero k less all = absurd (omega arith)
 each_test_before_one_verdict of (suc n) k less all =
     ⊎_elim (λ (same : k ≡ n). subst (OneVerdictTest of) (sym same) all.1)
@@ -164,7 +177,8 @@ each_test_before_one_verdict of (suc n) k less all =
     below apart = ⊎_elim (λ (is : k < n). is) (λ (not : n ≤ k). absurd (apart (omega arith))) (cases_lt k n)
 
 -- no verdict fails earlier than another
-one_verdict_is_no_earlier : (of : OneVerdictSubject) (verdict other : Verdict) → IsOneVerdictOn of verdict → IsOneVerdictOn of other
+one_verdict_is_no_earlier : (of : OneVerdictSubject) (verdict other : Verdict) → IsOneVerdictOn of verdict
+    → IsOneVerdictOn of other
     → tests_before_one_verdict verdict < tests_before_one_verdict other
     → ⊥
 one_verdict_is_no_earlier of verdict other is other_is less =
@@ -173,7 +187,7 @@ one_verdict_is_no_earlier of verdict other is other_is less =
 
 -- two verdicts that fail at the same test are the same
 one_verdict_at_one_test : IsTotalOrder report_order
-    → ((prefix other : PrefixValue) → IsPrefix prefix → IsPrefix other → report_order prefix other ≡ Equal → prefix
+    → ((prefix other : PrefixValue) → IsPrefix finest_grain prefix → IsPrefix finest_grain other → report_order prefix other ≡ Equal → prefix
     ≡ other)
     → (of : OneVerdictSubject) (verdict other : Verdict) → IsOneVerdictOn of verdict → IsOneVerdictOn of other
     → tests_before_one_verdict verdict ≡ tests_before_one_verdict other → verdict
@@ -200,12 +214,13 @@ one_verdict_at_one_test order apart of verdict other is other_is same = absurd (
 
 -- a report has one verdict
 pub one_verdict : IsTotalOrder report_order
-    → ((prefix other : PrefixValue) → IsPrefix prefix → IsPrefix other → report_order prefix other ≡ Equal → prefix
+    → ((prefix other : PrefixValue) → IsPrefix finest_grain prefix → IsPrefix finest_grain other → report_order prefix other ≡ Equal → prefix
     ≡ other)
-    → (lists : List (List RecordValue)) (capacity phi : ℕ) (report : Report) (verdict other : Verdict)
-    → IsVerdict lists capacity phi report verdict → IsVerdict lists capacity phi report other → verdict ≡ other
-one_verdict order apart lists capacity phi report verdict other is other_is =
-    let of : OneVerdictSubject = record { lists = lists; capacity = capacity; phi = phi; report = report } in
+    → (grain : Grain) (lists : List (List RecordValue)) (capacity phi : ℕ) (report : Report) (verdict other : Verdict)
+    → IsVerdict grain lists capacity phi report verdict → IsVerdict grain lists capacity phi report other
+    → verdict ≡ other
+one_verdict order apart grain lists capacity phi report verdict other is other_is =
+    let of : OneVerdictSubject = record { grain = grain; lists = lists; capacity = capacity; phi = phi; report = report } in
     ⊎_elim (λ (same : tests_before_one_verdict verdict ≡ tests_before_one_verdict other). one_verdict_at_one_test order apart of verdict other is other_is same)
     (λ (differ : (tests_before_one_verdict verdict < tests_before_one_verdict other) ⊎ (tests_before_one_verdict other < tests_before_one_verdict verdict)).
     ⊎_elim (λ (less : tests_before_one_verdict verdict < tests_before_one_verdict other). absurd (one_verdict_is_no_earlier of verdict other is other_is less))

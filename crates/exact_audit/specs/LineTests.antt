@@ -1,6 +1,7 @@
 -- What the tests of a report ask of its lines.
 use Rattle.std.specs.Prelude.{ℕ, ◌≡◌, ◌+◌, List, take, All, slice_get, Option, None, Some}
 use Rattle.prefix_lattice.specs.{RecordValue}
+use Rattle.prefix_lattice.specs.declared.grain.Grain.{Grain}
 use Rattle.hhh_report.specs.declared.line.Line.{Line}
 use Rattle.hhh_report.specs.{LineHoldsWeight, IsNarrowLine, IsHeavyLine}
 use Rattle.hhh_report.specs.{IsJustified, prefixes_of_lines}
@@ -28,8 +29,10 @@ least_audited = 2
 abbrev pub most_audited : ℕ
 most_audited = 4096
 
--- what the tests of lines are made with: the capacity of the tables, and the threshold and the total of the report
+-- what the tests of lines are made with: the grain, the capacity of the tables, and the threshold and the total of the
+-- report
 pub record TestMeasures : Type 0 where
+  pub grain : Grain
   pub capacity : ℕ
   pub threshold : ℕ
   pub total : ℕ
@@ -56,4 +59,9 @@ PassJustified by records lines = All (PassesJustified by records lines) lines
 
 -- what the tests of lines are made with
 abbrev pub measures_of : Measures → TestMeasures
-measures_of by = record { capacity = by.capacity; threshold = by.threshold; total = by.total }
+measures_of by = record {
+  grain = by.grain;
+  capacity = by.capacity;
+  threshold = by.threshold;
+  total = by.total;
+}

@@ -6,6 +6,7 @@ use Rattle.std.specs.HashMap.{HashMap, get}
 use Rattle.prefix_lattice.specs.{RecordValue, NodeValue, PrefixValue, IsPrefix, IsPrefixKey, node_of_prefix, prefix_key}
 use Rattle.prefix_lattice.specs.{prefix_at}
 use Rattle.prefix_lattice.specs.{prefix_weight, conditioned_weight}
+use Rattle.prefix_lattice.specs.declared.grain.Grain.{Grain}
 use Rattle.exact_audit.specs.declared.counted.Counted.{Counted}
 use Rattle.exact_audit.specs.declared.node_sums.Sums.{Sums}
 use Rattle.exact_audit.specs.Depths.{AreDepths, explained_by}
@@ -14,10 +15,12 @@ use Rattle.exact_audit.specs.Depths.{AreDepths, explained_by}
 abbrev pub records_in : List Counted → List RecordValue
 records_in counted = map (λ c. c.rec) counted
 
--- these records are counted, each with its depths under the lines
-pub record AreCountedIn (lines : List PrefixValue) (records : List RecordValue) (counted : List Counted) : Type 0 where
+-- these records are counted, each with its depths under lines, which are of a grain
+pub record AreCountedIn (grain : Grain) (lines : List PrefixValue) (records : List RecordValue) (counted : List Counted)
+    : Type 0 where
+  pub prefixes : All (IsPrefix grain) lines
   pub same : records_in counted ≡ records
-  pub depths : All (λ c. AreDepths lines c.rec c.depths) counted
+  pub depths : All (λ c. AreDepths grain lines c.rec c.depths) counted
 
 -- the sums of no record
 abbrev pub no_sums : Sums
@@ -54,7 +57,8 @@ sums_of lines records prefix = record {
 
 -- the sums of a node: those of each of its prefixes, by its key
 abbrev pub AreNodeSums : {S : Type 0} → NodeValue → List PrefixValue → List RecordValue → HashMap ℕ Sums S → Type 0
-AreNodeSums node lines records sums = (prefix : PrefixValue) → IsPrefix prefix → node_of_prefix prefix ≡ node
+AreNodeSums node lines records sums = (prefix : PrefixValue) → IsPrefix node.grain prefix
+    → node_of_prefix node.grain prefix ≡ node
     → sums_for sums (prefix_key prefix) ≡ sums_of lines records prefix
 
 -- each key that is kept is one of the node

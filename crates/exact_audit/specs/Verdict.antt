@@ -1,6 +1,7 @@
 -- The verdict on a report: that it is sound, or the first of the eight tests of a sound report that fails.
 use Rattle.std.specs.Prelude.{ℕ, ◌≡◌, List}
 use Rattle.prefix_lattice.specs.{RecordValue, total_weight}
+use Rattle.prefix_lattice.specs.declared.grain.Grain.{Grain}
 use Rattle.hhh_report.specs.{records_before, IsSound, AreWithinLists, IsThreshold}
 use Rattle.hhh_report.specs.declared.line.Line.{Line}
 use Rattle.hhh_report.specs.declared.report.Report.{Report}
@@ -26,10 +27,10 @@ IsLineVerdict by records lines (NotJustified number) =
     × FailsFirst (PassesJustified by records lines) lines number
 IsLineVerdict by records lines (LeftOut prefix weight) =
     PassWeight records lines × PassWidth by lines × PassHeavy by lines × PassJustified by records lines
-    × IsFirstLeftOut (prefixes_of_lines lines) records by.threshold prefix weight
+    × IsFirstLeftOut by.grain (prefixes_of_lines lines) records by.threshold prefix weight
 IsLineVerdict by records lines Good =
     PassWeight records lines × PassWidth by lines × PassHeavy by lines × PassJustified by records lines
-    × AreComplete by.threshold (prefixes_of_lines lines) records
+    × AreComplete by.grain by.threshold (prefixes_of_lines lines) records
 IsLineVerdict by records lines BadPositions = ⊥
 IsLineVerdict by records lines BadTotal = ⊥
 IsLineVerdict by records lines BadThreshold = ⊥
@@ -45,18 +46,19 @@ pub record ReachesLines (lists : List (List RecordValue)) (phi : ℕ) (report : 
   pub threshold : IsThreshold phi report.total report.threshold
 
 -- the verdict on the lines of a report whose first three tests hold
-pub record IsLinesVerdict (lists : List (List RecordValue)) (capacity phi : ℕ) (report : Report) (verdict : Verdict)
-    : Type 0 where
+pub record IsLinesVerdict (grain : Grain) (lists : List (List RecordValue)) (capacity phi : ℕ) (report : Report)
+    (verdict : Verdict) : Type 0 where
   pub head : ReachesLines lists phi report
-  pub lines : IsLineVerdict (record { capacity = capacity; threshold = report.threshold; total = report.total })
+  pub lines : IsLineVerdict
+      (record { grain = grain; capacity = capacity; threshold = report.threshold; total = report.total })
       (records_before lists report.positions) report.lines verdict
 
--- the verdict on a report over lists of records: it is sound, or it passes the tests before the one that the verdict
--- names, and fails that one, first in the line or with the prefix that the verdict names
-abbrev pub IsVerdict : List (List RecordValue) → ℕ → ℕ → Report → Verdict → Type 0
-IsVerdict lists capacity phi report Good = IsSound report lists capacity phi
-IsVerdict lists capacity phi report BadPositions = ¬ AreWithinLists report.positions lists
-IsVerdict lists capacity phi report BadTotal = AreWithinLists report.positions lists × ¬ IsTotal lists report
-IsVerdict lists capacity phi report BadThreshold =
+-- the verdict on a report over lists of records, for a grain: it is sound, or it passes the tests before the one that the
+-- verdict names, and fails that one, first in the line or with the prefix that the verdict names
+abbrev pub IsVerdict : Grain → List (List RecordValue) → ℕ → ℕ → Report → Verdict → Type 0
+IsVerdict grain lists capacity phi report Good = IsSound grain report lists capacity phi
+IsVerdict grain lists capacity phi report BadPositions = ¬ AreWithinLists report.positions lists
+IsVerdict grain lists capacity phi report BadTotal = AreWithinLists report.positions lists × ¬ IsTotal lists report
+IsVerdict grain lists capacity phi report BadThreshold =
     AreWithinLists report.positions lists × IsTotal lists report × ¬ IsThreshold phi report.total report.threshold
-IsVerdict lists capacity phi report verdict = IsLinesVerdict lists capacity phi report verdict
+IsVerdict grain lists capacity phi report verdict = IsLinesVerdict grain lists capacity phi report verdict

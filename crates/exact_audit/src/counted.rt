@@ -11,7 +11,7 @@ use crate::depths::Depths;
 use crate::line_codes::LineCodes;
 use deal_rules::Dealt;
 use hhh_report::Positions;
-use prefix_lattice::Record;
+use prefix_lattice::{Grain, Record};
 use std::alloc::{AllocError, Global};
 
 /// A record that is counted, with the depths that the lines that cover it reach.
@@ -49,20 +49,21 @@ pub(crate) fn total_before(dealt: &Dealt, positions: &Positions) -> u64
     total
 }
 
-/// The records before positions, each with its depths under the lines.
+/// The records before positions, each with its depths under the lines, which are of a grain.
 pub(crate) fn count_before(
     alloc: Global,
     dealt: &Dealt,
     positions: &Positions,
     lines: &LineCodes,
+    grain: Grain,
 ) -> Result<Vec<Counted>, AllocError>
     requires { AreWithinLists positions.now dealt.now }
-    ensures { IfOk result (λ counted. (prefixes : List PrefixValue) → AreLineCodes prefixes lines.now.codes.keys
-        → AreCountedIn prefixes (records_before dealt.now positions.now) counted.items) }
+    ensures { IfOk result (λ counted. (prefixes : List PrefixValue) → AreLineCodes grain prefixes lines.now.codes.keys
+        → AreCountedIn grain prefixes (records_before dealt.now positions.now) counted.items) }
 {
     let mut counted = Vec::new(alloc);
     for shard in 0..dealt.shards() {
-        push_counted(&mut counted, part(dealt, positions, shard), lines)?;
+        push_counted(&mut counted, part(dealt, positions, shard), lines, grain)?;
     }
     Ok(counted)
 }
@@ -98,13 +99,15 @@ fn push_counted(
     counted: &mut Vec<Counted>,
     records: &[Record],
     lines: &LineCodes,
+    grain: Grain,
 ) -> Result<(), AllocError>
-    ensures { OnOk result ((prefixes : List PrefixValue) (before : List RecordValue) → AreLineCodes prefixes lines.now.codes.keys
-        → AreCountedIn prefixes before counted.old.items → AreCountedIn prefixes (before ++ records.now) counted.new.items) }
+    ensures { OnOk result ((prefixes : List PrefixValue) (before : List RecordValue)
+        → AreLineCodes grain prefixes lines.now.codes.keys → AreCountedIn grain prefixes before counted.old.items
+        → AreCountedIn grain prefixes (before ++ records.now) counted.new.items) }
 {
     counted.reserve(records.len())?;
     for rec in records {
-        let depths = Depths::of(lines, rec);
+        let depths = Depths::of(lines, grain, rec);
         counted.push(Counted { rec: *rec, depths })?;
     }
     Ok(())

@@ -2,8 +2,8 @@
 
 ghost use Rattle.std.specs.Prelude.{◌≡◌, ◌+◌, ◌^◌, ◌≤◌, ◌<◌, List, Some, nat_eq, if◌then◌else◌};
 ghost use Rattle.std.specs.List.{list_any};
-ghost use Rattle.prefix_lattice.specs.{RecordValue, PrefixValue, IsNode, node_index, prefix_key, prefix_code};
-ghost use Rattle.exact_audit.specs.LineCodes.{AreLineCodes};
+ghost use Rattle.prefix_lattice.specs.{RecordValue, PrefixValue, IsNode, node_index, prefix_key};
+ghost use Rattle.exact_audit.specs.LineCodes.{AreLineCodes, line_code};
 ghost use Rattle.exact_audit.specs.NodeSums.{AreNodeSums, HasSumKeys};
 ghost use Rattle.exact_audit.specs.Findings.{IsFirstBefore, first_with};
 
@@ -28,12 +28,13 @@ pub(crate) fn first_left_out(
     sums: &KeySums,
     found: Option<LeftOut>,
 ) -> Option<LeftOut>
-    requires node { IsNode node }
+    requires node { IsNode node.grain node }
     requires some { 1 ≤ threshold }
     requires keys { HasSumKeys node sums.now }
-    ensures { (prefixes : List PrefixValue) (records : List RecordValue) → AreLineCodes prefixes lines.now.codes.keys
-        → AreNodeSums node prefixes records sums.now → IsFirstBefore (node_index node) prefixes records threshold found
-        → IsFirstBefore (node_index node + 1) prefixes records threshold result }
+    ensures { (prefixes : List PrefixValue) (records : List RecordValue)
+        → AreLineCodes node.grain prefixes lines.now.codes.keys → AreNodeSums node prefixes records sums.now
+        → IsFirstBefore node.grain (node_index node) prefixes records threshold found
+        → IsFirstBefore node.grain (node_index node + 1) prefixes records threshold result }
 {
     keys_are_of_their_node();
     report_order_is_total();
@@ -55,7 +56,7 @@ fn first_unless_line(
     weight: u64,
     found: Option<LeftOut>,
 ) -> Option<LeftOut>
-    ensures value { result ≡ (if list_any (nat_eq (prefix_code prefix)) lines.now.codes.keys then found
+    ensures value { result ≡ (if list_any (nat_eq (line_code prefix)) lines.now.codes.keys then found
         else Some (first_with found (record { prefix = prefix; weight = weight }))) }
     ensures small { prefix_key prefix < 2 ^ 64 }
 {

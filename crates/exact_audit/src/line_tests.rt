@@ -14,7 +14,7 @@ use crate::kept_pairs::count_kept_pairs;
 use crate::line_codes::LineCodes;
 use crate::node_sums::Sums;
 use hhh_report::Line;
-use prefix_lattice::Prefix;
+use prefix_lattice::{Grain, Prefix};
 use std::alloc::{AllocError, Global};
 
 /// The first line whose interval doesn't hold its prefix's weight.
@@ -63,9 +63,11 @@ pub(crate) fn low_line(lines: &[Line], threshold: u64) -> Option<u64>
     None
 }
 
-/// What the tests of lines are made with: the capacity of the tables, and the threshold and the total of the report.
+/// What the tests of lines are made with: the grain, the capacity of the tables, and the threshold and the total of the
+/// report.
 #[derive(Clone, Copy, Debug, PartialEq, Eq)]
 pub(crate) struct Measures {
+    pub(crate) grain: Grain,
     pub(crate) capacity: u32,
     pub(crate) threshold: u64,
     pub(crate) total: u64,
@@ -80,7 +82,7 @@ pub(crate) fn not_justified(
     by: &Measures,
 ) -> Result<Option<u64>, AllocError>
     requires few { length lines.now < line_limit }
-    requires codes { AreLineCodes (prefixes_of_lines lines.now) codes.now.codes.keys }
+    requires codes { AreLineCodes by.now.grain (prefixes_of_lines lines.now) codes.now.codes.keys }
     requires placed { ArePlaced (prefixes_of_lines lines.now) codes.now.codes.keys }
     requires as_many { length sums.now ≡ length lines.now }
     requires capacity { by.now.capacity ≤ most_audited }
@@ -89,7 +91,7 @@ pub(crate) fn not_justified(
         → total_weight records ≡ by.now.total
         → IsTestResult (PassesJustified (measures_of by.now) records lines.now) lines.now found) }
 {
-    let closest = closest_of_each(alloc, lines, codes)?;
+    let closest = closest_of_each(alloc, lines, codes, by.grain)?;
     for place in 0..lines.len() {
         if !is_justified(closest[place].as_slice(), sums[place].left, by) {
             return Ok(Some(place as u64 + 1));

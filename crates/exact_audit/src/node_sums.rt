@@ -36,18 +36,21 @@ pub(crate) fn sums_at(
     node: Node,
     seed: Seed,
 ) -> Result<KeySums, AllocError>
-    requires node { IsNode node }
+    requires node { IsNode node.grain node }
     requires light { total_weight (records_in counted.now) < total_limit }
     ensures keys { IfOk result (HasSumKeys node) }
     ensures sums { IfOk result (λ sums. (lines : List PrefixValue) (records : List RecordValue)
-        → AreCountedIn lines records counted.now → AreNodeSums node lines records sums) }
+        → AreCountedIn node.grain lines records counted.now → AreNodeSums node lines records sums) }
 {
     keys_tell_covering();
     keys_are_of_their_node();
     let mut sums = IndexMap::with_hasher(alloc, seed);
+    let bits = node.grain().bits();
+    let source = node.source_bits() / bits;
+    let dest = node.dest_bits() / bits;
     for one in counted {
         let key = Prefix::of(&one.rec, node).key();
-        add(&mut sums, key, &one.rec, one.depths.explained(node))?;
+        add(&mut sums, key, &one.rec, one.depths.explained(source, dest))?;
     }
     Ok(sums)
 }

@@ -40,9 +40,8 @@ impl Seed {
 }
 
 fn hash_line(digest: &mut Sha256, line: &Line) {
-    let node = u64::from(line.prefix.node().index());
     digest.update(line.prefix.key().to_le_bytes().as_slice());
-    digest.update(node.to_le_bytes().as_slice());
+    digest.update([line.prefix.source_bits(), line.prefix.dest_bits()].as_slice());
 }
 
 fn hash_records(digest: &mut Sha256, records: &[Record]) {

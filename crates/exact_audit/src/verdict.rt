@@ -4,7 +4,7 @@ ghost use Rattle.std.specs.Prelude.{◌≡◌, ◌≤◌, ◌<◌, List, length,
 ghost use Rattle.prefix_lattice.specs.{RecordValue, total_weight, total_limit};
 ghost use Rattle.hhh_report.specs.{AreReportLines, prefixes_of_lines};
 ghost use Rattle.exact_audit.specs.LineCodes.{AreLineCodes, ArePlaced};
-ghost use Rattle.exact_audit.specs.LineTests.{most_audited};
+ghost use Rattle.exact_audit.specs.LineTests.{measures_of, most_audited};
 ghost use Rattle.exact_audit.specs.Verdict.{IsLineVerdict};
 ghost use Rattle.exact_audit.specs.Findings.{AreFindings};
 
@@ -48,35 +48,28 @@ pub(crate) fn verdict_of(
     lines: &[Line],
     codes: &LineCodes,
     findings: &Findings,
-    capacity: u32,
-    threshold: u64,
-    total: u64,
+    by: &Measures,
 ) -> Result<Verdict, AllocError>
     requires lines { AreReportLines lines.now }
-    requires codes { AreLineCodes (prefixes_of_lines lines.now) codes.now.codes.keys }
+    requires codes { AreLineCodes by.now.grain (prefixes_of_lines lines.now) codes.now.codes.keys }
     requires placed { ArePlaced (prefixes_of_lines lines.now) codes.now.codes.keys }
     requires as_many { length findings.now.sums.items ≡ length lines.now }
-    requires capacity { capacity ≤ most_audited }
-    requires total { total < total_limit }
-    ensures { IfOk result (λ verdict. (records : List RecordValue) → AreFindings lines.now records threshold findings.now
-        → total_weight records ≡ total
-        → IsLineVerdict (record { capacity = capacity; threshold = threshold; total = total }) records lines.now verdict) }
+    requires capacity { by.now.capacity ≤ most_audited }
+    requires total { by.now.total < total_limit }
+    ensures { IfOk result (λ verdict. (records : List RecordValue)
+        → AreFindings by.now.grain lines.now records by.now.threshold findings.now
+        → total_weight records ≡ by.now.total → IsLineVerdict (measures_of by.now) records lines.now verdict) }
 {
     if let Some(line) = bad_interval(lines, &findings.sums) {
         return Ok(Verdict::BadInterval(line));
     }
-    if let Some(line) = too_wide(lines, capacity, total) {
+    if let Some(line) = too_wide(lines, by.capacity, by.total) {
         return Ok(Verdict::TooWide(line));
     }
-    if let Some(line) = low_line(lines, threshold) {
+    if let Some(line) = low_line(lines, by.threshold) {
         return Ok(Verdict::LowLine(line));
     }
-    let by = Measures {
-        capacity,
-        threshold,
-        total,
-    };
-    if let Some(line) = not_justified(alloc, lines, codes, &findings.sums, &by)? {
+    if let Some(line) = not_justified(alloc, lines, codes, &findings.sums, by)? {
         return Ok(Verdict::NotJustified(line));
     }
     Ok(match findings.left_out {

@@ -29,7 +29,8 @@ LacksCutByte-take byte (b ∷ text) (suc count) none within =
     (none 0 (omega arith), LacksCutByte-take byte text count (λ k less. none (suc k) (omega arith)) (omega arith))
 
 -- the first such byte cuts the text
-pub byte_cut_at_first : (byte at : ℕ) (text : List ℕ) → position (λ b. eqb b byte) text ≡ Some at → IsByteCut byte at text
+pub byte_cut_at_first : (byte at : ℕ) (text : List ℕ) → position (λ b. eqb b byte) text ≡ Some at
+    → IsByteCut byte at text
 byte_cut_at_first byte at text found =
     let place = position-Some (λ b. eqb b byte) text at 0 found in
     let is : get_or text at 0 ≡ byte = eqb-true (get_or text at 0) byte place.1 in

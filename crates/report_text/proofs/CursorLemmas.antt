@@ -3,6 +3,7 @@ use Rattle.std.proofs.Common.{◌≡◌, ℕ, ◌+◌, ◌<◌, List, [], ◌∷
 use Rattle.std.proofs.Common.{subst, arith, append_assoc, append-nil, take-append-drop, length-append}
 use Rattle.std.specs.List.{flat_map}
 use Rattle.std.proofs.Math.Seq.{length-take-le, take-add, take-append_seam}
+use Rattle.prefix_lattice.specs.declared.grain.Grain.{Grain}
 use Rattle.report_text.specs.Session.{IsSessionLine, IsTextSession, words_text, line_words}
 use Rattle.report_text.specs.Session.{session_lines, whole_lines}
 use Rattle.report_text.specs.Session.{HasSessionFault}
@@ -21,63 +22,68 @@ use Rattle.report_text.proofs.SessionFaultLemmas.{session_fault_bad_line, sessio
 use Rattle.report_text.proofs.SessionFaultLemmas.{session_fault_byte_follows}
 
 -- a text is the lines that were read and the rest
-cursor_text_and_rest : (cursor : LineCursor) (read : List SessionLine) → HasReadLines cursor read
+cursor_text_and_rest : (grain : Grain) (cursor : LineCursor) (read : List SessionLine) → HasReadLines grain cursor read
     → cursor.text.now ≡ flat_map words_text read ++ drop cursor.at cursor.text.now
-cursor_text_and_rest cursor read has =
+cursor_text_and_rest grain cursor read has =
     sym (take-append-drop cursor.at cursor.text.now) ∙ ap (λ l. l ++ drop cursor.at cursor.text.now) has.text
 
 -- the whole lines of a text are the lines that were read and those of the rest
-cursor_lines_and_rest : (cursor : LineCursor) (read : List SessionLine) → HasReadLines cursor read
+cursor_lines_and_rest : (grain : Grain) (cursor : LineCursor) (read : List SessionLine) → HasReadLines grain cursor read
     → whole_lines cursor.text.now ≡ map words_text read ++ whole_lines (drop cursor.at cursor.text.now)
-cursor_lines_and_rest cursor read has =
-    ap whole_lines (cursor_text_and_rest cursor read has)
+cursor_lines_and_rest grain cursor read has =
+    ap whole_lines (cursor_text_and_rest grain cursor read has)
     ∙ whole_lines-lines read (drop cursor.at cursor.text.now)
 
 -- a byte after the last line of a session
-pub cursor_finds_more_bytes : (cursor : LineCursor) (session : Session) → HasReadLines cursor (session_lines session) → IsTextSession session
-    → cursor.at < length cursor.text.now → HasSessionFault cursor.text.now (BadLine (cursor.lines + 1))
-cursor_finds_more_bytes cursor session has is more =
+pub cursor_finds_more_bytes : (grain : Grain) (cursor : LineCursor) (session : Session)
+    → HasReadLines grain cursor (session_lines session) → IsTextSession grain session
+    → cursor.at < length cursor.text.now → HasSessionFault grain cursor.text.now (BadLine (cursor.lines + 1))
+cursor_finds_more_bytes grain cursor session has is more =
     let text = cursor.text.now in
     let before : length (take cursor.at text) ≡ cursor.at = length-take-le cursor.at text cursor.within in
-    subst (λ n. HasSessionFault text (BadLine (n + 1))) (sym has.count)
-    (session_fault_byte_follows text session (drop cursor.at text) cursor.limit is (cursor_text_and_rest cursor (session_lines session) has)
+    subst (λ n. HasSessionFault grain text (BadLine (n + 1))) (sym has.count)
+    (session_fault_byte_follows grain text session (drop cursor.at text) cursor.limit is (cursor_text_and_rest grain cursor (session_lines session) has)
     (omega (arith, before, ap length has.text)))
 
 -- no whole line remains
-pub cursor_finds_no_end : FirstLineLaws → (cursor : LineCursor) (stage : Stage) → IsStageBeforeEnd stage → HasReadToStage cursor stage
-    → LacksCutByte 10 (drop cursor.at cursor.text.now) → HasSessionFault cursor.text.now (MissingEnd (cursor.lines + 1))
-cursor_finds_no_end laws cursor stage is_open stands none =
+pub cursor_finds_no_end : (grain : Grain) → FirstLineLaws → (cursor : LineCursor) (stage : Stage)
+    → IsStageBeforeEnd stage → HasReadToStage grain cursor stage
+    → LacksCutByte 10 (drop cursor.at cursor.text.now)
+    → HasSessionFault grain cursor.text.now (MissingEnd (cursor.lines + 1))
+cursor_finds_no_end grain laws cursor stage is_open stands none =
     let text = cursor.text.now in
-    subst (λ n. HasSessionFault text (MissingEnd (n + 1))) (sym stands.has_read.count)
-    (session_fault_unfinished laws text stands.read stage cursor.limit stands.has_read.are_lines
-    (cursor_lines_and_rest cursor stands.read stands.has_read
+    subst (λ n. HasSessionFault grain text (MissingEnd (n + 1))) (sym stands.has_read.count)
+    (session_fault_unfinished grain laws text stands.read stage cursor.limit stands.has_read.are_lines
+    (cursor_lines_and_rest grain cursor stands.read stands.has_read
     ∙ ap (λ l. map words_text stands.read ++ l) (whole_lines-rest (drop cursor.at text) none)
     ∙ append-nil (map words_text stands.read))
     stands.leads is_open)
 
 -- the next line is not a line of a session
-pub cursor_finds_bad_line : FirstLineLaws → (cursor : LineCursor) (at : ℕ) (stage : Stage) → HasReadToStage cursor stage
+pub cursor_finds_bad_line : (grain : Grain) → FirstLineLaws → (cursor : LineCursor) (at : ℕ) (stage : Stage)
+    → HasReadToStage grain cursor stage
     → IsByteCut 10 at (drop cursor.at cursor.text.now)
-    → ((line : SessionLine) → IsSessionLine line → words_in (take at (drop cursor.at cursor.text.now)) ≡ line_words line → ⊥)
-    → HasSessionFault cursor.text.now (BadLine (cursor.lines + 1))
-cursor_finds_bad_line laws cursor at stage stands cut refused =
+    → ((line : SessionLine) → IsSessionLine grain line → words_in (take at (drop cursor.at cursor.text.now)) ≡ line_words line → ⊥)
+    → HasSessionFault grain cursor.text.now (BadLine (cursor.lines + 1))
+cursor_finds_bad_line grain laws cursor at stage stands cut refused =
     let text = cursor.text.now in
     let rest = drop cursor.at text in
     let line = take at rest in
-    subst (λ n. HasSessionFault text (BadLine (n + 1))) (sym stands.has_read.count)
-    (session_fault_bad_line laws text stands.read stage (line ++ 10 ∷ []) (whole_lines (drop 1 (drop at rest))) cursor.limit
+    subst (λ n. HasSessionFault grain text (BadLine (n + 1))) (sym stands.has_read.count)
+    (session_fault_bad_line grain laws text stands.read stage (line ++ 10 ∷ []) (whole_lines (drop 1 (drop at rest))) cursor.limit
     stands.has_read.are_lines
-    (cursor_lines_and_rest cursor stands.read stands.has_read
+    (cursor_lines_and_rest grain cursor stands.read stands.has_read
     ∙ ap (λ l. map words_text stands.read ++ l)
     (ap whole_lines cut.joined ∙ whole_lines-line line (drop 1 (drop at rest)) cut.lacks))
     stands.leads
     (λ on. refused on.line on.is_line (word_list_in_line_text on.line line on.text_is)))
 
 -- the line that was read last may not come next
-pub cursor_refuses_line : FirstLineLaws → (old new : LineCursor) (line : SessionLine) (stage : Stage) → HasReadToStage old stage
-    → ReadsLine old new line → ((next : Stage) → FollowsStage stage line next → ⊥)
-    → HasSessionFault new.text.now (BadLine new.lines)
-cursor_refuses_line laws old new line stage stands reads none =
+pub cursor_refuses_line : (grain : Grain) → FirstLineLaws
+    → (old new : LineCursor) (line : SessionLine) (stage : Stage) → HasReadToStage grain old stage
+    → ReadsLine grain old new line → ((next : Stage) → FollowsStage stage line next → ⊥)
+    → HasSessionFault grain new.text.now (BadLine new.lines)
+cursor_refuses_line grain laws old new line stage stands reads none =
     let text = new.text.now in
     let rest = drop new.at text in
     let read = stands.read in
@@ -91,10 +97,10 @@ cursor_refuses_line laws old new line stage stands reads none =
     (ap (λ l. whole_lines (l ++ rest)) (sym (append-nil (words_text line)))
     ∙ whole_lines-lines (line ∷ []) rest) in
     let number : new.lines ≡ length read + 1 = omega (arith, reads.count, stands.has_read.count) in
-    subst (λ n. HasSessionFault text (BadLine n)) (sym number)
-    (session_fault_bad_line laws text read stage (words_text line) (whole_lines rest) new.limit stands.has_read.are_lines lines stands.leads
+    subst (λ n. HasSessionFault grain text (BadLine n)) (sym number)
+    (session_fault_bad_line grain laws text read stage (words_text line) (whole_lines rest) new.limit stands.has_read.are_lines lines stands.leads
     (λ on. none on.next
-    (subst (λ k. FollowsStage stage k on.next) (first_lines_with_one_text laws on.line line on.is_line reads.is_line on.text_is)
+    (subst (λ k. FollowsStage stage k on.next) (first_lines_with_one_text grain laws on.line line on.is_line reads.is_line on.text_is)
     on.follows)))
 
 -- one more line of a text
@@ -113,10 +119,11 @@ cursor_takes_one_line text before at cut =
     ∙ take-append_seam (take at rest ++ 10 ∷ []) (drop 1 (drop at rest)))
 
 -- the next line was read
-pub cursor_reads_next_line : (old new : LineCursor) (at : ℕ) (line : SessionLine) → new.text ≡ old.text
-    → new.at ≡ old.at + (at + 1) → new.lines ≡ old.lines + 1 → IsByteCut 10 at (drop old.at old.text.now) → IsSessionLine line
-    → words_in (take at (drop old.at old.text.now)) ≡ line_words line → ReadsLine old new line
-cursor_reads_next_line old new at line same place count cut is words =
+pub cursor_reads_next_line : (grain : Grain) (old new : LineCursor) (at : ℕ) (line : SessionLine) → new.text ≡ old.text
+    → new.at ≡ old.at + (at + 1) → new.lines ≡ old.lines + 1 → IsByteCut 10 at (drop old.at old.text.now)
+    → IsSessionLine grain line
+    → words_in (take at (drop old.at old.text.now)) ≡ line_words line → ReadsLine grain old new line
+cursor_reads_next_line grain old new at line same place count cut is words =
     let text = old.text.now in
     record {
       same = same;

@@ -1,11 +1,13 @@
 -- Worked examples of the texts, most by computing.
-use Rattle.std.proofs.Common.{◌≡◌, ℕ, zero, suc, ◌^◌, ◌<◌, ◌≤◌, [], ◌∷◌, codes, refl, arith}
-use Rattle.std.proofs.Common.{◌-◌, length, decimal}
+use Rattle.std.proofs.Common.{◌≡◌, ℕ, ◌^◌, ◌<◌, ◌≤◌, [], ◌∷◌, codes, refl, arith}
+use Rattle.std.proofs.Common.{◌-◌, ◌%◌, length, decimal}
 use Rattle.std.proofs.Math.ListN.{replicate}
 use Rattle.std.proofs.lemmas.List.Elements.{All-nil, All-cons, All-from_recursion}
 use Rattle.std.specs.Fmt.{digits}
-use Rattle.std.specs.Prelude.{slice_index}
-use Rattle.prefix_lattice.specs.{IsPrefix}
+use Rattle.prefix_lattice.specs.{IsPrefix, address_bits, finest_grain, grain_bits}
+use Rattle.prefix_lattice.specs.declared.grain.Grain.{Grain}
+use Rattle.prefix_lattice.specs.declared.grain.Grain.TheVariants.{Byte, Nibble}
+use Rattle.prefix_lattice.proofs.Examples.{front, leading_bits_of_an_address}
 use Rattle.frame_records.specs.declared.records.Records.{Records}
 use Rattle.hhh_report.specs.declared.line.Line.{Line}
 use Rattle.hhh_report.specs.declared.report.Report.{Report}
@@ -20,11 +22,11 @@ use Rattle.report_text.proofs.ShortListLemmas.{short_list_of_one_line}
 
 -- 100 bytes from 10.1.2.3 to 20.1.2.3
 abbrev line : Line
-line = record { prefix = record { source = 10 ∷ 1 ∷ 2 ∷ 3 ∷ []; dest = 20 ∷ 1 ∷ 2 ∷ 3 ∷ [] }; lo = 100; hi = 100 }
+line = record { prefix = record { source = address_bits 0x0a010203; dest = address_bits 0x14010203 }; lo = 100; hi = 100 }
 
 -- 60 to 100 bytes from 10.0.0.0/8
 abbrev wide : Line
-wide = record { prefix = record { source = 10 ∷ []; dest = [] }; lo = 60; hi = 100 }
+wide = record { prefix = record { source = front 0x0a000000 8; dest = [] }; lo = 60; hi = 100 }
 
 pub text_of_a_line : line_text line ≡ codes "line 10.1.2.3/32 20.1.2.3/32 100 100\n"
 unfolding digits
@@ -38,7 +40,7 @@ longest_number_of_64_bits = refl
 -- the line of the widest prefix with the greatest numbers
 pub longest_line_of_a_report :
     length (line_text (record {
-      prefix = record { source = 255 ∷ 255 ∷ 255 ∷ 255 ∷ []; dest = 255 ∷ 255 ∷ 255 ∷ 255 ∷ [] };
+      prefix = record { source = address_bits 0xffffffff; dest = address_bits 0xffffffff };
       lo = 2 ^ 64 - 1;
       hi = 2 ^ 64 - 1;
     }))
@@ -110,35 +112,47 @@ pub text_of_a_report : report_text report
 unfolding digits
 text_of_a_report = refl
 
-line_names_a_prefix : IsPrefix line.prefix
-line_names_a_prefix = record {
-  source = record { few = omega arith; bytes = source };
-  dest = record { few = omega arith; bytes = dest };
+line_names_a_prefix : (grain : Grain) → 32 % grain_bits grain ≡ 0 → IsPrefix grain line.prefix
+line_names_a_prefix grain whole = record {
+  source = leading_bits_of_an_address 0x0a010203 32 (omega arith);
+  dest = leading_bits_of_an_address 0x14010203 32 (omega arith);
+  source_steps = whole;
+  dest_steps = whole;
 }
-  where
-    source : (place : ℕ) → slice_index (10 ∷ 1 ∷ 2 ∷ 3 ∷ []) place < 256
-    source zero = omega arith
-    source (suc zero) = omega arith
-    source (suc (suc zero)) = omega arith
-    source (suc (suc (suc zero))) = omega arith
-    source (suc (suc (suc (suc place)))) = omega arith
 
-    dest : (place : ℕ) → slice_index (20 ∷ 1 ∷ 2 ∷ 3 ∷ []) place < 256
-    dest zero = omega arith
-    dest (suc zero) = omega arith
-    dest (suc (suc zero)) = omega arith
-    dest (suc (suc (suc zero))) = omega arith
-    dest (suc (suc (suc (suc place)))) = omega arith
+pub line_of_a_prefix_and_two_numbers : ShowsLine Byte line
+line_of_a_prefix_and_two_numbers =
+    record { is_prefix = line_names_a_prefix Byte refl; low = omega arith; high = omega arith }
 
-pub line_of_a_prefix_and_two_numbers : ShowsLine line
-line_of_a_prefix_and_two_numbers = record { is_prefix = line_names_a_prefix; low = omega arith; high = omega arith }
+-- an address of 33 bits
+pub line_of_no_prefix : ¬ ShowsLine Nibble
+    (record line { prefix = record { source = 0 ∷ address_bits 0x0a010203; dest = [] } })
+line_of_no_prefix told = let few : 33 ≤ 32 = told.is_prefix.source.few in omega (arith, few)
 
--- an address of five bytes
-pub line_of_no_prefix : ¬ ShowsLine
-    (record line { prefix = record { source = 10 ∷ 1 ∷ 2 ∷ 3 ∷ 4 ∷ []; dest = [] } })
-line_of_no_prefix told = let few : 5 ≤ 4 = told.is_prefix.source.few in omega (arith, few)
+-- a line of half a byte, which is none by bytes
+abbrev pub half : Line
+half = record { prefix = record { source = front 0x0a100000 12; dest = [] }; lo = 60; hi = 100 }
 
-pub line_of_a_number_that_is_too_great : ¬ ShowsLine (record line { hi = 2 ^ 64 })
+pub text_of_half_a_byte : line_text half ≡ codes "line 10.16.0.0/12 0.0.0.0/0 60 100\n"
+unfolding digits
+text_of_half_a_byte = refl
+
+pub line_of_half_a_byte : ShowsLine Nibble half
+line_of_half_a_byte = record {
+  is_prefix = record {
+    source = leading_bits_of_an_address 0x0a100000 12 (omega arith);
+    dest = leading_bits_of_an_address 0 0 (omega arith);
+    source_steps = refl;
+    dest_steps = refl;
+  };
+  low = omega arith;
+  high = omega arith;
+}
+
+pub no_line_by_bytes : ¬ ShowsLine Byte half
+no_line_by_bytes told = let whole : 4 ≡ 0 = told.is_prefix.source_steps in omega (arith, whole)
+
+pub line_of_a_number_that_is_too_great : ¬ ShowsLine Byte (record line { hi = 2 ^ 64 })
 line_of_a_number_that_is_too_great told = omega (arith, told.high)
 
 pub report_that_can_be_told : Shows report
@@ -148,7 +162,10 @@ report_that_can_be_told = record {
       (All-nil (λ (position : ℕ). position < 2 ^ 64));
   total = omega arith;
   threshold = omega arith;
-  lines = All-cons ShowsLine line [] line_of_a_prefix_and_two_numbers (All-nil ShowsLine);
+  lines =
+      All-cons (ShowsLine finest_grain) line []
+      (record { is_prefix = line_names_a_prefix finest_grain refl; low = omega arith; high = omega arith })
+      (All-nil (ShowsLine finest_grain));
 }
 
 pub report_of_a_total_that_is_too_great : ¬ Shows (record report { total = 2 ^ 64 })

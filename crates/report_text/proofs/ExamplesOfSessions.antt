@@ -2,6 +2,7 @@
 use Rattle.std.proofs.Common.{◌≡◌, ℕ, ◌^◌, ◌<◌, ◌≤◌, inr, [], ◌∷◌, codes, Some, None, refl, arith}
 use Rattle.std.proofs.lemmas.List.Elements.{All-nil, All-cons, All-from_recursion}
 use Rattle.std.specs.Fmt.{digits}
+use Rattle.prefix_lattice.specs.declared.grain.Grain.TheVariants.{Byte, Nibble}
 use Rattle.hhh_report.specs.declared.line.Line.{Line as LineValue}
 use Rattle.hhh_report.specs.declared.report.Report.{Report as ReportValue}
 use Rattle.report_text.specs.Printing.{ShowsPositions, ShowsLine}
@@ -13,7 +14,7 @@ use Rattle.report_text.specs.declared.session.Session.{Session}
 use Rattle.report_text.specs.declared.session_fault.TextFault.TheVariants.{BadLine}
 use Rattle.report_text.specs.declared.session_line.SessionLine.TheVariants.{At, Total, Threshold, Line}
 use Rattle.report_text.proofs.ShortListLemmas.{short_list_of_no_line}
-use Rattle.report_text.proofs.Examples.{report}
+use Rattle.report_text.proofs.Examples.{report, half, line_of_half_a_byte, no_line_by_bytes}
 
 -- the session over one shard with that report, of one frame
 abbrev session : Session
@@ -60,20 +61,26 @@ whole_lines_of_a_line_feed = refl
 pub whole_lines_without_a_line_feed : whole_lines (codes "end") ≡ []
 whole_lines_without_a_line_feed = refl
 
-pub no_threshold_is_zero : ¬ IsSessionLine (Threshold 0)
+pub no_threshold_is_zero : ¬ IsSessionLine Byte (Threshold 0)
 no_threshold_is_zero is = let some : 1 ≤ 0 = is.0 in omega (arith, some)
 
-pub no_number_has_65_bits : ¬ IsSessionLine (Total (2 ^ 64))
+pub no_number_has_65_bits : ¬ IsSessionLine Byte (Total (2 ^ 64))
 no_number_has_65_bits is = let small : 2 ^ 64 < 2 ^ 64 = is in omega (arith, small)
 
-pub no_position_is_past_the_greatest : ¬ IsSessionLine (At (16777217 ∷ []))
+pub no_position_is_past_the_greatest : ¬ IsSessionLine Byte (At (16777217 ∷ []))
 no_position_is_past_the_greatest is =
     let most : 16777217 ≤ 16777216 = is.within 0 0 (omega arith) in omega (arith, most)
 
-pub no_low_is_above_its_high : (line : LineValue) → line.lo ≡ 101 → line.hi ≡ 100 → ¬ IsSessionLine (Line line)
+pub no_low_is_above_its_high : (line : LineValue) → line.lo ≡ 101 → line.hi ≡ 100 → ¬ IsSessionLine Byte (Line line)
 no_low_is_above_its_high line low high is = omega (arith, is.ordered, low, high)
 
-pub no_session_is_without_a_report : ¬ IsTextSession (record session { reports = [] })
+pub half_a_byte_in_a_session : IsSessionLine Nibble (Line half)
+half_a_byte_in_a_session = record { showable = line_of_half_a_byte; ordered = omega arith }
+
+pub no_half_a_byte_by_bytes : ¬ IsSessionLine Byte (Line half)
+no_half_a_byte_by_bytes is = no_line_by_bytes is.showable
+
+pub no_session_is_without_a_report : ¬ IsTextSession Byte (record session { reports = [] })
 no_session_is_without_a_report is = omega (arith, is.some)
 
 pub no_positions_are_of_another_length : ¬ ArePositions 2 (1 ∷ [])
@@ -97,28 +104,28 @@ first_position = record {
   within = All-from_recursion (λ (position : ℕ). position ≤ 16777216) (0 ∷ []) (omega arith, tt);
 }
 
-pub session_of_no_record : IsTextSession empty_session
+pub session_of_no_record : IsTextSession Byte empty_session
 session_of_no_record = record {
   opened = first_position;
   some = omega arith;
   reports =
-      All-cons (IsReported 1) (record { report = empty; saved = None }) []
+      All-cons (IsReported Byte 1) (record { report = empty; saved = None }) []
       (record {
         positions = record { are_positions = first_position; as_many = refl };
         total = omega arith;
         some = omega arith;
         threshold = omega arith;
-        lines = All-nil ShowsLine;
+        lines = All-nil (ShowsLine Byte);
         saved = tt;
       })
-      (All-nil (IsReported 1));
+      (All-nil (IsReported Byte 1));
   frames = omega arith;
   not_ipv4 = omega arith;
   short = omega arith;
   bad_header = omega arith;
 }
 
-pub byte_after_a_session : HasSessionFault
+pub byte_after_a_session : HasSessionFault Byte
     (codes "opened 0\nreport\nat 0\ntotal 0\nthreshold 1\ndone\nframes 0\nskipped 0 0 0\nend\nx") (BadLine 10)
 unfolding digits
 byte_after_a_session = (

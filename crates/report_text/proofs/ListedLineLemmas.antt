@@ -10,6 +10,7 @@ use Rattle.std.proofs.Math.Seq.{length-take-le}
 use Rattle.std.proofs.lemmas.List.Elements.{All-push, All-weaker}
 use Rattle.std.proofs.lemmas.List.Quantifiers.{all_pairs_push}
 use Rattle.prefix_lattice.specs.{PrefixValue, report_order, side_text, address_of}
+use Rattle.prefix_lattice.specs.declared.grain.Grain.{Grain}
 use Rattle.hhh_report.specs.{AreReportLines, line_limit}
 use Rattle.hhh_report.specs.declared.line.Line.{Line as LineValue}
 use Rattle.report_text.specs.Session.{words_text, line_words}
@@ -22,9 +23,9 @@ use Rattle.report_text.proofs.SessionPartLemmas.{PrecedesInSessionPart, IsOrdere
 use Rattle.report_text.proofs.LineCursorLemmas.{line_reading_one_more}
 
 -- reading a line moves a cursor by its bytes
-pub listed_line_takes_bytes : (old new : LineCursor) (line : SessionLine) → ReadsLine old new line
+pub listed_line_takes_bytes : (grain : Grain) (old new : LineCursor) (line : SessionLine) → ReadsLine grain old new line
     → new.at ≡ old.at + length (words_text line)
-listed_line_takes_bytes old new line reads =
+listed_line_takes_bytes grain old new line reads =
     let text : length (take new.at new.text.now) ≡ length (take old.at old.text.now ++ words_text line) = ap length reads.text in
     omega (
       arith,
@@ -35,15 +36,17 @@ listed_line_takes_bytes old new line reads =
     )
 
 -- by at least one
-pub listed_line_moves_on : (old new : LineCursor) (line : SessionLine) → ReadsLine old new line → old.at < new.at
-listed_line_moves_on old new line reads =
-    omega (arith, listed_line_takes_bytes old new line reads, length-append (join_with_byte 32 (line_words line)) (10 ∷ []))
+pub listed_line_moves_on : (grain : Grain) (old new : LineCursor) (line : SessionLine) → ReadsLine grain old new line
+    → old.at < new.at
+listed_line_moves_on grain old new line reads =
+    omega (arith, listed_line_takes_bytes grain old new line reads, length-append (join_with_byte 32 (line_words line)) (10 ∷ []))
 
 -- so fewer bytes remain
-pub listed_line_leaves_fewer : (old new : LineCursor) (line : SessionLine) → ReadsLine old new line
+pub listed_line_leaves_fewer : (grain : Grain) (old new : LineCursor) (line : SessionLine)
+    → ReadsLine grain old new line
     → length new.text.now - new.at < length old.text.now - old.at
-listed_line_leaves_fewer old new line reads =
-    let longer = listed_line_moves_on old new line reads in
+listed_line_leaves_fewer grain old new line reads =
+    let longer = listed_line_moves_on grain old new line reads in
     let same : length new.text.now ≡ length old.text.now = ap (λ t. length t.now) reads.same in
     omega (arith, longer, same, new.within)
 
@@ -62,7 +65,7 @@ listed_line_side_is_long : (front : List ℕ) → 4 ≤ length (side_text front)
 listed_line_side_is_long front =
     let address = address_of front in
     listed_line_dots_and_slash (decimal (address / 256 / 256 / 256 % 256)) (decimal (address / 256 / 256 % 256))
-    (decimal (address / 256 % 256)) (decimal (address % 256)) (decimal (8 * length front))
+    (decimal (address / 256 % 256)) (decimal (address % 256)) (decimal (length front))
 
 -- a line with two such sides has at least 17, with its first word, its spaces and its line feed
 listed_line_seventeen_bytes : (source dest lo hi : List ℕ) → 4 ≤ length source → 4 ≤ length dest
@@ -82,14 +85,15 @@ listed_line_is_long line =
     listed_line_seventeen_bytes (side_text line.prefix.source) (side_text line.prefix.dest) (decimal line.lo) (decimal line.hi)
     (listed_line_side_is_long line.prefix.source) (listed_line_side_is_long line.prefix.dest)
 
-listed_lines_append : (lines : List LineValue) (line : LineValue) → map Line (lines ++ line ∷ []) ≡ map Line lines ++ Line line ∷ []
+listed_lines_append : (lines : List LineValue) (line : LineValue)
+    → map Line (lines ++ line ∷ []) ≡ map Line lines ++ Line line ∷ []
 listed_lines_append [] line = refl
 listed_lines_append (first ∷ lines) line = ap (λ l. Line first ∷ l) (listed_lines_append lines line)
 
 -- what holds as the lines of a report are read
-pub record AreListedLines (start cursor : LineCursor) (listed : List LineValue) (last : Option PrefixValue) : Type 0 where
+pub record AreListedLines (grain : Grain) (start cursor : LineCursor) (listed : List LineValue) (last : Option PrefixValue) : Type 0 where
   pub over : (shards : ℕ)
-      → ReadsLines start cursor (map Line listed) (listing shards 0 None) (listing shards (length listed) last)
+      → ReadsLines grain start cursor (map Line listed) (listing shards 0 None) (listing shards (length listed) last)
   pub room : 17 * length listed ≤ cursor.at
   pub ordered : All IsOrderedSessionPart listed
   pub rising : AllPairs PrecedesInSessionPart listed
@@ -97,12 +101,13 @@ pub record AreListedLines (start cursor : LineCursor) (listed : List LineValue) 
       → All (λ line. report_order line.prefix prefix ≡ Less) listed
 
 -- one more line
-pub listed_lines_one_more : IsTotalOrder report_order → (start cursor next : LineCursor) (listed : List LineValue)
-    (last : Option PrefixValue) (line : LineValue) → AreListedLines start cursor listed last
-    → ReadsLine cursor next (Line line) → ComesAfterLast last line.prefix
-    → AreListedLines start next (listed ++ line ∷ []) (Some line.prefix)
-listed_lines_one_more order start cursor next listed last line are reads comes =
-    let longer = listed_line_takes_bytes cursor next (Line line) reads in
+pub listed_lines_one_more : (grain : Grain) → IsTotalOrder report_order
+    → (start cursor next : LineCursor) (listed : List LineValue)
+    (last : Option PrefixValue) (line : LineValue) → AreListedLines grain start cursor listed last
+    → ReadsLine grain cursor next (Line line) → ComesAfterLast last line.prefix
+    → AreListedLines grain start next (listed ++ line ∷ []) (Some line.prefix)
+listed_lines_one_more grain order start cursor next listed last line are reads comes =
+    let longer = listed_line_takes_bytes grain cursor next (Line line) reads in
     let long = listed_line_is_long line in
     let room : 17 * length listed ≤ cursor.at = are.room in
     let more : 17 * (length listed + 1) ≤ next.at = omega (arith, longer, long, room) in
@@ -110,9 +115,9 @@ listed_lines_one_more order start cursor next listed last line are reads comes =
     let as_many : length (listed ++ line ∷ []) ≡ length listed + 1 = length-append listed (line ∷ []) in
     record {
       over = λ shards.
-          subst (λ l. ReadsLines start next l (listing shards 0 None) (listing shards (length (listed ++ line ∷ [])) (Some line.prefix)))
+          subst (λ l. ReadsLines grain start next l (listing shards 0 None) (listing shards (length (listed ++ line ∷ [])) (Some line.prefix)))
           (sym (listed_lines_append listed line))
-          (line_reading_one_more start cursor next (map Line listed) (Line line) (listing shards 0 None)
+          (line_reading_one_more grain start cursor next (map Line listed) (Line line) (listing shards 0 None)
           (listing shards (length listed) last) (listing shards (length (listed ++ line ∷ [])) (Some line.prefix))
           (are.over shards) reads (comes, few, ap (λ n. listing shards n (Some line.prefix)) as_many));
       room = omega (arith, more, as_many);
@@ -126,18 +131,18 @@ listed_lines_one_more order start cursor next listed last line are reads comes =
     }
 
 -- the lines of a report are in order
-pub listed_lines_in_order : (start cursor : LineCursor) (listed : List LineValue) (last : Option PrefixValue)
-    → AreListedLines start cursor listed last → AreReportLines listed
-listed_lines_in_order start cursor listed last are = record {
+pub listed_lines_in_order : (grain : Grain) (start cursor : LineCursor) (listed : List LineValue) (last : Option PrefixValue)
+    → AreListedLines grain start cursor listed last → AreReportLines listed
+listed_lines_in_order grain start cursor listed last are = record {
   few = omega (arith, are.room, cursor.within, cursor.limit);
   ordered = are.ordered;
   rising = are.rising;
 }
 
 -- the line after them
-pub listed_lines_done : (start cursor next : LineCursor) (listed : List LineValue) (last : Option PrefixValue)
-    (line : SessionLine) → line ≡ Done → AreListedLines start cursor listed last → ReadsLine cursor next line → (shards : ℕ)
-    → ReadsLines start next (map Line listed ++ Done ∷ []) (listing shards 0 None) (done shards)
-listed_lines_done start cursor next listed last line is_done are reads shards =
-    line_reading_one_more start cursor next (map Line listed) Done (listing shards 0 None) (listing shards (length listed) last)
-    (done shards) (are.over shards) (subst (ReadsLine cursor next) is_done reads) refl
+pub listed_lines_done : (grain : Grain) (start cursor next : LineCursor) (listed : List LineValue) (last : Option PrefixValue)
+    (line : SessionLine) → line ≡ Done → AreListedLines grain start cursor listed last → ReadsLine grain cursor next line → (shards : ℕ)
+    → ReadsLines grain start next (map Line listed ++ Done ∷ []) (listing shards 0 None) (done shards)
+listed_lines_done grain start cursor next listed last line is_done are reads shards =
+    line_reading_one_more grain start cursor next (map Line listed) Done (listing shards 0 None) (listing shards (length listed) last)
+    (done shards) (are.over shards) (subst (ReadsLine grain cursor next) is_done reads) refl

@@ -4,6 +4,7 @@ use Rattle.std.proofs.Common.{◌∙◌, append_assoc, append-nil}
 use Rattle.std.specs.List.{flat_map}
 use Rattle.std.proofs.lemmas.List.Concat.{flat_map-append}
 use Rattle.prefix_lattice.specs.{side_text}
+use Rattle.prefix_lattice.specs.declared.grain.Grain.{Grain}
 use Rattle.hhh_report.specs.declared.line.Line.{Line as LineValue}
 use Rattle.hhh_report.specs.declared.report.Report.{Report as ReportValue}
 use Rattle.hhh_report.specs.declared.reports.Reported.{Reported}
@@ -46,11 +47,13 @@ printed_session_report report =
     ∙ printed_session_report_groups (words_text Report) (words_text (At report.positions)) (words_text (Total report.total))
     (words_text (Threshold report.threshold)) (lines_text report.lines) (words_text Done)
 
-printed_session_saved_line : (positions : Option (List ℕ)) → flat_map words_text (saved_lines positions) ≡ saved_text positions
+printed_session_saved_line : (positions : Option (List ℕ))
+    → flat_map words_text (saved_lines positions) ≡ saved_text positions
 printed_session_saved_line None = refl
 printed_session_saved_line (Some positions) = append-nil (words_text (Saved positions))
 
-printed_session_whole_report : (reported : Reported) → flat_map words_text (reported_lines reported) ≡ reported_text reported
+printed_session_whole_report : (reported : Reported)
+    → flat_map words_text (reported_lines reported) ≡ reported_text reported
 printed_session_whole_report reported =
     flat_map-append words_text (report_lines reported.report) (saved_lines reported.saved)
     ∙ ap₂ (λ front behind. front ++ behind) (printed_session_report reported.report) (printed_session_saved_line reported.saved)
@@ -78,19 +81,20 @@ session-printed session =
     (printed_session_counts frames skipped_text (words_text End))))
 
 -- the whole lines of the text of a session are its lines
-pub printed_session_has_its_lines : (session : Session) → IsTextSession session
+pub printed_session_has_its_lines : (grain : Grain) (session : Session) → IsTextSession grain session
     → whole_lines (session_text session) ≡ map words_text (session_lines session)
-printed_session_has_its_lines session is =
+printed_session_has_its_lines grain session is =
     ap whole_lines (sym (append-nil (session_text session)))
     ∙ whole_lines-lines (session_lines session) []
     ∙ append-nil (map words_text (session_lines session))
 
 -- sessions with one text say the same
-pub printed_sessions_told_apart : FirstLineLaws → (text : List ℕ) (session other : Session) → IsSessionText text session
-    → IsSessionText text other → AreSameSessions session other
-printed_sessions_told_apart laws text session other is other_is =
+pub printed_sessions_told_apart : (grain : Grain) → FirstLineLaws → (text : List ℕ) (session other : Session)
+    → IsSessionText grain text session
+    → IsSessionText grain text other → AreSameSessions session other
+printed_sessions_told_apart grain laws text session other is other_is =
     whole_sessions_apart session other
-    (first_lines_told_by_texts laws (session_lines session) (session_lines other) (whole_session_lines session is.is_session)
-    (whole_session_lines other other_is.is_session)
-    (sym (printed_session_has_its_lines session is.is_session) ∙ ap whole_lines (sym is.spelled ∙ other_is.spelled)
-    ∙ printed_session_has_its_lines other other_is.is_session))
+    (first_lines_told_by_texts grain laws (session_lines session) (session_lines other) (whole_session_lines grain session is.is_session)
+    (whole_session_lines grain other other_is.is_session)
+    (sym (printed_session_has_its_lines grain session is.is_session) ∙ ap whole_lines (sym is.spelled ∙ other_is.spelled)
+    ∙ printed_session_has_its_lines grain other other_is.is_session))

@@ -9,18 +9,21 @@ use Rattle.report_text.specs.declared.session_line.SessionLine.TheVariants.{Open
 use Rattle.report_text.specs.declared.session_line.SessionLine.TheVariants.{Done, Saved, Frames, Skipped, End}
 
 -- a session begins with positions
-pub line_refused_unless_opened : (line : SessionLine) → ((positions : List ℕ) → line ≢ Opened positions) → (next : Stage)
+pub line_refused_unless_opened : (line : SessionLine) → ((positions : List ℕ) → line ≢ Opened positions)
+    → (next : Stage)
     → FollowsStage nothing line next → ⊥
 line_refused_unless_opened (Opened positions) none next follows = none positions refl
 line_refused_unless_opened _ none next follows = follows
 
 -- then a report begins
-pub line_refused_unless_report : (n : ℕ) (line : SessionLine) → line ≢ Report → (next : Stage) → FollowsStage (opened n) line next → ⊥
+pub line_refused_unless_report : (n : ℕ) (line : SessionLine) → line ≢ Report → (next : Stage)
+    → FollowsStage (opened n) line next → ⊥
 line_refused_unless_report n Report none next follows = none refl
 line_refused_unless_report n _ none next follows = follows
 
 -- its positions
-pub line_refused_unless_at : (n : ℕ) (line : SessionLine) → ((positions : List ℕ) → line ≢ At positions) → (next : Stage)
+pub line_refused_unless_at : (n : ℕ) (line : SessionLine) → ((positions : List ℕ) → line ≢ At positions)
+    → (next : Stage)
     → FollowsStage (begun n) line next → ⊥
 line_refused_unless_at n (At positions) none next follows = none positions refl
 line_refused_unless_at n _ none next follows = follows
@@ -32,13 +35,15 @@ line_refused_unless_total n (Total total) none next follows = none total refl
 line_refused_unless_total n _ none next follows = follows
 
 -- its threshold
-pub line_refused_unless_threshold : (n : ℕ) (line : SessionLine) → ((threshold : ℕ) → line ≢ Threshold threshold) → (next : Stage)
+pub line_refused_unless_threshold : (n : ℕ) (line : SessionLine) → ((threshold : ℕ) → line ≢ Threshold threshold)
+    → (next : Stage)
     → FollowsStage (weighed n) line next → ⊥
 line_refused_unless_threshold n (Threshold threshold) none next follows = none threshold refl
 line_refused_unless_threshold n _ none next follows = follows
 
 -- its lines, and its end
-pub line_refused_in_listing : (n count : ℕ) (last : _) (line : SessionLine) → ((listed : LineValue) → line ≢ Line listed)
+pub line_refused_in_listing : (n count : ℕ) (last : _) (line : SessionLine)
+    → ((listed : LineValue) → line ≢ Line listed)
     → line ≢ Done → (next : Stage) → FollowsStage (listing n count last) line next → ⊥
 line_refused_in_listing n count last (Line listed) none not_done next follows = none listed refl
 line_refused_in_listing n count last Done none not_done next follows = not_done refl
@@ -53,7 +58,8 @@ line_refused_after_done n (Frames frames) none others next follows = others (Som
 line_refused_after_done n _ none others next follows = follows
 
 -- what follows saved positions
-pub line_refused_after_saved : (n : ℕ) (line : SessionLine) → ((frames : Option ℕ) → line ≢ line_after_report frames) → (next : Stage)
+pub line_refused_after_saved : (n : ℕ) (line : SessionLine) → ((frames : Option ℕ) → line ≢ line_after_report frames)
+    → (next : Stage)
     → FollowsStage (saved n) line next → ⊥
 line_refused_after_saved n Report others next follows = others None refl
 line_refused_after_saved n (Frames frames) others next follows = others (Some frames) refl

@@ -3,7 +3,7 @@ use Rattle.std.proofs.Common.{◌≡◌, ℕ, List, [], ◌∷◌, ◌++◌, All
 use Rattle.std.proofs.Common.{append_assoc}
 use Rattle.std.specs.List.{flat_map, AllByRecursion}
 use Rattle.std.proofs.lemmas.List.Elements.{All-head, All-tail}
-use Rattle.prefix_lattice.specs.{PrefixValue, IsPrefix, side_text, prefix_text}
+use Rattle.prefix_lattice.specs.{PrefixValue, IsPrefix, finest_grain, side_text, prefix_text}
 use Rattle.hhh_report.specs.declared.line.Line.{Line}
 use Rattle.hhh_report.specs.declared.report.Report.{Report}
 use Rattle.hhh_report.specs.{IsSameReport}
@@ -16,7 +16,7 @@ use Rattle.report_text.proofs.TextWordLemmas.{side_is_text_word, text_word_posit
 -- different prefixes have different texts
 abbrev pub ReportPrefixesAreApart : Type 0
 ReportPrefixesAreApart =
-    (prefix other : PrefixValue) → IsPrefix prefix → IsPrefix other → prefix_text prefix ≡ prefix_text other
+    (prefix other : PrefixValue) → IsPrefix finest_grain prefix → IsPrefix finest_grain other → prefix_text prefix ≡ prefix_text other
     → prefix ≡ other
 
 -- what holds at each index holds for all elements by recursion
@@ -36,14 +36,15 @@ report_apart_line_tail line rest =
     side_text line.prefix.source ++ 32
     ∷ (side_text line.prefix.dest ++ 32 ∷ (decimal line.lo ++ 32 ∷ (decimal line.hi ++ 10 ∷ rest)))
 
-report_apart_line_opens : (line : Line) (rest : List ℕ) → line_text line ++ rest ≡ codes "line " ++ report_apart_line_tail line rest
+report_apart_line_opens : (line : Line) (rest : List ℕ)
+    → line_text line ++ rest ≡ codes "line " ++ report_apart_line_tail line rest
 report_apart_line_opens line rest =
     report_apart_line_groups (codes "line ") (side_text line.prefix.source) (codes " ") (side_text line.prefix.dest)
     (decimal line.lo) (decimal line.hi) (codes "\n") rest
 
 -- a line, and what follows it, are determined
-report_line_apart : ReportPrefixesAreApart → (line another : Line) (rest other : List ℕ) → ShowsLine line
-    → ShowsLine another
+report_line_apart : ReportPrefixesAreApart → (line another : Line) (rest other : List ℕ) → ShowsLine finest_grain line
+    → ShowsLine finest_grain another
     → line_text line ++ rest ≡ line_text another ++ other → (line ≡ another) × (rest ≡ other)
 report_line_apart law line another rest other is another_is same =
     let behind : report_apart_line_tail line rest ≡ report_apart_line_tail another other =
@@ -70,8 +71,8 @@ report_line_apart law line another rest other is another_is same =
     (lines, ap (drop 1) high.1)
 
 -- lines before `done` are determined
-report_lines_apart : ReportPrefixesAreApart → (lines others : List Line) → AllByRecursion ShowsLine lines
-    → AllByRecursion ShowsLine others
+report_lines_apart : ReportPrefixesAreApart → (lines others : List Line) → AllByRecursion (ShowsLine finest_grain) lines
+    → AllByRecursion (ShowsLine finest_grain) others
     → lines_text lines ++ codes "done\n" ≡ lines_text others ++ codes "done\n" → lines ≡ others
 report_lines_apart law [] [] all others_all same = refl
 report_lines_apart law [] (another ∷ others) all others_all same =

@@ -61,7 +61,8 @@ abbrev IsUnsavedLine : SessionLine → Type 0
 IsUnsavedLine line = IsOtherLine (words_text line)
 
 -- lines of this kind before others show no more saves
-unsaved_lines_before_others : (lines : List SessionLine) (behind saves : List (List ℕ)) → AllByRecursion IsUnsavedLine lines
+unsaved_lines_before_others : (lines : List SessionLine) (behind saves : List (List ℕ))
+    → AllByRecursion IsUnsavedLine lines
     → LinesShowSaves behind saves → LinesShowSaves (map words_text lines ++ behind) saves
 unsaved_lines_before_others [] behind saves all shows = shows
 unsaved_lines_before_others (line ∷ lines) behind saves all shows =
@@ -155,7 +156,8 @@ lines_of_front_come_first (byte ∷ front) rest =
     let before = lines_of_front_come_first front rest in
     line_of_front_or_not (byte == line_feed) byte (whole_lines front) (whole_lines (front ++ rest)) before.0 before.1
 
-first_lines_show_no_saved_one : (lines others : List (List ℕ)) → LinesShowSaves (lines ++ others) [] → LinesShowSaves lines []
+first_lines_show_no_saved_one : (lines others : List (List ℕ)) → LinesShowSaves (lines ++ others) []
+    → LinesShowSaves lines []
 first_lines_show_no_saved_one [] others shows = refl
 first_lines_show_no_saved_one (line ∷ lines) others shows =
     ⊎_elim (λ other. inl (other.0, first_lines_show_no_saved_one lines others other.1)) (λ saved. absurd (cc saved.3)) shows
@@ -182,7 +184,8 @@ strict_front_of_one_line line front rest same short =
     same (omega (arith, short, length_push (join_with_byte 32 (line_words line)) 10)))
 
 -- a strict front of a line of positions has no whole line
-pub strict_front_has_no_whole_line : (mark : Mark) (positions front rest : List ℕ) → mark_text mark positions ≡ front ++ rest
+pub strict_front_has_no_whole_line : (mark : Mark) (positions front rest : List ℕ)
+    → mark_text mark positions ≡ front ++ rest
     → length front < length (mark_text mark positions) → whole_lines front ≡ []
 strict_front_has_no_whole_line OpenedMark positions front rest same short =
     strict_front_of_one_line (Opened positions) front rest same short

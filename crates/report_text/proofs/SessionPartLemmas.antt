@@ -7,6 +7,7 @@ use Rattle.std.specs.declared.cmp.Ordering.TheVariants.{Less}
 use Rattle.std.proofs.lemmas.List.Elements.{All-from_recursion}
 use Rattle.std.proofs.lemmas.List.Kept.{AllPairs-cons}
 use Rattle.prefix_lattice.specs.{PrefixValue, report_order}
+use Rattle.prefix_lattice.specs.declared.grain.Grain.{Grain}
 use Rattle.prefix_lattice.proofs.ListLemmas.{AllPairs-list_tail}
 use Rattle.hhh_report.specs.{AreReportLines, line_limit}
 use Rattle.hhh_report.specs.declared.line.Line.{Line as LineValue}
@@ -39,7 +40,8 @@ abbrev pub IsOrderedSessionPart : LineValue → Type 0
 IsOrderedSessionPart line = line.lo ≤ line.hi
 
 -- lines that rise from a prefix on all come after it
-SessionPartRises-after : IsTotalOrder report_order → (last : PrefixValue) (lines : List LineValue) → SessionPartRises (Some last) lines
+SessionPartRises-after : IsTotalOrder report_order → (last : PrefixValue) (lines : List LineValue)
+    → SessionPartRises (Some last) lines
     → All (λ line. report_order last line.prefix ≡ Less) lines
 SessionPartRises-after order last lines rises = All-from_recursion (λ line. report_order last line.prefix ≡ Less) lines
     (by_recursion order last lines rises)
@@ -58,7 +60,8 @@ SessionPartRises-after order last lines rises = All-from_recursion (λ line. rep
         (rises.0, weaken order last line.prefix lines rises.0 (by_recursion order line.prefix lines rises.1))
 
 -- lines that rise are in the strict order of a report
-pub SessionPartRises-pairs : IsTotalOrder report_order → (last : Option PrefixValue) (lines : List LineValue) → SessionPartRises last lines
+pub SessionPartRises-pairs : IsTotalOrder report_order → (last : Option PrefixValue) (lines : List LineValue)
+    → SessionPartRises last lines
     → AllPairs PrecedesInSessionPart lines
 SessionPartRises-pairs order last [] rises = λ place later other before within. absurd (omega arith)
 SessionPartRises-pairs order last (line ∷ lines) rises =
@@ -81,9 +84,9 @@ session_part_pairs_rise last (line ∷ second ∷ lines) first pairs = (
 )
 
 -- the counts and the end of a session over n shards, after some reports
-pub record SessionTailPart (n : ℕ) (lines : List SessionLine) : Type 0 where
+pub record SessionTailPart (grain : Grain) (n : ℕ) (lines : List SessionLine) : Type 0 where
   reports : List Reported
-  are : AllByRecursion (IsReported n) reports
+  are : AllByRecursion (IsReported grain n) reports
   frames : ℕ
   small : frames < 2 ^ 64
   skips : Skips
@@ -91,102 +94,106 @@ pub record SessionTailPart (n : ℕ) (lines : List SessionLine) : Type 0 where
   spelled : lines ≡ flat_map reported_lines reports ++ Frames frames ∷ Skipped skips ∷ End ∷ []
 
 -- what may follow a report
-pub record SessionPartAfterDone (n : ℕ) (lines : List SessionLine) : Type 0 where
+pub record SessionPartAfterDone (grain : Grain) (n : ℕ) (lines : List SessionLine) : Type 0 where
   saved : Option (List ℕ)
   are_saved : IfSome saved (ArePositions n)
   rest : List SessionLine
-  tail : SessionTailPart n rest
+  tail : SessionTailPart grain n rest
   spelled : lines ≡ saved_lines saved ++ rest
 
 -- the remaining lines of a report, after this many
-pub record ListedSessionPart (n count : ℕ) (last : Option PrefixValue) (lines : List SessionLine) : Type 0 where
+pub record ListedSessionPart (grain : Grain) (n count : ℕ) (last : Option PrefixValue) (lines : List SessionLine) : Type 0 where
   listed : List LineValue
   few : count < line_limit → count + length listed < line_limit
-  are : AllByRecursion IsReportLine listed
+  are : AllByRecursion (IsReportLine grain) listed
   rising : SessionPartRises last listed
   rest : List SessionLine
-  after : SessionPartAfterDone n rest
+  after : SessionPartAfterDone grain n rest
   spelled : lines ≡ map Line listed ++ Done ∷ rest
 
 -- what follows the total of a report
-pub record WeighedSessionPart (n : ℕ) (lines : List SessionLine) : Type 0 where
+pub record WeighedSessionPart (grain : Grain) (n : ℕ) (lines : List SessionLine) : Type 0 where
   threshold : ℕ
   some : 1 ≤ threshold
   small : threshold < 2 ^ 64
   rest : List SessionLine
-  listed : ListedSessionPart n 0 None rest
+  listed : ListedSessionPart grain n 0 None rest
   spelled : lines ≡ Threshold threshold ∷ rest
 
 -- what follows the positions of a report
-pub record PlacedSessionPart (n : ℕ) (lines : List SessionLine) : Type 0 where
+pub record PlacedSessionPart (grain : Grain) (n : ℕ) (lines : List SessionLine) : Type 0 where
   total : ℕ
   small : total < 2 ^ 64
   rest : List SessionLine
-  weighed : WeighedSessionPart n rest
+  weighed : WeighedSessionPart grain n rest
   spelled : lines ≡ Total total ∷ rest
 
 -- what a report of a session holds
-pub record IsSessionPartReport (n : ℕ) (report : ReportValue) : Type 0 where
+pub record IsSessionPartReport (grain : Grain) (n : ℕ) (report : ReportValue) : Type 0 where
   positions : ArePositions n report.positions
   total : report.total < 2 ^ 64
   some : 1 ≤ report.threshold
   threshold : report.threshold < 2 ^ 64
-  lines : AllByRecursion ShowsLine report.lines
+  lines : AllByRecursion (ShowsLine grain) report.lines
 
 -- what follows the first line of a report
-pub record BegunSessionPart (n : ℕ) (lines : List SessionLine) : Type 0 where
+pub record BegunSessionPart (grain : Grain) (n : ℕ) (lines : List SessionLine) : Type 0 where
   report : ReportValue
-  is_report : IsSessionPartReport n report
+  is_report : IsSessionPartReport grain n report
   rest : List SessionLine
-  after : SessionPartAfterDone n rest
+  after : SessionPartAfterDone grain n rest
   spelled : lines ≡ body_lines report ++ rest
 
 -- the first line of a report, and what follows it
-pub record StartedSessionPart (n : ℕ) (lines : List SessionLine) : Type 0 where
+pub record StartedSessionPart (grain : Grain) (n : ℕ) (lines : List SessionLine) : Type 0 where
   rest : List SessionLine
-  begun : BegunSessionPart n rest
+  begun : BegunSessionPart grain n rest
   spelled : lines ≡ Report ∷ rest
 
 -- all lines of a session
-pub record SessionFromParts (lines : List SessionLine) : Type 0 where
+pub record SessionFromParts (grain : Grain) (lines : List SessionLine) : Type 0 where
   pub session : Session
-  pub is_session : IsTextSession session
+  pub is_session : IsTextSession grain session
   pub spelled : lines ≡ session_lines session
 
 -- what may follow each stage
-abbrev pub SessionPartRest : Stage → List SessionLine → Type 0
-SessionPartRest nothing lines = SessionFromParts lines
-SessionPartRest (opened n) lines = StartedSessionPart n lines
-SessionPartRest (begun n) lines = BegunSessionPart n lines
-SessionPartRest (placed n) lines = PlacedSessionPart n lines
-SessionPartRest (weighed n) lines = WeighedSessionPart n lines
-SessionPartRest (listing n count last) lines = ListedSessionPart n count last lines
-SessionPartRest (done n) lines = SessionPartAfterDone n lines
-SessionPartRest (saved n) lines = SessionTailPart n lines
-SessionPartRest counted lines = (skips : Skips) × AreSkips skips × (lines ≡ Skipped skips ∷ End ∷ [])
-SessionPartRest skipped lines = lines ≡ End ∷ []
-SessionPartRest ended lines = lines ≡ []
+abbrev pub SessionPartRest : (grain : Grain) → Stage → List SessionLine → Type 0
+SessionPartRest grain nothing lines = SessionFromParts grain lines
+SessionPartRest grain (opened n) lines = StartedSessionPart grain n lines
+SessionPartRest grain (begun n) lines = BegunSessionPart grain n lines
+SessionPartRest grain (placed n) lines = PlacedSessionPart grain n lines
+SessionPartRest grain (weighed n) lines = WeighedSessionPart grain n lines
+SessionPartRest grain (listing n count last) lines = ListedSessionPart grain n count last lines
+SessionPartRest grain (done n) lines = SessionPartAfterDone grain n lines
+SessionPartRest grain (saved n) lines = SessionTailPart grain n lines
+SessionPartRest grain counted lines = (skips : Skips) × AreSkips skips × (lines ≡ Skipped skips ∷ End ∷ [])
+SessionPartRest grain skipped lines = lines ≡ End ∷ []
+SessionPartRest grain ended lines = lines ≡ []
 
-session_part_is_showable : (lines : List LineValue) → AllByRecursion IsReportLine lines → AllByRecursion ShowsLine lines
-session_part_is_showable [] all = tt
-session_part_is_showable (line ∷ lines) all = (all.0.showable, session_part_is_showable lines all.1)
+session_part_is_showable : (grain : Grain) (lines : List LineValue) → AllByRecursion (IsReportLine grain) lines
+    → AllByRecursion (ShowsLine grain) lines
+session_part_is_showable grain [] all = tt
+session_part_is_showable grain (line ∷ lines) all = (all.0.showable, session_part_is_showable grain lines all.1)
 
-session_part_is_ordered : (lines : List LineValue) → AllByRecursion IsReportLine lines → AllByRecursion IsOrderedSessionPart lines
-session_part_is_ordered [] all = tt
-session_part_is_ordered (line ∷ lines) all = (all.0.ordered, session_part_is_ordered lines all.1)
+session_part_is_ordered : (grain : Grain) (lines : List LineValue) → AllByRecursion (IsReportLine grain) lines
+    → AllByRecursion IsOrderedSessionPart lines
+session_part_is_ordered grain [] all = tt
+session_part_is_ordered grain (line ∷ lines) all = (all.0.ordered, session_part_is_ordered grain lines all.1)
 
 -- the lines of a report are in order
-session_part_lines_in_order : IsTotalOrder report_order → (n : ℕ) (lines : List SessionLine) (l : ListedSessionPart n 0 None lines) → AreReportLines l.listed
-session_part_lines_in_order order n lines l = record {
+session_part_lines_in_order : (grain : Grain) → IsTotalOrder report_order
+    → (n : ℕ) (lines : List SessionLine) (l : ListedSessionPart grain n 0 None lines) → AreReportLines l.listed
+session_part_lines_in_order grain order n lines l = record {
   few = let few : 0 + length l.listed < line_limit = l.few (omega arith) in omega arith;
-  ordered = All-from_recursion IsOrderedSessionPart l.listed (session_part_is_ordered l.listed l.are);
+  ordered = All-from_recursion IsOrderedSessionPart l.listed (session_part_is_ordered grain l.listed l.are);
   rising = SessionPartRises-pairs order None l.listed l.rising;
 }
 
 -- what follows the first line of a report, from its positions on
-begun_session_part : IsTotalOrder report_order → (n : ℕ) (positions : List ℕ) (lines : List SessionLine)
-    → ArePositions n positions → PlacedSessionPart n lines → BegunSessionPart n (At positions ∷ lines)
-begun_session_part order n positions lines are placed_lines =
+begun_session_part : (grain : Grain) → IsTotalOrder report_order
+    → (n : ℕ) (positions : List ℕ) (lines : List SessionLine)
+    → ArePositions n positions → PlacedSessionPart grain n lines → BegunSessionPart grain n (At positions ∷ lines)
+begun_session_part grain order n positions lines are placed_lines =
     let weighed_lines = placed_lines.weighed in
     let listed_lines = weighed_lines.listed in
     record {
@@ -195,14 +202,14 @@ begun_session_part order n positions lines are placed_lines =
         total = placed_lines.total;
         threshold = weighed_lines.threshold;
         lines = listed_lines.listed;
-        are_lines = session_part_lines_in_order order n weighed_lines.rest listed_lines;
+        are_lines = session_part_lines_in_order grain order n weighed_lines.rest listed_lines;
       };
       is_report = record {
         positions = are;
         total = placed_lines.small;
         some = weighed_lines.some;
         threshold = weighed_lines.small;
-        lines = session_part_is_showable listed_lines.listed listed_lines.are;
+        lines = session_part_is_showable grain listed_lines.listed listed_lines.are;
       };
       rest = listed_lines.rest;
       after = listed_lines.after;
@@ -220,8 +227,9 @@ session_part_report_groups : (body mark reports tail : List SessionLine)
 session_part_report_groups body mark reports tail = simp append_assoc
 
 -- a report and the reports after it
-abbrev session_part_report_tail : (n : ℕ) (lines : List SessionLine) → BegunSessionPart n lines → SessionTailPart n (Report ∷ lines)
-session_part_report_tail n lines begun_lines =
+abbrev session_part_report_tail : (grain : Grain) (n : ℕ) (lines : List SessionLine) → BegunSessionPart grain n lines
+    → SessionTailPart grain n (Report ∷ lines)
+session_part_report_tail grain n lines begun_lines =
     let report = begun_lines.report in
     let is = begun_lines.is_report in
     let after = begun_lines.after in
@@ -234,7 +242,7 @@ session_part_report_tail n lines begun_lines =
           total = is.total;
           some = is.some;
           threshold = is.threshold;
-          lines = All-from_recursion ShowsLine report.lines is.lines;
+          lines = All-from_recursion (ShowsLine grain) report.lines is.lines;
           saved = after.are_saved;
         },
         tail.are,
@@ -253,9 +261,10 @@ session_part_report_tail n lines begun_lines =
     }
 
 -- the counts right after a report
-session_part_counts_tail : (n frames : ℕ) (skips : Skips) (lines : List SessionLine) → frames < 2 ^ 64 → AreSkips skips
-    → lines ≡ Skipped skips ∷ End ∷ [] → SessionTailPart n (Frames frames ∷ lines)
-session_part_counts_tail n frames skips lines small are spelled = record {
+session_part_counts_tail : (grain : Grain) (n frames : ℕ) (skips : Skips) (lines : List SessionLine) → frames < 2 ^ 64
+    → AreSkips skips
+    → lines ≡ Skipped skips ∷ End ∷ [] → SessionTailPart grain n (Frames frames ∷ lines)
+session_part_counts_tail grain n frames skips lines small are spelled = record {
   reports = [];
   are = tt;
   frames = frames;
@@ -266,14 +275,15 @@ session_part_counts_tail n frames skips lines small are spelled = record {
 }
 
 -- a report that was not saved
-unsaved_session_part : (n : ℕ) (lines : List SessionLine) → SessionTailPart n lines → SessionPartAfterDone n lines
-unsaved_session_part n lines tail = record { saved = None; are_saved = tt; rest = lines; tail = tail; spelled = refl }
+unsaved_session_part : (grain : Grain) (n : ℕ) (lines : List SessionLine) → SessionTailPart grain n lines
+    → SessionPartAfterDone grain n lines
+unsaved_session_part grain n lines tail = record { saved = None; are_saved = tt; rest = lines; tail = tail; spelled = refl }
 
 -- all lines of a session, from the positions at its start and what follows
-session_of_opened_parts : (positions : List ℕ) (lines : List SessionLine) → ShowsPositions positions
-    → StartedSessionPart (length positions) lines → SessionFromParts (Opened positions ∷ lines)
-session_of_opened_parts positions lines are started =
-    let tail = session_part_report_tail (length positions) started.rest started.begun in
+session_of_opened_parts : (grain : Grain) (positions : List ℕ) (lines : List SessionLine) → ShowsPositions positions
+    → StartedSessionPart grain (length positions) lines → SessionFromParts grain (Opened positions ∷ lines)
+session_of_opened_parts grain positions lines are started =
+    let tail = session_part_report_tail grain (length positions) started.rest started.begun in
     record {
       session = record {
         opened = positions;
@@ -286,7 +296,7 @@ session_of_opened_parts positions lines are started =
       is_session = record {
         opened = are;
         some = omega arith;
-        reports = All-from_recursion (IsReported (length positions)) tail.reports tail.are;
+        reports = All-from_recursion (IsReported grain (length positions)) tail.reports tail.are;
         frames = tail.small;
         not_ipv4 = tail.are_skips.not_ipv4;
         short = tail.are_skips.short;
@@ -296,27 +306,29 @@ session_of_opened_parts positions lines are started =
     }
 
 -- one more line in front
-session_part_one_line_more : IsTotalOrder report_order → (stage : Stage) (line : SessionLine) (next : Stage) (lines : List SessionLine)
-    → FollowsStage stage line next → IsSessionLine line → SessionPartRest next lines → SessionPartRest stage (line ∷ lines)
-session_part_one_line_more order nothing (Opened positions) next lines follows is rest =
-    session_of_opened_parts positions lines is (subst (λ s. SessionPartRest s lines) follows rest)
-session_part_one_line_more order (opened n) Report next lines follows is rest =
-    record { rest = lines; begun = subst (λ s. SessionPartRest s lines) follows rest; spelled = refl }
-session_part_one_line_more order (begun n) (At positions) next lines follows is rest =
-    begun_session_part order n positions lines (record { are_positions = is; as_many = follows.0 })
-    (subst (λ s. SessionPartRest s lines) follows.1 rest)
-session_part_one_line_more order (placed n) (Total total) next lines follows is rest =
-    record { total = total; small = is; rest = lines; weighed = subst (λ s. SessionPartRest s lines) follows rest; spelled = refl }
-session_part_one_line_more order (weighed n) (Threshold threshold) next lines follows is rest = record {
+session_part_one_line_more : (grain : Grain) → IsTotalOrder report_order
+    → (stage : Stage) (line : SessionLine) (next : Stage) (lines : List SessionLine)
+    → FollowsStage stage line next → IsSessionLine grain line → SessionPartRest grain next lines
+    → SessionPartRest grain stage (line ∷ lines)
+session_part_one_line_more grain order nothing (Opened positions) next lines follows is rest =
+    session_of_opened_parts grain positions lines is (subst (λ s. SessionPartRest grain s lines) follows rest)
+session_part_one_line_more grain order (opened n) Report next lines follows is rest =
+    record { rest = lines; begun = subst (λ s. SessionPartRest grain s lines) follows rest; spelled = refl }
+session_part_one_line_more grain order (begun n) (At positions) next lines follows is rest =
+    begun_session_part grain order n positions lines (record { are_positions = is; as_many = follows.0 })
+    (subst (λ s. SessionPartRest grain s lines) follows.1 rest)
+session_part_one_line_more grain order (placed n) (Total total) next lines follows is rest =
+    record { total = total; small = is; rest = lines; weighed = subst (λ s. SessionPartRest grain s lines) follows rest; spelled = refl }
+session_part_one_line_more grain order (weighed n) (Threshold threshold) next lines follows is rest = record {
   threshold = threshold;
   some = is.0;
   small = is.1;
   rest = lines;
-  listed = subst (λ s. SessionPartRest s lines) follows rest;
+  listed = subst (λ s. SessionPartRest grain s lines) follows rest;
   spelled = refl;
 }
-session_part_one_line_more order (listing n count last) (Line line) next lines follows is rest =
-    let others = subst (λ s. SessionPartRest s lines) follows.2 rest in
+session_part_one_line_more grain order (listing n count last) (Line line) next lines follows is rest =
+    let others = subst (λ s. SessionPartRest grain s lines) follows.2 rest in
     record {
       listed = line ∷ others.listed;
       few = λ small. let more : count + 1 + length others.listed < line_limit = others.few follows.1 in omega arith;
@@ -326,45 +338,47 @@ session_part_one_line_more order (listing n count last) (Line line) next lines f
       after = others.after;
       spelled = ap (λ l. Line line ∷ l) others.spelled;
     }
-session_part_one_line_more order (listing n count last) Done next lines follows is rest = record {
+session_part_one_line_more grain order (listing n count last) Done next lines follows is rest = record {
   listed = [];
   few = λ small. omega arith;
   are = tt;
   rising = tt;
   rest = lines;
-  after = subst (λ s. SessionPartRest s lines) follows rest;
+  after = subst (λ s. SessionPartRest grain s lines) follows rest;
   spelled = refl;
 }
-session_part_one_line_more order (done n) Report next lines follows is rest =
-    unsaved_session_part n (Report ∷ lines) (session_part_report_tail n lines (subst (λ s. SessionPartRest s lines) follows rest))
-session_part_one_line_more order (done n) (Saved positions) next lines follows is rest = record {
+session_part_one_line_more grain order (done n) Report next lines follows is rest =
+    unsaved_session_part grain n (Report ∷ lines) (session_part_report_tail grain n lines (subst (λ s. SessionPartRest grain s lines) follows rest))
+session_part_one_line_more grain order (done n) (Saved positions) next lines follows is rest = record {
   saved = Some positions;
   are_saved = record { are_positions = is; as_many = follows.0 };
   rest = lines;
-  tail = subst (λ s. SessionPartRest s lines) follows.1 rest;
+  tail = subst (λ s. SessionPartRest grain s lines) follows.1 rest;
   spelled = refl;
 }
-session_part_one_line_more order (done n) (Frames frames) next lines follows is rest =
-    let counts = subst (λ s. SessionPartRest s lines) follows rest in
-    unsaved_session_part n (Frames frames ∷ lines) (session_part_counts_tail n frames counts.0 lines is counts.1 counts.2)
-session_part_one_line_more order (saved n) Report next lines follows is rest =
-    session_part_report_tail n lines (subst (λ s. SessionPartRest s lines) follows rest)
-session_part_one_line_more order (saved n) (Frames frames) next lines follows is rest =
-    let counts = subst (λ s. SessionPartRest s lines) follows rest in session_part_counts_tail n frames counts.0 lines is counts.1 counts.2
-session_part_one_line_more order counted (Skipped skips) next lines follows is rest =
-    (skips, is, ap (λ l. Skipped skips ∷ l) (subst (λ s. SessionPartRest s lines) follows rest))
-session_part_one_line_more order skipped End next lines follows is rest =
-    ap (λ l. End ∷ l) (subst (λ s. SessionPartRest s lines) follows rest)
-session_part_one_line_more order _ _ next lines follows is rest = absurd follows
+session_part_one_line_more grain order (done n) (Frames frames) next lines follows is rest =
+    let counts = subst (λ s. SessionPartRest grain s lines) follows rest in
+    unsaved_session_part grain n (Frames frames ∷ lines) (session_part_counts_tail grain n frames counts.0 lines is counts.1 counts.2)
+session_part_one_line_more grain order (saved n) Report next lines follows is rest =
+    session_part_report_tail grain n lines (subst (λ s. SessionPartRest grain s lines) follows rest)
+session_part_one_line_more grain order (saved n) (Frames frames) next lines follows is rest =
+    let counts = subst (λ s. SessionPartRest grain s lines) follows rest in session_part_counts_tail grain n frames counts.0 lines is counts.1 counts.2
+session_part_one_line_more grain order counted (Skipped skips) next lines follows is rest =
+    (skips, is, ap (λ l. Skipped skips ∷ l) (subst (λ s. SessionPartRest grain s lines) follows rest))
+session_part_one_line_more grain order skipped End next lines follows is rest =
+    ap (λ l. End ∷ l) (subst (λ s. SessionPartRest grain s lines) follows rest)
+session_part_one_line_more grain order _ _ next lines follows is rest = absurd follows
 
 -- lines that lead to the end of a session are what may follow
-session_part_leads_to_end : IsTotalOrder report_order → (stage : Stage) (lines : List SessionLine) → LeadsFromStage stage lines ended
-    → AllByRecursion IsSessionLine lines → SessionPartRest stage lines
-session_part_leads_to_end order stage [] leads all = subst (λ s. SessionPartRest s []) (sym leads) refl
-session_part_leads_to_end order stage (line ∷ lines) leads all =
-    session_part_one_line_more order stage line leads.0 lines leads.1 all.0 (session_part_leads_to_end order leads.0 lines leads.2 all.1)
+session_part_leads_to_end : (grain : Grain) → IsTotalOrder report_order → (stage : Stage) (lines : List SessionLine)
+    → LeadsFromStage stage lines ended
+    → AllByRecursion (IsSessionLine grain) lines → SessionPartRest grain stage lines
+session_part_leads_to_end grain order stage [] leads all = subst (λ s. SessionPartRest grain s []) (sym leads) refl
+session_part_leads_to_end grain order stage (line ∷ lines) leads all =
+    session_part_one_line_more grain order stage line leads.0 lines leads.1 all.0 (session_part_leads_to_end grain order leads.0 lines leads.2 all.1)
 
 -- lines that lead from the start to the end are those of a session
-pub session_parts_make_session : IsTotalOrder report_order → (lines : List SessionLine) → LeadsFromStage nothing lines ended
-    → AllByRecursion IsSessionLine lines → SessionFromParts lines
-session_parts_make_session order lines leads all = session_part_leads_to_end order nothing lines leads all
+pub session_parts_make_session : (grain : Grain) → IsTotalOrder report_order → (lines : List SessionLine)
+    → LeadsFromStage nothing lines ended
+    → AllByRecursion (IsSessionLine grain) lines → SessionFromParts grain lines
+session_parts_make_session grain order lines leads all = session_part_leads_to_end grain order nothing lines leads all

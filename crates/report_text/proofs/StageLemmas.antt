@@ -4,6 +4,7 @@ use Rattle.std.proofs.Common.{refl, sym, ◌∙◌, subst, arith}
 use Rattle.std.specs.List.{AllByRecursion}
 use Rattle.std.proofs.Math.ListN.{replicate, length-replicate}
 use Rattle.std.proofs.lemmas.List.Elements.{All-replicate}
+use Rattle.prefix_lattice.specs.declared.grain.Grain.{Grain}
 use Rattle.report_text.specs.Printing.{ShowsPositions}
 use Rattle.report_text.specs.Session.{IsSessionLine}
 use Rattle.report_text.specs.Stages.{Stage, nothing, opened, begun, placed, weighed, listing, done, saved, counted}
@@ -32,7 +33,8 @@ line_leads_to_one_stage skipped End next other one two = one ∙ sym two
 line_leads_to_one_stage _ _ next other one two = absurd one
 
 -- lines lead to one stage
-pub lines_lead_to_one_stage : (stage : Stage) (lines : List SessionLine) (last other : Stage) → LeadsFromStage stage lines last
+pub lines_lead_to_one_stage : (stage : Stage) (lines : List SessionLine) (last other : Stage)
+    → LeadsFromStage stage lines last
     → LeadsFromStage stage lines other → last ≡ other
 lines_lead_to_one_stage stage [] last other one two = sym one ∙ two
 lines_lead_to_one_stage stage (line ∷ lines) last other one two =
@@ -40,14 +42,16 @@ lines_lead_to_one_stage stage (line ∷ lines) last other one two =
     lines_lead_to_one_stage one.0 lines last other one.2 (subst (λ s. LeadsFromStage s lines other) same two.2)
 
 -- lines after lines
-pub stage_after_appended_lines : (stage : Stage) (lines others : List SessionLine) (next last : Stage) → LeadsFromStage stage lines next
+pub stage_after_appended_lines : (stage : Stage) (lines others : List SessionLine) (next last : Stage)
+    → LeadsFromStage stage lines next
     → LeadsFromStage next others last → LeadsFromStage stage (lines ++ others) last
 stage_after_appended_lines stage [] others next last one two = subst (λ s. LeadsFromStage s others last) (sym one) two
 stage_after_appended_lines stage (line ∷ lines) others next last one two =
     (one.0, one.1, stage_after_appended_lines one.0 lines others next last one.2 two)
 
 -- the stage between lines and lines
-pub stage_between_lines : (stage : Stage) (lines others : List SessionLine) (last : Stage) → LeadsFromStage stage (lines ++ others) last
+pub stage_between_lines : (stage : Stage) (lines others : List SessionLine) (last : Stage)
+    → LeadsFromStage stage (lines ++ others) last
     → (next : Stage) × LeadsFromStage stage lines next × LeadsFromStage next others last
 stage_between_lines stage [] others last leads = (stage, refl, leads)
 stage_between_lines stage (line ∷ lines) others last leads =
@@ -55,7 +59,8 @@ stage_between_lines stage (line ∷ lines) others last leads =
     (rest.0, (leads.0, leads.1, rest.1), rest.2)
 
 -- nothing follows the end
-pub ended_stage_is_last : (line : SessionLine) (lines : List SessionLine) (last : Stage) → LeadsFromStage ended (line ∷ lines) last → ⊥
+pub ended_stage_is_last : (line : SessionLine) (lines : List SessionLine) (last : Stage)
+    → LeadsFromStage ended (line ∷ lines) last → ⊥
 ended_stage_is_last (Opened positions) lines last leads = leads.1
 ended_stage_is_last Report lines last leads = leads.1
 ended_stage_is_last (At positions) lines last leads = leads.1
@@ -87,31 +92,33 @@ IsFitStage counted = Unit {0}
 IsFitStage skipped = Unit {0}
 IsFitStage ended = Unit {0}
 
-next_stage_is_fit : (stage : Stage) (line : SessionLine) (next : Stage) → FollowsStage stage line next → IsSessionLine line → IsFitStage stage
+next_stage_is_fit : (grain : Grain) (stage : Stage) (line : SessionLine) (next : Stage) → FollowsStage stage line next
+    → IsSessionLine grain line → IsFitStage stage
     → IsFitStage next
-next_stage_is_fit nothing (Opened positions) next follows is fit =
+next_stage_is_fit grain nothing (Opened positions) next follows is fit =
     subst IsFitStage (sym follows) (record { some = is.some; few = is.few })
-next_stage_is_fit (opened n) Report next follows is fit = subst IsFitStage (sym follows) fit
-next_stage_is_fit (begun n) (At positions) next follows is fit = subst IsFitStage (sym follows.1) fit
-next_stage_is_fit (placed n) (Total total) next follows is fit = subst IsFitStage (sym follows) fit
-next_stage_is_fit (weighed n) (Threshold threshold) next follows is fit = subst IsFitStage (sym follows) fit
-next_stage_is_fit (listing n count last) (Line line) next follows is fit = subst IsFitStage (sym follows.2) fit
-next_stage_is_fit (listing n count last) Done next follows is fit = subst IsFitStage (sym follows) fit
-next_stage_is_fit (done n) Report next follows is fit = subst IsFitStage (sym follows) fit
-next_stage_is_fit (done n) (Saved positions) next follows is fit = subst IsFitStage (sym follows.1) fit
-next_stage_is_fit (done n) (Frames frames) next follows is fit = subst IsFitStage (sym follows) tt
-next_stage_is_fit (saved n) Report next follows is fit = subst IsFitStage (sym follows) fit
-next_stage_is_fit (saved n) (Frames frames) next follows is fit = subst IsFitStage (sym follows) tt
-next_stage_is_fit counted (Skipped skips) next follows is fit = subst IsFitStage (sym follows) tt
-next_stage_is_fit skipped End next follows is fit = subst IsFitStage (sym follows) tt
-next_stage_is_fit _ _ next follows is fit = absurd follows
+next_stage_is_fit grain (opened n) Report next follows is fit = subst IsFitStage (sym follows) fit
+next_stage_is_fit grain (begun n) (At positions) next follows is fit = subst IsFitStage (sym follows.1) fit
+next_stage_is_fit grain (placed n) (Total total) next follows is fit = subst IsFitStage (sym follows) fit
+next_stage_is_fit grain (weighed n) (Threshold threshold) next follows is fit = subst IsFitStage (sym follows) fit
+next_stage_is_fit grain (listing n count last) (Line line) next follows is fit = subst IsFitStage (sym follows.2) fit
+next_stage_is_fit grain (listing n count last) Done next follows is fit = subst IsFitStage (sym follows) fit
+next_stage_is_fit grain (done n) Report next follows is fit = subst IsFitStage (sym follows) fit
+next_stage_is_fit grain (done n) (Saved positions) next follows is fit = subst IsFitStage (sym follows.1) fit
+next_stage_is_fit grain (done n) (Frames frames) next follows is fit = subst IsFitStage (sym follows) tt
+next_stage_is_fit grain (saved n) Report next follows is fit = subst IsFitStage (sym follows) fit
+next_stage_is_fit grain (saved n) (Frames frames) next follows is fit = subst IsFitStage (sym follows) tt
+next_stage_is_fit grain counted (Skipped skips) next follows is fit = subst IsFitStage (sym follows) tt
+next_stage_is_fit grain skipped End next follows is fit = subst IsFitStage (sym follows) tt
+next_stage_is_fit grain _ _ next follows is fit = absurd follows
 
 -- lines lead from such stages to such stages
-pub last_stage_is_fit : (stage : Stage) (lines : List SessionLine) (last : Stage) → LeadsFromStage stage lines last
-    → AllByRecursion IsSessionLine lines → IsFitStage stage → IsFitStage last
-last_stage_is_fit stage [] last leads all fit = subst IsFitStage leads fit
-last_stage_is_fit stage (line ∷ lines) last leads all fit =
-    last_stage_is_fit leads.0 lines last leads.2 all.1 (next_stage_is_fit stage line leads.0 leads.1 all.0 fit)
+pub last_stage_is_fit : (grain : Grain) (stage : Stage) (lines : List SessionLine) (last : Stage)
+    → LeadsFromStage stage lines last
+    → AllByRecursion (IsSessionLine grain) lines → IsFitStage stage → IsFitStage last
+last_stage_is_fit grain stage [] last leads all fit = subst IsFitStage leads fit
+last_stage_is_fit grain stage (line ∷ lines) last leads all fit =
+    last_stage_is_fit grain leads.0 lines last leads.2 all.1 (next_stage_is_fit grain stage line leads.0 leads.1 all.0 fit)
 
 -- lines that end a session after its counts, after a report, and so on backwards
 abbrev lines_after_counts_stage : List SessionLine
@@ -172,27 +179,29 @@ zeros_are_stage_positions n are = record {
   within = All-replicate (λ (p : ℕ). p ≤ 16777216) n 0 (omega arith);
 }
 
-counts_stage_lines : AllByRecursion IsSessionLine lines_after_counts_stage
-counts_stage_lines = (record { not_ipv4 = omega arith; short = omega arith; bad_header = omega arith }, (tt, tt))
+counts_stage_lines : (grain : Grain) → AllByRecursion (IsSessionLine grain) lines_after_counts_stage
+counts_stage_lines grain = (record { not_ipv4 = omega arith; short = omega arith; bad_header = omega arith }, (tt, tt))
 
-total_stage_lines : AllByRecursion IsSessionLine lines_after_total_stage
-total_stage_lines = ((omega arith, omega arith), (tt, (omega arith, counts_stage_lines)))
+total_stage_lines : (grain : Grain) → AllByRecursion (IsSessionLine grain) lines_after_total_stage
+total_stage_lines grain = ((omega arith, omega arith), (tt, (omega arith, counts_stage_lines grain)))
 
-report_stage_lines : (n : ℕ) → AreStageShards n → AllByRecursion IsSessionLine (lines_after_report_stage n)
-report_stage_lines n are = (zeros_are_stage_positions n are, (omega arith, total_stage_lines))
+report_stage_lines : (grain : Grain) (n : ℕ) → AreStageShards n
+    → AllByRecursion (IsSessionLine grain) (lines_after_report_stage n)
+report_stage_lines grain n are = (zeros_are_stage_positions n are, (omega arith, total_stage_lines grain))
 
-pub end_of_stage-lines : (stage : Stage) → IsFitStage stage → AllByRecursion IsSessionLine (end_of_stage stage)
-end_of_stage-lines nothing fit = (
+pub end_of_stage-lines : (grain : Grain) (stage : Stage) → IsFitStage stage
+    → AllByRecursion (IsSessionLine grain) (end_of_stage stage)
+end_of_stage-lines grain nothing fit = (
   zeros_are_stage_positions 1 (record { some = omega arith; few = omega arith }),
-  (tt, report_stage_lines 1 (record { some = omega arith; few = omega arith })),
+  (tt, report_stage_lines grain 1 (record { some = omega arith; few = omega arith })),
 )
-end_of_stage-lines (opened n) fit = (tt, report_stage_lines n fit)
-end_of_stage-lines (begun n) fit = report_stage_lines n fit
-end_of_stage-lines (placed n) fit = (omega arith, total_stage_lines)
-end_of_stage-lines (weighed n) fit = total_stage_lines
-end_of_stage-lines (listing n count last) fit = (tt, (omega arith, counts_stage_lines))
-end_of_stage-lines (done n) fit = (omega arith, counts_stage_lines)
-end_of_stage-lines (saved n) fit = (omega arith, counts_stage_lines)
-end_of_stage-lines counted fit = counts_stage_lines
-end_of_stage-lines skipped fit = (tt, tt)
-end_of_stage-lines ended fit = tt
+end_of_stage-lines grain (opened n) fit = (tt, report_stage_lines grain n fit)
+end_of_stage-lines grain (begun n) fit = report_stage_lines grain n fit
+end_of_stage-lines grain (placed n) fit = (omega arith, total_stage_lines grain)
+end_of_stage-lines grain (weighed n) fit = total_stage_lines grain
+end_of_stage-lines grain (listing n count last) fit = (tt, (omega arith, counts_stage_lines grain))
+end_of_stage-lines grain (done n) fit = (omega arith, counts_stage_lines grain)
+end_of_stage-lines grain (saved n) fit = (omega arith, counts_stage_lines grain)
+end_of_stage-lines grain counted fit = counts_stage_lines grain
+end_of_stage-lines grain skipped fit = (tt, tt)
+end_of_stage-lines grain ended fit = tt

@@ -14,7 +14,8 @@ spaced_text_parts_join name [] = append-nil name
 spaced_text_parts_join name (number ∷ numbers) = ap (λ l. name ++ 32 ∷ l) (spaced_text_parts_join (decimal number) numbers)
 
 -- a line of positions
-pub text_parts_of_positions : (old a b new name numbers : List ℕ) → a ≡ old ++ name → b ≡ a ++ flat_map spaced_text_part numbers
+pub text_parts_of_positions : (old a b new name numbers : List ℕ) → a ≡ old ++ name
+    → b ≡ a ++ flat_map spaced_text_part numbers
     → new ≡ b ++ codes "\n"
     → new ≡ old ++ text_line (name ∷ map decimal numbers)
 text_parts_of_positions old a b new name numbers is_a is_b is_new =

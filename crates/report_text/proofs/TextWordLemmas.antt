@@ -1,5 +1,5 @@
 -- Words and the bytes that end them.
-use Rattle.std.proofs.Common.{◌≡◌, ℕ, ◌+◌, ◌*◌, ◌/◌, ◌%◌, ◌^◌, ◌<◌, ◌≤◌, List, [], ◌∷◌, ◌++◌, length, get_or, drop}
+use Rattle.std.proofs.Common.{◌≡◌, ℕ, ◌+◌, ◌/◌, ◌%◌, ◌^◌, ◌<◌, ◌≤◌, List, [], ◌∷◌, ◌++◌, length, get_or, drop}
 use Rattle.std.proofs.Common.{zero, suc, ◌==◌, Bool, true, false, decimal, refl, sym, subst, ap, ◌∙◌, arith, append_assoc}
 use Rattle.std.specs.Prelude.{if◌then◌else◌}
 use Rattle.std.specs.Fmt.{digit_glyph, digits, digits_onto}
@@ -18,13 +18,15 @@ abbrev pub EndsTextWord : List ℕ → Type 0
 EndsTextWord rest = get_or rest 0 0 < 46
 
 -- texts that begin with different bytes differ
-pub text_words_begin_unlike : (byte another : ℕ) (rest other : List ℕ) → byte < another → byte ∷ rest ≡ another ∷ other → ⊥
+pub text_words_begin_unlike : (byte another : ℕ) (rest other : List ℕ) → byte < another
+    → byte ∷ rest ≡ another ∷ other → ⊥
 text_words_begin_unlike byte another rest other below same =
     let head : byte ≡ another = ap (λ l. get_or l 0 0) same in
     omega arith
 
 -- a word, and what follows its end, are determined
-pub text_words_told_apart : (word another rest other : List ℕ) → IsTextWord word → IsTextWord another → EndsTextWord rest → EndsTextWord other
+pub text_words_told_apart : (word another rest other : List ℕ) → IsTextWord word → IsTextWord another
+    → EndsTextWord rest → EndsTextWord other
     → word ++ rest ≡ another ++ other → (word ≡ another) × (rest ≡ other)
 text_words_told_apart [] [] rest other is another_is ends other_ends same = (refl, same)
 text_words_told_apart [] (byte ∷ another) rest other is another_is ends other_ends same =
@@ -53,7 +55,8 @@ text_word_digit : (digit : ℕ) → digit < 10 → 46 ≤ digit_glyph false digi
 text_word_digit digit below =
     subst (λ b. 46 ≤ (if b then 48 + digit else 87 + digit)) (sym (lt-ltb digit 10 below)) (omega arith)
 
-text_word_digits : (count number : ℕ) (word : List ℕ) → IsTextWord word → IsTextWord (digits_onto count 10 false number word)
+text_word_digits : (count number : ℕ) (word : List ℕ) → IsTextWord word
+    → IsTextWord (digits_onto count 10 false number word)
 text_word_digits zero number word is = is
 text_word_digits (suc count) number word is =
     let longer : List ℕ = digit_glyph false (number % 10) ∷ word in
@@ -67,7 +70,8 @@ unfolding digits
 decimal_is_text_word number = text_word_digits 64 number [] tt
 
 -- a number, and what follows it, are determined
-pub text_word_numbers_apart : (number another : ℕ) (rest other : List ℕ) → number < 2 ^ 64 → another < 2 ^ 64 → EndsTextWord rest
+pub text_word_numbers_apart : (number another : ℕ) (rest other : List ℕ) → number < 2 ^ 64 → another < 2 ^ 64
+    → EndsTextWord rest
     → EndsTextWord other
     → decimal number ++ rest ≡ decimal another ++ other → (number ≡ another) × (rest ≡ other)
 text_word_numbers_apart number another rest other small another_small ends other_ends same =
@@ -92,8 +96,8 @@ address_is_text_word address =
 -- a side of a prefix is a word
 pub side_is_text_word : (front : List ℕ) → IsTextWord (side_text front)
 side_is_text_word front =
-    IsTextWord-append (address_text (address_of front)) (47 ∷ decimal (8 * length front)) (address_is_text_word (address_of front))
-    (omega arith, decimal_is_text_word (8 * length front))
+    IsTextWord-append (address_text (address_of front)) (47 ∷ decimal (length front)) (address_is_text_word (address_of front))
+    (omega arith, decimal_is_text_word (length front))
 
 -- positions before a line feed end a word
 positions_end_text_word : (numbers rest : List ℕ) → EndsTextWord (flat_map spaced_text_part numbers ++ 10 ∷ rest)
@@ -103,7 +107,8 @@ positions_end_text_word (number ∷ numbers) rest = omega arith
 -- positions before a line feed, and what follows it, are determined
 pub text_word_positions_apart : (numbers others rest other : List ℕ) → AllByRecursion (λ n. n < 2 ^ 64) numbers
     → AllByRecursion (λ n. n < 2 ^ 64) others
-    → flat_map spaced_text_part numbers ++ 10 ∷ rest ≡ flat_map spaced_text_part others ++ 10 ∷ other → (numbers ≡ others) × (rest ≡ other)
+    → flat_map spaced_text_part numbers ++ 10 ∷ rest ≡ flat_map spaced_text_part others ++ 10 ∷ other
+    → (numbers ≡ others) × (rest ≡ other)
 text_word_positions_apart [] [] rest other small others_small same = (refl, ap (drop 1) same)
 text_word_positions_apart [] (n ∷ others) rest other small others_small same = absurd (text_words_begin_unlike 10 32 rest _ (omega arith) same)
 text_word_positions_apart (m ∷ numbers) [] rest other small others_small same =

@@ -29,7 +29,8 @@ whole_lines-rest (byte ∷ text) none =
     ap (λ b. cond b ((byte ∷ []) ∷ whole_lines text) (before_line byte (whole_lines text))) none.0
     ∙ ap (before_line byte) (whole_lines-rest text none.1)
 
-HasNoWholeLine-append : (text other : List ℕ) → HasNoWholeLine text → HasNoWholeLine other → HasNoWholeLine (text ++ other)
+HasNoWholeLine-append : (text other : List ℕ) → HasNoWholeLine text → HasNoWholeLine other
+    → HasNoWholeLine (text ++ other)
 HasNoWholeLine-append [] other none other_none = other_none
 HasNoWholeLine-append (byte ∷ text) other none other_none = (none.0, HasNoWholeLine-append text other none.1 other_none)
 
@@ -37,7 +38,8 @@ HasNoWholeLine-word : (word : List ℕ) → IsTextWord word → HasNoWholeLine w
 HasNoWholeLine-word [] is = tt
 HasNoWholeLine-word (byte ∷ word) is = (ne_eqb byte 10 (λ same. let great : 46 ≤ byte = is.0 in omega arith), HasNoWholeLine-word word is.1)
 
-HasNoWholeLine-join : (words : List (List ℕ)) → AllByRecursion IsTextWord words → HasNoWholeLine (join_with_byte 32 words)
+HasNoWholeLine-join : (words : List (List ℕ)) → AllByRecursion IsTextWord words
+    → HasNoWholeLine (join_with_byte 32 words)
 HasNoWholeLine-join [] all = tt
 HasNoWholeLine-join (word ∷ []) all = HasNoWholeLine-word word all.0
 HasNoWholeLine-join (word ∷ second ∷ words) all =
@@ -48,7 +50,8 @@ HasNoWholeLine-join (word ∷ second ∷ words) all =
 pub HasNoWholeLine-words : (line : SessionLine) → HasNoWholeLine (join_with_byte 32 (line_words line))
 HasNoWholeLine-words line = HasNoWholeLine-join (line_words line) (word_list_of_line line)
 
-whole_line_groups : (line end rest behind : List ℕ) → ((line ++ end) ++ rest) ++ behind ≡ line ++ (end ++ (rest ++ behind))
+whole_line_groups : (line end rest behind : List ℕ)
+    → ((line ++ end) ++ rest) ++ behind ≡ line ++ (end ++ (rest ++ behind))
 whole_line_groups line end rest behind = simp append_assoc
 
 -- lines of a session are the first whole lines

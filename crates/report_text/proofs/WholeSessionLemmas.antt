@@ -3,6 +3,7 @@ use Rattle.std.proofs.Common.{◌≡◌, ℕ, ◌+◌, ◌<◌, ◌≤◌, List,
 use Rattle.std.proofs.Common.{Some, None, IfSome, suc, refl, sym, ap, ◌∙◌, subst, arith, append_assoc}
 use Rattle.std.specs.List.{flat_map, AllZip, AllByRecursion}
 use Rattle.std.proofs.lemmas.List.Elements.{All-from_recursion, recursion_from_All}
+use Rattle.prefix_lattice.specs.declared.grain.Grain.{Grain}
 use Rattle.hhh_report.specs.{AreReportLines, IsSameReport, line_limit}
 use Rattle.hhh_report.specs.declared.line.Line.{Line as LineValue}
 use Rattle.hhh_report.specs.declared.reports.Reported.{Reported}
@@ -41,15 +42,17 @@ pub record WholeSessionGoesOn (n : ℕ) (rest : List SessionLine) : Type 0 where
   after_done : LeadsFromStage (done n) rest ended
   after_saved : LeadsFromStage (saved n) rest ended
 
-whole_session_saved_leads : (n : ℕ) (positions : Option (List ℕ)) (rest : List SessionLine) → IfSome positions (ArePositions n)
+whole_session_saved_leads : (n : ℕ) (positions : Option (List ℕ)) (rest : List SessionLine)
+    → IfSome positions (ArePositions n)
     → WholeSessionGoesOn n rest → LeadsFromStage (done n) (saved_lines positions ++ rest) ended
 whole_session_saved_leads n None rest are on = on.after_done
 whole_session_saved_leads n (Some positions) rest are on = (saved n, (are.as_many, refl), on.after_saved)
 
 -- a report leads on
-whole_session_report_leads : (n : ℕ) (reported : Reported) (rest : List SessionLine) → IsReported n reported → WholeSessionGoesOn n rest
+whole_session_report_leads : (grain : Grain) (n : ℕ) (reported : Reported) (rest : List SessionLine)
+    → IsReported grain n reported → WholeSessionGoesOn n rest
     → LeadsFromStage (begun n) (body_lines reported.report ++ (saved_lines reported.saved ++ rest)) ended
-whole_session_report_leads n reported rest is on =
+whole_session_report_leads grain n reported rest is on =
     let report = reported.report in
     let lines = report.are_lines in
     let end = whole_session_saved_leads n reported.saved rest is.saved on in
@@ -82,70 +85,76 @@ whole_session_counts-lead : (skips : Skips) → LeadsFromStage counted (Skipped 
 whole_session_counts-lead skips = (skipped, refl, (ended, refl, refl))
 
 -- the first of some reports, after its first line
-whole_session_first_report : (n : ℕ) (reported : Reported) (reports : List Reported) (frames : ℕ) (skips : Skips)
-    → IsReported n reported → WholeSessionGoesOn n (flat_map reported_lines reports ++ whole_session_counts frames skips)
+whole_session_first_report : (grain : Grain) (n : ℕ) (reported : Reported) (reports : List Reported) (frames : ℕ) (skips : Skips)
+    → IsReported grain n reported
+    → WholeSessionGoesOn n (flat_map reported_lines reports ++ whole_session_counts frames skips)
     → LeadsFromStage (begun n)
     (((body_lines reported.report ++ saved_lines reported.saved) ++ flat_map reported_lines reports) ++ whole_session_counts frames skips)
     ended
-whole_session_first_report n reported reports frames skips is on =
+whole_session_first_report grain n reported reports frames skips is on =
     subst (λ l. LeadsFromStage (begun n) l ended)
     (whole_session_groups (body_lines reported.report) (saved_lines reported.saved) (flat_map reported_lines reports)
     (whole_session_counts frames skips))
-    (whole_session_report_leads n reported (flat_map reported_lines reports ++ whole_session_counts frames skips) is on)
+    (whole_session_report_leads grain n reported (flat_map reported_lines reports ++ whole_session_counts frames skips) is on)
 
 -- reports lead to the end
-whole_session_reports_lead : (n : ℕ) (reports : List Reported) (frames : ℕ) (skips : Skips) → AllByRecursion (IsReported n) reports
+whole_session_reports_lead : (grain : Grain) (n : ℕ) (reports : List Reported) (frames : ℕ) (skips : Skips)
+    → AllByRecursion (IsReported grain n) reports
     → WholeSessionGoesOn n (flat_map reported_lines reports ++ whole_session_counts frames skips)
-whole_session_reports_lead n [] frames skips all = record {
+whole_session_reports_lead grain n [] frames skips all = record {
   after_done = (counted, refl, whole_session_counts-lead skips);
   after_saved = (counted, refl, whole_session_counts-lead skips);
 }
-whole_session_reports_lead n (reported ∷ reports) frames skips all =
-    let first = whole_session_first_report n reported reports frames skips all.0 (whole_session_reports_lead n reports frames skips all.1) in
+whole_session_reports_lead grain n (reported ∷ reports) frames skips all =
+    let first = whole_session_first_report grain n reported reports frames skips all.0 (whole_session_reports_lead grain n reports frames skips all.1) in
     record { after_done = (begun n, refl, first); after_saved = (begun n, refl, first) }
 
 -- one report or more
-whole_session_some_reports : (n : ℕ) (reports : List Reported) (frames : ℕ) (skips : Skips) → 1 ≤ length reports
-    → AllByRecursion (IsReported n) reports
+whole_session_some_reports : (grain : Grain) (n : ℕ) (reports : List Reported) (frames : ℕ) (skips : Skips)
+    → 1 ≤ length reports
+    → AllByRecursion (IsReported grain n) reports
     → LeadsFromStage (opened n) (flat_map reported_lines reports ++ whole_session_counts frames skips) ended
-whole_session_some_reports n [] frames skips some all = absurd (omega arith)
-whole_session_some_reports n (reported ∷ reports) frames skips some all =
-    (begun n, refl, whole_session_first_report n reported reports frames skips all.0 (whole_session_reports_lead n reports frames skips all.1))
+whole_session_some_reports grain n [] frames skips some all = absurd (omega arith)
+whole_session_some_reports grain n (reported ∷ reports) frames skips some all =
+    (begun n, refl, whole_session_first_report grain n reported reports frames skips all.0 (whole_session_reports_lead grain n reports frames skips all.1))
 
 -- the skips of a session
 abbrev pub whole_session_skips : Session → Skips
 whole_session_skips session = record { not_ipv4 = session.not_ipv4; short = session.short; bad_header = session.bad_header }
 
 -- the lines of a session lead to its end
-pub whole_session_leads_to_end : (session : Session) → IsTextSession session → LeadsFromStage nothing (session_lines session) ended
-whole_session_leads_to_end session is = (
+pub whole_session_leads_to_end : (grain : Grain) (session : Session) → IsTextSession grain session
+    → LeadsFromStage nothing (session_lines session) ended
+whole_session_leads_to_end grain session is = (
   opened (length session.opened),
   refl,
-  whole_session_some_reports (length session.opened) session.reports session.frames (whole_session_skips session) is.some
-      (recursion_from_All (IsReported (length session.opened)) session.reports is.reports),
+  whole_session_some_reports grain (length session.opened) session.reports session.frames (whole_session_skips session) is.some
+      (recursion_from_All (IsReported grain (length session.opened)) session.reports is.reports),
 )
 
-whole_session_append : (lines others : List SessionLine) → AllByRecursion IsSessionLine lines → AllByRecursion IsSessionLine others
-    → AllByRecursion IsSessionLine (lines ++ others)
-whole_session_append [] others all others_all = others_all
-whole_session_append (line ∷ lines) others all others_all = (all.0, whole_session_append lines others all.1 others_all)
+whole_session_append : (grain : Grain) (lines others : List SessionLine) → AllByRecursion (IsSessionLine grain) lines
+    → AllByRecursion (IsSessionLine grain) others
+    → AllByRecursion (IsSessionLine grain) (lines ++ others)
+whole_session_append grain [] others all others_all = others_all
+whole_session_append grain (line ∷ lines) others all others_all = (all.0, whole_session_append grain lines others all.1 others_all)
 
-whole_session_listed_lines : (lines : List LineValue) → AllByRecursion ShowsLine lines → AllByRecursion IsOrderedSessionPart lines
-    → AllByRecursion IsSessionLine (map Line lines)
-whole_session_listed_lines [] all ordered = tt
-whole_session_listed_lines (line ∷ lines) all ordered =
-    (record { showable = all.0; ordered = ordered.0 }, whole_session_listed_lines lines all.1 ordered.1)
+whole_session_listed_lines : (grain : Grain) (lines : List LineValue) → AllByRecursion (ShowsLine grain) lines
+    → AllByRecursion IsOrderedSessionPart lines
+    → AllByRecursion (IsSessionLine grain) (map Line lines)
+whole_session_listed_lines grain [] all ordered = tt
+whole_session_listed_lines grain (line ∷ lines) all ordered =
+    (record { showable = all.0; ordered = ordered.0 }, whole_session_listed_lines grain lines all.1 ordered.1)
 
-whole_session_saved_lines : (n : ℕ) (positions : Option (List ℕ)) → IfSome positions (ArePositions n)
-    → AllByRecursion IsSessionLine (saved_lines positions)
-whole_session_saved_lines n None are = tt
-whole_session_saved_lines n (Some positions) are = (are.are_positions, tt)
+whole_session_saved_lines : (grain : Grain) (n : ℕ) (positions : Option (List ℕ)) → IfSome positions (ArePositions n)
+    → AllByRecursion (IsSessionLine grain) (saved_lines positions)
+whole_session_saved_lines grain n None are = tt
+whole_session_saved_lines grain n (Some positions) are = (are.are_positions, tt)
 
-whole_session_reported_lines : (n : ℕ) (reported : Reported) → IsReported n reported
-    → AllByRecursion IsSessionLine (reported_lines reported)
-whole_session_reported_lines n reported is =
+whole_session_reported_lines : (grain : Grain) (n : ℕ) (reported : Reported) → IsReported grain n reported
+    → AllByRecursion (IsSessionLine grain) (reported_lines reported)
+whole_session_reported_lines grain n reported is =
     let report = reported.report in
-    whole_session_append (report_lines report) (saved_lines reported.saved) (
+    whole_session_append grain (report_lines report) (saved_lines reported.saved) (
       tt,
       (
         is.positions.are_positions,
@@ -153,30 +162,32 @@ whole_session_reported_lines n reported is =
           is.total,
           (
             (is.some, is.threshold),
-            whole_session_append (map Line report.lines) (Done ∷ [])
-                (whole_session_listed_lines report.lines (recursion_from_All ShowsLine report.lines is.lines)
+            whole_session_append grain (map Line report.lines) (Done ∷ [])
+                (whole_session_listed_lines grain report.lines (recursion_from_All (ShowsLine grain) report.lines is.lines)
                 (recursion_from_All IsOrderedSessionPart report.lines report.are_lines.ordered))
                 (tt, tt),
           ),
         ),
       ),
     )
-    (whole_session_saved_lines n reported.saved is.saved)
+    (whole_session_saved_lines grain n reported.saved is.saved)
 
-whole_session_lines_of_reports : (n : ℕ) (reports : List Reported) → AllByRecursion (IsReported n) reports
-    → AllByRecursion IsSessionLine (flat_map reported_lines reports)
-whole_session_lines_of_reports n [] all = tt
-whole_session_lines_of_reports n (reported ∷ reports) all =
-    whole_session_append (reported_lines reported) (flat_map reported_lines reports) (whole_session_reported_lines n reported all.0)
-    (whole_session_lines_of_reports n reports all.1)
+whole_session_lines_of_reports : (grain : Grain) (n : ℕ) (reports : List Reported)
+    → AllByRecursion (IsReported grain n) reports
+    → AllByRecursion (IsSessionLine grain) (flat_map reported_lines reports)
+whole_session_lines_of_reports grain n [] all = tt
+whole_session_lines_of_reports grain n (reported ∷ reports) all =
+    whole_session_append grain (reported_lines reported) (flat_map reported_lines reports) (whole_session_reported_lines grain n reported all.0)
+    (whole_session_lines_of_reports grain n reports all.1)
 
 -- the lines of a session hold what lines may hold
-pub whole_session_lines : (session : Session) → IsTextSession session → AllByRecursion IsSessionLine (session_lines session)
-whole_session_lines session is = (
+pub whole_session_lines : (grain : Grain) (session : Session) → IsTextSession grain session
+    → AllByRecursion (IsSessionLine grain) (session_lines session)
+whole_session_lines grain session is = (
   is.opened,
-  whole_session_append (flat_map reported_lines session.reports) (whole_session_counts session.frames (whole_session_skips session))
-      (whole_session_lines_of_reports (length session.opened) session.reports
-      (recursion_from_All (IsReported (length session.opened)) session.reports is.reports))
+  whole_session_append grain (flat_map reported_lines session.reports) (whole_session_counts session.frames (whole_session_skips session))
+      (whole_session_lines_of_reports grain (length session.opened) session.reports
+      (recursion_from_All (IsReported grain (length session.opened)) session.reports is.reports))
       (is.frames, (record { not_ipv4 = is.not_ipv4; short = is.short; bad_header = is.bad_header }, (tt, tt))),
 )
 
@@ -276,42 +287,46 @@ whole_sessions_apart session other same =
       bad_header = ap (λ (s : Skips). s.bad_header) skips_same;
     }
 
-whole_session_same_report : (n : ℕ) (reported another : Reported) → IsReported n reported → IsSameInWholeSession reported another
-    → IsReported n another
-whole_session_same_report n reported another is same = record {
+whole_session_same_report : (grain : Grain) (n : ℕ) (reported another : Reported) → IsReported grain n reported
+    → IsSameInWholeSession reported another
+    → IsReported grain n another
+whole_session_same_report grain n reported another is same = record {
   positions = subst (ArePositions n) same.0.positions is.positions;
   total = omega (arith, same.0.total, is.total);
   some = omega (arith, same.0.threshold, is.some);
   threshold = omega (arith, same.0.threshold, is.threshold);
-  lines = subst (λ l. All ShowsLine l) same.0.lines is.lines;
+  lines = subst (λ l. All (ShowsLine grain) l) same.0.lines is.lines;
   saved = subst (λ s. IfSome s (ArePositions n)) same.1 is.saved;
 }
 
-whole_session_same_reports : (n : ℕ) (reports others : List Reported) → AllByRecursion (IsReported n) reports
-    → AllZip IsSameInWholeSession reports others → AllByRecursion (IsReported n) others
-whole_session_same_reports n [] [] all same = tt
-whole_session_same_reports n [] (another ∷ others) all same = absurd same
-whole_session_same_reports n (reported ∷ reports) [] all same = absurd same
-whole_session_same_reports n (reported ∷ reports) (another ∷ others) all same =
-    (whole_session_same_report n reported another all.0 same.0, whole_session_same_reports n reports others all.1 same.1)
+whole_session_same_reports : (grain : Grain) (n : ℕ) (reports others : List Reported)
+    → AllByRecursion (IsReported grain n) reports
+    → AllZip IsSameInWholeSession reports others → AllByRecursion (IsReported grain n) others
+whole_session_same_reports grain n [] [] all same = tt
+whole_session_same_reports grain n [] (another ∷ others) all same = absurd same
+whole_session_same_reports grain n (reported ∷ reports) [] all same = absurd same
+whole_session_same_reports grain n (reported ∷ reports) (another ∷ others) all same =
+    (whole_session_same_report grain n reported another all.0 same.0, whole_session_same_reports grain n reports others all.1 same.1)
 
-whole_session_same_length : (reports others : List Reported) → AllZip IsSameInWholeSession reports others → length reports ≡ length others
+whole_session_same_length : (reports others : List Reported) → AllZip IsSameInWholeSession reports others
+    → length reports ≡ length others
 whole_session_same_length [] [] same = refl
 whole_session_same_length [] (another ∷ others) same = absurd same
 whole_session_same_length (reported ∷ reports) [] same = absurd same
 whole_session_same_length (reported ∷ reports) (another ∷ others) same = ap (λ n. suc n) (whole_session_same_length reports others same.1)
 
 -- what says the same as a session is one
-pub whole_session_same : (session other : Session) → IsTextSession session → AreSameSessions session other → IsTextSession other
-whole_session_same session other is same =
-    let reports = whole_session_same_reports (length session.opened) session.reports other.reports
-    (recursion_from_All (IsReported (length session.opened)) session.reports is.reports) same.reports in
+pub whole_session_same : (grain : Grain) (session other : Session) → IsTextSession grain session
+    → AreSameSessions session other → IsTextSession grain other
+whole_session_same grain session other is same =
+    let reports = whole_session_same_reports grain (length session.opened) session.reports other.reports
+    (recursion_from_All (IsReported grain (length session.opened)) session.reports is.reports) same.reports in
     let as_many = whole_session_same_length session.reports other.reports same.reports in
     record {
       opened = subst ShowsPositions same.opened is.opened;
       some = omega (arith, as_many, is.some);
-      reports = All-from_recursion (IsReported (length other.opened)) other.reports
-          (subst (λ l. AllByRecursion (IsReported (length l)) other.reports) same.opened reports);
+      reports = All-from_recursion (IsReported grain (length other.opened)) other.reports
+          (subst (λ l. AllByRecursion (IsReported grain (length l)) other.reports) same.opened reports);
       frames = omega (arith, same.frames, is.frames);
       not_ipv4 = omega (arith, same.not_ipv4, is.not_ipv4);
       short = omega (arith, same.short, is.short);

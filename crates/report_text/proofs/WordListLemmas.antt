@@ -16,7 +16,9 @@ use Rattle.report_text.specs.declared.session_line.Skips.{Skips}
 use Rattle.report_text.specs.declared.session_line.SessionLine.{SessionLine}
 use Rattle.report_text.specs.declared.session_line.SessionLine.TheVariants.{Opened, Report, At, Total, Threshold, Line}
 use Rattle.report_text.specs.declared.session_line.SessionLine.TheVariants.{Done, Saved, Frames, Skipped, End}
-use Rattle.prefix_lattice.specs.{prefix_text, side_text}
+use Rattle.prefix_lattice.specs.{PrefixValue, IsPrefix, finest_grain, prefix_text, side_text}
+use Rattle.prefix_lattice.specs.declared.grain.Grain.{Grain}
+use Rattle.prefix_lattice.proofs.GrainLemmas.{grain_numbers}
 use Rattle.report_text.proofs.ReportApartLemmas.{ReportPrefixesAreApart}
 use Rattle.report_text.proofs.TextWordLemmas.{IsTextWord, decimal_is_text_word, side_is_text_word}
 
@@ -33,7 +35,8 @@ pub word_list_of_word : (word : List ℕ) → IsTextWord word → words_in word 
 word_list_of_word word is = slice_split_none (λ byte. eqb byte 32) word (word_list_without_space word is)
 
 -- words that are joined by spaces are the words in the text
-pub word_list_of_joined_words : (first : List ℕ) (others : List (List ℕ)) → IsTextWord first → AllByRecursion IsTextWord others
+pub word_list_of_joined_words : (first : List ℕ) (others : List (List ℕ)) → IsTextWord first
+    → AllByRecursion IsTextWord others
     → words_in (join_with_byte 32 (first ∷ others)) ≡ first ∷ others
 word_list_of_joined_words first [] is all = word_list_of_word first is
 word_list_of_joined_words first (second ∷ others) is all =
@@ -50,11 +53,13 @@ word_list_of_numbers [] = tt
 word_list_of_numbers (number ∷ numbers) = (decimal_is_text_word number, word_list_of_numbers numbers)
 
 -- positions are numbers of 64 bits
-word_list_small_numbers : (positions : List ℕ) → AllByRecursion (λ n. n ≤ 16777216) positions → AllByRecursion (λ n. n < 2 ^ 64) positions
+word_list_small_numbers : (positions : List ℕ) → AllByRecursion (λ n. n ≤ 16777216) positions
+    → AllByRecursion (λ n. n < 2 ^ 64) positions
 word_list_small_numbers [] all = tt
 word_list_small_numbers (position ∷ positions) all = (let few : position ≤ 16777216 = all.0 in omega arith, word_list_small_numbers positions all.1)
 
-pub word_list_small_positions : (positions : List ℕ) → ShowsPositions positions → AllByRecursion (λ n. n < 2 ^ 64) positions
+pub word_list_small_positions : (positions : List ℕ) → ShowsPositions positions
+    → AllByRecursion (λ n. n < 2 ^ 64) positions
 word_list_small_positions positions are =
     word_list_small_numbers positions (recursion_from_All (λ (n : ℕ). n ≤ 16777216) positions are.within)
 
@@ -139,40 +144,51 @@ word_list_same_skips skips other one two three =
     ∙ ap (λ n. record { not_ipv4 = other.not_ipv4; short = n; bad_header = skips.bad_header }) two
     ∙ ap (λ n. record { not_ipv4 = other.not_ipv4; short = other.short; bad_header = n }) three
 
+-- a prefix of a grain is one of the finest grain
+IsPrefix-word_list : {grain : Grain} (prefix : PrefixValue) → IsPrefix grain prefix → IsPrefix finest_grain prefix
+IsPrefix-word_list {grain} prefix is = record {
+  source = is.source;
+  dest = is.dest;
+  source_steps = (grain_numbers grain).refines (length prefix.source) is.source_steps;
+  dest_steps = (grain_numbers grain).refines (length prefix.dest) is.dest_steps;
+}
+
 -- lines with the same words are the same
-pub word_list_tells_line : ReportPrefixesAreApart → (line other : SessionLine) → IsSessionLine line → IsSessionLine other
+pub word_list_tells_line : (grain : Grain) → ReportPrefixesAreApart → (line other : SessionLine)
+    → IsSessionLine grain line → IsSessionLine grain other
     → line_words line ≡ line_words other
     → line ≡ other
-word_list_tells_line law (Opened positions) (Opened others) is other_is same =
+word_list_tells_line grain law (Opened positions) (Opened others) is other_is same =
     let rest : map decimal positions ≡ map decimal others = cc in
     ap Opened (word_list_same_numbers positions others (word_list_small_positions positions is) (word_list_small_positions others other_is) rest)
-word_list_tells_line law Report Report is other_is same = refl
-word_list_tells_line law (At positions) (At others) is other_is same =
+word_list_tells_line grain law Report Report is other_is same = refl
+word_list_tells_line grain law (At positions) (At others) is other_is same =
     let rest : map decimal positions ≡ map decimal others = cc in
     ap At (word_list_same_numbers positions others (word_list_small_positions positions is) (word_list_small_positions others other_is) rest)
-word_list_tells_line law (Total total) (Total other) is other_is same =
+word_list_tells_line grain law (Total total) (Total other) is other_is same =
     let rest : decimal total ≡ decimal other = cc in ap Total (decimal_injective total other is other_is rest)
-word_list_tells_line law (Threshold threshold) (Threshold other) is other_is same =
+word_list_tells_line grain law (Threshold threshold) (Threshold other) is other_is same =
     let rest : decimal threshold ≡ decimal other = cc in
     ap Threshold (decimal_injective threshold other is.1 other_is.1 rest)
-word_list_tells_line law (Line line) (Line other) is other_is same =
+word_list_tells_line grain law (Line line) (Line other) is other_is same =
     let source : side_text line.prefix.source ≡ side_text other.prefix.source = cc in
     let dest : side_text line.prefix.dest ≡ side_text other.prefix.dest = cc in
     let low : decimal line.lo ≡ decimal other.lo = cc in
     let high : decimal line.hi ≡ decimal other.hi = cc in
     let texts : prefix_text line.prefix ≡ prefix_text other.prefix =
     ap₂ (λ front behind. front ++ 32 ∷ behind) source dest in
-    let prefixes = law line.prefix other.prefix is.showable.is_prefix other_is.showable.is_prefix texts in
+    let prefixes = law line.prefix other.prefix (IsPrefix-word_list line.prefix is.showable.is_prefix)
+    (IsPrefix-word_list other.prefix other_is.showable.is_prefix) texts in
     let lows = decimal_injective line.lo other.lo is.showable.low other_is.showable.low low in
     let highs = decimal_injective line.hi other.hi is.showable.high other_is.showable.high high in
     ap Line (word_list_same_lines line other prefixes lows highs)
-word_list_tells_line law Done Done is other_is same = refl
-word_list_tells_line law (Saved positions) (Saved others) is other_is same =
+word_list_tells_line grain law Done Done is other_is same = refl
+word_list_tells_line grain law (Saved positions) (Saved others) is other_is same =
     let rest : map decimal positions ≡ map decimal others = cc in
     ap Saved (word_list_same_numbers positions others (word_list_small_positions positions is) (word_list_small_positions others other_is) rest)
-word_list_tells_line law (Frames frames) (Frames other) is other_is same =
+word_list_tells_line grain law (Frames frames) (Frames other) is other_is same =
     let rest : decimal frames ≡ decimal other = cc in ap Frames (decimal_injective frames other is other_is rest)
-word_list_tells_line law (Skipped skips) (Skipped other) is other_is same =
+word_list_tells_line grain law (Skipped skips) (Skipped other) is other_is same =
     let first : decimal skips.not_ipv4 ≡ decimal other.not_ipv4 = cc in
     let second : decimal skips.short ≡ decimal other.short = cc in
     let third : decimal skips.bad_header ≡ decimal other.bad_header = cc in
@@ -180,7 +196,7 @@ word_list_tells_line law (Skipped skips) (Skipped other) is other_is same =
     let two = decimal_injective skips.short other.short is.short other_is.short second in
     let three = decimal_injective skips.bad_header other.bad_header is.bad_header other_is.bad_header third in
     ap Skipped (word_list_same_skips skips other one two three)
-word_list_tells_line law End End is other_is same = refl
-word_list_tells_line law line other is other_is same =
+word_list_tells_line grain law End End is other_is same = refl
+word_list_tells_line grain law line other is other_is same =
     let kinds : word_list_initials (line_words line) ≡ word_list_initials (line_words other) = ap word_list_initials same in absurd
     (omega arith)

@@ -1,8 +1,9 @@
 -- The texts of reports and of the lines around them, and the positions that they can show.
 use Rattle.std.specs.Prelude.{ℕ, ◌+◌, ◌*◌, ◌≤◌, List, length, All, [], ◌∷◌, ◌++◌, map, codes, decimal, ◌<◌, ◌^◌}
 use Rattle.std.specs.List.{join_with_byte, flat_map}
-use Rattle.prefix_lattice.specs.{text_space, prefix_text, IsPrefix, longest_prefix_text, record_limit}
+use Rattle.prefix_lattice.specs.{text_space, prefix_text, IsPrefix, finest_grain, longest_prefix_text, record_limit}
 use Rattle.prefix_lattice.specs.{shard_limit}
+use Rattle.prefix_lattice.specs.declared.grain.Grain.{Grain}
 use Rattle.hhh_report.specs.declared.line.Line.{Line}
 use Rattle.hhh_report.specs.declared.report.Report.{Report}
 use Rattle.frame_records.specs.declared.records.Records.{Records}
@@ -74,8 +75,8 @@ abbrev pub tail_text : Records → List ℕ
 tail_text records = counts_text records.frames records.not_ipv4 records.short records.bad_header
 
 -- the line shows a prefix, and its low and high are 64-bit numbers
-pub record ShowsLine (line : Line) : Type 0 where
-  pub is_prefix : IsPrefix line.prefix
+pub record ShowsLine (grain : Grain) (line : Line) : Type 0 where
+  pub is_prefix : IsPrefix grain line.prefix
   pub low : line.lo < 2 ^ 64
   pub high : line.hi < 2 ^ 64
 
@@ -84,4 +85,4 @@ pub record Shows (report : Report) : Type 0 where
   pub positions : All (λ position. position < 2 ^ 64) report.positions
   pub total : report.total < 2 ^ 64
   pub threshold : report.threshold < 2 ^ 64
-  pub lines : All ShowsLine report.lines
+  pub lines : All (ShowsLine finest_grain) report.lines

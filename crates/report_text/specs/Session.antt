@@ -3,6 +3,7 @@ use Rattle.std.specs.Prelude.{⊤, ℕ, ◌≡◌, ◌+◌, ◌<◌, ◌≤◌, 
 use Rattle.std.specs.Prelude.{map, take, All, codes, decimal, Option, Some, None, IfSome}
 use Rattle.std.specs.List.{flat_map, AllZip}
 use Rattle.prefix_lattice.specs.{side_text}
+use Rattle.prefix_lattice.specs.declared.grain.Grain.{Grain}
 use Rattle.hhh_report.specs.{IsSameReport}
 use Rattle.hhh_report.specs.declared.line.Line.{Line as LineValue}
 use Rattle.hhh_report.specs.declared.report.Report.{Report as ReportValue}
@@ -48,8 +49,8 @@ abbrev pub words_text : SessionLine → List ℕ
 words_text line = text_line (line_words line)
 
 -- a line of a report that can be shown: its prefix and its numbers, with its low at most its high
-pub record IsReportLine (line : LineValue) : Type 0 where
-  pub showable : ShowsLine line
+pub record IsReportLine (grain : Grain) (line : LineValue) : Type 0 where
+  pub showable : ShowsLine grain line
   pub ordered : line.lo ≤ line.hi
 
 -- numbers of 64 bits
@@ -60,18 +61,18 @@ pub record AreSkips (skips : Skips) : Type 0 where
 
 -- what a line may hold: one position, at most 16,777,216, for each of 1 to 16 shards; numbers of 64 bits; a threshold
 -- of at least 1; a prefix with its low at most its high
-abbrev pub IsSessionLine : SessionLine → Type 0
-IsSessionLine (Opened positions) = ShowsPositions positions
-IsSessionLine Report = ⊤
-IsSessionLine (At positions) = ShowsPositions positions
-IsSessionLine (Total total) = total < 2 ^ 64
-IsSessionLine (Threshold threshold) = (1 ≤ threshold) × (threshold < 2 ^ 64)
-IsSessionLine (Line line) = IsReportLine line
-IsSessionLine Done = ⊤
-IsSessionLine (Saved positions) = ShowsPositions positions
-IsSessionLine (Frames frames) = frames < 2 ^ 64
-IsSessionLine (Skipped skips) = AreSkips skips
-IsSessionLine End = ⊤
+abbrev pub IsSessionLine : Grain → SessionLine → Type 0
+IsSessionLine grain (Opened positions) = ShowsPositions positions
+IsSessionLine grain Report = ⊤
+IsSessionLine grain (At positions) = ShowsPositions positions
+IsSessionLine grain (Total total) = total < 2 ^ 64
+IsSessionLine grain (Threshold threshold) = (1 ≤ threshold) × (threshold < 2 ^ 64)
+IsSessionLine grain (Line line) = IsReportLine grain line
+IsSessionLine grain Done = ⊤
+IsSessionLine grain (Saved positions) = ShowsPositions positions
+IsSessionLine grain (Frames frames) = frames < 2 ^ 64
+IsSessionLine grain (Skipped skips) = AreSkips skips
+IsSessionLine grain End = ⊤
 
 -- the lines of a report
 abbrev pub report_lines : ReportValue → List SessionLine
@@ -106,27 +107,27 @@ pub record ArePositions (shards : ℕ) (positions : List ℕ) : Type 0 where
 
 -- a report of a session over this many shards. By the invariant of the type `Report` its lines are in the strict order of a report, each with
 -- its low at most its high, and fewer than 2^24
-pub record IsReported (shards : ℕ) (reported : Reported) : Type 0 where
+pub record IsReported (grain : Grain) (shards : ℕ) (reported : Reported) : Type 0 where
   pub positions : ArePositions shards reported.report.positions
   pub total : reported.report.total < 2 ^ 64
   pub some : 1 ≤ reported.report.threshold
   pub threshold : reported.report.threshold < 2 ^ 64
-  pub lines : All ShowsLine reported.report.lines
+  pub lines : All (ShowsLine grain) reported.report.lines
   pub saved : IfSome reported.saved (ArePositions shards)
 
 -- what a session text can show: one report or more, all lists of positions of one length, and numbers of 64 bits
-pub record IsTextSession (session : Session) : Type 0 where
+pub record IsTextSession (grain : Grain) (session : Session) : Type 0 where
   pub opened : ShowsPositions session.opened
   pub some : 1 ≤ length session.reports
-  pub reports : All (IsReported (length session.opened)) session.reports
+  pub reports : All (IsReported grain (length session.opened)) session.reports
   pub frames : session.frames < 2 ^ 64
   pub not_ipv4 : session.not_ipv4 < 2 ^ 64
   pub short : session.short < 2 ^ 64
   pub bad_header : session.bad_header < 2 ^ 64
 
 -- the text of the session
-pub record IsSessionText (text : List ℕ) (session : Session) : Type 0 where
-  pub is_session : IsTextSession session
+pub record IsSessionText (grain : Grain) (text : List ℕ) (session : Session) : Type 0 where
+  pub is_session : IsTextSession grain session
   pub spelled : text ≡ session_text session
 
 -- the byte that ends a line
@@ -145,31 +146,31 @@ whole_lines (byte ∷ rest) =
     if byte == line_feed then (byte ∷ []) ∷ whole_lines rest else before_line byte (whole_lines rest)
 
 -- some session begins with these lines
-pub record AreFirstLines (lines : List (List ℕ)) : Type 0 where
+pub record AreFirstLines (grain : Grain) (lines : List (List ℕ)) : Type 0 where
   pub session : Session
-  pub is_session : IsTextSession session
+  pub is_session : IsTextSession grain session
   pub others : List (List ℕ)
   pub begun : map words_text (session_lines session) ≡ lines ++ others
 
 -- the whole lines before line `before + 1` begin a session, this line is whole too, and with it they begin none
-pub record IsWrongAfter (text : List ℕ) (before : ℕ) : Type 0 where
+pub record IsWrongAfter (grain : Grain) (text : List ℕ) (before : ℕ) : Type 0 where
   pub whole : before < length (whole_lines text)
-  pub begun : AreFirstLines (take before (whole_lines text))
-  pub wrong : ¬ AreFirstLines (take (before + 1) (whole_lines text))
+  pub begun : AreFirstLines grain (take before (whole_lines text))
+  pub wrong : ¬ AreFirstLines grain (take (before + 1) (whole_lines text))
 
 -- the text begins with that of a whole session, which has this many lines, and at least one byte follows
-pub record GoesOnAfter (text : List ℕ) (before : ℕ) : Type 0 where
+pub record GoesOnAfter (grain : Grain) (text : List ℕ) (before : ℕ) : Type 0 where
   pub session : Session
-  pub is_session : IsTextSession session
+  pub is_session : IsTextSession grain session
   pub byte : ℕ
   pub others : List ℕ
   pub spelled : text ≡ session_text session ++ byte ∷ others
   pub ends : length (session_lines session) ≡ before
 
 -- the first wrong line of a text, by its number, counted from 1
-abbrev pub IsBadLine : List ℕ → ℕ → Type 0
-IsBadLine text number =
-    (before : ℕ) × (number ≡ before + 1) × (IsWrongAfter text before ⊎ GoesOnAfter text before)
+abbrev pub IsBadLine : Grain → List ℕ → ℕ → Type 0
+IsBadLine grain text number =
+    (before : ℕ) × (number ≡ before + 1) × (IsWrongAfter grain text before ⊎ GoesOnAfter grain text before)
 
 -- the most bytes of a session text that is read
 abbrev pub longest_session : ℕ
@@ -177,17 +178,17 @@ longest_session = 268435456
 
 -- what is wrong with a text: it is too long, which is tested first; or a line is wrong; or no line is, and no session
 -- has this text, so that the next line is missing
-abbrev pub HasSessionFault : List ℕ → TextFault → Type 0
-HasSessionFault text TooLong = longest_session < length text
-HasSessionFault text (BadLine number) = (length text ≤ longest_session) × IsBadLine text number
-HasSessionFault text (MissingEnd number) =
+abbrev pub HasSessionFault : Grain → List ℕ → TextFault → Type 0
+HasSessionFault grain text TooLong = longest_session < length text
+HasSessionFault grain text (BadLine number) = (length text ≤ longest_session) × IsBadLine grain text number
+HasSessionFault grain text (MissingEnd number) =
     (length text ≤ longest_session) × (number ≡ length (whole_lines text) + 1)
-    × ((line : ℕ) → ¬ IsBadLine text line) × ((session : Session) → ¬ IsSessionText text session)
+    × ((line : ℕ) → ¬ IsBadLine grain text line) × ((session : Session) → ¬ IsSessionText grain text session)
 
 -- why a text is not read: its fault, or that memory ran out
-abbrev pub HasReadFault : List ℕ → SessionFault → Type 0
-HasReadFault text (Text fault) = HasSessionFault text fault
-HasReadFault text OutOfMemory = ⊤
+abbrev pub HasReadFault : Grain → List ℕ → SessionFault → Type 0
+HasReadFault grain text (Text fault) = HasSessionFault grain text fault
+HasReadFault grain text OutOfMemory = ⊤
 
 -- two sessions say the same
 pub record AreSameSessions (session other : Session) : Type 0 where

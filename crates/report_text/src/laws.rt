@@ -2,6 +2,7 @@
 
 ghost use Rattle.std.specs.Prelude.{◌≡◌, ◌≤◌, ◌<◌, List, ℕ, [], ◌∷◌, ◌++◌, length, map};
 ghost use Rattle.std.specs.List.{flat_map};
+ghost use Rattle.prefix_lattice.specs.declared.grain.Grain.{Grain};
 ghost use Rattle.hhh_report.specs.{IsSameReport};
 ghost use Rattle.hhh_report.specs.declared.report.Report.{Report};
 ghost use Rattle.frame_records.specs.declared.records.Records.{Records};
@@ -30,26 +31,30 @@ pub fn same_reports_have_one_text()
     ensures { (report other : Report) → IsSameReport report other → report_text report ≡ report_text other }
 {}
 
-/// A law of sessions: what is printed of a session, part by part, is its text, and is read back as that session. The text
-/// of a report is that of its lines, and the whole lines of the text of a session are its lines.
+/// A law of sessions: what is printed of a session, part by part, is its text, and is read back as that session by the
+/// grain of its prefixes. The text of a report is that of its lines, and the whole lines of the text of a session are
+/// its lines.
 pub fn printed_sessions_read_back()
     ensures report { (report : Report) → flat_map words_text (report_lines report) ≡ report_text report }
     ensures printed { (session : Session) → printed_text session ≡ session_text session }
-    ensures lines { (session : Session) → IsTextSession session
+    ensures lines { (grain : Grain) (session : Session) → IsTextSession grain session
         → whole_lines (session_text session) ≡ map words_text (session_lines session) }
-    ensures read { (session other : Session) → IsTextSession session → IsSessionText (printed_text session) other → AreSameSessions session other }
+    ensures read { (grain : Grain) (session other : Session) → IsTextSession grain session
+        → IsSessionText grain (printed_text session) other → AreSameSessions session other }
 {
     prefix_texts_read_back();
     report_order_is_total();
 }
 
-/// A law of sessions: a text has one fault at most, and is that of one session at most. A text of at most 268,435,456 bytes
-/// isn't both.
+/// A law of sessions: for a grain, a text has one fault at most, and is that of one session at most. A text of at most
+/// 268,435,456 bytes isn't both.
 pub fn session_texts_have_one_reading()
-    ensures apart { (text : List ℕ) (session other : Session) → IsSessionText text session → IsSessionText text other → AreSameSessions session other }
-    ensures one_fault { (text : List ℕ) (fault other : TextFault) → HasSessionFault text fault → HasSessionFault text other → fault ≡ other }
-    ensures no_fault { (text : List ℕ) (session : Session) (fault : TextFault) → IsSessionText text session
-        → length text ≤ longest_session → ¬ HasSessionFault text fault }
+    ensures apart { (grain : Grain) (text : List ℕ) (session other : Session) → IsSessionText grain text session
+        → IsSessionText grain text other → AreSameSessions session other }
+    ensures one_fault { (grain : Grain) (text : List ℕ) (fault other : TextFault) → HasSessionFault grain text fault
+        → HasSessionFault grain text other → fault ≡ other }
+    ensures no_fault { (grain : Grain) (text : List ℕ) (session : Session) (fault : TextFault)
+        → IsSessionText grain text session → length text ≤ longest_session → ¬ HasSessionFault grain text fault }
 {
     prefix_texts_read_back();
     report_order_is_total();

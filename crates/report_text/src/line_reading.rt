@@ -2,6 +2,7 @@
 
 ghost use Rattle.std.specs.Prelude.{◌≡◌, ◌≢◌, ◌≤◌, ◌<◌, ◌^◌, ℕ, List, [], ◌∷◌, map, codes, decimal, IfOk, IfSome};
 ghost use Rattle.std.specs.Prelude.{IfNone};
+ghost use Rattle.prefix_lattice.specs.declared.grain.Grain.{Grain as GrainValue};
 ghost use Rattle.hhh_report.specs.declared.line.Line.{Line as LineValue};
 ghost use Rattle.report_text.specs.Printing.{ShowsPositions};
 ghost use Rattle.report_text.specs.Session.{AreSkips, IsSessionLine, IsReportLine};
@@ -13,7 +14,7 @@ ghost use Rattle.report_text.specs.declared.session_line.Skips.{Skips};
 use crate::session_line::{SessionLine, Skips};
 use crate::word_cut::cut_word;
 use hhh_report::{Line, Positions};
-use prefix_lattice::{Prefix, number_of};
+use prefix_lattice::{Grain, Prefix, number_of};
 use std::alloc::{AllocError, Global};
 
 // The most positions of a list.
@@ -22,21 +23,30 @@ const MOST_POSITIONS: usize = 16;
 // The greatest position, the most frames of a capture.
 const GREATEST_POSITION: u64 = 16_777_216;
 
-/// Reads a line without its line feed. `None` exactly if no line of a session has this text.
-pub(crate) fn read_line(alloc: Global, text: &[u8]) -> Result<Option<SessionLine>, AllocError>
-    ensures read { IfOk result (λ read. IfSome read (λ line. IsSessionLine line × (words_in text.now ≡ line_words line))) }
-    ensures refused { IfOk result (λ read. IfNone read ((line : SessionLine) → IsSessionLine line → words_in text.now ≢ line_words line)) }
+/// Reads a line without its line feed. A prefix in it is of the grain. `None` exactly if no line of a session has this
+/// text.
+pub(crate) fn read_line(
+    alloc: Global,
+    grain: Grain,
+    text: &[u8],
+) -> Result<Option<SessionLine>, AllocError>
+    ensures read { IfOk result (λ read. IfSome read
+        (λ line. IsSessionLine grain line × (words_in text.now ≡ line_words line))) }
+    ensures refused { IfOk result (λ read. IfNone read
+        ((line : SessionLine) → IsSessionLine grain line → words_in text.now ≢ line_words line)) }
 {
     match cut_word(text) {
-        Some(cut) => read_words(alloc, cut.word, cut.rest),
+        Some(cut) => read_words(alloc, grain, cut.word, cut.rest),
         None => Ok(read_word(text)),
     }
 }
 
 // Reads a line of one word.
 fn read_word(word: &[u8]) -> Option<SessionLine>
-    ensures read { IfSome result (λ line. IsSessionLine line × (word.now ∷ [] ≡ line_words line)) }
-    ensures refused { IfNone result ((line : SessionLine) → IsSessionLine line → word.now ∷ [] ≢ line_words line) }
+    ensures read { (grain : GrainValue) → IfSome result
+        (λ line. IsSessionLine grain line × (word.now ∷ [] ≡ line_words line)) }
+    ensures refused { (grain : GrainValue) → IfNone result
+        ((line : SessionLine) → IsSessionLine grain line → word.now ∷ [] ≢ line_words line) }
 {
     if word == b"report".as_slice() {
         return Some(SessionLine::Report);
@@ -51,13 +61,19 @@ fn read_word(word: &[u8]) -> Option<SessionLine>
 }
 
 // Reads a line with this first word and this text after it.
-fn read_words(alloc: Global, name: &[u8], rest: &[u8]) -> Result<Option<SessionLine>, AllocError>
-    ensures read { IfOk result (λ read. IfSome read (λ line. IsSessionLine line × (name.now ∷ words_in rest.now ≡ line_words line))) }
+fn read_words(
+    alloc: Global,
+    grain: Grain,
+    name: &[u8],
+    rest: &[u8],
+) -> Result<Option<SessionLine>, AllocError>
+    ensures read { IfOk result (λ read. IfSome read
+        (λ line. IsSessionLine grain line × (name.now ∷ words_in rest.now ≡ line_words line))) }
     ensures refused { IfOk result (λ read. IfNone read
-        ((line : SessionLine) → IsSessionLine line → name.now ∷ words_in rest.now ≢ line_words line)) }
+        ((line : SessionLine) → IsSessionLine grain line → name.now ∷ words_in rest.now ≢ line_words line)) }
 {
     if name == b"line".as_slice() {
-        return Ok(report_line_of(rest).map(SessionLine::Line));
+        return Ok(report_line_of(grain, rest).map(SessionLine::Line));
     }
     if name == b"at".as_slice() {
         return Ok(positions_of(alloc, rest)?.map(SessionLine::At));
@@ -77,8 +93,10 @@ fn read_numbers(name: &[u8], rest: &[u8]) -> Option<SessionLine>
     requires at { name.now ≢ codes "at" }
     requires opened { name.now ≢ codes "opened" }
     requires saved { name.now ≢ codes "saved" }
-    ensures read { IfSome result (λ line. IsSessionLine line × (name.now ∷ words_in rest.now ≡ line_words line)) }
-    ensures refused { IfNone result ((line : SessionLine) → IsSessionLine line → name.now ∷ words_in rest.now ≢ line_words line) }
+    ensures read { (grain : GrainValue) → IfSome result
+        (λ line. IsSessionLine grain line × (name.now ∷ words_in rest.now ≡ line_words line)) }
+    ensures refused { (grain : GrainValue) → IfNone result
+        ((line : SessionLine) → IsSessionLine grain line → name.now ∷ words_in rest.now ≢ line_words line) }
 {
     if name == b"total".as_slice() {
         return last_number(rest).map(SessionLine::Total);
@@ -97,6 +115,7 @@ fn read_numbers(name: &[u8], rest: &[u8]) -> Option<SessionLine>
 
 // The number that is the only word of a text.
 fn last_number(text: &[u8]) -> Option<u64>
+    ensures small { IfSome result (λ number. number < 2 ^ 64) }
     ensures read { IfSome result (λ number. words_in text.now ≡ decimal number ∷ []) }
     ensures refused { IfNone result ((number : ℕ) → number < 2 ^ 64 → words_in text.now ≢ decimal number ∷ []) }
 {
@@ -107,6 +126,7 @@ fn last_number(text: &[u8]) -> Option<u64>
 }
 
 fn threshold_of(text: &[u8]) -> Option<u64>
+    ensures small { IfSome result (λ threshold. threshold < 2 ^ 64) }
     ensures read { IfSome result (λ threshold. (1 ≤ threshold) × (words_in text.now ≡ decimal threshold ∷ [])) }
     ensures refused { IfNone result ((threshold : ℕ) → 1 ≤ threshold → threshold < 2 ^ 64 → words_in text.now ≢ decimal threshold ∷ []) }
 {
@@ -120,6 +140,7 @@ fn threshold_of(text: &[u8]) -> Option<u64>
 }
 
 fn skips_of(text: &[u8]) -> Option<Skips>
+    ensures small { IfSome result AreSkips }
     ensures read { IfSome result (λ skips. words_in text.now ≡ skipped_words skips) }
     ensures refused { IfNone result ((skips : Skips) → AreSkips skips → words_in text.now ≢ skipped_words skips) }
 {
@@ -145,9 +166,10 @@ fn skips_of(text: &[u8]) -> Option<Skips>
     })
 }
 
-fn report_line_of(text: &[u8]) -> Option<Line>
-    ensures read { IfSome result (λ line. IsReportLine line × (words_in text.now ≡ report_words line)) }
-    ensures refused { IfNone result ((line : LineValue) → IsReportLine line → words_in text.now ≢ report_words line) }
+fn report_line_of(grain: Grain, text: &[u8]) -> Option<Line>
+    ensures read { IfSome result (λ line. IsReportLine grain line × (words_in text.now ≡ report_words line)) }
+    ensures refused { IfNone result
+        ((line : LineValue) → IsReportLine grain line → words_in text.now ≢ report_words line) }
 {
     let Some(source) = cut_word(text) else {
         return None;
@@ -158,7 +180,7 @@ fn report_line_of(text: &[u8]) -> Option<Line>
     let Some(low) = cut_word(dest.rest) else {
         return None;
     };
-    let Ok(prefix) = Prefix::parse(source.word, dest.word) else {
+    let Ok(prefix) = Prefix::parse(grain, source.word, dest.word) else {
         return None;
     };
     let Some(lo) = number_of(low.word) else {

@@ -1,9 +1,9 @@
 //! Reading the text of a session.
 
 ghost use Rattle.std.specs.Prelude.{◌≡◌, ◌≢◌, ◌≤◌, ◌<◌, ◌↔◌, ◌++◌, ℕ, [], ◌∷◌, length, map, Option, IfOk, IfErr};
-ghost use Rattle.std.specs.Prelude.{IfSome, IfNone, IsTrue};
+ghost use Rattle.std.specs.Prelude.{All, IfSome, IfNone, IsTrue};
 ghost use Rattle.std.specs.List.{flat_map};
-ghost use Rattle.hhh_report.specs.{AreReportLines};
+ghost use Rattle.hhh_report.specs.{AreOfGrain, AreReportLines};
 ghost use Rattle.report_text.specs.Session.{HasReadFault, IsSessionText, longest_session};
 ghost use Rattle.report_text.specs.Session.{reported_lines, saved_lines, session_lines};
 ghost use Rattle.report_text.specs.Stages.{ComesAfterLast, line_after_report, after_report};
@@ -15,7 +15,7 @@ use crate::line_cursor::LineCursor;
 use crate::session_line::SessionLine;
 use crate::{Session, SessionFault, TextFault};
 use hhh_report::{Lines, Positions, Report, Reported, Reports};
-use prefix_lattice::{Prefix, report_order_is_total};
+use prefix_lattice::{Grain, Prefix, report_order_is_total};
 use std::alloc::Global;
 use std::cmp::Ordering;
 
@@ -23,15 +23,18 @@ use std::cmp::Ordering;
 const LONGEST_TEXT: usize = 268_435_456;
 
 /// Reads the text of a session, of at most 268,435,456 bytes, in one pass. Each line ends by one line feed, its words are
-/// joined by one space, and numbers are decimal, without leading zeros. Only what the session says takes memory.
+/// joined by one space, and numbers are decimal, without leading zeros. Lengths of prefixes are of the grain. Only what
+/// the session says takes memory.
 ///
 /// A `TextFault` comes exactly if the text is that of no session, or is too long; it names the first wrong line. By
 /// `session_texts_have_one_reading` a text has one fault or is that of one session, and by `printed_sessions_read_back`
 /// what is printed of a session is read back. `OutOfMemory` means that memory ran out.
-pub fn read_session(alloc: Global, bytes: &[u8]) -> Result<Session, SessionFault>
-    ensures read { IfOk result (IsSessionText bytes.now) }
+pub fn read_session(alloc: Global, grain: Grain, bytes: &[u8]) -> Result<Session, SessionFault>
+    ensures read { IfOk result (IsSessionText grain bytes.now) }
+    ensures of_grain { IfOk result (λ session.
+        All (λ reported. AreOfGrain grain reported.report.lines) session.reports) }
     ensures limit { IfOk result (λ _. length bytes.now ≤ longest_session) }
-    ensures fault { IfErr result (HasReadFault bytes.now) }
+    ensures fault { IfErr result (HasReadFault grain bytes.now) }
     ensures too_long { longest_session < length bytes.now → result ≡ Err (SessionFault.Text TextFault.TooLong) }
 {
     if bytes.len() > LONGEST_TEXT {
@@ -39,25 +42,29 @@ pub fn read_session(alloc: Global, bytes: &[u8]) -> Result<Session, SessionFault
     }
     report_order_is_total();
     let mut lines = LineCursor::new(bytes);
-    let session = read_all(alloc, &mut lines)?;
+    let session = read_all(alloc, grain, &mut lines)?;
     lines.finish()?;
     Ok(session)
 }
 
 // Reads all lines of a session.
-fn read_all(alloc: Global, lines: &mut LineCursor<'_>) -> Result<Session, SessionFault>
-    requires { HasReadToStage lines.old nothing }
-    ensures read { IfOk result (λ session. ReadsLines lines.old lines.new (session_lines session) nothing ended) }
-    ensures fault { IfErr result (HasReadFault lines.old.text.now) }
+fn read_all(
+    alloc: Global,
+    grain: Grain,
+    lines: &mut LineCursor<'_>,
+) -> Result<Session, SessionFault>
+    requires { HasReadToStage grain lines.old nothing }
+    ensures read { IfOk result (λ session. ReadsLines grain lines.old lines.new (session_lines session) nothing ended) }
+    ensures fault { IfErr result (HasReadFault grain lines.old.text.now) }
 {
-    let SessionLine::Opened(opened) = lines.next(alloc)? else {
+    let SessionLine::Opened(opened) = lines.next(alloc, grain)? else {
         return Err(lines.refuse());
     };
-    let listed = read_reports(alloc, lines, opened.len())?;
-    let SessionLine::Skipped(skips) = lines.next(alloc)? else {
+    let listed = read_reports(alloc, grain, lines, opened.len())?;
+    let SessionLine::Skipped(skips) = lines.next(alloc, grain)? else {
         return Err(lines.refuse());
     };
-    let SessionLine::End = lines.next(alloc)? else {
+    let SessionLine::End = lines.next(alloc, grain)? else {
         return Err(lines.refuse());
     };
     Ok(Session {
@@ -80,21 +87,22 @@ struct Listed {
 // The reports of a session over this many shards, and the line after them.
 fn read_reports(
     alloc: Global,
+    grain: Grain,
     lines: &mut LineCursor<'_>,
     shards: usize,
 ) -> Result<Listed, SessionFault>
-    requires { HasReadToStage lines.old (opened shards) }
-    ensures read { IfOk result (λ listed. ReadsLines lines.old lines.new
+    requires { HasReadToStage grain lines.old (opened shards) }
+    ensures read { IfOk result (λ listed. ReadsLines grain lines.old lines.new
         (flat_map reported_lines listed.reports ++ SessionLine.Frames listed.frames ∷ []) (opened shards) counted) }
-    ensures fault { IfErr result (HasReadFault lines.old.text.now) }
+    ensures fault { IfErr result (HasReadFault grain lines.old.text.now) }
 {
-    let SessionLine::Report = lines.next(alloc)? else {
+    let SessionLine::Report = lines.next(alloc, grain)? else {
         return Err(lines.refuse());
     };
     let mut reports = Reports::new(alloc);
     'reports: loop {
-        let report = read_report(alloc, lines, shards)?;
-        let after = read_after_report(alloc, lines, shards)?;
+        let report = read_report(alloc, grain, lines, shards)?;
+        let after = read_after_report(alloc, grain, lines, shards)?;
         reports.push(Reported {
             report,
             saved: after.saved,
@@ -108,26 +116,28 @@ fn read_reports(
 // A report after its first line.
 fn read_report(
     alloc: Global,
+    grain: Grain,
     lines: &mut LineCursor<'_>,
     shards: usize,
 ) -> Result<Report, SessionFault>
-    requires { HasReadToStage lines.old (begun shards) }
-    ensures read { IfOk result (λ report. ReadsLines lines.old lines.new (body_lines report) (begun shards) (done shards)) }
-    ensures fault { IfErr result (HasReadFault lines.old.text.now) }
+    requires { HasReadToStage grain lines.old (begun shards) }
+    ensures read { IfOk result (λ report. ReadsLines grain lines.old lines.new (body_lines report)
+        (begun shards) (done shards)) }
+    ensures fault { IfErr result (HasReadFault grain lines.old.text.now) }
 {
-    let SessionLine::At(positions) = lines.next(alloc)? else {
+    let SessionLine::At(positions) = lines.next(alloc, grain)? else {
         return Err(lines.refuse());
     };
     if positions.len() != shards {
         return Err(lines.refuse());
     }
-    let SessionLine::Total(total) = lines.next(alloc)? else {
+    let SessionLine::Total(total) = lines.next(alloc, grain)? else {
         return Err(lines.refuse());
     };
-    let SessionLine::Threshold(threshold) = lines.next(alloc)? else {
+    let SessionLine::Threshold(threshold) = lines.next(alloc, grain)? else {
         return Err(lines.refuse());
     };
-    let listed = read_lines(alloc, lines)?;
+    let listed = read_lines(alloc, grain, lines)?;
     Ok(Report {
         positions,
         total,
@@ -137,18 +147,22 @@ fn read_report(
 }
 
 // The lines of a report, in the strict order of a report, and the line `done`.
-fn read_lines(alloc: Global, lines: &mut LineCursor<'_>) -> Result<Lines, SessionFault>
-    ensures read { IfOk result (λ listed. (shards : ℕ) → ReadsLines lines.old lines.new
+fn read_lines(
+    alloc: Global,
+    grain: Grain,
+    lines: &mut LineCursor<'_>,
+) -> Result<Lines, SessionFault>
+    ensures read { IfOk result (λ listed. (shards : ℕ) → ReadsLines grain lines.old lines.new
         (map SessionLine.Line listed ++ SessionLine.Done ∷ []) (listing shards 0 None) (done shards)) }
     ensures lines { IfOk result AreReportLines }
-    ensures fault { IfErr result (λ fault. (shards : ℕ) → HasReadToStage lines.old (listing shards 0 None)
-        → HasReadFault lines.old.text.now fault) }
+    ensures fault { IfErr result (λ fault. (shards : ℕ) → HasReadToStage grain lines.old (listing shards 0 None)
+        → HasReadFault grain lines.old.text.now fault) }
 {
     report_order_is_total();
     let mut listed = Lines::new(alloc);
     let mut last = None;
     'lines: loop {
-        let read = lines.next(alloc)?;
+        let read = lines.next(alloc, grain)?;
         let SessionLine::Line(line) = read else {
             let SessionLine::Done = read else {
                 return Err(lines.refuse());
@@ -183,15 +197,16 @@ struct AfterReport {
 
 fn read_after_report(
     alloc: Global,
+    grain: Grain,
     lines: &mut LineCursor<'_>,
     shards: usize,
 ) -> Result<AfterReport, SessionFault>
-    requires { HasReadToStage lines.old (done shards) }
-    ensures read { IfOk result (λ after. ReadsLines lines.old lines.new
+    requires { HasReadToStage grain lines.old (done shards) }
+    ensures read { IfOk result (λ after. ReadsLines grain lines.old lines.new
         (saved_lines after.saved ++ line_after_report after.frames ∷ []) (done shards) (after_report shards after.frames)) }
-    ensures fault { IfErr result (HasReadFault lines.old.text.now) }
+    ensures fault { IfErr result (HasReadFault grain lines.old.text.now) }
 {
-    let line = lines.next(alloc)?;
+    let line = lines.next(alloc, grain)?;
     let SessionLine::Saved(saved) = line else {
         let Some(frames) = after_saved(line) else {
             return Err(lines.refuse());
@@ -204,7 +219,7 @@ fn read_after_report(
     if saved.len() != shards {
         return Err(lines.refuse());
     }
-    let Some(frames) = after_saved(lines.next(alloc)?) else {
+    let Some(frames) = after_saved(lines.next(alloc, grain)?) else {
         return Err(lines.refuse());
     };
     Ok(AfterReport {

@@ -1,6 +1,7 @@
 //! Reading the lines of a text, one after the other.
 
 ghost use Rattle.std.specs.Prelude.{◌≡◌, ◌≤◌, [], length, IfOk, IfErr, OnOk};
+ghost use Rattle.prefix_lattice.specs.declared.grain.Grain.{Grain as GrainValue};
 ghost use Rattle.report_text.specs.Session.{HasReadFault, IsTextSession, longest_session};
 ghost use Rattle.report_text.specs.Session.{session_lines};
 ghost use Rattle.report_text.specs.Stages.{FollowsStage, IsStageBeforeEnd, Stage};
@@ -14,7 +15,7 @@ use crate::line_reading::read_line;
 use crate::session_line::SessionLine;
 use crate::word_cut::place_of;
 use crate::{SessionFault, TextFault};
-use prefix_lattice::{prefix_texts_read_back, report_order_is_total};
+use prefix_lattice::{Grain, prefix_texts_read_back, report_order_is_total};
 use std::alloc::Global;
 
 impl<'a> LineCursor<'a> {
@@ -22,7 +23,7 @@ impl<'a> LineCursor<'a> {
     pub(crate) fn new(text: &'a [u8]) -> LineCursor<'a>
         requires { length text.now ≤ longest_session }
         ensures text { result.text ≡ text.entry }
-        ensures start { HasReadLines result [] }
+        ensures start { (grain : GrainValue) → HasReadLines grain result [] }
     {
         LineCursor {
             text,
@@ -31,11 +32,11 @@ impl<'a> LineCursor<'a> {
         }
     }
 
-    /// Reads the next line.
-    pub(crate) fn next(&mut self, alloc: Global) -> Result<SessionLine, SessionFault>
-        ensures read { IfOk result (ReadsLine self.old self.new) }
-        ensures fault { IfErr result (λ fault. (stage : Stage) → IsStageBeforeEnd stage → HasReadToStage self.old stage
-            → HasReadFault self.old.text.now fault) }
+    /// Reads the next line. A prefix in it is of the grain.
+    pub(crate) fn next(&mut self, alloc: Global, grain: Grain) -> Result<SessionLine, SessionFault>
+        ensures read { IfOk result (ReadsLine grain self.old self.new) }
+        ensures fault { IfErr result (λ fault. (stage : Stage) → IsStageBeforeEnd stage
+            → HasReadToStage grain self.old stage → HasReadFault grain self.old.text.now fault) }
     {
         prefix_texts_read_back();
         report_order_is_total();
@@ -44,7 +45,7 @@ impl<'a> LineCursor<'a> {
             return Err(SessionFault::Text(TextFault::MissingEnd(self.lines + 1)));
         };
         let (text, _) = rest.split_at(len);
-        let Some(line) = read_line(alloc, text)? else {
+        let Some(line) = read_line(alloc, grain, text)? else {
             return Err(SessionFault::Text(TextFault::BadLine(self.lines + 1)));
         };
         self.at += len + 1;
@@ -54,8 +55,9 @@ impl<'a> LineCursor<'a> {
 
     /// Refuses the line that was read last.
     pub(crate) fn refuse(&self) -> SessionFault
-        ensures { (old : CursorValue) (line : LineValue) (stage : Stage) → HasReadToStage old stage → ReadsLine old self.now line
-            → ((next : Stage) → ¬ FollowsStage stage line next) → HasReadFault self.now.text.now result }
+        ensures { (grain : GrainValue) (old : CursorValue) (line : LineValue) (stage : Stage)
+            → HasReadToStage grain old stage → ReadsLine grain old self.now line
+            → ((next : Stage) → ¬ FollowsStage stage line next) → HasReadFault grain self.now.text.now result }
     {
         prefix_texts_read_back();
         report_order_is_total();
@@ -65,8 +67,8 @@ impl<'a> LineCursor<'a> {
     /// Refuses a byte after the last line of a session.
     pub(crate) fn finish(&self) -> Result<(), SessionFault>
         ensures ok { OnOk result (self.now.at ≡ length self.now.text.now) }
-        ensures err { IfErr result (λ fault. (session : SessionValue) → HasReadLines self.now (session_lines session)
-            → IsTextSession session → HasReadFault self.now.text.now fault) }
+        ensures err { IfErr result (λ fault. (grain : GrainValue) (session : SessionValue)
+            → HasReadLines grain self.now (session_lines session) → IsTextSession grain session → HasReadFault grain self.now.text.now fault) }
     {
         if self.at < self.text.len() {
             return Err(SessionFault::Text(TextFault::BadLine(self.lines + 1)));

@@ -5,7 +5,7 @@ use command_words::{
 };
 use deal_rules::DealKind;
 use frame_records::Weigh;
-use prefix_lattice::{Prefix, PrefixFault, Side};
+use prefix_lattice::{Grain, Prefix, PrefixFault, Side};
 use std::alloc::{AllocError, Global};
 use std::test::Fail;
 
@@ -19,13 +19,14 @@ const DEFAULTS: Settings = Settings {
     rounds: 0,
     weigh: Weigh::Bytes,
     deal: DealKind::RoundRobin,
+    grain: Grain::Byte,
     store: false,
 };
 
 // Arguments joined by single spaces, and what is wrong with them.
 type BadWords = (&'static str, WordsKind);
 
-const BAD_WORDS: [BadWords; 67] = [
+const BAD_WORDS: [BadWords; 80] = [
     ("", WordsKind::NoCommand),
     ("way", WordsKind::UnknownCommand),
     ("Report", WordsKind::UnknownCommand),
@@ -35,6 +36,7 @@ const BAD_WORDS: [BadWords; 67] = [
     ("weigh 0.0.0.0/0", WordsKind::Refused),
     ("weigh 0.0.0.0/0 0.0.0.0/0 0.0.0.0/0", WordsKind::Refused),
     ("weigh 0.0.0.0/0 0.0.0.0/0 --shards 1", WordsKind::Refused),
+    ("weigh 0.0.0.0/0 0.0.0.0/0 --bits 4", WordsKind::Refused),
     ("report x", WordsKind::Refused),
     ("report -h", WordsKind::Refused),
     ("report --help", WordsKind::Refused),
@@ -46,6 +48,8 @@ const BAD_WORDS: [BadWords; 67] = [
     ("format --capacity 2", WordsKind::Refused),
     ("format --store S --capture C", WordsKind::Refused),
     ("format --store S --phi 1", WordsKind::Refused),
+    ("format --bits 4", WordsKind::Refused),
+    ("format --store S --bits 8", WordsKind::Refused),
     ("audit", WordsKind::Refused),
     ("audit --report R --store S", WordsKind::Refused),
     ("audit --report R --block 1", WordsKind::Refused),
@@ -64,6 +68,10 @@ const BAD_WORDS: [BadWords; 67] = [
     ),
     (
         "weigh 10.1.0.0/15 0.0.0.0/0",
+        WordsKind::BadPrefix(PrefixFault::BadLength(Side::Source)),
+    ),
+    (
+        "weigh 10.1.0.0/12 0.0.0.0/0",
         WordsKind::BadPrefix(PrefixFault::BadLength(Side::Source)),
     ),
     (
@@ -103,6 +111,21 @@ const BAD_WORDS: [BadWords; 67] = [
     ("report --workers 17", WordsKind::OutOfLimits(Opt::Workers)),
     ("report --callers 9", WordsKind::OutOfLimits(Opt::Callers)),
     ("report --rounds 33", WordsKind::OutOfLimits(Opt::Rounds)),
+    ("report --bits x", WordsKind::BadNumber(Opt::Bits)),
+    ("report --bits 5", WordsKind::OutOfLimits(Opt::Bits)),
+    (
+        "report --bits 4 --capacity 1025",
+        WordsKind::OutOfLimits(Opt::Bits),
+    ),
+    (
+        "report --bits 4 --store s",
+        WordsKind::OutOfLimits(Opt::Bits),
+    ),
+    (
+        "audit --report R --bits 4 --capacity 4096",
+        WordsKind::OutOfLimits(Opt::Bits),
+    ),
+    ("demo 7 1 --bits 0", WordsKind::OutOfLimits(Opt::Bits)),
     ("make 07 1", WordsKind::BadNumber(Opt::Seed)),
     (
         "make 18446744073709551616 1",
@@ -137,6 +160,18 @@ const BAD_WORDS: [BadWords; 67] = [
     (
         "format --capacity 1 --store S",
         WordsKind::OutOfLimits(Opt::Capacity),
+    ),
+    (
+        "report --bits 4 --capacity 4097",
+        WordsKind::OutOfLimits(Opt::Capacity),
+    ),
+    (
+        "report --bits 4 --store s --rounds 33",
+        WordsKind::OutOfLimits(Opt::Rounds),
+    ),
+    (
+        "report --bits 4 --capacity 1025 --phi 1",
+        WordsKind::OutOfLimits(Opt::Bits),
     ),
     // the bound
     ("report --capacity 17 --phi 117647", WordsKind::Bound),
@@ -201,6 +236,7 @@ const ALL: Settings = Settings {
     workers: 16,
     callers: 8,
     rounds: 32,
+    grain: Grain::Byte,
     store: true,
 };
 
@@ -221,7 +257,13 @@ const BUSY: Settings = Settings {
     ..DEFAULTS
 };
 
-const GOOD_WORDS: [GoodWords; 9] = [
+const BY_HALF_BYTES: Settings = Settings {
+    capacity: 1024,
+    grain: Grain::Nibble,
+    ..DEFAULTS
+};
+
+const GOOD_WORDS: [GoodWords; 12] = [
     GoodWords {
         line: "report",
         command: Command::Report(DEFAULTS),
@@ -244,7 +286,7 @@ const GOOD_WORDS: [GoodWords; 9] = [
         store: "",
     },
     GoodWords {
-        line: "report --phi=117648 --rounds 32 --deal free --capacity 17 --block 1 --shards=16 --store s --workers=16 --weigh packets --callers 8 --capture c",
+        line: "report --phi=117648 --rounds 32 --deal free --capacity 17 --block 1 --shards=16 --store s --workers=16 --weigh packets --callers 8 --bits 8 --capture c",
         command: Command::Report(ALL),
         capture: "c",
         report: "",
@@ -269,6 +311,31 @@ const GOOD_WORDS: [GoodWords; 9] = [
         command: Command::Audit(BY_PACKETS),
         capture: "c",
         report: "r",
+        store: "",
+    },
+    GoodWords {
+        line: "report --bits 4 --capacity 1024",
+        command: Command::Report(BY_HALF_BYTES),
+        capture: "-",
+        report: "",
+        store: "",
+    },
+    GoodWords {
+        line: "audit --capacity=1024 --bits=4 --report R",
+        command: Command::Audit(BY_HALF_BYTES),
+        capture: "-",
+        report: "R",
+        store: "",
+    },
+    GoodWords {
+        line: "demo --bits 4 7 --capacity 1024 1",
+        command: Command::Demo {
+            seed: 7,
+            frames: 1,
+            settings: BY_HALF_BYTES,
+        },
+        capture: "",
+        report: "",
         store: "",
     },
     GoodWords {
@@ -332,7 +399,7 @@ const WEIGH_BY_PACKETS: [&str; 5] = ["weigh", "10.1.0.0/16", "--weigh", "packets
 
 #[test]
 fn reads_a_prefix(rt: HostRuntime) -> Result<(), Fail> {
-    let prefix = Prefix::parse(b"10.1.0.0/16", b"0.0.0.0/0")?;
+    let prefix = Prefix::parse(Grain::Byte, b"10.1.0.0/16", b"0.0.0.0/0")?;
     let command = Command::Weigh {
         prefix,
         settings: BY_PACKETS,
@@ -344,7 +411,7 @@ fn reads_a_prefix(rt: HostRuntime) -> Result<(), Fail> {
 // Why arguments are refused, and how it is told.
 type Told = (WordsKind, &'static str);
 
-const TOLD: [Told; 16] = [
+const TOLD: [Told; 17] = [
     (WordsKind::NoCommand, "no command"),
     (WordsKind::UnknownCommand, "unknown command"),
     (WordsKind::Refused, "refused"),
@@ -372,6 +439,10 @@ const TOLD: [Told; 16] = [
     (WordsKind::BadNumber(Opt::Workers), "workers: no number"),
     (WordsKind::BadNumber(Opt::Callers), "callers: no number"),
     (WordsKind::BadNumber(Opt::Rounds), "rounds: no number"),
+    (
+        WordsKind::OutOfLimits(Opt::Bits),
+        "bits: outside its limits",
+    ),
     (WordsKind::Bound, "phi times capacity is below 2000000"),
 ];
 

@@ -1,13 +1,14 @@
 //! Audits of reports.
 
-ghost use Rattle.std.specs.Prelude.{◌≡◌, ◌%◌};
+ghost use Rattle.std.specs.Prelude.{◌≡◌, ◌%◌, true};
 ghost use Rattle.deal_rules.specs.{IsAsked};
+ghost use Rattle.hhh_report.specs.{AreOfGrain};
 
-use super::worked_lines::{prefix_of, two_lines};
+use super::worked_lines::{prefix_of, prefix_of_grain, two_lines};
 use deal_rules::{DealKind, Dealer, Dealt, deal};
 use exact_audit::{Verdict, audit};
 use hhh_report::{Line, Lines, Positions, Report};
-use prefix_lattice::{Prefix, Record, RecordList};
+use prefix_lattice::{Grain, Prefix, Record, RecordList};
 use std::alloc::{AllocError, Global};
 use std::test::Fail;
 
@@ -22,6 +23,9 @@ const TWO: [Sent; 2] = [
     (0x0a01_0203, 0x1401_0203, 100),
     (0x0a01_0204, 0x1401_0203, 10),
 ];
+
+// Two packets whose sources share a byte and a half.
+const HALVES: [Sent; 2] = [(0x0a10_0001, 0x1400_0001, 1), (0x0a1f_0001, 0x1400_0001, 1)];
 
 // Packets from N.0.0.1 to (100 + N).0.0.1, N being 1 1 1 3 1 4 1 5 1 6 2.
 const ELEVEN: [Sent; 11] = [
@@ -131,9 +135,22 @@ fn line_of(source: &str, dest: &str, lo: u64, hi: u64) -> Result<Line, Fail> {
     })
 }
 
+/// Whether all lines are of a grain.
+fn are_of_grain(lines: &[Line], grain: Grain) -> bool
+    ensures { result ≡ true → AreOfGrain grain lines.now }
+{
+    for line in lines {
+        if !line.prefix.of_grain(grain) {
+            return false;
+        }
+    }
+    true
+}
+
 /// Audits a report over these records, dealt in turn.
 fn audit_over(
     alloc: Global,
+    grain: Grain,
     sent: &[Sent],
     report: &Report,
     shards: u32,
@@ -146,18 +163,21 @@ fn audit_over(
     if phi < 1 || phi > 1_000_000 {
         return Err("phi".into());
     }
+    if !are_of_grain(report.lines.as_slice(), grain) {
+        return Err("a line of another grain".into());
+    }
     let dealt = dealt_of(alloc, &list_of(alloc, sent)?, shards)?;
-    Ok(audit(alloc, &dealt, report, capacity, phi)?)
+    Ok(audit(alloc, &dealt, report, grain, capacity, phi)?)
 }
 
 /// Audits a report of the one packet, for tables of 512 entries and a hundredth of the total.
 fn audit_one(alloc: Global, report: &Report) -> Result<Verdict, Fail> {
-    audit_over(alloc, &ONE, report, 1, 512, 10_000)
+    audit_over(alloc, Grain::Byte, &ONE, report, 1, 512, 10_000)
 }
 
 /// Audits a report of the eleven packets in two shards, for half of the total.
 fn audit_eleven(alloc: Global, report: &Report, capacity: u32) -> Result<Verdict, Fail> {
-    audit_over(alloc, &ELEVEN, report, 2, capacity, 500_000)
+    audit_over(alloc, Grain::Byte, &ELEVEN, report, 2, capacity, 500_000)
 }
 
 /// The position, total, threshold, low and high of a report, and its verdict.
@@ -211,6 +231,28 @@ fn verdict_without_lines(alloc: Global) -> Result<Verdict, Fail> {
 }
 
 #[test]
+fn prefixes_of_the_grain_are_left_out(rt: HostRuntime) -> Result<(), Fail> {
+    let half = prefix_of_grain(Grain::Nibble, "10.16.0.0/12", "20.0.0.1/32")?;
+    let whole = prefix_of("10.0.0.0/8", "20.0.0.1/32")?;
+    assert!(rt; verdict_on_both_halves(rt.alloc(), Grain::Byte, whole)? == Verdict::Good);
+    assert!(rt;
+        verdict_on_both_halves(rt.alloc(), Grain::Nibble, whole)? == Verdict::LeftOut(half, 2)
+    );
+    assert!(rt; verdict_on_both_halves(rt.alloc(), Grain::Nibble, half)? == Verdict::Good);
+    Ok(())
+}
+
+fn verdict_on_both_halves(alloc: Global, grain: Grain, prefix: Prefix) -> Result<Verdict, Fail> {
+    let line = Line {
+        prefix,
+        lo: 2,
+        hi: 2,
+    };
+    let report = with_line(alloc, &[2], 2, 2, line)?;
+    audit_over(alloc, grain, &HALVES, &report, 1, 512, 1_000_000)
+}
+
+#[test]
 fn a_line_for_which_nothing_is_left_is_too_many(rt: HostRuntime) -> Result<(), Fail> {
     assert!(rt; verdict_with_one_more(rt.alloc())? == Verdict::NotJustified(2));
     Ok(())
@@ -245,7 +287,7 @@ fn verdict_on_a_light_line(alloc: Global) -> Result<Verdict, Fail> {
     let first = line_of("10.1.2.3/32", "20.1.2.3/32", 100, 100)?;
     let light = line_of("10.1.2.4/32", "20.1.2.3/32", 10, 10)?;
     let low = with_two_lines(alloc, &[2], 110, 55, first, light)?;
-    audit_over(alloc, &TWO, &low, 1, 512, 500_000)
+    audit_over(alloc, Grain::Byte, &TWO, &low, 1, 512, 500_000)
 }
 
 #[test]

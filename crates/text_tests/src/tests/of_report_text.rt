@@ -3,10 +3,10 @@
 ghost use Rattle.std.specs.Prelude.{◌≤◌, IfOk};
 ghost use Rattle.report_text.specs.{ShowsPositions};
 
-use super::worked_lines::{prefix_of, two_lines};
+use super::worked_lines::{prefix_of, prefix_of_grain, two_lines};
 use frame_records::Records;
 use hhh_report::{Line, Positions, Report, Reported};
-use prefix_lattice::RecordList;
+use prefix_lattice::{Grain, RecordList};
 use report_text::{
     Mark, Session, SessionFault, TextFault, print, print_positions, print_tail, read_session,
 };
@@ -123,9 +123,9 @@ fn text_of(alloc: Global, lines: &str) -> Result<Vec<u8>, AllocError> {
 const SESSION: &str =
     "opened 0|report|at 1|total 100|threshold 1|line 10.1.2.3/32 20.1.2.3/32 100 100|done|frames 1|skipped 0 0 0|end|";
 
-fn session_of(alloc: Global, lines: &str) -> Result<Session, Fail> {
+fn session_of(alloc: Global, grain: Grain, lines: &str) -> Result<Session, Fail> {
     let text = text_of(alloc, lines)?;
-    Ok(read_session(alloc, text.as_slice())?)
+    Ok(read_session(alloc, grain, text.as_slice())?)
 }
 
 // The numbers of frames in a session's last lines.
@@ -141,7 +141,7 @@ fn counts_of(session: &Session) -> (u64, u64, u64, u64) {
 #[test]
 fn reads_a_session(rt: HostRuntime) -> Result<(), Fail> {
     let line = line_of("10.1.2.3/32", "20.1.2.3/32", 100, 100)?;
-    let session = session_of(rt.alloc(), SESSION)?;
+    let session = session_of(rt.alloc(), Grain::Byte, SESSION)?;
     assert!(rt; is_the_session(&session, line));
     Ok(())
 }
@@ -164,12 +164,33 @@ fn is_the_report(reported: &Reported, line: Line) -> bool {
         && report.lines.as_slice() == [line].as_slice()
 }
 
+const HALF_BYTES: &str =
+    "opened 0|report|at 1|total 100|threshold 1|line 10.16.0.0/12 20.1.2.3/32 100 100|done|frames 1|skipped 0 0 0|end|";
+
+#[test]
+fn reads_lengths_of_the_grain(rt: HostRuntime) -> Result<(), Fail> {
+    let prefix = prefix_of_grain(Grain::Nibble, "10.16.0.0/12", "20.1.2.3/32")?;
+    let session = session_of(rt.alloc(), Grain::Nibble, HALF_BYTES)?;
+    assert!(rt;
+        is_the_session(
+            &session,
+            Line {
+                prefix,
+                lo: 100,
+                hi: 100
+            }
+        )
+    );
+    assert!(rt; has_fault(rt.alloc(), HALF_BYTES, TextFault::BadLine(6))?);
+    Ok(())
+}
+
 const SAVED_SESSION: &str =
     "opened 0 7|report|at 3 7|total 2|threshold 1|done|report|at 4 7|total 3|threshold 1|done|saved 4 7|frames 9|skipped 3 2 1|end|";
 
 #[test]
 fn reads_saved_positions(rt: HostRuntime) -> Result<(), Fail> {
-    let session = session_of(rt.alloc(), SAVED_SESSION)?;
+    let session = session_of(rt.alloc(), Grain::Byte, SAVED_SESSION)?;
     assert!(rt; is_the_saved_session(&session));
     Ok(())
 }
@@ -192,7 +213,7 @@ fn are_saved(reported: &Reported, positions: &[u64]) -> bool {
 // The fault of a text, if it has one.
 fn fault_of(alloc: Global, lines: &str) -> Result<Option<SessionFault>, AllocError> {
     let text = text_of(alloc, lines)?;
-    match read_session(alloc, text.as_slice()) {
+    match read_session(alloc, Grain::Byte, text.as_slice()) {
         Ok(_) => Ok(None),
         Err(fault) => Ok(Some(fault)),
     }

@@ -4,13 +4,19 @@ ghost use Rattle.std.specs.Prelude.{IfOk};
 ghost use Rattle.hhh_report.specs.{AreReportLines};
 
 use hhh_report::{Line, Lines};
-use prefix_lattice::Prefix;
+use prefix_lattice::{Grain, Prefix};
 use std::alloc::Global;
 use std::cmp::Ordering;
 use std::test::Fail;
 
+/// A prefix of whole bytes.
 pub(crate) fn prefix_of(source: &str, dest: &str) -> Result<Prefix, Fail> {
-    Ok(Prefix::parse(source.as_bytes(), dest.as_bytes())?)
+    prefix_of_grain(Grain::Byte, source, dest)
+}
+
+/// A prefix of a grain.
+pub(crate) fn prefix_of_grain(grain: Grain, source: &str, dest: &str) -> Result<Prefix, Fail> {
+    Ok(Prefix::parse(grain, source.as_bytes(), dest.as_bytes())?)
 }
 
 // Two lines in their order.

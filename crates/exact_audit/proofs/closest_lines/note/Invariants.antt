@@ -8,5 +8,5 @@ use Rattle.exact_audit.proofs.closest_lines.note.Given as goal
 abbrev pub invariant-loop-index : goal.invariant-loop-index
 invariant-loop-index l =
     (length l.each.items ≡ length l.codes.codes.keys)
-    × ((lines : List PrefixValue) → AreLineCodes lines l.codes.codes.keys → ArePlaced lines l.codes.codes.keys
-    → IsNotedBefore l.index lines l.prefix l.initial.each.items l.each.items)
+    × ((lines : List PrefixValue) → AreLineCodes l.grain lines l.codes.codes.keys → ArePlaced lines l.codes.codes.keys
+    → IsNotedBefore l.grain l.index lines l.prefix l.initial.each.items l.each.items)

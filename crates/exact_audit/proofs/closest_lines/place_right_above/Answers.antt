@@ -2,6 +2,8 @@ use Rattle.std.proofs.Common.{not, Contains, is_some, sym, ap, subst, ◌∙◌}
 use Rattle.std.specs.List.{list_any}
 use Rattle.std.proofs.lemmas.Bool.{and_from, and_left, and_right}
 use Rattle.prefix_lattice.specs.{strictly_under}
+use Rattle.prefix_lattice.specs.declared.grain.Grain.{Grain}
+use Rattle.exact_audit.specs.LineCodes.{AreLineCodes}
 use Rattle.exact_audit.specs.ClosestLines.{is_between}
 use Rattle.exact_audit.proofs.ClosestLineLemmas.{coded_line_at_place, no_upper_line_of_node}
 use Rattle.exact_audit.proofs.ClosestLineLemmas.{only_upper_line_right_above}
@@ -36,12 +38,14 @@ returns-then-is_one_between-clause-none c = λ lines upper coded there at.
     only_upper_line_right_above c.uppers_are_above.ensures.only lines c.args.prefix.now own upper c.args.node
     (sym c.upper.ensures.value ∙ c.in-Some.is) at
     (λ same. and_right (strictly_under c.args.prefix.now own) (not (list_any (is_between own c.args.prefix.now) lines))
-    (ap not (sym (c.is_one_between.ensures lines coded) ∙ c.if-is_one_between.true)))
+    (ap not (sym (c.is_one_between.ensures lines
+    (subst (λ (g : Grain). AreLineCodes g lines c.args.codes.now.codes.keys) (sym c.grain.ensures) coded))
+    ∙ c.if-is_one_between.true)))
 
 pub returns-clause-some : goal.returns-clause-some
 returns-clause-some c = λ lines coded placed.
     let own = c.in-Some.upper in
-    let above = c.uppers_are_above.ensures.above c.args.prefix.now own c.args.node c.upper.ensures.prefix
+    let above = c.uppers_are_above.ensures.above c.args.prefix.now own c.args.node c.upper.ensures.prefix c.requires
     (sym c.upper.ensures.value ∙ c.in-Some.is) in
     record {
       upper = own;
@@ -52,5 +56,7 @@ returns-clause-some c = λ lines coded placed.
       right_above =
           and_from (strictly_under c.args.prefix.now own) (not (list_any (is_between own c.args.prefix.now) lines))
           (sym c.strictly_under.ensures.value ∙ c.if-not-strictly_under.false)
-          (ap not (sym (c.is_one_between.ensures lines coded) ∙ c.if-is_one_between.false));
+          (ap not (sym (c.is_one_between.ensures lines
+          (subst (λ (g : Grain). AreLineCodes g lines c.args.codes.now.codes.keys) (sym c.grain.ensures) coded))
+          ∙ c.if-is_one_between.false));
     }

@@ -13,7 +13,7 @@ loop-shard-preserved c = λ prefixes coded.
     let same = counted_record_positions_as_many positions lists c.requires in
     let within : shard < length lists = omega (arith, c.loop-shard-test.true, c.shards-shard-end.ensures.value) in
     let before = records_before (take shard lists) (take shard positions) in
-    subst (λ records. AreCountedIn prefixes records c.push_counted.new.counted.items)
+    subst (λ records. AreCountedIn c.args.grain prefixes records c.push_counted.new.counted.items)
     (ap (λ rs. before ++ rs) c.part.ensures.value ∙ sym (counted_records_gain_part lists positions shard same within))
     (c.in_ok-push_counted.ensures prefixes before coded (c.loop-shard.invariant prefixes coded))
 
@@ -24,7 +24,7 @@ returns c = λ prefixes coded.
     let shard = c.loop-shard.shard in
     let same = counted_record_positions_as_many positions lists c.requires in
     let all : length lists ≤ shard = omega (arith, c.loop-shard-test.false, c.shards-shard-end.ensures.value) in
-    subst (λ records. AreCountedIn prefixes records c.loop-shard.counted.items)
+    subst (λ records. AreCountedIn c.args.grain prefixes records c.loop-shard.counted.items)
     (ap (λ l. records_before l (take shard positions)) (take_all shard lists all)
     ∙ ap (λ p. records_before lists p) (take_all shard positions (omega (arith, same, all))))
     (c.loop-shard.invariant prefixes coded)

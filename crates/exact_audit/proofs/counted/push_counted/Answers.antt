@@ -15,15 +15,15 @@ loop-rec-preserved c = λ prefixes before coded are.
     ∙ ap (λ rs. before ++ rs)
     (ap (λ (r : RecordValue). take index records ++ r ∷ []) c.rec-item.is
     ∙ sym (take_more records index rec c.loop-rec-test.true)) in
-    subst (λ rs. AreCountedIn prefixes rs c.push.new.self.items) more
-    (subst (AreCountedIn prefixes ((before ++ take index records) ++ rec ∷ [])) (sym c.in_ok-push.ensures.items)
+    subst (λ rs. AreCountedIn c.args.grain prefixes rs c.push.new.self.items) more
+    (subst (AreCountedIn c.args.grain prefixes ((before ++ take index records) ++ rec ∷ [])) (sym c.in_ok-push.ensures.items)
     (AreCountedIn-push prefixes (before ++ take index records) c.loop-rec.counted.items
     (record { rec = rec; depths = c.of-depths.result }) (c.of-depths.ensures prefixes coded)
     (c.loop-rec.invariant prefixes before coded are)))
 
 pub returns : goal.returns
 returns c = λ prefixes before coded are.
-    subst (λ rs. AreCountedIn prefixes (before ++ rs) c.loop-rec.counted.items)
+    subst (λ rs. AreCountedIn c.args.grain prefixes (before ++ rs) c.loop-rec.counted.items)
     (take_all c.loop-rec.rec-index c.args.records.now c.loop-rec-test.false)
     (c.loop-rec.invariant prefixes before coded
-    (subst (AreCountedIn prefixes before) (sym c.in_ok-reserve.ensures.items) are))
+    (subst (AreCountedIn c.args.grain prefixes before) (sym c.in_ok-reserve.ensures.items) are))

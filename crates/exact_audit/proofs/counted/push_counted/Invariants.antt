@@ -6,7 +6,7 @@ use Rattle.exact_audit.proofs.counted.push_counted.Given as goal
 
 -- the records so far are counted too
 abbrev pub invariant-loop-rec : goal.invariant-loop-rec
-invariant-loop-rec l = (prefixes : List PrefixValue) (before : List RecordValue) → AreLineCodes prefixes
+invariant-loop-rec l = (prefixes : List PrefixValue) (before : List RecordValue) → AreLineCodes l.grain prefixes
     l.lines.codes.keys
-    → AreCountedIn prefixes before l.initial.counted.items
-    → AreCountedIn prefixes (before ++ take l.rec-index l.records) l.counted.items
+    → AreCountedIn l.grain prefixes before l.initial.counted.items
+    → AreCountedIn l.grain prefixes (before ++ take l.rec-index l.records) l.counted.items

@@ -9,6 +9,6 @@ use Rattle.exact_audit.proofs.findings.find.Given as goal
 abbrev pub invariant-loop-index : goal.invariant-loop-index
 invariant-loop-index l =
     (length l.line_sums.items ≡ length l.lines)
-    × ((records : List RecordValue) → AreCountedIn (prefixes_of_lines l.lines) records l.counted
-    → AreSumsBefore l.index l.lines records l.line_sums.items
-    × IsFirstBefore l.index (prefixes_of_lines l.lines) records l.threshold l.left_out)
+    × ((records : List RecordValue) → AreCountedIn l.by.grain (prefixes_of_lines l.lines) records l.counted
+    → AreSumsBefore l.by.grain l.index l.lines records l.line_sums.items
+    × IsFirstBefore l.by.grain l.index (prefixes_of_lines l.lines) records l.by.threshold l.left_out)

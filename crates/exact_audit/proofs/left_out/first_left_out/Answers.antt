@@ -16,7 +16,7 @@ use Rattle.exact_audit.proofs.left_out.first_left_out.Goals.{then-of_key-thresho
 
 pub loop-place-init : goal.loop-place-init
 loop-place-init c = λ prefixes records coded are before.
-    first_left_out_before_keys (node_index c.args.node) prefixes records c.args.threshold c.args.found before
+    first_left_out_before_keys c.args.node.grain (node_index c.args.node) prefixes records c.args.threshold c.args.found before
 
 pub loop-place-preserved : goal.loop-place-preserved
 loop-place-preserved c = λ prefixes records coded are before.
@@ -37,7 +37,7 @@ loop-place-preserved c = λ prefixes records coded are before.
       | then-of_key-threshold w ↦
           let one = w.unwrap-prefix.result in
           let has = (w.from_key.ensures.prefix one).0 w.unwrap-prefix.ensures in
-          subst (IsFirstWith (node_index c.args.node) (take (place + 1) (keys sums)) prefixes records c.args.threshold)
+          subst (IsFirstWith c.args.node.grain (node_index c.args.node) (take (place + 1) (keys sums)) prefixes records c.args.threshold)
           (sym (w.found-is ∙ w.first_unless_line-found.ensures.value))
           (first_left_out_takes_heavy c.report_order_is_total.ensures.total c.keys_are_of_their_node.ensures.apart c.args.node prefixes
           records c.args.lines.now.codes.keys c.args.threshold sums place key own.left one c.loop-place.found
@@ -45,7 +45,7 @@ loop-place-preserved c = λ prefixes records coded are before.
           (omega (arith, w.first_unless_line-found.ensures.small, has.of_key))
           (c.loop-place.invariant prefixes records coded are before))
       | else-of_key-threshold w ↦
-          subst (IsFirstWith (node_index c.args.node) (take (place + 1) (keys sums)) prefixes records c.args.threshold)
+          subst (IsFirstWith c.args.node.grain (node_index c.args.node) (take (place + 1) (keys sums)) prefixes records c.args.threshold)
           (sym w.found-is)
           (first_left_out_skips_light c.args.node prefixes records c.args.threshold sums place key own.left c.loop-place.found
           c.requires.node are within key_at left w.if-of_key-threshold.false
@@ -65,6 +65,6 @@ returns c = λ prefixes records coded are before.
     ) in
     first_left_out_after_keys c.args.node prefixes records c.args.threshold sums c.loop-place.found c.requires.node
     c.requires.some are
-    (subst (λ some. IsFirstWith (node_index c.args.node) some prefixes records c.args.threshold c.loop-place.found)
+    (subst (λ some. IsFirstWith c.args.node.grain (node_index c.args.node) some prefixes records c.args.threshold c.loop-place.found)
     (take_all c.loop-place.place (keys sums) all)
     (c.loop-place.invariant prefixes records coded are before))

@@ -1,6 +1,6 @@
 use Rattle.std.proofs.Common.{All, sym, subst}
 use Rattle.hhh_report.specs.{prefixes_of_lines}
-use Rattle.exact_audit.specs.LineTests.{IsTestResult, PassesJustified, TestMeasures}
+use Rattle.exact_audit.specs.LineTests.{IsTestResult, PassesJustified, measures_of}
 use Rattle.exact_audit.specs.LeftOut.{IsLeftOut}
 use Rattle.exact_audit.specs.Verdict.{IsLineVerdict}
 use Rattle.exact_audit.specs.Findings.{AreSumsOf, IsFirst}
@@ -12,7 +12,7 @@ pub returns : goal.returns
 returns c = λ records are total.
     let lines = c.args.lines.now in
     let prefixes = prefixes_of_lines lines in
-    let by : TestMeasures = record { capacity = c.args.capacity; threshold = c.args.threshold; total = c.args.total } in
+    let by = measures_of c.args.by.now in
     let held = c.in_default.ensures records (subst (AreSumsOf lines records) (sym c.deref.ensures.value) are.sums) in
     let justified : All (PassesJustified by records lines) lines =
     subst (IsTestResult (PassesJustified by records lines) lines) c.in_default-2.is
@@ -24,8 +24,8 @@ returns c = λ records are total.
             c.in_default-too_wide.ensures,
             c.in_default-low_line.ensures,
             justified,
-            verdict_leaves_out_first prefixes records c.args.threshold w.in-Some-left_out.left_out
-                (subst (IsFirst (IsLeftOut prefixes records c.args.threshold)) w.in-Some-left_out.is are.left_out),
+            verdict_leaves_out_first prefixes records c.args.by.now.threshold w.in-Some-left_out.left_out
+                (subst (IsFirst (IsLeftOut by.grain prefixes records c.args.by.now.threshold)) w.in-Some-left_out.is are.left_out),
           )
       | in-None w ↦
           subst (IsLineVerdict by records lines) (sym w.result-is) (
@@ -33,7 +33,7 @@ returns c = λ records are total.
             c.in_default-too_wide.ensures,
             c.in_default-low_line.ensures,
             justified,
-            verdict_leaves_out_none prefixes records c.args.threshold
-                (subst (IsFirst (IsLeftOut prefixes records c.args.threshold)) w.in-None.is are.left_out),
+            verdict_leaves_out_none prefixes records c.args.by.now.threshold
+                (subst (IsFirst (IsLeftOut by.grain prefixes records c.args.by.now.threshold)) w.in-None.is are.left_out),
           )
     ]

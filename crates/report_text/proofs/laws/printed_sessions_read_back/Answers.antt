@@ -12,6 +12,6 @@ pub returns-clause-lines : goal.returns-clause-lines
 returns-clause-lines c = printed_session_has_its_lines
 
 pub returns-clause-read : goal.returns-clause-read
-returns-clause-read c = λ session other is other_is.
-    printed_sessions_told_apart (record { texts = c.prefix_texts_read_back.ensures.apart; order = c.report_order_is_total.ensures.total })
+returns-clause-read c = λ grain session other is other_is.
+    printed_sessions_told_apart grain (record { texts = c.prefix_texts_read_back.ensures.apart; order = c.report_order_is_total.ensures.total })
     _ session other (record { is_session = is; spelled = session-printed session }) other_is

@@ -21,32 +21,32 @@ pub returns-in_default : goal.returns-in_default
 returns-in_default c = record {
   read = tt;
   fault =
-      line_reading_refused c.args.lines.now c.args.lines.now c.next.new.self [] c.in_ok-opened.field-0 nothing nothing
-      c.refuse.result c.requires (line_reading_stays c.args.lines.now nothing) c.in_ok-opened.ensures.read
-      (line_refused_unless_opened c.in_ok-opened.field-0 c.in_default.not-Opened) c.refuse.ensures;
+      line_reading_refused c.args.grain c.args.lines.now c.args.lines.now c.next.new.self [] c.in_ok-opened.field-0 nothing nothing
+      c.refuse.result c.requires (line_reading_stays c.args.grain c.args.lines.now nothing) c.in_ok-opened.ensures.read
+      (line_refused_unless_opened c.in_ok-opened.field-0 c.in_default.not-Opened) (c.refuse.ensures c.args.grain);
 }
 
 pub read_reports-requires : goal.read_reports-requires
 read_reports-requires c =
     let start = c.args.lines.now in
-    let first = line_reading_known_line start start c.next.new.self [] c.in_ok-opened.field-0 (Opened c.in-Opened.opened) nothing
-    nothing (opened c.len.result) (line_reading_stays start nothing) c.in_ok-opened.ensures.read c.in-Opened.is
+    let first = line_reading_known_line c.args.grain start start c.next.new.self [] c.in_ok-opened.field-0 (Opened c.in-Opened.opened) nothing
+    nothing (opened c.len.result) (line_reading_stays c.args.grain start nothing) c.in_ok-opened.ensures.read c.in-Opened.is
     (ap opened c.len.ensures) in
-    line_reading_reads_more start c.next.new.self (Opened c.in-Opened.opened ∷ []) nothing (opened c.len.result) c.requires first
+    line_reading_reads_more c.args.grain start c.next.new.self (Opened c.in-Opened.opened ∷ []) nothing (opened c.len.result) c.requires first
 
 pub returns-in_err-skips-clause-fault : goal.returns-in_err-skips-clause-fault
 returns-in_err-skips-clause-fault c =
     let start = c.args.lines.now in
     let listed = c.in_ok-listed.listed in
     let reports = flat_map reported_lines listed.reports ++ Frames listed.frames ∷ [] in
-    let first = line_reading_known_line start start c.next.new.self [] c.in_ok-opened.field-0 (Opened c.in-Opened.opened) nothing
-    nothing (opened c.len.result) (line_reading_stays start nothing) c.in_ok-opened.ensures.read c.in-Opened.is
+    let first = line_reading_known_line c.args.grain start start c.next.new.self [] c.in_ok-opened.field-0 (Opened c.in-Opened.opened) nothing
+    nothing (opened c.len.result) (line_reading_stays c.args.grain start nothing) c.in_ok-opened.ensures.read c.in-Opened.is
     (ap opened c.len.ensures) in
-    let all = line_reading_goes_on start c.next.new.self c.read_reports.new.lines (Opened c.in-Opened.opened ∷ []) reports nothing
+    let all = line_reading_goes_on c.args.grain start c.next.new.self c.read_reports.new.lines (Opened c.in-Opened.opened ∷ []) reports nothing
     (opened c.len.result) counted first c.in_ok-listed.ensures.read in
     let p = err_from_is_err_and c.from_residual-in_err-skips.result c.from_residual-in_err-skips.ensures.1 in
     rw (p.1, p.2)
-    (line_reading_next_fault start c.read_reports.new.lines (Opened c.in-Opened.opened ∷ reports) nothing counted
+    (line_reading_next_fault c.args.grain start c.read_reports.new.lines (Opened c.in-Opened.opened ∷ reports) nothing counted
     c.in_err-skips.field-0.0 c.requires all tt c.in_err-skips.ensures.fault)
 
 pub returns-in_default-2 : goal.returns-in_default-2
@@ -54,17 +54,17 @@ returns-in_default-2 c =
     let start = c.args.lines.now in
     let listed = c.in_ok-listed.listed in
     let reports = flat_map reported_lines listed.reports ++ Frames listed.frames ∷ [] in
-    let first = line_reading_known_line start start c.next.new.self [] c.in_ok-opened.field-0 (Opened c.in-Opened.opened) nothing
-    nothing (opened c.len.result) (line_reading_stays start nothing) c.in_ok-opened.ensures.read c.in-Opened.is
+    let first = line_reading_known_line c.args.grain start start c.next.new.self [] c.in_ok-opened.field-0 (Opened c.in-Opened.opened) nothing
+    nothing (opened c.len.result) (line_reading_stays c.args.grain start nothing) c.in_ok-opened.ensures.read c.in-Opened.is
     (ap opened c.len.ensures) in
-    let all = line_reading_goes_on start c.next.new.self c.read_reports.new.lines (Opened c.in-Opened.opened ∷ []) reports nothing
+    let all = line_reading_goes_on c.args.grain start c.next.new.self c.read_reports.new.lines (Opened c.in-Opened.opened ∷ []) reports nothing
     (opened c.len.result) counted first c.in_ok-listed.ensures.read in
     record {
       read = tt;
       fault =
-          line_reading_refused start c.read_reports.new.lines c.next-2.new.self (Opened c.in-Opened.opened ∷ reports)
+          line_reading_refused c.args.grain start c.read_reports.new.lines c.next-2.new.self (Opened c.in-Opened.opened ∷ reports)
           c.in_ok-skips.field-0 nothing counted c.refuse-in_default-2.result c.requires all c.in_ok-skips.ensures.read
-          (line_refused_unless_skips c.in_ok-skips.field-0 c.in_default-2.not-Skipped) c.refuse-in_default-2.ensures;
+          (line_refused_unless_skips c.in_ok-skips.field-0 c.in_default-2.not-Skipped) (c.refuse-in_default-2.ensures c.args.grain);
     }
 
 pub returns-in_err-next-clause-fault : goal.returns-in_err-next-clause-fault
@@ -73,16 +73,16 @@ returns-in_err-next-clause-fault c =
     let listed = c.in_ok-listed.listed in
     let reports = flat_map reported_lines listed.reports ++ Frames listed.frames ∷ [] in
     let skips = c.in-Skipped.skips in
-    let first = line_reading_known_line start start c.next.new.self [] c.in_ok-opened.field-0 (Opened c.in-Opened.opened) nothing
-    nothing (opened c.len.result) (line_reading_stays start nothing) c.in_ok-opened.ensures.read c.in-Opened.is
+    let first = line_reading_known_line c.args.grain start start c.next.new.self [] c.in_ok-opened.field-0 (Opened c.in-Opened.opened) nothing
+    nothing (opened c.len.result) (line_reading_stays c.args.grain start nothing) c.in_ok-opened.ensures.read c.in-Opened.is
     (ap opened c.len.ensures) in
-    let all = line_reading_goes_on start c.next.new.self c.read_reports.new.lines (Opened c.in-Opened.opened ∷ []) reports nothing
+    let all = line_reading_goes_on c.args.grain start c.next.new.self c.read_reports.new.lines (Opened c.in-Opened.opened ∷ []) reports nothing
     (opened c.len.result) counted first c.in_ok-listed.ensures.read in
-    let more = line_reading_known_line start c.read_reports.new.lines c.next-2.new.self (Opened c.in-Opened.opened ∷ reports)
+    let more = line_reading_known_line c.args.grain start c.read_reports.new.lines c.next-2.new.self (Opened c.in-Opened.opened ∷ reports)
     c.in_ok-skips.field-0 (Skipped skips) nothing counted skipped all c.in_ok-skips.ensures.read c.in-Skipped.is refl in
     let p = err_from_is_err_and c.from_residual-in_err-next.result c.from_residual-in_err-next.ensures.1 in
     rw (p.1, p.2)
-    (line_reading_next_fault start c.next-2.new.self ((Opened c.in-Opened.opened ∷ reports) ++ Skipped skips ∷ []) nothing skipped
+    (line_reading_next_fault c.args.grain start c.next-2.new.self ((Opened c.in-Opened.opened ∷ reports) ++ Skipped skips ∷ []) nothing skipped
     c.in_err-next.field-0.0 c.requires more tt c.in_err-next.ensures.fault)
 
 pub returns-in_default-3 : goal.returns-in_default-3
@@ -91,19 +91,19 @@ returns-in_default-3 c =
     let listed = c.in_ok-listed.listed in
     let reports = flat_map reported_lines listed.reports ++ Frames listed.frames ∷ [] in
     let skips = c.in-Skipped.skips in
-    let first = line_reading_known_line start start c.next.new.self [] c.in_ok-opened.field-0 (Opened c.in-Opened.opened) nothing
-    nothing (opened c.len.result) (line_reading_stays start nothing) c.in_ok-opened.ensures.read c.in-Opened.is
+    let first = line_reading_known_line c.args.grain start start c.next.new.self [] c.in_ok-opened.field-0 (Opened c.in-Opened.opened) nothing
+    nothing (opened c.len.result) (line_reading_stays c.args.grain start nothing) c.in_ok-opened.ensures.read c.in-Opened.is
     (ap opened c.len.ensures) in
-    let all = line_reading_goes_on start c.next.new.self c.read_reports.new.lines (Opened c.in-Opened.opened ∷ []) reports nothing
+    let all = line_reading_goes_on c.args.grain start c.next.new.self c.read_reports.new.lines (Opened c.in-Opened.opened ∷ []) reports nothing
     (opened c.len.result) counted first c.in_ok-listed.ensures.read in
-    let more = line_reading_known_line start c.read_reports.new.lines c.next-2.new.self (Opened c.in-Opened.opened ∷ reports)
+    let more = line_reading_known_line c.args.grain start c.read_reports.new.lines c.next-2.new.self (Opened c.in-Opened.opened ∷ reports)
     c.in_ok-skips.field-0 (Skipped skips) nothing counted skipped all c.in_ok-skips.ensures.read c.in-Skipped.is refl in
     record {
       read = tt;
       fault =
-          line_reading_refused start c.next-2.new.self c.next-3.new.self ((Opened c.in-Opened.opened ∷ reports) ++ Skipped skips ∷ [])
+          line_reading_refused c.args.grain start c.next-2.new.self c.next-3.new.self ((Opened c.in-Opened.opened ∷ reports) ++ Skipped skips ∷ [])
           c.in_ok-next.field-0 nothing skipped c.refuse-in_default-3.result c.requires more c.in_ok-next.ensures.read
-          (line_refused_unless_end c.in_ok-next.field-0 c.in_default-3.not-End) c.refuse-in_default-3.ensures;
+          (line_refused_unless_end c.in_ok-next.field-0 c.in_default-3.not-End) (c.refuse-in_default-3.ensures c.args.grain);
     }
 
 pub returns-clause-read : goal.returns-clause-read
@@ -112,17 +112,17 @@ returns-clause-read c =
     let listed = c.in_ok-listed.listed in
     let reports = flat_map reported_lines listed.reports ++ Frames listed.frames ∷ [] in
     let skips = c.in-Skipped.skips in
-    let first = line_reading_known_line start start c.next.new.self [] c.in_ok-opened.field-0 (Opened c.in-Opened.opened) nothing
-    nothing (opened c.len.result) (line_reading_stays start nothing) c.in_ok-opened.ensures.read c.in-Opened.is
+    let first = line_reading_known_line c.args.grain start start c.next.new.self [] c.in_ok-opened.field-0 (Opened c.in-Opened.opened) nothing
+    nothing (opened c.len.result) (line_reading_stays c.args.grain start nothing) c.in_ok-opened.ensures.read c.in-Opened.is
     (ap opened c.len.ensures) in
-    let all = line_reading_goes_on start c.next.new.self c.read_reports.new.lines (Opened c.in-Opened.opened ∷ []) reports nothing
+    let all = line_reading_goes_on c.args.grain start c.next.new.self c.read_reports.new.lines (Opened c.in-Opened.opened ∷ []) reports nothing
     (opened c.len.result) counted first c.in_ok-listed.ensures.read in
-    let more = line_reading_known_line start c.read_reports.new.lines c.next-2.new.self (Opened c.in-Opened.opened ∷ reports)
+    let more = line_reading_known_line c.args.grain start c.read_reports.new.lines c.next-2.new.self (Opened c.in-Opened.opened ∷ reports)
     c.in_ok-skips.field-0 (Skipped skips) nothing counted skipped all c.in_ok-skips.ensures.read c.in-Skipped.is refl in
-    let whole = line_reading_known_line start c.next-2.new.self c.next-3.new.self
+    let whole = line_reading_known_line c.args.grain start c.next-2.new.self c.next-3.new.self
     ((Opened c.in-Opened.opened ∷ reports) ++ Skipped skips ∷ []) c.in_ok-next.field-0 End nothing skipped ended more
     c.in_ok-next.ensures.read c.in-End.is refl in
-    subst (λ l. ReadsLines start c.next-3.new.self l nothing ended)
+    subst (λ l. ReadsLines c.args.grain start c.next-3.new.self l nothing ended)
     (read_session_line_groups (Opened c.in-Opened.opened) (Frames listed.frames) (Skipped skips) End
     (flat_map reported_lines listed.reports))
     whole

@@ -20,47 +20,47 @@ pub returns-in_default : goal.returns-in_default
 returns-in_default c = record {
   read = tt;
   fault =
-      line_reading_refused c.args.lines.now c.args.lines.now c.next.new.self [] c.in_ok-next.field-0 (opened c.args.shards)
-      (opened c.args.shards) c.refuse.result c.requires (line_reading_stays c.args.lines.now (opened c.args.shards))
+      line_reading_refused c.args.grain c.args.lines.now c.args.lines.now c.next.new.self [] c.in_ok-next.field-0 (opened c.args.shards)
+      (opened c.args.shards) c.refuse.result c.requires (line_reading_stays c.args.grain c.args.lines.now (opened c.args.shards))
       c.in_ok-next.ensures.read (line_refused_unless_report c.args.shards c.in_ok-next.field-0 c.in_default.not-Report)
-      c.refuse.ensures;
+      (c.refuse.ensures c.args.grain);
 }
 
 pub read_report-requires : goal.read_report-requires
 read_report-requires c =
-    line_reading_reads_more c.args.lines.now c.reports.lines (flat_map reported_lines c.reports.reports ++ Report ∷ [])
+    line_reading_reads_more c.args.grain c.args.lines.now c.reports.lines (flat_map reported_lines c.reports.reports ++ Report ∷ [])
     (opened c.args.shards) (begun c.args.shards) c.requires c.reports.invariant
 
 pub read_after_report-requires : goal.read_after_report-requires
 read_after_report-requires c =
     let begins = flat_map reported_lines c.reports.reports ++ Report ∷ [] in
-    line_reading_reads_more c.args.lines.now c.read_report.new.lines (begins ++ body_lines c.in_ok-report.report)
+    line_reading_reads_more c.args.grain c.args.lines.now c.read_report.new.lines (begins ++ body_lines c.in_ok-report.report)
     (opened c.args.shards) (done c.args.shards) c.requires
-    (line_reading_goes_on c.args.lines.now c.reports.lines c.read_report.new.lines begins (body_lines c.in_ok-report.report)
+    (line_reading_goes_on c.args.grain c.args.lines.now c.reports.lines c.read_report.new.lines begins (body_lines c.in_ok-report.report)
     (opened c.args.shards) (begun c.args.shards) (done c.args.shards) c.reports.invariant c.in_ok-report.ensures.read)
 
 pub returns-in-Some-clause-read : goal.returns-in-Some-clause-read
 returns-in-Some-clause-read c =
     let n = c.args.shards in
-    let more = one_more_read_report c.args.lines.now c.reports.lines c.read_report.new.lines c.read_after_report.new.lines n
+    let more = one_more_read_report c.args.grain c.args.lines.now c.reports.lines c.read_report.new.lines c.read_after_report.new.lines n
     c.reports.reports c.in_ok-report.report c.in_ok-after.after.saved c.in_ok-after.after.frames c.reports.invariant
     c.in_ok-report.ensures.read c.in_ok-after.ensures.read in
     let known = subst
-    (λ frames. ReadsLines c.args.lines.now c.read_after_report.new.lines
+    (λ frames. ReadsLines c.args.grain c.args.lines.now c.read_after_report.new.lines
     (flat_map reported_lines
     (c.reports.reports ++ record { report = c.in_ok-report.report; saved = c.in_ok-after.after.saved } ∷ [])
     ++ line_after_report frames ∷ [])
     (opened n) (after_report n frames))
     c.in-Some.is more in
     subst
-    (λ reports. ReadsLines c.args.lines.now c.read_after_report.new.lines
+    (λ reports. ReadsLines c.args.grain c.args.lines.now c.read_after_report.new.lines
     (flat_map reported_lines reports ++ line_after_report (Some c.in-Some.frames) ∷ []) (opened n)
     (after_report n (Some c.in-Some.frames)))
     (sym c.in_ok-push.ensures.ok) known
 
 pub reports-smaller : goal.reports-smaller
 reports-smaller c =
-    read_report_leaves_fewer c.reports.lines c.read_report.new.lines c.read_after_report.new.lines c.in_ok-report.report
+    read_report_leaves_fewer c.args.grain c.reports.lines c.read_report.new.lines c.read_after_report.new.lines c.in_ok-report.report
     (saved_lines c.in_ok-after.after.saved ++ line_after_report c.in_ok-after.after.frames ∷ []) (begun c.args.shards)
     (done c.args.shards) (after_report c.args.shards c.in_ok-after.after.frames) c.in_ok-report.ensures.read
     c.in_ok-after.ensures.read
@@ -68,17 +68,17 @@ reports-smaller c =
 pub reports-preserved : goal.reports-preserved
 reports-preserved c =
     let n = c.args.shards in
-    let more = one_more_read_report c.args.lines.now c.reports.lines c.read_report.new.lines c.read_after_report.new.lines n
+    let more = one_more_read_report c.args.grain c.args.lines.now c.reports.lines c.read_report.new.lines c.read_after_report.new.lines n
     c.reports.reports c.in_ok-report.report c.in_ok-after.after.saved c.in_ok-after.after.frames c.reports.invariant
     c.in_ok-report.ensures.read c.in_ok-after.ensures.read in
     let known = subst
-    (λ frames. ReadsLines c.args.lines.now c.read_after_report.new.lines
+    (λ frames. ReadsLines c.args.grain c.args.lines.now c.read_after_report.new.lines
     (flat_map reported_lines
     (c.reports.reports ++ record { report = c.in_ok-report.report; saved = c.in_ok-after.after.saved } ∷ [])
     ++ line_after_report frames ∷ [])
     (opened n) (after_report n frames))
     c.in_default-frames.is more in
     subst
-    (λ reports. ReadsLines c.args.lines.now c.read_after_report.new.lines
+    (λ reports. ReadsLines c.args.grain c.args.lines.now c.read_after_report.new.lines
     (flat_map reported_lines reports ++ line_after_report None ∷ []) (opened n) (after_report n None))
     (sym c.in_ok-push.ensures.ok) known

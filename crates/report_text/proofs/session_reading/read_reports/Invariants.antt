@@ -9,7 +9,7 @@ use Rattle.report_text.proofs.session_reading.read_reports.Given as goal
 -- the reports so far, and the first line of the next
 abbrev pub invariant-reports : goal.invariant-reports
 invariant-reports l =
-    ReadsLines l.fn.lines l.lines (flat_map reported_lines l.reports ++ Report ∷ []) (opened l.shards) (begun l.shards)
+    ReadsLines l.grain l.fn.lines l.lines (flat_map reported_lines l.reports ++ Report ∷ []) (opened l.shards) (begun l.shards)
 
 -- the bytes after them
 abbrev pub decreases-reports : goal.decreases-reports
