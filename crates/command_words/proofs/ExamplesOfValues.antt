@@ -1,30 +1,32 @@
 -- Worked examples of the values of options, and of what they set.
 use Rattle.std.proofs.Common.{◌≡◌, ◌⊎◌, ◌<◌, ◌^◌, ℕ, zero, suc, List, [], ◌∷◌, get_or, true, false, Some, None, inl}
-use Rattle.std.proofs.Common.{inr, refl, sym, subst, codes}
+use Rattle.std.proofs.Common.{inr, refl, sym, ap, subst, codes}
 use Rattle.std.proofs.Common.{false, arith}
 use Rattle.std.specs.Fmt.{digits}
 use Rattle.std.proofs.lemmas.Fmt.{first_decimal, decimal_injective}
+use Rattle.prefix_lattice.specs.declared.grain.Grain.TheVariants.{Byte, Nibble}
+use Rattle.prefix_lattice.specs.{grain_bits}
 use Rattle.frame_records.specs.declared.weigh.Weigh.TheVariants.{Bytes, Packets}
 use Rattle.deal_rules.specs.declared.deal_kind.DealKind.TheVariants.{RoundRobin, Free}
-use Rattle.command_words.specs.Arguments.{Argument, positional, option}
-use Rattle.command_words.specs.Options.{name_of, place_of, OptionKind, number, choice, kind_of}
+use Rattle.command_words.specs.Arguments.{ArgumentText, Argument, positional, option}
+use Rattle.command_words.specs.Options.{name_of, place_of, OptionKind, number, few_numbers, choice, kind_of}
 use Rattle.command_words.specs.Options.{IsNumber, IsAllowed}
 use Rattle.command_words.specs.Options.{IsGoodText, IsGood, IsNoNumber, IsOutside}
 use Rattle.command_words.specs.Options.{IsNoChoice}
 use Rattle.command_words.specs.Options.{capacity_limit, phi_limit, seed_limit, frames_limit}
 use Rattle.command_words.specs.Settings.{SettingValues, settings_in, store_setting, SetsNumber}
-use Rattle.command_words.specs.Settings.{SetsWeigh, SetsDeal, SetsStore}
+use Rattle.command_words.specs.Settings.{SetsWeigh, SetsDeal, SetsStore, SetsGrain, GrainFits}
 use Rattle.command_words.specs.Settings.{weigh_word, deal_word}
 use Rattle.command_words.specs.Settings.{SetsAll, HaveWideShare, AreLimited, GivesNumber}
 use Rattle.command_words.specs.Settings.{GivesTraffic, AreForTraffic}
 use Rattle.command_words.specs.Options.{block_limit, workers_limit, callers_limit}
 use Rattle.command_words.specs.Options.{rounds_limit}
-use Rattle.command_words.specs.Values.{AreGood, IsFirstBad, HasValueFault}
+use Rattle.command_words.specs.Values.{AreGood, HaveUnfitGrain, IsFirstBad, HasValueFault}
 use Rattle.command_words.specs.Given.{IsBadNumber, IsBadChoice, SetsGiven}
 use Rattle.command_words.specs.declared.command_word.CommandWord.TheVariants as command
 use Rattle.command_words.specs.declared.opt.Opt.{Opt}
 use Rattle.command_words.specs.declared.opt.Opt.TheVariants.{Seed, Frames, Weigh, Shards, Capacity, Phi, Deal}
-use Rattle.command_words.specs.declared.opt.Opt.TheVariants.{Block, Workers, Callers, Rounds}
+use Rattle.command_words.specs.declared.opt.Opt.TheVariants.{Block, Workers, Callers, Rounds, Bits}
 use Rattle.command_words.specs.declared.settings.Settings.{Settings}
 use Rattle.command_words.specs.declared.words_kind.WordsKind.TheVariants.{BadNumber, OutOfLimits, BadChoice}
 use Rattle.command_words.proofs.TextSearchLemmas.{text_search_finds_contained, text_search_finds_none}
@@ -113,6 +115,7 @@ good_before_shards Block before = absurd (omega (arith, before))
 good_before_shards Workers before = absurd (omega (arith, before))
 good_before_shards Callers before = absurd (omega (arith, before))
 good_before_shards Rounds before = absurd (omega (arith, before))
+good_before_shards Bits before = absurd (omega (arith, before))
 
 pub shards_are_the_first_bad : IsFirstBad IsOutside two_bad_values Shards
 shards_are_the_first_bad = record {
@@ -122,10 +125,10 @@ shards_are_the_first_bad = record {
   is_bad = seventeen_shards;
 }
 
-pub shards_are_the_fault : HasValueFault two_bad_values (OutOfLimits Shards)
-shards_are_the_fault = shards_are_the_first_bad
+pub shards_are_the_fault : HasValueFault two_bad_values None (OutOfLimits Shards)
+shards_are_the_fault = inl shards_are_the_first_bad
 
-pub dealing_is_not_the_fault : HasValueFault two_bad_values (BadChoice Deal) → ⊥
+pub dealing_is_not_the_fault : HasValueFault two_bad_values None (BadChoice Deal) → ⊥
 unfolding digits
 dealing_is_not_the_fault fault =
     let good : IsGoodText (kind_of Shards) (codes "17") = fault.before Shards (omega arith) in
@@ -144,6 +147,7 @@ defaults = record {
   rounds = 0;
   weigh = Bytes;
   deal = RoundRobin;
+  grain = Byte;
   store = false;
 }
 
@@ -158,7 +162,9 @@ nothing_sets_the_defaults = record {
   workers = refl;
   callers = refl;
   rounds = refl;
+  grain = refl;
   store = refl;
+  fits = record { few_entries = omega arith; saved_by_bytes = λ saved. refl };
 }
 
 pub defaults_are_within_their_limits : AreLimited defaults
@@ -175,6 +181,7 @@ defaults_are_within_their_limits = record {
   few_workers = omega arith;
   few_callers = omega arith;
   few_rounds = omega arith;
+  fits = record { few_entries = omega arith; saved_by_bytes = λ saved. refl };
 }
 
 pub too_many_shards : AreLimited (record defaults { shards = 17 }) → ⊥
@@ -240,6 +247,7 @@ greatest_settings = record {
   few_workers = omega arith;
   few_callers = omega arith;
   few_rounds = omega arith;
+  fits = record { few_entries = omega arith; saved_by_bytes = λ saved. refl };
 }
 
 -- ---- made traffic
@@ -316,8 +324,142 @@ traffic_is_good Block = tt
 traffic_is_good Workers = tt
 traffic_is_good Callers = tt
 traffic_is_good Rounds = tt
+traffic_is_good Bits = tt
 
 pub nothing_gives_the_defaults : SetsGiven (settings_in command.Report []) (store_setting [])
     (record { seed = 0; frames = 1; settings = defaults })
 nothing_gives_the_defaults =
     record { seed_set = refl; frames_set = refl; settings_set = nothing_sets_the_defaults }
+
+-- ---- the grain
+
+pub bits_of_the_grains : kind_of Bits ≡ few_numbers 8 (4 ∷ [])
+bits_of_the_grains = refl
+
+pub grain_is_looked_at_last : (other : Opt) → place_of Bits < place_of other → ⊥
+grain_is_looked_at_last Seed behind = omega (arith, behind)
+grain_is_looked_at_last Frames behind = omega (arith, behind)
+grain_is_looked_at_last Weigh behind = omega (arith, behind)
+grain_is_looked_at_last Shards behind = omega (arith, behind)
+grain_is_looked_at_last Capacity behind = omega (arith, behind)
+grain_is_looked_at_last Phi behind = omega (arith, behind)
+grain_is_looked_at_last Deal behind = omega (arith, behind)
+grain_is_looked_at_last Block behind = omega (arith, behind)
+grain_is_looked_at_last Workers behind = omega (arith, behind)
+grain_is_looked_at_last Callers behind = omega (arith, behind)
+grain_is_looked_at_last Rounds behind = omega (arith, behind)
+grain_is_looked_at_last Bits behind = omega (arith, behind)
+
+pub whole_bytes_by_default : SetsGrain None Byte
+whole_bytes_by_default = refl
+
+pub half_bytes_by_four_bits : SetsGrain (Some (codes "4")) Nibble
+unfolding digits
+half_bytes_by_four_bits = (record { spelled = refl; bounded = omega arith }, (1, omega arith, refl))
+
+-- `--bits 5`: there are 8 and 4 bits
+pub no_five_bits : IsAllowed (kind_of Bits) 5 → ⊥
+no_five_bits (zero, within, same) = omega (arith, same)
+no_five_bits (suc zero, within, same) = omega (arith, same)
+no_five_bits (suc (suc place), within, same) = omega (arith, within)
+
+pub five_bits_are_outside : IsOutside (kind_of Bits) (codes "5")
+unfolding digits
+five_bits_are_outside = (5, record { spelled = refl; bounded = omega arith }, no_five_bits)
+
+-- tables by half bytes have at most 1,024 entries, and are in no store
+pub tables_of_1024_by_half_bytes : GrainFits Nibble 1024 false
+tables_of_1024_by_half_bytes = record { few_entries = omega arith; saved_by_bytes = λ saved. cc }
+
+pub no_tables_of_1025_by_half_bytes : GrainFits Nibble 1025 false → ⊥
+no_tables_of_1025_by_half_bytes fits = omega (arith, fits.few_entries)
+
+pub greatest_tables_in_a_store_by_whole_bytes : GrainFits Byte capacity_limit true
+greatest_tables_in_a_store_by_whole_bytes = record { few_entries = omega arith; saved_by_bytes = λ saved. refl }
+
+pub no_store_by_half_bytes : GrainFits Nibble 512 true → ⊥
+no_store_by_half_bytes fits = omega (arith, ap grain_bits (fits.saved_by_bytes refl))
+
+pub half_bytes_within_their_limits : AreLimited (record defaults { grain = Nibble })
+half_bytes_within_their_limits = record {
+  some_shards = omega arith;
+  few_shards = omega arith;
+  least_capacity = omega arith;
+  most_capacity = omega arith;
+  some_phi = omega arith;
+  most_phi = omega arith;
+  some_block = omega arith;
+  most_block = omega arith;
+  some_workers = omega arith;
+  few_workers = omega arith;
+  few_callers = omega arith;
+  few_rounds = omega arith;
+  fits = record { few_entries = omega arith; saved_by_bytes = λ saved. cc };
+}
+
+-- `--bits 4` and one more option
+abbrev pub half_bytes_beside : ArgumentText → ArgumentText → List Argument
+half_bytes_beside name value = option (codes "bits") (codes "4") ∷ option name value ∷ []
+
+-- `--bits 4 --capacity 1025`: each value is good by itself
+pub values_of_1025_by_half_bytes : AreGood (settings_in command.Report (half_bytes_beside (codes "capacity") (codes "1025")))
+unfolding digits
+values_of_1025_by_half_bytes Seed = tt
+values_of_1025_by_half_bytes Frames = tt
+values_of_1025_by_half_bytes Weigh = tt
+values_of_1025_by_half_bytes Shards = tt
+values_of_1025_by_half_bytes Capacity =
+    (1025, record { spelled = refl; bounded = omega arith }, (omega arith, omega arith))
+values_of_1025_by_half_bytes Phi = tt
+values_of_1025_by_half_bytes Deal = tt
+values_of_1025_by_half_bytes Block = tt
+values_of_1025_by_half_bytes Workers = tt
+values_of_1025_by_half_bytes Callers = tt
+values_of_1025_by_half_bytes Rounds = tt
+values_of_1025_by_half_bytes Bits = (4, record { spelled = refl; bounded = omega arith }, (1, omega arith, refl))
+
+pub tables_of_1025_do_not_fit : HaveUnfitGrain (settings_in command.Report (half_bytes_beside (codes "capacity") (codes "1025")))
+    None
+unfolding digits
+tables_of_1025_do_not_fit = record {
+  good = values_of_1025_by_half_bytes;
+  grain = Nibble;
+  capacity = 1025;
+  store = false;
+  grain_set = half_bytes_by_four_bits;
+  capacity_set = (record { spelled = refl; bounded = omega arith }, (omega arith, omega arith));
+  store_set = refl;
+  unfit = no_tables_of_1025_by_half_bytes;
+}
+
+-- `--bits 4 --store s`
+pub values_of_a_store_by_half_bytes : AreGood (settings_in command.Report (half_bytes_beside (codes "store") (codes "s")))
+unfolding digits
+values_of_a_store_by_half_bytes Seed = tt
+values_of_a_store_by_half_bytes Frames = tt
+values_of_a_store_by_half_bytes Weigh = tt
+values_of_a_store_by_half_bytes Shards = tt
+values_of_a_store_by_half_bytes Capacity = tt
+values_of_a_store_by_half_bytes Phi = tt
+values_of_a_store_by_half_bytes Deal = tt
+values_of_a_store_by_half_bytes Block = tt
+values_of_a_store_by_half_bytes Workers = tt
+values_of_a_store_by_half_bytes Callers = tt
+values_of_a_store_by_half_bytes Rounds = tt
+values_of_a_store_by_half_bytes Bits = (4, record { spelled = refl; bounded = omega arith }, (1, omega arith, refl))
+
+pub grain_is_the_fault_beside_a_store : HasValueFault (settings_in command.Report (half_bytes_beside (codes "store") (codes "s")))
+    (store_setting (half_bytes_beside (codes "store") (codes "s"))) (OutOfLimits Bits)
+grain_is_the_fault_beside_a_store = inr (
+  refl,
+  record {
+    good = values_of_a_store_by_half_bytes;
+    grain = Nibble;
+    capacity = 512;
+    store = true;
+    grain_set = half_bytes_by_four_bits;
+    capacity_set = refl;
+    store_set = refl;
+    unfit = no_store_by_half_bytes;
+  },
+)

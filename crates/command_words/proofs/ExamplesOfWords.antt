@@ -1,18 +1,21 @@
 -- Worked examples of whole command lines: what they ask for, or what is wrong with them.
-use Rattle.std.proofs.Common.{◌≡◌, ◌≢◌, ◌<◌, ℕ, zero, suc, List, [], ◌∷◌, length, inl, inr, refl, sym, subst, codes}
+use Rattle.std.proofs.Common.{◌≡◌, ◌≢◌, ◌<◌, List, [], ◌∷◌, ◌++◌, length, inl, inr, refl, sym, subst, codes}
 use Rattle.std.proofs.Common.{true}
 use Rattle.std.proofs.Common.{arith}
-use Rattle.std.specs.Prelude.{slice_index}
 use Rattle.std.specs.Fmt.{digits}
 use Rattle.std.specs.List.{All, Contains, list_any}
 use Rattle.std.specs.Str.{bytes_eq}
 use Rattle.std.proofs.lemmas.List.Elements.{All-cons, All-head, All-nil}
 use Rattle.std.proofs.lemmas.List.Kept.{AllPairs-cons}
-use Rattle.prefix_lattice.specs.{AreLeadingBytes, PrefixValue, SpellsPrefix}
+use Rattle.prefix_lattice.specs.{PrefixValue, SpellsPrefix}
+use Rattle.prefix_lattice.specs.declared.grain.Grain.TheVariants.{Byte}
 use Rattle.prefix_lattice.specs.declared.prefix_fault.Side.TheVariants.{Source}
 use Rattle.prefix_lattice.specs.declared.prefix_fault.PrefixFault.TheVariants.{LooseBits}
+use Rattle.prefix_lattice.proofs.Examples.{front, leading_bits_of_an_address}
 use Rattle.frame_records.specs.declared.weigh.Weigh.TheVariants.{Packets}
-use Rattle.command_words.specs.Arguments.{ArgumentText, Argument, positional, option, IsValue}
+use Rattle.command_words.specs.Arguments.{ArgumentText, Argument, positional, option, IsValue, IsName}
+use Rattle.command_words.specs.Arguments.{long_argument, equals_sign}
+use Rattle.prefix_lattice.specs.declared.grain.Grain.TheVariants.{Nibble}
 use Rattle.command_words.specs.Arguments.{SpellAll}
 use Rattle.command_words.specs.Arguments.{names_in, AreWellFormed}
 use Rattle.command_words.specs.FormNames.{word_of, form_of, AreWords}
@@ -39,6 +42,7 @@ use Rattle.command_words.proofs.OneReadingLemmas.{one_reading}
 use Rattle.command_words.proofs.Examples.{words, arguments, words_of_weigh}
 use Rattle.command_words.proofs.ExamplesOfValues.{defaults, nothing_sets_the_defaults}
 use Rattle.command_words.proofs.ExamplesOfValues.{defaults_are_within_their_limits, defaults_are_wide}
+use Rattle.command_words.proofs.ExamplesOfValues.{half_bytes_by_four_bits, five_bits_are_outside}
 use Rattle.command_words.proofs.ExamplesOfValues.{seventeen_shards, tables_too_small_for_a_share}
 use Rattle.command_words.proofs.ExamplesOfValues.{traffic_arguments, three_frames_of_seed_seven, no_frame_is_outside}
 
@@ -61,20 +65,13 @@ sides_of_the_prefix = refl
 
 -- 10.0.0.0/8 20.0.0.0/8
 abbrev prefix : PrefixValue
-prefix = record { source = 10 ∷ []; dest = 20 ∷ [] }
+prefix = record { source = front 0x0a000000 8; dest = front 0x14000000 8 }
 
-one_byte : (byte : ℕ) → byte < 256 → AreLeadingBytes (byte ∷ [])
-one_byte byte below = record { few = omega arith; bytes = at }
-  where
-    at : (place : ℕ) → slice_index (byte ∷ []) place < 256
-    at zero = below
-    at (suc place) = omega arith
-
-prefix_is_spelled : SpellsPrefix (codes "10.0.0.0/8") (codes "20.0.0.0/8") prefix
+prefix_is_spelled : SpellsPrefix Byte (codes "10.0.0.0/8") (codes "20.0.0.0/8") prefix
 unfolding digits
 prefix_is_spelled = record {
-  source = record { leading = one_byte 10 (omega arith); spelled = refl };
-  dest = record { leading = one_byte 20 (omega arith); spelled = refl };
+  source = record { leading = leading_bits_of_an_address 0x0a000000 8 (omega arith); steps = refl; spelled = refl };
+  dest = record { leading = leading_bits_of_an_address 0x14000000 8 (omega arith); steps = refl; spelled = refl };
 }
 
 abbrev by_packets : Settings
@@ -98,7 +95,9 @@ asks_for_a_weight = record {
     workers = refl;
     callers = refl;
     rounds = refl;
+    grain = refl;
     store = refl;
+    fits = record { few_entries = omega arith; saved_by_bytes = λ saved. refl };
   };
 }
 
@@ -233,7 +232,9 @@ asks_for_a_store = record {
     workers = refl;
     callers = refl;
     rounds = refl;
+    grain = refl;
     store = refl;
+    fits = record { few_entries = omega arith; saved_by_bytes = λ saved. refl };
   };
 }
 
@@ -318,7 +319,9 @@ asks_for_an_audit = record {
     workers = refl;
     callers = refl;
     rounds = refl;
+    grain = refl;
     store = refl;
+    fits = record { few_entries = omega arith; saved_by_bytes = λ saved. refl };
   };
   wide = defaults_are_wide;
 }
@@ -414,9 +417,9 @@ bits_past_the_length = record {
         refl,
         record {
           address = 0x0a010200;
-          bytes = 2;
+          bits = 16;
           is_address = omega arith;
-          is_length = omega arith;
+          is_length = record { few = omega arith; whole = refl };
           spelled = refl;
           loose = λ none. omega (arith, none);
         },
@@ -430,34 +433,90 @@ prefix_is_the_fault = bits_past_the_length
 abbrev IsOption : ArgumentText → Type 0
 IsOption name = Contains (form_of Report).options name
 
--- `report --shards=17`
-abbrev many_shards : List Argument
-many_shards = option (codes "shards") (codes "17") ∷ []
-
-words_for_many_shards : AreWords (codes "report" ∷ codes "--shards=17" ∷ []) Report many_shards
-words_for_many_shards = record {
-  behind = codes "--shards=17" ∷ [];
+-- one option of `report` in one word, as in `report --bits=4`
+one_option_of_report : (name value : ArgumentText) → IsName name → IsValue value → IsOption name
+    → AreWords (codes "report" ∷ (long_argument name ++ equals_sign ∷ value) ∷ []) Report (option name value ∷ [])
+one_option_of_report name value is_name is_value is_option = record {
+  behind = (long_argument name ++ equals_sign ∷ value) ∷ [];
   begun = refl;
   well_formed = record {
     spelled = (
       [],
       record {
-        front = codes "--shards=17" ∷ [];
+        front = (long_argument name ++ equals_sign ∷ value) ∷ [];
         parted = refl;
-        spelled = (text_search_shows_name (codes "shards") refl, λ same. omega (arith, same), inr refl);
+        spelled = (is_name, is_value, inr refl);
       },
       refl,
     );
     of_form = record {
       as_many = refl;
-      known =
-          All-cons IsOption (codes "shards") [] ((text_search_finds_contained (form_of Report).options (codes "shards")).0 refl)
-          (All-nil IsOption);
+      known = All-cons IsOption name [] is_option (All-nil IsOption);
       once = λ i j d before within. absurd (omega (arith, before, within));
       complete = All-nil _;
     };
   };
 }
+
+-- `report --bits=4`
+pub asks_for_half_bytes : AskToReport (codes "report" ∷ codes "--bits=4" ∷ []) (record defaults { grain = Nibble })
+asks_for_half_bytes = record {
+  arguments = option (codes "bits") (codes "4") ∷ [];
+  are_words =
+      one_option_of_report (codes "bits") (codes "4") (text_search_shows_name (codes "bits") refl)
+      (λ same. omega (arith, same)) (option_of Report (codes "bits") refl);
+  set = record {
+    weigh = refl;
+    shards = refl;
+    capacity = refl;
+    phi = refl;
+    deal = refl;
+    block = refl;
+    workers = refl;
+    callers = refl;
+    rounds = refl;
+    grain = half_bytes_by_four_bits;
+    store = refl;
+    fits = record { few_entries = omega arith; saved_by_bytes = λ saved. cc };
+  };
+  wide = defaults_are_wide;
+}
+
+-- `report --bits=5`
+good_before_bits : (other : Opt) → place_of other < place_of opt.Bits
+    → IsGood other (settings_in Report (option (codes "bits") (codes "5") ∷ []) other)
+good_before_bits opt.Seed before = tt
+good_before_bits opt.Frames before = tt
+good_before_bits opt.Weigh before = tt
+good_before_bits opt.Shards before = tt
+good_before_bits opt.Capacity before = tt
+good_before_bits opt.Phi before = tt
+good_before_bits opt.Deal before = tt
+good_before_bits opt.Block before = tt
+good_before_bits opt.Workers before = tt
+good_before_bits opt.Callers before = tt
+good_before_bits opt.Rounds before = tt
+good_before_bits opt.Bits before = absurd (omega (arith, before))
+
+pub five_bits_are_the_fault : HasWordsFault (codes "report" ∷ codes "--bits=5" ∷ []) (OutOfLimits opt.Bits)
+five_bits_are_the_fault = record {
+  command = Report;
+  arguments = option (codes "bits") (codes "5") ∷ [];
+  are_words =
+      one_option_of_report (codes "bits") (codes "5") (text_search_shows_name (codes "bits") refl)
+      (λ same. omega (arith, same)) (option_of Report (codes "bits") refl);
+  positionals = tt;
+  has_fault = inl (record { before = good_before_bits; text = codes "5"; value = refl; is_bad = five_bits_are_outside });
+}
+
+-- `report --shards=17`
+abbrev many_shards : List Argument
+many_shards = option (codes "shards") (codes "17") ∷ []
+
+words_for_many_shards : AreWords (codes "report" ∷ codes "--shards=17" ∷ []) Report many_shards
+words_for_many_shards =
+    one_option_of_report (codes "shards") (codes "17") (text_search_shows_name (codes "shards") refl)
+    (λ same. omega (arith, same)) (option_of Report (codes "shards") refl)
 
 good_before_shards : (other : Opt) → place_of other < place_of opt.Shards
     → IsGood other (settings_in Report many_shards other)
@@ -472,6 +531,7 @@ good_before_shards opt.Block before = tt
 good_before_shards opt.Workers before = tt
 good_before_shards opt.Callers before = tt
 good_before_shards opt.Rounds before = tt
+good_before_shards opt.Bits before = tt
 
 pub more_shards_than_there_may_be : HasBadValue (codes "report" ∷ codes "--shards=17" ∷ []) (OutOfLimits opt.Shards)
 more_shards_than_there_may_be = record {
@@ -479,7 +539,7 @@ more_shards_than_there_may_be = record {
   arguments = many_shards;
   are_words = words_for_many_shards;
   positionals = tt;
-  has_fault = record { before = good_before_shards; text = codes "17"; value = refl; is_bad = seventeen_shards };
+  has_fault = inl (record { before = good_before_shards; text = codes "17"; value = refl; is_bad = seventeen_shards });
 }
 
 -- `report --phi 117647 --capacity 17`
@@ -540,6 +600,7 @@ narrow_values_are_good opt.Block = tt
 narrow_values_are_good opt.Workers = tt
 narrow_values_are_good opt.Callers = tt
 narrow_values_are_good opt.Rounds = tt
+narrow_values_are_good opt.Bits = tt
 
 pub tables_are_too_narrow : HasNarrowTables (codes "report" ∷ narrow_words)
 unfolding digits
@@ -560,7 +621,9 @@ tables_are_too_narrow = record {
     workers = refl;
     callers = refl;
     rounds = refl;
+    grain = refl;
     store = refl;
+    fits = record { few_entries = omega arith; saved_by_bytes = λ saved. refl };
   };
   narrow = tables_too_small_for_a_share;
 }
@@ -635,7 +698,9 @@ asks_for_a_demo = record {
     workers = refl;
     callers = refl;
     rounds = refl;
+    grain = refl;
     store = refl;
+    fits = record { few_entries = omega arith; saved_by_bytes = λ saved. refl };
   };
   wide = defaults_are_wide;
 }
@@ -661,6 +726,7 @@ good_before_frames opt.Block before = tt
 good_before_frames opt.Workers before = tt
 good_before_frames opt.Callers before = tt
 good_before_frames opt.Rounds before = tt
+good_before_frames opt.Bits before = tt
 
 pub no_frame_is_the_fault : HasWordsFault (codes "make" ∷ codes "7" ∷ codes "0" ∷ []) (OutOfLimits opt.Frames)
 no_frame_is_the_fault = record {
@@ -668,5 +734,5 @@ no_frame_is_the_fault = record {
   arguments = no_frame;
   are_words = two_numbers Make (codes "0") (λ same. omega (arith, same)) refl refl;
   positionals = tt;
-  has_fault = record { before = good_before_frames; text = codes "0"; value = refl; is_bad = no_frame_is_outside };
+  has_fault = inl (record { before = good_before_frames; text = codes "0"; value = refl; is_bad = no_frame_is_outside });
 }

@@ -3,6 +3,8 @@ use Rattle.std.proofs.Common.{◌≡◌, ◌≢◌, ℕ, suc, false, Option, Som
 use Rattle.std.proofs.Common.{arith}
 use Rattle.std.specs.List.{All, Contains, list_any}
 use Rattle.std.specs.Str.{bytes_eq}
+use Rattle.prefix_lattice.specs.{grain_bits}
+use Rattle.prefix_lattice.specs.declared.grain.Grain.TheVariants.{Byte}
 use Rattle.frame_records.specs.declared.weigh.Weigh.TheVariants.{Bytes}
 use Rattle.deal_rules.specs.declared.deal_kind.DealKind.TheVariants.{RoundRobin}
 use Rattle.command_words.specs.Arguments.{ArgumentText, Argument, positional, option, AreOfForm}
@@ -60,7 +62,7 @@ unknown_name_is_not_given options names name known lacks has =
     lacks (subst (λ n. Contains options n) has.2 (known has.0 name has.1))
 
 -- what a command's form lacks is missing
-not_given_outside_form : (word : CommandWord) (arguments : List Argument) (at : Opt) → AreOfForm (form_of word) arguments
+pub not_given_outside_form : (word : CommandWord) (arguments : List Argument) (at : Opt) → AreOfForm (form_of word) arguments
     → list_any (λ other. bytes_eq other (name_of at)) (form_of word).positionals ≡ false
     → list_any (λ other. bytes_eq other (name_of at)) (form_of word).options ≡ false
     → settings_in word arguments at ≡ None
@@ -110,6 +112,7 @@ default_given_settings = record {
   rounds = 0;
   weigh = Bytes;
   deal = RoundRobin;
+  grain = Byte;
   store = false;
 }
 
@@ -126,7 +129,9 @@ make_is_given_no_settings arguments of_form = record {
   workers = not_given_sets_default opt.Workers 4 _ refl (no opt.Workers refl);
   callers = not_given_sets_default opt.Callers 0 _ refl (no opt.Callers refl);
   rounds = not_given_sets_default opt.Rounds 0 _ refl (no opt.Rounds refl);
+  grain = not_given_sets_default opt.Bits (grain_bits Byte) _ refl (no opt.Bits refl);
   store = subst (λ path. SetsStore path false) (sym no_store) refl;
+  fits = record { few_entries = omega arith; saved_by_bytes = λ saved. refl };
 }
   where
     no : (at : Opt) → list_any (λ other. bytes_eq other (name_of at)) (form_of Make).positionals ≡ false

@@ -1,9 +1,13 @@
 -- What the words of a command line set is within limits.
-use Rattle.std.proofs.Common.{◌≡◌, ◌<◌, ◌≤◌, ◌^◌, ℕ, List, Option, Some, None, refl, sym, subst, arith}
-use Rattle.command_words.specs.Arguments.{ArgumentText}
+use Rattle.std.proofs.Common.{◌≡◌, ◌<◌, ◌≤◌, ◌^◌, ℕ, List, Option, Some, None, false, codes, refl, sym, subst, arith}
+use Rattle.std.specs.List.{list_any}
+use Rattle.std.specs.Str.{bytes_eq}
+use Rattle.prefix_lattice.specs.declared.grain.Grain.TheVariants.{Byte}
+use Rattle.command_words.specs.Arguments.{ArgumentText, Argument, AreOfForm}
+use Rattle.command_words.specs.FormNames.{form_of}
 use Rattle.command_words.specs.Options.{OptionKind, number, kind_of, IsAllowed, frames_limit}
 use Rattle.command_words.specs.Options.{IsDefault}
-use Rattle.command_words.specs.Settings.{SettingValues, SetsNumber, SetsAll, GivesNumber}
+use Rattle.command_words.specs.Settings.{SettingValues, SetsNumber, SetsAll, SetsGrain, GivesNumber, settings_in, store_setting}
 use Rattle.command_words.specs.Settings.{GivesTraffic, AreLimited}
 use Rattle.command_words.specs.Settings.{AreForTraffic}
 use Rattle.command_words.specs.Command.{AskForCommand, IsLimitedCommand}
@@ -11,8 +15,12 @@ use Rattle.command_words.specs.declared.command.Command.{Command}
 use Rattle.command_words.specs.declared.command.Command.TheVariants.{Weigh, Report, Format, Audit, Make, Demo}
 use Rattle.command_words.specs.declared.opt.Opt.{Opt}
 use Rattle.command_words.specs.declared.opt.Opt.TheVariants.{Seed, Frames, Shards, Capacity, Phi, Block, Workers}
-use Rattle.command_words.specs.declared.opt.Opt.TheVariants.{Callers, Rounds}
+use Rattle.command_words.specs.declared.opt.Opt.TheVariants.{Callers, Rounds, Bits}
 use Rattle.command_words.specs.declared.settings.Settings.{Settings}
+use Rattle.command_words.specs.declared.command_word.CommandWord.{CommandWord}
+use Rattle.command_words.specs.declared.command_word.CommandWord.TheVariants.{Weigh as WeighWord, Format as FormatWord}
+use Rattle.command_words.proofs.GivenLemmas.{not_given_outside_form}
+use Rattle.command_words.proofs.OneValueFaultLemmas.{one_value_sets_one_grain}
 
 -- a number that an option sets is within its limits, if the default is
 set_number_is_in_limits : (opt : Opt) (default least greatest : ℕ) (text : Option ArgumentText) (value : ℕ)
@@ -54,6 +62,7 @@ set_settings_are_in_limits values path settings set =
       few_workers = workers.1;
       few_callers = callers.1;
       few_rounds = rounds.1;
+      fits = set.fits;
     }
 
 -- a number that is given is below 2^64, and within its limits
@@ -76,11 +85,32 @@ given_traffic_is_in_limits values seed frames gives =
       few_frames = within.1;
     }
 
+-- a command without the option for the grain goes by whole bytes
+settings_without_bits_are_in_limits : (word : CommandWord) (arguments : List Argument) (settings : Settings) → AreOfForm (form_of word) arguments
+    → list_any (λ other. bytes_eq other (codes "bits")) (form_of word).positionals ≡ false
+    → list_any (λ other. bytes_eq other (codes "bits")) (form_of word).options ≡ false
+    → SetsAll (settings_in word arguments) (store_setting arguments) settings → settings.grain ≡ Byte
+settings_without_bits_are_in_limits word arguments settings of_form apart lacks set =
+    one_value_sets_one_grain None settings.grain Byte
+    (subst (λ told. SetsGrain told settings.grain) (not_given_outside_form word arguments Bits of_form apart lacks) set.grain) refl
+
 -- so the settings of what is asked for are
 pub asked_command_is_in_limits : (words : List ArgumentText) (command : Command) → AskForCommand words command → IsLimitedCommand command
-asked_command_is_in_limits words (Weigh prefix settings) asked = set_settings_are_in_limits _ _ settings asked.set
+asked_command_is_in_limits words (Weigh prefix settings) asked = (
+  set_settings_are_in_limits _ _ settings asked.set,
+  settings_without_bits_are_in_limits WeighWord asked.arguments settings asked.are_words.well_formed.of_form refl refl asked.set,
+  record {
+    source = asked.spelled.source.leading;
+    dest = asked.spelled.dest.leading;
+    source_steps = asked.spelled.source.steps;
+    dest_steps = asked.spelled.dest.steps;
+  },
+)
 asked_command_is_in_limits words (Report settings) asked = (set_settings_are_in_limits _ _ settings asked.set, asked.wide)
-asked_command_is_in_limits words (Format settings) asked = set_settings_are_in_limits _ _ settings asked.set
+asked_command_is_in_limits words (Format settings) asked = (
+  set_settings_are_in_limits _ _ settings asked.set,
+  settings_without_bits_are_in_limits FormatWord asked.arguments settings asked.are_words.well_formed.of_form refl refl asked.set,
+)
 asked_command_is_in_limits words (Audit settings) asked = (set_settings_are_in_limits _ _ settings asked.set, asked.wide)
 asked_command_is_in_limits words (Make seed frames) asked = given_traffic_is_in_limits _ seed frames asked.made
 asked_command_is_in_limits words (Demo seed frames settings) asked =

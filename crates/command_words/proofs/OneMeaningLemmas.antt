@@ -4,6 +4,7 @@ use Rattle.std.proofs.Common.{Err}
 use Rattle.std.proofs.Common.{Result, refl, sym, ap, ap₂, ◌∙◌, subst}
 use Rattle.std.specs.Result.{IfOk, IsOk}
 use Rattle.prefix_lattice.specs.{PrefixValue, SpellsPrefix, HasPrefixFault}
+use Rattle.prefix_lattice.specs.declared.grain.Grain.TheVariants.{Byte}
 use Rattle.prefix_lattice.specs.declared.prefix_fault.PrefixFault.{PrefixFault}
 use Rattle.command_words.specs.Arguments.{ArgumentText, Argument, SpellAll, AreWellFormed}
 use Rattle.command_words.specs.FormNames.{word_of, form_of, AreWords}
@@ -31,18 +32,18 @@ use Rattle.command_words.proofs.GivenLemmas.{make_is_given_no_settings, traffic_
 use Rattle.command_words.proofs.GivenLemmas.{given_by_good_values}
 use Rattle.command_words.proofs.OneReadingLemmas.{one_reading_of_head, one_reading_of_rest, one_reading_of_empty_list}
 use Rattle.command_words.proofs.OneReadingLemmas.{one_reading}
-use Rattle.command_words.proofs.OneValueFaultLemmas.{one_value_fault, no_value_fault, given_values_have_no_fault}
+use Rattle.command_words.proofs.OneValueFaultLemmas.{one_value_fault, no_value_fault}
 use Rattle.command_words.proofs.OneValueFaultLemmas.{values_give_one_thing}
 use Rattle.command_words.specs.declared.command.Command.TheVariants as command
 
 -- the texts of a prefix have at most one meaning: a prefix or a fault
 pub record PrefixHasOneMeaning : Type 0 where
-  pub one_prefix : (source dest : ArgumentText) (prefix other : PrefixValue) → SpellsPrefix source dest prefix
-      → SpellsPrefix source dest other → prefix ≡ other
-  pub no_fault : (source dest : ArgumentText) (prefix : PrefixValue) (fault : PrefixFault) → SpellsPrefix source dest prefix
-      → HasPrefixFault source dest fault → ⊥
-  pub one_fault : (source dest : ArgumentText) (fault other : PrefixFault) → HasPrefixFault source dest fault
-      → HasPrefixFault source dest other → fault ≡ other
+  pub one_prefix : (source dest : ArgumentText) (prefix other : PrefixValue) → SpellsPrefix Byte source dest prefix
+      → SpellsPrefix Byte source dest other → prefix ≡ other
+  pub no_fault : (source dest : ArgumentText) (prefix : PrefixValue) (fault : PrefixFault) → SpellsPrefix Byte source dest prefix
+      → HasPrefixFault Byte source dest fault → ⊥
+  pub one_fault : (source dest : ArgumentText) (fault other : PrefixFault) → HasPrefixFault Byte source dest fault
+      → HasPrefixFault Byte source dest other → fault ≡ other
 
 -- what words mean: a command that they ask for, or a fault
 abbrev MeaningOfWords : Type 0
@@ -81,17 +82,17 @@ command_line_has_one_meaning words word other arguments more one two =
 -- what values and the path of a store mean: what they give, or the first fault of the values
 abbrev IsOneMeaningOfValues : SettingValues → Option ArgumentText → Result Given WordsKind → Type 0
 IsOneMeaningOfValues values path (Ok given) = SetsGiven values path given
-IsOneMeaningOfValues values path (Err kind) = HasValueFault values kind
+IsOneMeaningOfValues values path (Err kind) = HasValueFault values path kind
 
 -- values have one meaning
 values_have_one_meaning : (values : SettingValues) (path : Option ArgumentText) (read other : Result Given WordsKind)
     → IsOneMeaningOfValues values path read → IsOneMeaningOfValues values path other → read ≡ other
 values_have_one_meaning values path (Ok given) (Ok other) one two = ap Ok (values_give_one_thing values path given other one two)
 values_have_one_meaning values path (Ok given) (Err kind) one two =
-    absurd (no_value_fault values kind (given_values_have_no_fault values path given one) two)
+    absurd (no_value_fault values path given kind one two)
 values_have_one_meaning values path (Err kind) (Ok given) one two =
-    absurd (no_value_fault values kind (given_values_have_no_fault values path given two) one)
-values_have_one_meaning values path (Err kind) (Err other) one two = ap Err (one_value_fault values kind other one two)
+    absurd (no_value_fault values path given kind two one)
+values_have_one_meaning values path (Err kind) (Err other) one two = ap Err (one_value_fault values path kind other one two)
 
 -- what the values of a command's arguments mean
 abbrev IsMeaningOfCommandValues : CommandWord → List Argument → Result Given WordsKind → Type 0
@@ -129,10 +130,10 @@ demo_command_meaning given = command.Demo given.seed given.frames given.settings
 -- what the arguments of `weigh` mean
 data WeighHasMeaning (arguments : List Argument) (outcome : MeaningOfWords) : Type 0 where
   badly : (source dest : ArgumentText) (fault : PrefixFault) → HasSides arguments source dest
-      → HasPrefixFault source dest fault → outcome ≡ Err (BadPrefix fault)
+      → HasPrefixFault Byte source dest fault → outcome ≡ Err (BadPrefix fault)
       → WeighHasMeaning arguments outcome
   well : (source dest : ArgumentText) (prefix : PrefixValue) (read : Result Given WordsKind)
-      → HasSides arguments source dest → SpellsPrefix source dest prefix
+      → HasSides arguments source dest → SpellsPrefix Byte source dest prefix
       → IsMeaningOfCommandValues Weigh arguments read → outcome ≡ command_meaning_of_values (weigh_command_meaning prefix) read
       → WeighHasMeaning arguments outcome
 
@@ -152,21 +153,21 @@ weigh_has_one_meaning reading arguments outcome other (badly source dest fault s
     (badly source' dest' fault' sides' has' is') =
     let same =
     reading.one_fault source dest fault fault' has
-    (meaning_of_same_sides (λ s d. HasPrefixFault s d fault') arguments source dest source' dest' sides sides' has') in
+    (meaning_of_same_sides (λ s d. HasPrefixFault Byte s d fault') arguments source dest source' dest' sides sides' has') in
     is ∙ ap (λ f. Err (BadPrefix f)) same ∙ sym is'
 weigh_has_one_meaning reading arguments outcome other (badly source dest fault sides has is)
     (well source' dest' prefix' read' sides' spelled' told' is') =
     absurd (reading.no_fault source dest prefix' fault
-    (meaning_of_same_sides (λ s d. SpellsPrefix s d prefix') arguments source dest source' dest' sides sides' spelled') has)
+    (meaning_of_same_sides (λ s d. SpellsPrefix Byte s d prefix') arguments source dest source' dest' sides sides' spelled') has)
 weigh_has_one_meaning reading arguments outcome other (well source dest prefix read sides spelled told is)
     (badly source' dest' fault' sides' has' is') =
     absurd (reading.no_fault source dest prefix fault' spelled
-    (meaning_of_same_sides (λ s d. HasPrefixFault s d fault') arguments source dest source' dest' sides sides' has'))
+    (meaning_of_same_sides (λ s d. HasPrefixFault Byte s d fault') arguments source dest source' dest' sides sides' has'))
 weigh_has_one_meaning reading arguments outcome other (well source dest prefix read sides spelled told is)
     (well source' dest' prefix' read' sides' spelled' told' is') =
     let same =
     reading.one_prefix source dest prefix prefix' spelled
-    (meaning_of_same_sides (λ s d. SpellsPrefix s d prefix') arguments source dest source' dest' sides sides' spelled') in
+    (meaning_of_same_sides (λ s d. SpellsPrefix Byte s d prefix') arguments source dest source' dest' sides sides' spelled') in
     is ∙ ap₂ (λ p r. command_meaning_of_values (weigh_command_meaning p) r) same (one_meaning_of_argument_values Weigh arguments read read' told told')
     ∙ sym is'
 
@@ -368,7 +369,7 @@ asked_command_is_meaning words (command.Demo seed frames settings) asks =
 
 -- the first fault of the values is what arguments mean
 bad_value_is_argument_meaning : (word : CommandWord) (arguments : List Argument) (kind : WordsKind)
-    → HasPositionals word arguments → HasValueFault (settings_in word arguments) kind
+    → HasPositionals word arguments → HasValueFault (settings_in word arguments) (store_setting arguments) kind
     → ArgumentsHaveMeaning word arguments (Err kind)
 bad_value_is_argument_meaning Weigh arguments kind good has = well good.0 good.1 good.3.0 (Err kind) good.2 good.3.1 has refl
 bad_value_is_argument_meaning Report arguments kind good has = record { read = Err kind; told = has; comes_to = refl }

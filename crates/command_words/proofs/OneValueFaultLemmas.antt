@@ -1,18 +1,22 @@
 -- Values set at most one thing, or have at most one first fault, and never both.
 use Rattle.std.proofs.Common.{◌≡◌, ◌<◌, ◌≤◌, ◌⊎◌, inl, inr, ℕ, Bool, Option, Some, None, refl, sym, ap, ◌∙◌, subst}
 use Rattle.std.proofs.Common.{arith}
+use Rattle.std.specs.Prelude.{◌∷◌, Contains}
 use Rattle.std.proofs.lemmas.Bool.{cases_lt}
 use Rattle.std.proofs.lemmas.Fmt.{decimal_injective}
+use Rattle.prefix_lattice.specs.{grain_bits}
+use Rattle.prefix_lattice.specs.declared.grain.Grain.{Grain}
+use Rattle.prefix_lattice.specs.declared.grain.Grain.TheVariants.{Byte, Nibble}
 use Rattle.frame_records.specs.declared.weigh.Weigh.{Weigh}
 use Rattle.deal_rules.specs.declared.deal_kind.DealKind.{DealKind}
 use Rattle.command_words.specs.Arguments.{ArgumentText}
-use Rattle.command_words.specs.Options.{OptionKind, number, choice, kind_of, place_of, IsNumber}
+use Rattle.command_words.specs.Options.{OptionKind, number, few_numbers, choice, kind_of, place_of, IsNumber}
 use Rattle.command_words.specs.Options.{IsDefault, IsGoodText, IsGood}
 use Rattle.command_words.specs.Options.{IsNoNumber, IsNoChoice, IsOutside}
 use Rattle.command_words.specs.Settings.{SettingValues, SetsNumber, SetsWeigh, SetsDeal}
-use Rattle.command_words.specs.Settings.{SetsStore, SetsAll}
+use Rattle.command_words.specs.Settings.{SetsStore, SetsAll, SetsGrain, GrainFits}
 use Rattle.command_words.specs.Settings.{weigh_word, deal_word}
-use Rattle.command_words.specs.Values.{AreGood, IsFirstBad, HasValueFault}
+use Rattle.command_words.specs.Values.{AreGood, HaveUnfitGrain, IsFirstBad, HasValueFault}
 use Rattle.command_words.specs.Given.{SetsGiven}
 use Rattle.command_words.specs.declared.opt.Opt.{Opt}
 use Rattle.command_words.specs.declared.settings.Settings.{Settings}
@@ -37,6 +41,7 @@ IsValueFault IsBad = (kind : OptionKind) (text : ArgumentText) → IsGoodText ki
 -- a text that is no number is not good
 no_number_is_value_fault : IsValueFault IsNoNumber
 no_number_is_value_fault (number least greatest default) text good bad = bad good.0 good.1
+no_number_is_value_fault (few_numbers default others) text good bad = bad good.0 good.1
 no_number_is_value_fault (choice default others) text good bad = bad
 
 -- a number outside the limits is not good
@@ -46,11 +51,14 @@ outside_is_value_fault (number least greatest default) text good bad = go (one_v
     go : good.0 ≡ bad.0 → (bad.0 < least) ⊎ (greatest < bad.0) → ⊥
     go same (inl below) = omega (arith, good.2)
     go same (inr above) = omega (arith, good.2)
+outside_is_value_fault (few_numbers default others) text good bad =
+    bad.2 (subst (Contains (default ∷ others)) (one_value_per_number_text text good.0 bad.0 good.1 bad.1) good.2)
 outside_is_value_fault (choice default others) text good bad = bad
 
 -- a text that is none of the choices is not good
 no_choice_is_value_fault : IsValueFault IsNoChoice
 no_choice_is_value_fault (number least greatest default) text good bad = bad
+no_choice_is_value_fault (few_numbers default others) text good bad = bad
 no_choice_is_value_fault (choice default others) text good bad = bad good
 
 -- no value is bad in both of these ways
@@ -60,15 +68,18 @@ AreApartValueFaults IsBad IsWorse = (kind : OptionKind) (text : ArgumentText) �
 -- a text that is no number is not a number outside the limits
 value_fault_number_or_outside : AreApartValueFaults IsNoNumber IsOutside
 value_fault_number_or_outside (number least greatest default) text bad worse = bad worse.0 worse.1
+value_fault_number_or_outside (few_numbers default others) text bad worse = bad worse.0 worse.1
 value_fault_number_or_outside (choice default others) text bad worse = bad
 
 -- no option takes both numbers and choices
 value_fault_number_or_choice : AreApartValueFaults IsNoNumber IsNoChoice
 value_fault_number_or_choice (number least greatest default) text bad worse = worse
+value_fault_number_or_choice (few_numbers default others) text bad worse = worse
 value_fault_number_or_choice (choice default others) text bad worse = bad
 
 value_fault_outside_or_choice : AreApartValueFaults IsOutside IsNoChoice
 value_fault_outside_or_choice (number least greatest default) text bad worse = worse
+value_fault_outside_or_choice (few_numbers default others) text bad worse = worse
 value_fault_outside_or_choice (choice default others) text bad worse = bad
 
 -- an option with a bad value has no good one
@@ -111,41 +122,67 @@ value_faults_in_one_way IsBad IsWorse values opt other bad_no_good worse_no_good
     (subst (λ o. IsFirstBad IsWorse values o)
     (sym (value_faults_at_one_place IsBad IsWorse values opt other bad_no_good worse_no_good bad worse)) worse)
 
+-- values that are all good have no fault but a grain that doesn't fit
+good_values_have_no_first_bad : (IsBad : OptionKind → ArgumentText → Type 0) (values : SettingValues) (at : Opt) → IsValueFault IsBad
+    → AreGood values → IsFirstBad IsBad values at → ⊥
+good_values_have_no_first_bad IsBad values at is_no_good good bad =
+    value_fault_is_not_good IsBad values at is_no_good bad (good at)
+
+-- what values say of a number outside the limits, or of a grain that doesn't fit
+abbrev IsFaultOutsideLimits : SettingValues → Option ArgumentText → Opt → Type 0
+IsFaultOutsideLimits values path at = HasValueFault values path (OutOfLimits at)
+
+-- such a fault comes beside no text that is no number
+value_fault_number_or_limits : (values : SettingValues) (path : Option ArgumentText) (at place : Opt) → IsFirstBad IsNoNumber values at
+    → IsFaultOutsideLimits values path place → ⊥
+value_fault_number_or_limits values path at place bad (inl worse) =
+    value_faults_in_one_way IsNoNumber IsOutside values at place no_number_is_value_fault outside_is_value_fault
+    value_fault_number_or_outside bad worse
+value_fault_number_or_limits values path at place bad (inr unfit) =
+    good_values_have_no_first_bad IsNoNumber values at no_number_is_value_fault unfit.1.good bad
+
+-- and beside no text that is no choice
+value_fault_choice_or_limits : (values : SettingValues) (path : Option ArgumentText) (at place : Opt) → IsFirstBad IsNoChoice values at
+    → IsFaultOutsideLimits values path place → ⊥
+value_fault_choice_or_limits values path at place bad (inl worse) =
+    value_faults_in_one_way IsOutside IsNoChoice values place at outside_is_value_fault no_choice_is_value_fault
+    value_fault_outside_or_choice worse bad
+value_fault_choice_or_limits values path at place bad (inr unfit) =
+    good_values_have_no_first_bad IsNoChoice values at no_choice_is_value_fault unfit.1.good bad
+
+-- two such faults are those of the same option
+one_fault_outside_limits : (values : SettingValues) (path : Option ArgumentText) (at place : Opt) → IsFaultOutsideLimits values path at
+    → IsFaultOutsideLimits values path place → at ≡ place
+one_fault_outside_limits values path at place (inl one) (inl two) =
+    value_faults_at_one_place IsOutside IsOutside values at place outside_is_value_fault outside_is_value_fault one two
+one_fault_outside_limits values path at place (inl one) (inr two) =
+    absurd (good_values_have_no_first_bad IsOutside values at outside_is_value_fault two.1.good one)
+one_fault_outside_limits values path at place (inr one) (inl two) =
+    absurd (good_values_have_no_first_bad IsOutside values place outside_is_value_fault one.1.good two)
+one_fault_outside_limits values path at place (inr one) (inr two) = one.0 ∙ sym two.0
+
 -- values have at most one first fault
-pub one_value_fault : (values : SettingValues) (kind other : WordsKind) → HasValueFault values kind
-    → HasValueFault values other → kind ≡ other
-one_value_fault values (BadNumber at) (BadNumber place) one two =
+pub one_value_fault : (values : SettingValues) (path : Option ArgumentText) (kind other : WordsKind) → HasValueFault values path kind
+    → HasValueFault values path other → kind ≡ other
+one_value_fault values path (BadNumber at) (BadNumber place) one two =
     ap BadNumber (value_faults_at_one_place IsNoNumber IsNoNumber values at place no_number_is_value_fault no_number_is_value_fault one two)
-one_value_fault values (BadNumber at) (OutOfLimits place) one two =
-    absurd (value_faults_in_one_way IsNoNumber IsOutside values at place no_number_is_value_fault outside_is_value_fault
-    value_fault_number_or_outside
-    one two)
-one_value_fault values (BadNumber at) (BadChoice place) one two =
+one_value_fault values path (BadNumber at) (OutOfLimits place) one two = absurd (value_fault_number_or_limits values path at place one two)
+one_value_fault values path (BadNumber at) (BadChoice place) one two =
     absurd (value_faults_in_one_way IsNoNumber IsNoChoice values at place no_number_is_value_fault no_choice_is_value_fault
     value_fault_number_or_choice one two)
-one_value_fault values (BadNumber at) _ one two = absurd two
-one_value_fault values (OutOfLimits at) (BadNumber place) one two =
-    absurd (value_faults_in_one_way IsNoNumber IsOutside values place at no_number_is_value_fault outside_is_value_fault
-    value_fault_number_or_outside
-    two one)
-one_value_fault values (OutOfLimits at) (OutOfLimits place) one two =
-    ap OutOfLimits (value_faults_at_one_place IsOutside IsOutside values at place outside_is_value_fault outside_is_value_fault one two)
-one_value_fault values (OutOfLimits at) (BadChoice place) one two =
-    absurd (value_faults_in_one_way IsOutside IsNoChoice values at place outside_is_value_fault no_choice_is_value_fault
-    value_fault_outside_or_choice
-    one two)
-one_value_fault values (OutOfLimits at) _ one two = absurd two
-one_value_fault values (BadChoice at) (BadNumber place) one two =
+one_value_fault values path (BadNumber at) _ one two = absurd two
+one_value_fault values path (OutOfLimits at) (BadNumber place) one two = absurd (value_fault_number_or_limits values path place at two one)
+one_value_fault values path (OutOfLimits at) (OutOfLimits place) one two = ap OutOfLimits (one_fault_outside_limits values path at place one two)
+one_value_fault values path (OutOfLimits at) (BadChoice place) one two = absurd (value_fault_choice_or_limits values path place at two one)
+one_value_fault values path (OutOfLimits at) _ one two = absurd two
+one_value_fault values path (BadChoice at) (BadNumber place) one two =
     absurd (value_faults_in_one_way IsNoNumber IsNoChoice values place at no_number_is_value_fault no_choice_is_value_fault
     value_fault_number_or_choice two one)
-one_value_fault values (BadChoice at) (OutOfLimits place) one two =
-    absurd (value_faults_in_one_way IsOutside IsNoChoice values place at outside_is_value_fault no_choice_is_value_fault
-    value_fault_outside_or_choice
-    two one)
-one_value_fault values (BadChoice at) (BadChoice place) one two =
+one_value_fault values path (BadChoice at) (OutOfLimits place) one two = absurd (value_fault_choice_or_limits values path at place one two)
+one_value_fault values path (BadChoice at) (BadChoice place) one two =
     ap BadChoice (value_faults_at_one_place IsNoChoice IsNoChoice values at place no_choice_is_value_fault no_choice_is_value_fault one two)
-one_value_fault values (BadChoice at) _ one two = absurd two
-one_value_fault values _ other one two = absurd one
+one_value_fault values path (BadChoice at) _ one two = absurd two
+one_value_fault values path _ other one two = absurd one
 
 -- values that give something are all good
 pub given_values_have_no_fault : (values : SettingValues) (path : Option ArgumentText) (given : Given) → SetsGiven values path given
@@ -167,17 +204,12 @@ given_values_have_no_fault values path given gives = go gives.settings_set
     go set opt.Workers = numeric_value_is_good opt.Workers (values opt.Workers) settings.workers set.workers
     go set opt.Callers = numeric_value_is_good opt.Callers (values opt.Callers) settings.callers set.callers
     go set opt.Rounds = numeric_value_is_good opt.Rounds (values opt.Rounds) settings.rounds set.rounds
-
--- values that are all good have no fault
-pub no_value_fault : (values : SettingValues) (kind : WordsKind) → AreGood values → HasValueFault values kind → ⊥
-no_value_fault values (BadNumber at) good has = value_fault_is_not_good IsNoNumber values at no_number_is_value_fault has (good at)
-no_value_fault values (OutOfLimits at) good has = value_fault_is_not_good IsOutside values at outside_is_value_fault has (good at)
-no_value_fault values (BadChoice at) good has = value_fault_is_not_good IsNoChoice values at no_choice_is_value_fault has (good at)
-no_value_fault values _ good has = has
+    go set opt.Bits = numeric_value_is_good opt.Bits (values opt.Bits) (grain_bits settings.grain) set.grain
 
 -- a missing value sets one number at most
 one_value_by_default : (kind : OptionKind) (value other : ℕ) → IsDefault kind value → IsDefault kind other → value ≡ other
 one_value_by_default (number least greatest default) value other one two = one ∙ sym two
+one_value_by_default (few_numbers default others) value other one two = one ∙ sym two
 one_value_by_default (choice default others) value other one two = absurd one
 
 -- a value sets one number at most
@@ -210,6 +242,42 @@ one_value_sets_one_store : (path : Option ArgumentText) (store other : Bool) →
 one_value_sets_one_store None store other one two = one ∙ sym two
 one_value_sets_one_store (Some path) store other one two = one ∙ sym two
 
+one_value_per_grain_bits : (grain other : Grain) → grain_bits grain ≡ grain_bits other → grain ≡ other
+one_value_per_grain_bits Byte Byte same = refl
+one_value_per_grain_bits Byte Nibble same = absurd (omega (arith, same))
+one_value_per_grain_bits Nibble Byte same = absurd (omega (arith, same))
+one_value_per_grain_bits Nibble Nibble same = refl
+
+pub one_value_sets_one_grain : (told : Option ArgumentText) (grain other : Grain) → SetsGrain told grain → SetsGrain told other
+    → grain ≡ other
+one_value_sets_one_grain told grain other one two =
+    one_value_per_grain_bits grain other
+    (one_value_sets_one_number opt.Bits told (grain_bits grain) (grain_bits other) one two)
+
+-- settings that are set have a grain that fits
+grain_of_one_value_fits : (values : SettingValues) (path : Option ArgumentText) (settings : Settings) → SetsAll values path settings
+    → HaveUnfitGrain values path → ⊥
+grain_of_one_value_fits values path settings set wrong =
+    wrong.unfit
+    (subst (λ g. GrainFits g wrong.capacity wrong.store)
+    (one_value_sets_one_grain (values opt.Bits) settings.grain wrong.grain set.grain wrong.grain_set)
+    (subst (λ n. GrainFits settings.grain n wrong.store)
+    (one_value_sets_one_number opt.Capacity (values opt.Capacity) settings.capacity wrong.capacity set.capacity wrong.capacity_set)
+    (subst (λ s. GrainFits settings.grain settings.capacity s)
+    (one_value_sets_one_store path settings.store wrong.store set.store wrong.store_set) set.fits)))
+
+-- values that give something have no fault
+pub no_value_fault : (values : SettingValues) (path : Option ArgumentText) (given : Given) (kind : WordsKind) → SetsGiven values path given
+    → HasValueFault values path kind → ⊥
+no_value_fault values path given kind gives has = go kind (given_values_have_no_fault values path given gives) has
+  where
+    go : (kind : WordsKind) → AreGood values → HasValueFault values path kind → ⊥
+    go (BadNumber at) good has = good_values_have_no_first_bad IsNoNumber values at no_number_is_value_fault good has
+    go (OutOfLimits at) good (inl has) = good_values_have_no_first_bad IsOutside values at outside_is_value_fault good has
+    go (OutOfLimits at) good (inr unfit) = grain_of_one_value_fits values path given.settings gives.settings_set unfit.1
+    go (BadChoice at) good has = good_values_have_no_first_bad IsNoChoice values at no_choice_is_value_fault good has
+    go _ good has = has
+
 -- values set at most one thing
 pub values_set_one_settings : (values : SettingValues) (path : Option ArgumentText) (settings other : Settings) → SetsAll values path settings
     → SetsAll values path other → settings ≡ other
@@ -228,6 +296,7 @@ values_set_one_settings values path settings other one two =
       rounds = one_value_sets_one_number opt.Rounds (values opt.Rounds) settings.rounds other.rounds one.rounds two.rounds i;
       weigh = one_value_sets_one_weigh (values opt.Weigh) settings.weigh other.weigh one.weigh two.weigh i;
       deal = one_value_sets_one_deal (values opt.Deal) settings.deal other.deal one.deal two.deal i;
+      grain = one_value_sets_one_grain (values opt.Bits) settings.grain other.grain one.grain two.grain i;
       store = one_value_sets_one_store path settings.store other.store one.store two.store i;
     }
 

@@ -121,7 +121,7 @@ parser_knows_each_option Report =
               k _ _ refl refl,
               (
                 k _ _ refl refl,
-                (k _ _ refl refl, (k _ _ refl refl, (k _ _ refl refl, (k _ _ refl refl, (k _ _ refl refl, tt))))),
+                (k _ _ refl refl, (k _ _ refl refl, (k _ _ refl refl, (k _ _ refl refl, (k _ _ refl refl, (k _ _ refl refl, tt)))))),
               ),
             ),
           ),
@@ -138,7 +138,7 @@ parser_knows_each_option Audit =
       k _ _ refl refl,
       (
         k _ _ refl refl,
-        (k _ _ refl refl, (k _ _ refl refl, (k _ _ refl refl, (k _ _ refl refl, (k _ _ refl refl, tt))))),
+        (k _ _ refl refl, (k _ _ refl refl, (k _ _ refl refl, (k _ _ refl refl, (k _ _ refl refl, (k _ _ refl refl, tt)))))),
       ),
     )
 parser_knows_each_option Make = All-nil (WalkKnowsOption (parser_shape Make))
@@ -146,7 +146,7 @@ parser_knows_each_option Demo =
     let k = parser_knows_found_option (parser_shape Demo) in
     All-from_recursion (WalkKnowsOption (parser_shape Demo)) (form_of Demo).options (
       k _ _ refl refl,
-      (k _ _ refl refl, (k _ _ refl refl, (k _ _ refl refl, (k _ _ refl refl, (k _ _ refl refl, tt))))),
+      (k _ _ refl refl, (k _ _ refl refl, (k _ _ refl refl, (k _ _ refl refl, (k _ _ refl refl, (k _ _ refl refl, tt)))))),
     )
 
 parser_has_positional_places : (command : CommandWord) → ParserPlacesNames (parser_shape command) 1 (form_of command).positionals
@@ -169,14 +169,20 @@ no_option_of_weigh_parser id capture weigh name within =
 no_option_of_demo_parser : (id : ArgumentText) → bytes_eq id (codes "shards") ≡ false → bytes_eq id (codes "capacity") ≡ false
     → bytes_eq id (codes "phi") ≡ false → bytes_eq id (codes "deal") ≡ false
     → bytes_eq id (codes "block") ≡ false → bytes_eq id (codes "workers") ≡ false
-    → IsNoParserOptionName (form_of Demo).options id
-no_option_of_demo_parser id shards capacity phi deal block workers name within =
+    → bytes_eq id (codes "bits") ≡ false → IsNoParserOptionName (form_of Demo).options id
+no_option_of_demo_parser id shards capacity phi deal block workers bits name within =
     parser_all_holds_of_each (λ other. id ≢ other) (form_of Demo).options name
     (All-from_recursion (λ other. id ≢ other) (form_of Demo).options (
       parser_texts_are_apart id _ shards,
       (
         parser_texts_are_apart id _ capacity,
-        (parser_texts_are_apart id _ phi, (parser_texts_are_apart id _ deal, (parser_texts_are_apart id _ block, (parser_texts_are_apart id _ workers, tt)))),
+        (
+          parser_texts_are_apart id _ phi,
+          (
+            parser_texts_are_apart id _ deal,
+            (parser_texts_are_apart id _ block, (parser_texts_are_apart id _ workers, (parser_texts_are_apart id _ bits, tt))),
+          ),
+        ),
       ),
     )) within
 
@@ -194,8 +200,8 @@ no_options_of_parser Make =
     )
 no_options_of_parser Demo =
     All-from_recursion (IsNoParserOptionName (form_of Demo).options) (form_of Demo).positionals (
-      no_option_of_demo_parser _ refl refl refl refl refl refl,
-      (no_option_of_demo_parser _ refl refl refl refl refl refl, tt),
+      no_option_of_demo_parser _ refl refl refl refl refl refl refl,
+      (no_option_of_demo_parser _ refl refl refl refl refl refl refl, tt),
     )
 
 empty_parser_texts_are_apart : AllPairs {X = ArgumentText} (λ a b. a ≢ b) []

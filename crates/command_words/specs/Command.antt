@@ -1,6 +1,7 @@
 -- The command that the arguments of a command line ask for.
 use Rattle.std.specs.Prelude.{⊤, ℕ, ◌≡◌, List, [], ◌∷◌}
-use Rattle.prefix_lattice.specs.{PrefixValue, SpellsPrefix}
+use Rattle.prefix_lattice.specs.{IsPrefix, PrefixValue, SpellsPrefix}
+use Rattle.prefix_lattice.specs.declared.grain.Grain.TheVariants.{Byte}
 use Rattle.command_words.specs.Arguments.{ArgumentText, Argument, positionals_in}
 use Rattle.command_words.specs.FormNames.{AreWords}
 use Rattle.command_words.specs.Settings.{settings_in, store_setting, SetsAll, GivesTraffic}
@@ -22,7 +23,7 @@ pub record AskToWeigh (words : List ArgumentText) (prefix : PrefixValue) (settin
   pub source : ArgumentText
   pub dest : ArgumentText
   pub sides : HasSides arguments source dest
-  pub spelled : SpellsPrefix source dest prefix
+  pub spelled : SpellsPrefix Byte source dest prefix
   pub set : SetsAll (settings_in Weigh arguments) (store_setting arguments) settings
 
 -- the command line asks for a report
@@ -69,11 +70,11 @@ AskForCommand words (command.Make seed frames) = AskToMake words seed frames
 AskForCommand words (command.Demo seed frames settings) = AskToDemo words seed frames settings
 
 -- the numbers of the command are within their limits, and the tables of a report, an audit or a demo are large enough
--- for their share
+-- for their share. A prefix is weighed, and a store is made, by whole bytes
 abbrev pub IsLimitedCommand : Command → Type 0
-IsLimitedCommand (command.Weigh prefix settings) = AreLimited settings
+IsLimitedCommand (command.Weigh prefix settings) = AreLimited settings × (settings.grain ≡ Byte) × IsPrefix Byte prefix
 IsLimitedCommand (command.Report settings) = AreLimited settings × HaveWideShare settings
-IsLimitedCommand (command.Format settings) = AreLimited settings
+IsLimitedCommand (command.Format settings) = AreLimited settings × (settings.grain ≡ Byte)
 IsLimitedCommand (command.Audit settings) = AreLimited settings × HaveWideShare settings
 IsLimitedCommand (command.Make seed frames) = AreForTraffic seed frames
 IsLimitedCommand (command.Demo seed frames settings) = AreForTraffic seed frames × AreLimited settings × HaveWideShare settings
@@ -83,7 +84,7 @@ IsLimitedCommand (command.Demo seed frames settings) = AreForTraffic seed frames
 abbrev pub HasPositionals : CommandWord → List Argument → Type 0
 HasPositionals Weigh arguments =
     (source : ArgumentText) × (dest : ArgumentText) × HasSides arguments source dest
-    × ((prefix : PrefixValue) × SpellsPrefix source dest prefix)
+    × ((prefix : PrefixValue) × SpellsPrefix Byte source dest prefix)
 HasPositionals Report arguments = ⊤
 HasPositionals Format arguments = ⊤
 HasPositionals Audit arguments = ⊤

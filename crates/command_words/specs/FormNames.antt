@@ -24,7 +24,7 @@ form_of Report = record {
   positionals = [];
   options =
       codes "capture" ∷ codes "weigh" ∷ codes "shards" ∷ codes "capacity" ∷ codes "phi" ∷ codes "deal" ∷ codes "block"
-      ∷ codes "workers" ∷ codes "callers" ∷ codes "rounds" ∷ codes "store" ∷ [];
+      ∷ codes "workers" ∷ codes "callers" ∷ codes "rounds" ∷ codes "bits" ∷ codes "store" ∷ [];
   required = [];
 }
 form_of Format = record {
@@ -36,14 +36,15 @@ form_of Audit = record {
   positionals = [];
   options =
       codes "capture" ∷ codes "weigh" ∷ codes "shards" ∷ codes "capacity" ∷ codes "phi" ∷ codes "deal"
-      ∷ codes "report" ∷ [];
+      ∷ codes "bits" ∷ codes "report" ∷ [];
   required = codes "report" ∷ [];
 }
 form_of Make = record { positionals = codes "SEED" ∷ codes "FRAMES" ∷ []; options = []; required = [] }
 form_of Demo = record {
   positionals = codes "SEED" ∷ codes "FRAMES" ∷ [];
   options =
-      codes "shards" ∷ codes "capacity" ∷ codes "phi" ∷ codes "deal" ∷ codes "block" ∷ codes "workers" ∷ [];
+      codes "shards" ∷ codes "capacity" ∷ codes "phi" ∷ codes "deal" ∷ codes "block" ∷ codes "workers"
+      ∷ codes "bits" ∷ [];
   required = [];
 }
 

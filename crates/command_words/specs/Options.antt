@@ -4,13 +4,15 @@ use Rattle.std.specs.Prelude.{None}
 use Rattle.command_words.specs.Arguments.{ArgumentText}
 use Rattle.command_words.specs.declared.opt.Opt.{Opt}
 use Rattle.command_words.specs.declared.opt.Opt.TheVariants.{Seed, Frames, Weigh, Shards, Capacity, Phi, Deal}
-use Rattle.command_words.specs.declared.opt.Opt.TheVariants.{Block, Workers, Callers, Rounds}
-use Rattle.prefix_lattice.specs.{shard_limit}
+use Rattle.command_words.specs.declared.opt.Opt.TheVariants.{Block, Workers, Callers, Rounds, Bits}
+use Rattle.prefix_lattice.specs.{shard_limit, grain_bits}
+use Rattle.prefix_lattice.specs.declared.grain.Grain.TheVariants.{Byte, Nibble}
 
--- what the value of an option may be, a number from the least to the greatest or one of some choices, and what is meant
--- where the option is missing: the default
+-- what the value of an option may be, a number from the least to the greatest, one of a few numbers or one of some
+-- choices, and what is meant where the option is missing: the default
 pub data OptionKind : Type 0 where
   number : (least greatest default : ℕ) → OptionKind
+  few_numbers : (default : ℕ) (others : List ℕ) → OptionKind
   choice : (default : ArgumentText) (others : List ArgumentText) → OptionKind
 
 -- the greatest seed, which may be any number of 64 bits
@@ -65,6 +67,7 @@ row_of Block = record { name = codes "block"; place = 7; kind = number 1 block_l
 row_of Workers = record { name = codes "workers"; place = 8; kind = number 1 workers_limit 4 }
 row_of Callers = record { name = codes "callers"; place = 9; kind = number 0 callers_limit 0 }
 row_of Rounds = record { name = codes "rounds"; place = 10; kind = number 0 rounds_limit 0 }
+row_of Bits = record { name = codes "bits"; place = 11; kind = few_numbers (grain_bits Byte) (grain_bits Nibble ∷ []) }
 
 -- the name of an option or a positional
 abbrev pub name_of : Opt → ArgumentText
@@ -83,24 +86,28 @@ pub record IsNumber (text : ArgumentText) (value : ℕ) : Type 0 where
   pub spelled : text ≡ decimal value
   pub bounded : value < 2 ^ 64
 
--- the option takes numbers, and this number is within its limits
+-- the option takes numbers, and this number is within its limits, or one of the few
 abbrev pub IsAllowed : OptionKind → ℕ → Type 0
 IsAllowed (number least greatest default) value = (least ≤ value) × (value ≤ greatest)
+IsAllowed (few_numbers default others) value = Contains (default ∷ others) value
 IsAllowed (choice default others) value = ⊥
 
 -- the option takes numbers, and has this one where it is missing
 abbrev pub IsDefault : OptionKind → ℕ → Type 0
 IsDefault (number least greatest default) value = value ≡ default
+IsDefault (few_numbers default others) value = value ≡ default
 IsDefault (choice default others) value = ⊥
 
 -- the option takes one of some choices, and has this one where it is missing
 abbrev pub IsDefaultChoice : OptionKind → ArgumentText → Type 0
 IsDefaultChoice (number least greatest default) word = ⊥
+IsDefaultChoice (few_numbers default others) word = ⊥
 IsDefaultChoice (choice default others) word = word ≡ default
 
 -- the text is a value that the option may have
 abbrev pub IsGoodText : OptionKind → ArgumentText → Type 0
 IsGoodText (number least greatest default) text = (value : ℕ) × IsNumber text value × IsAllowed (number least greatest default) value
+IsGoodText (few_numbers default others) text = (value : ℕ) × IsNumber text value × IsAllowed (few_numbers default others) value
 IsGoodText (choice default others) text = Contains (default ∷ others) text
 
 -- the option has a value that it may have, or is missing
@@ -111,14 +118,18 @@ IsGood opt (Some text) = IsGoodText (kind_of opt) text
 -- the option takes numbers, and the text is not a number
 abbrev pub IsNoNumber : OptionKind → ArgumentText → Type 0
 IsNoNumber (number least greatest default) text = (value : ℕ) → IsNumber text value → ⊥
+IsNoNumber (few_numbers default others) text = (value : ℕ) → IsNumber text value → ⊥
 IsNoNumber (choice default others) text = ⊥
 
--- the option takes numbers, and the text is a number outside its limits
+-- the option takes numbers, and the text is a number outside its limits, or none of the few
 abbrev pub IsOutside : OptionKind → ArgumentText → Type 0
 IsOutside (number least greatest default) text = (value : ℕ) × IsNumber text value × ((value < least) ⊎ (greatest < value))
+IsOutside (few_numbers default others) text =
+    (value : ℕ) × IsNumber text value × (Contains (default ∷ others) value → ⊥)
 IsOutside (choice default others) text = ⊥
 
 -- the option takes one of some choices, and the text is none of them
 abbrev pub IsNoChoice : OptionKind → ArgumentText → Type 0
 IsNoChoice (number least greatest default) text = ⊥
+IsNoChoice (few_numbers default others) text = ⊥
 IsNoChoice (choice default others) text = Contains (default ∷ others) text → ⊥

@@ -16,9 +16,12 @@ use Rattle.command_words.specs.declared.command_word.CommandWord.{CommandWord}
 use Rattle.command_words.specs.declared.opt.Opt.{Opt}
 use Rattle.command_words.specs.declared.opt.Opt.TheVariants.{Seed, Frames, Weigh as ByWeigh, Shards, Capacity, Phi}
 use Rattle.command_words.specs.declared.opt.Opt.TheVariants.{Deal}
-use Rattle.command_words.specs.declared.opt.Opt.TheVariants.{Block, Workers, Callers, Rounds}
+use Rattle.command_words.specs.declared.opt.Opt.TheVariants.{Block, Workers, Callers, Rounds, Bits}
 use Rattle.command_words.specs.declared.settings.Settings.{Settings}
-use Rattle.prefix_lattice.specs.{shard_limit}
+use Rattle.prefix_lattice.specs.{shard_limit, grain_bits}
+use Rattle.prefix_lattice.specs.declared.grain.Grain.{Grain}
+use Rattle.prefix_lattice.specs.declared.grain.Grain.TheVariants.{Byte}
+use Rattle.prefix_lattice.specs.{most_grain_capacity}
 
 -- the value of each option or positional that is present
 abbrev pub SettingValues : Type 0
@@ -63,6 +66,16 @@ abbrev pub SetsStore : Option ArgumentText → Bool → Type 0
 SetsStore None store = store ≡ false
 SetsStore (Some path) store = store ≡ true
 
+-- how prefixes are kept: by steps of as many bits as the option sets
+abbrev pub SetsGrain : Option ArgumentText → Grain → Type 0
+SetsGrain told grain = SetsNumber Bits told (grain_bits grain)
+
+-- the grain fits the tables and the store: tables of this capacity can be kept by it, and only those by whole bytes can be
+-- saved
+pub record GrainFits (grain : Grain) (capacity : ℕ) (store : Bool) : Type 0 where
+  pub few_entries : capacity ≤ most_grain_capacity grain
+  pub saved_by_bytes : store ≡ true → grain ≡ Byte
+
 -- the settings that the values of options and the path of a store give, with defaults filled in
 pub record SetsAll (values : SettingValues) (path : Option ArgumentText) (settings : Settings) : Type 0 where
   pub weigh : SetsWeigh (values ByWeigh) settings.weigh
@@ -74,7 +87,9 @@ pub record SetsAll (values : SettingValues) (path : Option ArgumentText) (settin
   pub workers : SetsNumber Workers (values Workers) settings.workers
   pub callers : SetsNumber Callers (values Callers) settings.callers
   pub rounds : SetsNumber Rounds (values Rounds) settings.rounds
+  pub grain : SetsGrain (values Bits) settings.grain
   pub store : SetsStore path settings.store
+  pub fits : GrainFits settings.grain settings.capacity settings.store
 
 -- the number that a positional gives: its value, within its limits
 abbrev pub GivesNumber : Opt → Option ArgumentText → ℕ → Type 0
@@ -97,7 +112,7 @@ pub record AreForTraffic (seed frames : ℕ) : Type 0 where
 abbrev pub HaveWideShare : Settings → Type 0
 HaveWideShare settings = 2 * phi_limit ≤ settings.phi * settings.capacity
 
--- each number of the settings is within its limits
+-- each number of the settings is within its limits, and the grain fits the tables and the store
 pub record AreLimited (settings : Settings) : Type 0 where
   pub some_shards : 1 ≤ settings.shards
   pub few_shards : settings.shards ≤ shard_limit
@@ -111,3 +126,4 @@ pub record AreLimited (settings : Settings) : Type 0 where
   pub few_workers : settings.workers ≤ workers_limit
   pub few_callers : settings.callers ≤ callers_limit
   pub few_rounds : settings.rounds ≤ rounds_limit
+  pub fits : GrainFits settings.grain settings.capacity settings.store

@@ -1,6 +1,7 @@
 -- The first fault of the arguments of a command line.
 use Rattle.std.specs.Prelude.{◌≡◌, ◌≢◌, List, [], ◌∷◌}
 use Rattle.prefix_lattice.specs.{HasPrefixFault}
+use Rattle.prefix_lattice.specs.declared.grain.Grain.TheVariants.{Byte}
 use Rattle.prefix_lattice.specs.declared.prefix_fault.PrefixFault.{PrefixFault}
 use Rattle.command_words.specs.Arguments.{ArgumentText, Argument, AreWellFormed}
 use Rattle.command_words.specs.FormNames.{word_of, form_of, AreWords}
@@ -21,7 +22,7 @@ pub record HasBadPrefix (words : List ArgumentText) (fault : PrefixFault) : Type
   pub source : ArgumentText
   pub dest : ArgumentText
   pub sides : HasSides arguments source dest
-  pub has_fault : HasPrefixFault source dest fault
+  pub has_fault : HasPrefixFault Byte source dest fault
 
 -- the arguments are well formed, their positionals are good, and this is the first fault of their values
 pub record HasBadValue (words : List ArgumentText) (kind : WordsKind) : Type 0 where
@@ -29,9 +30,10 @@ pub record HasBadValue (words : List ArgumentText) (kind : WordsKind) : Type 0 w
   pub arguments : List Argument
   pub are_words : AreWords words command arguments
   pub positionals : HasPositionals command arguments
-  pub has_fault : HasValueFault (settings_in command arguments) kind
+  pub has_fault : HasValueFault (settings_in command arguments) (store_setting arguments) kind
 
--- each value is good, and the tables are too small for the share, though the command needs them to be large enough
+-- each value is good, the grain fits, and the tables are too small for the share, though the command needs them to be
+-- large enough
 pub record HasNarrowTables (words : List ArgumentText) : Type 0 where
   pub command : CommandWord
   pub bounded : IsBounded command
@@ -43,7 +45,7 @@ pub record HasNarrowTables (words : List ArgumentText) : Type 0 where
   pub narrow : HaveWideShare settings → ⊥
 
 -- the first fault of the arguments: the command, then their form, then the prefix, then the values in the order
--- of the options, then the bound on phi times the capacity
+-- of the options, then a grain that doesn't fit, then the bound on phi times the capacity
 abbrev pub HasWordsFault : List ArgumentText → WordsKind → Type 0
 HasWordsFault words NoCommand = words ≡ []
 HasWordsFault words UnknownCommand =

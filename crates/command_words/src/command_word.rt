@@ -24,24 +24,26 @@ static WEIGH_POSITIONALS: [&str; 2] = ["SRC", "DST"];
 
 static WEIGH_OPTIONS: [&str; 2] = ["capture", "weigh"];
 
-static REPORT_OPTIONS: [&str; 11] = [
+static REPORT_OPTIONS: [&str; 12] = [
     "capture", "weigh", "shards", "capacity", "phi", "deal", "block", "workers", "callers",
-    "rounds", "store",
+    "rounds", "bits", "store",
 ];
 
 static FORMAT_OPTIONS: [&str; 5] = ["weigh", "shards", "capacity", "deal", "store"];
 
 static FORMAT_REQUIRED: [&str; 1] = ["store"];
 
-static AUDIT_OPTIONS: [&str; 7] = [
-    "capture", "weigh", "shards", "capacity", "phi", "deal", "report",
+static AUDIT_OPTIONS: [&str; 8] = [
+    "capture", "weigh", "shards", "capacity", "phi", "deal", "bits", "report",
 ];
 
 static AUDIT_REQUIRED: [&str; 1] = ["report"];
 
 static MADE_POSITIONALS: [&str; 2] = ["SEED", "FRAMES"];
 
-static DEMO_OPTIONS: [&str; 6] = ["shards", "capacity", "phi", "deal", "block", "workers"];
+static DEMO_OPTIONS: [&str; 7] = [
+    "shards", "capacity", "phi", "deal", "block", "workers", "bits",
+];
 
 impl CommandWord {
     /// The command of this name, if there is one.

@@ -30,6 +30,9 @@ pub enum Opt {
     Callers,
     /// How many reports each of them makes while records are folded, 0 to 32.
     Rounds,
+    /// By how many bits prefixes may keep more of an address, 8 or 4. With 4 the capacity is at most 1024, and no store
+    /// is named.
+    Bits,
 }
 
 impl Opt {
@@ -49,6 +52,7 @@ impl Opt {
             Opt::Workers => "workers",
             Opt::Callers => "callers",
             Opt::Rounds => "rounds",
+            Opt::Bits => "bits",
         }
     }
 }

@@ -22,7 +22,7 @@ use crate::scanning::are_well_formed;
 use crate::values::{Given, bounded, given_of, settings_of};
 use crate::{Command, WordsKind, WordsRefusal};
 use clap::ArgMatches;
-use prefix_lattice::{Prefix, prefix_texts_have_one_reading};
+use prefix_lattice::{Grain, Prefix, prefix_texts_have_one_reading};
 use std::alloc::Global;
 
 /// A command line: the name of its command, the command that it asks for, and what `clap` found in it.
@@ -39,7 +39,8 @@ pub(crate) struct CommandLine<'a> {
 ///
 /// Arguments that ask for no command are refused for their first fault: the command, then the form of the
 /// arguments, then the prefix, then the values in the order of `Opt`, each as a number before its limits, then
-/// for `report`, `audit` and `demo` the bound on `phi` times the capacity.
+/// for `report`, `audit` and `demo` a grain that doesn't fit the capacity or the store, and the bound on `phi` times
+/// the capacity.
 pub fn read_words(alloc: Global, words: &[&str]) -> Result<Command, WordsRefusal>
     ensures ok { IfOk result (AskForCommand (argument_texts words.now)) }
     ensures limited { IfOk result IsLimitedCommand }
@@ -109,7 +110,7 @@ fn weigh_command(matches: &ArgMatches<'_>) -> Result<Command, WordsKind>
 {
     let source = matches.get_str("SRC").unwrap();
     let dest = matches.get_str("DST").unwrap();
-    let prefix = match Prefix::parse(source.as_bytes(), dest.as_bytes()) {
+    let prefix = match Prefix::parse(Grain::Byte, source.as_bytes(), dest.as_bytes()) {
         Ok(prefix) => prefix,
         Err(fault) => return Err(WordsKind::BadPrefix(fault)),
     };

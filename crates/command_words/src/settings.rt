@@ -2,13 +2,14 @@
 
 use deal_rules::DealKind;
 use frame_records::Weigh;
+use prefix_lattice::Grain;
 
 /// The settings of a command, with defaults filled in.
 #[derive(Clone, Copy, Debug, PartialEq, Eq)]
 pub struct Settings {
     /// How many shards the records are dealt to, 1 to 16.
     pub shards: u32,
-    /// How many prefixes each table can monitor, 2 to 4096.
+    /// How many prefixes each table can monitor, 2 to 4096, and at most 1024 by half bytes.
     pub capacity: u32,
     /// The least share, in parts per million of the total, at which a prefix is heavy, 1 to 1,000,000.
     pub phi: u32,
@@ -24,6 +25,8 @@ pub struct Settings {
     pub weigh: Weigh,
     /// How records are dealt to shards.
     pub deal: DealKind,
-    /// Whether cuts are saved in a store.
+    /// By how many bits prefixes may keep more of an address.
+    pub grain: Grain,
+    /// Whether cuts are saved in a store, which are then by whole bytes.
     pub store: bool,
 }

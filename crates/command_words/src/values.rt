@@ -3,20 +3,20 @@
 ghost use Rattle.std.specs.Prelude.{◌≡◌, ◌↔◌, IfOk, IfErr, IsTrue};
 ghost use Rattle.command_words.specs.Scanning.{text_at};
 ghost use Rattle.command_words.specs.Options.{kind_of, number, place_of};
-ghost use Rattle.command_words.specs.Settings.{SetsDeal, SetsNumber, SetsAll, SetsStore};
+ghost use Rattle.command_words.specs.Settings.{GrainFits, SetsDeal, SetsGrain, SetsNumber, SetsAll, SetsStore};
 ghost use Rattle.command_words.specs.Settings.{SetsWeigh, HaveWideShare};
 ghost use Rattle.command_words.specs.Matches.{store_in, values_in};
 ghost use Rattle.command_words.specs.Values.{AreGood, HasValueFault};
 ghost use Rattle.command_words.specs.Given.{AreGoodBefore, IsBadChoice, IsBadNumber};
 ghost use Rattle.command_words.specs.Given.{SetsGiven, SetsRunning};
-ghost use Rattle.command_words.specs.declared.words_kind.WordsKind.TheVariants.{BadChoice, Bound};
-ghost use Rattle.command_words.specs.declared.opt.Opt.TheVariants.{Seed, Weigh as ByWeigh, Deal, Block};
+ghost use Rattle.command_words.specs.declared.words_kind.WordsKind.TheVariants.{BadChoice, Bound, OutOfLimits};
+ghost use Rattle.command_words.specs.declared.opt.Opt.TheVariants.{Seed, Weigh as ByWeigh, Deal, Block, Bits};
 
 use crate::{Opt, Settings, WordsKind};
 use clap::ArgMatches;
 use deal_rules::DealKind;
 use frame_records::Weigh;
-use prefix_lattice::number_of;
+use prefix_lattice::{Grain, number_of};
 
 // An option or a positional that takes a number.
 struct Numeric {
@@ -44,10 +44,13 @@ const SHARDS: Numeric = Numeric {
     default: 4,
 };
 
+// The greatest capacity of tables.
+const MOST_CAPACITY: u32 = 4096;
+
 const CAPACITY: Numeric = Numeric {
     opt: Opt::Capacity,
     least: 2,
-    greatest: 4096,
+    greatest: MOST_CAPACITY,
     default: 512,
 };
 
@@ -110,7 +113,7 @@ const LEAST_WIDTH: u64 = 2_000_000;
 pub(crate) fn settings_of(matches: &ArgMatches<'_>) -> Result<Settings, WordsKind>
     ensures ok { IfOk result (SetsAll (values_in matches.now) (store_in matches.now)) }
     ensures good { IfOk result (λ _. AreGood (values_in matches.now)) }
-    ensures err { IfErr result (HasValueFault (values_in matches.now)) }
+    ensures err { IfErr result (HasValueFault (values_in matches.now) (store_in matches.now)) }
 {
     Ok(given_of(matches)?.settings)
 }
@@ -118,7 +121,7 @@ pub(crate) fn settings_of(matches: &ArgMatches<'_>) -> Result<Settings, WordsKin
 /// What options and positionals give, or the fault of the first wrong value.
 pub(crate) fn given_of(matches: &ArgMatches<'_>) -> Result<Given, WordsKind>
     ensures ok { IfOk result (SetsGiven (values_in matches.now) (store_in matches.now)) }
-    ensures err { IfErr result (HasValueFault (values_in matches.now)) }
+    ensures err { IfErr result (HasValueFault (values_in matches.now) (store_in matches.now)) }
 {
     let seed = seed_of(text_of(matches, Opt::Seed))?;
     let frames = FRAMES.read(text_of(matches, Opt::Frames))?;
@@ -130,11 +133,12 @@ pub(crate) fn given_of(matches: &ArgMatches<'_>) -> Result<Given, WordsKind>
     })
 }
 
-// The settings that the options give, or the fault of the first wrong value. The values before them are good.
+// The settings that the options give, or the fault of the first wrong value or of a grain that doesn't fit. The values
+// before them are good.
 fn options_of(matches: &ArgMatches<'_>) -> Result<Settings, WordsKind>
     requires { AreGoodBefore (values_in matches.now) (place_of ByWeigh) }
     ensures ok { IfOk result (SetsAll (values_in matches.now) (store_in matches.now)) }
-    ensures err { IfErr result (HasValueFault (values_in matches.now)) }
+    ensures err { IfErr result (HasValueFault (values_in matches.now) (store_in matches.now)) }
 {
     let weigh = weigh_of(text_of(matches, Opt::Weigh))?;
     let shards = SHARDS.read(text_of(matches, Opt::Shards))?;
@@ -142,7 +146,8 @@ fn options_of(matches: &ArgMatches<'_>) -> Result<Settings, WordsKind>
     let phi = PHI.read(text_of(matches, Opt::Phi))?;
     let deal = deal_of(text_of(matches, Opt::Deal))?;
     let running = running_of(matches)?;
-    Ok(Settings {
+    let grain = grain_of(text_of(matches, Opt::Bits))?;
+    fitting(Settings {
         shards,
         capacity,
         phi,
@@ -152,6 +157,7 @@ fn options_of(matches: &ArgMatches<'_>) -> Result<Settings, WordsKind>
         rounds: running.rounds,
         weigh,
         deal,
+        grain,
         store: names_store(matches),
     })
 }
@@ -160,7 +166,8 @@ fn options_of(matches: &ArgMatches<'_>) -> Result<Settings, WordsKind>
 fn running_of(matches: &ArgMatches<'_>) -> Result<Running, WordsKind>
     requires { AreGoodBefore (values_in matches.now) (place_of Block) }
     ensures ok { IfOk result (SetsRunning (values_in matches.now)) }
-    ensures err { IfErr result (HasValueFault (values_in matches.now)) }
+    ensures good { IfOk result (λ _. AreGoodBefore (values_in matches.now) (place_of Bits)) }
+    ensures err { IfErr result (HasValueFault (values_in matches.now) (store_in matches.now)) }
 {
     let block = BLOCK.read(text_of(matches, Opt::Block))?;
     let workers = WORKERS.read(text_of(matches, Opt::Workers))?;
@@ -172,6 +179,28 @@ fn running_of(matches: &ArgMatches<'_>) -> Result<Running, WordsKind>
         callers,
         rounds,
     })
+}
+
+// The settings themselves, if their grain fits the tables and the store.
+fn fitting(settings: Settings) -> Result<Settings, WordsKind>
+    ensures ok { IfOk result (λ same. (same ≡ settings) × GrainFits settings.grain settings.capacity settings.store) }
+    ensures err { IfErr result (λ kind. (kind ≡ OutOfLimits Bits) × (GrainFits settings.grain settings.capacity settings.store → ⊥)) }
+{
+    if !is_fit(&settings) {
+        return Err(WordsKind::OutOfLimits(Opt::Bits));
+    }
+    Ok(settings)
+}
+
+// Whether tables of this capacity can be kept by this grain, and saved if a store is named.
+fn is_fit(settings: &Settings) -> bool
+    ensures { IsTrue result ↔ GrainFits settings.now.grain settings.now.capacity settings.now.store }
+{
+    let is_small = settings.capacity <= settings.grain.greatest_capacity();
+    match settings.grain {
+        Grain::Byte => is_small,
+        Grain::Nibble => is_small && !settings.store,
+    }
 }
 
 /// The settings themselves, if their tables are large enough for their share.
@@ -237,6 +266,22 @@ fn seed_of(text: Option<&str>) -> Result<u64, WordsKind>
     match number_of(text.as_bytes()) {
         Some(seed) => Ok(seed),
         None => Err(WordsKind::BadNumber(Opt::Seed)),
+    }
+}
+
+// The grain whose steps are of as many bits as the option sets.
+fn grain_of(text: Option<&str>) -> Result<Grain, WordsKind>
+    ensures ok { IfOk result (SetsGrain (text_at text.entry)) }
+    ensures err { IfErr result (IsBadNumber Bits (text_at text.entry)) }
+{
+    let Some(text) = text else {
+        return Ok(Grain::Byte);
+    };
+    match number_of(text.as_bytes()) {
+        Some(8) => Ok(Grain::Byte),
+        Some(4) => Ok(Grain::Nibble),
+        Some(_) => Err(WordsKind::OutOfLimits(Opt::Bits)),
+        None => Err(WordsKind::BadNumber(Opt::Bits)),
     }
 }
 

@@ -5,7 +5,7 @@ use Rattle.std.specs.Prelude.{if◌then◌else◌, List, slice_index, count_by, 
 use Rattle.std.specs.List.{filter_map}
 use Rattle.std.specs.Result.{result_ok}
 use Rattle.byteorder.specs.Endian.{big_from}
-use Rattle.prefix_lattice.specs.{RecordValue, address_length}
+use Rattle.prefix_lattice.specs.{RecordValue, address_size}
 use Rattle.pcap_frames.specs.{FrameValue}
 use Rattle.frame_records.specs.declared.weigh.Weigh.{Weigh}
 use Rattle.frame_records.specs.declared.weigh.Weigh.TheVariants.{Bytes, Packets}
@@ -78,8 +78,8 @@ weight_of Packets frame = 1
 -- the record of a frame whose network layer begins at this offset
 abbrev pub record_at : ℕ → Weigh → FrameValue → RecordValue
 record_at place weigh frame = record {
-  src = big_from (place + source_place) address_length frame.head;
-  dst = big_from (place + dest_place) address_length frame.head;
+  src = big_from (place + source_place) address_size frame.head;
+  dst = big_from (place + dest_place) address_size frame.head;
   weight = weight_of weigh frame;
 }
 

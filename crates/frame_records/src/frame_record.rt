@@ -2,7 +2,7 @@
 
 ghost use Rattle.std.specs.Prelude.{◌≡◌, ◌≤◌, ◌+◌, ◌*◌, min, length};
 ghost use Rattle.byteorder.specs.Endian.{big_from};
-ghost use Rattle.prefix_lattice.specs.{address_length};
+ghost use Rattle.prefix_lattice.specs.{address_size};
 ghost use Rattle.pcap_frames.specs.{frame_content};
 ghost use Rattle.frame_records.specs.FrameRecord.{record_of, is_tag_at, frame_tag_bytes, begins_as_ipv4};
 ghost use Rattle.frame_records.specs.FrameRecord.{tag_length, type_length, type_place};
@@ -84,8 +84,8 @@ fn type_at(head: &[u8], place: usize) -> u16
 
 // The address at this offset, in network byte order.
 fn address_at(head: &[u8], place: usize) -> u32
-    requires { place + address_length ≤ length head.now }
-    ensures { result ≡ big_from place address_length head.now }
+    requires { place + address_size ≤ length head.now }
+    ensures { result ≡ big_from place address_size head.now }
 {
     BigEndian::read_u32(&head[place..])
 }

@@ -35,6 +35,7 @@ use Rattle.hhh_engine.specs.Commands.{CommandEnds}
 use Rattle.hhh_engine.specs.TopCall.{Streams, faults_after, faults_before, run_inputs}
 use Rattle.report_session.specs.{IsAsBefore}
 use Rattle.hhh_engine.proofs.StatusLemmas.{status_beside_disk}
+use Rattle.prefix_lattice.specs.declared.grain.Grain.{Grain}
 
 -- what follows of the inputs of an audit that may be known
 pub audit_end_inputs_imply_more : (read : InputBytes) (P Q : List ℕ → List ℕ → Type 0)
@@ -45,51 +46,51 @@ audit_end_inputs_imply_more read P Q follows has =
     (λ file holds. (holds.0, capture_report_if_known read.text (P file) (Q file) (follows file) holds.1)) has
 
 -- the fault of the bytes that were read is one of the text itself
-audit_end_text_is_faulty : (text left : Option (List ℕ)) (bytes : List ℕ) (fault : SessionFault) → Consumes text left bytes
-    → (length bytes ≤ longest_session → IsAtEnd left) → HasReadFault bytes fault
+audit_end_text_is_faulty : (grain : Grain) (text left : Option (List ℕ)) (bytes : List ℕ) (fault : SessionFault) → Consumes text left bytes
+    → (length bytes ≤ longest_session → IsAtEnd left) → HasReadFault grain bytes fault
     → (longest_session < length bytes → fault ≡ session.Text TooLong)
-    → IfSome text (λ whole. HasReadFault whole fault)
-audit_end_text_is_faulty None left bytes fault consumed at_end has too_long = tt
-audit_end_text_is_faulty (Some whole) None bytes fault consumed at_end has too_long = absurd consumed
-audit_end_text_is_faulty (Some whole) (Some rest) bytes fault consumed at_end has too_long =
+    → IfSome text (λ whole. HasReadFault grain whole fault)
+audit_end_text_is_faulty grain None left bytes fault consumed at_end has too_long = tt
+audit_end_text_is_faulty grain (Some whole) None bytes fault consumed at_end has too_long = absurd consumed
+audit_end_text_is_faulty grain (Some whole) (Some rest) bytes fault consumed at_end has too_long =
     ⊎_elim
     (λ (long : longest_session < length bytes).
-    subst (HasReadFault whole) (sym (too_long long))
+    subst (HasReadFault grain whole) (sym (too_long long))
     (omega (arith, long, ap length consumed, length-append bytes rest)))
     (λ (short : length bytes ≤ longest_session).
-    subst (λ t. HasReadFault t fault)
+    subst (λ t. HasReadFault grain t fault)
     (sym (consumed ∙ ap (λ r. bytes ++ r) (at_end short) ∙ append-nil bytes)) has)
     (cases_lt longest_session (length bytes))
 
 -- why the inputs of an audit were not accepted: the text of a session was refused
-pub audit_ends_at_refused_text : (capture capture_left text text_left store : Option (List ℕ)) (before now : SourceFaults)
+pub audit_ends_at_refused_text : (grain : Grain) (capture capture_left text text_left store : Option (List ℕ)) (before now : SourceFaults)
     (bytes : List ℕ) (fault : SessionFault) → IsAtEnd capture_left → IfSome capture IsCaptureFile
     → Consumes text text_left bytes → length bytes ≤ longest_session + 1
-    → (length bytes ≤ longest_session → IsAtEnd text_left) → HasReadFault bytes fault
+    → (length bytes ≤ longest_session → IsAtEnd text_left) → HasReadFault grain bytes fault
     → (longest_session < length bytes → fault ≡ session.Text TooLong)
-    → HasNoAudit (inputs capture capture_left text text_left store) before now (status_of_session fault)
-audit_ends_at_refused_text capture capture_left text text_left store before now bytes (session.Text TooLong) read is_capture consumed
+    → HasNoAudit grain (inputs capture capture_left text text_left store) before now (status_of_session fault)
+audit_ends_at_refused_text grain capture capture_left text text_left store before now bytes (session.Text TooLong) read is_capture consumed
     limit at_end has too_long = record {
       read_to_end = read;
       accepted = is_capture;
-      first_fault = audit_end_text_is_faulty text text_left bytes (session.Text TooLong) consumed at_end has too_long;
+      first_fault = audit_end_text_is_faulty grain text text_left bytes (session.Text TooLong) consumed at_end has too_long;
       read_to_limit = record { front = bytes; consumed = consumed; limit = omega (arith, limit, has) };
     }
-audit_ends_at_refused_text capture capture_left text text_left store before now bytes (session.Text (BadLine line)) read is_capture
+audit_ends_at_refused_text grain capture capture_left text text_left store before now bytes (session.Text (BadLine line)) read is_capture
     consumed limit at_end has too_long = record {
       read_to_end = read;
       accepted = is_capture;
-      first_fault = audit_end_text_is_faulty text text_left bytes (session.Text (BadLine line)) consumed at_end has too_long;
+      first_fault = audit_end_text_is_faulty grain text text_left bytes (session.Text (BadLine line)) consumed at_end has too_long;
       read_to_limit = at_end has.0;
     }
-audit_ends_at_refused_text capture capture_left text text_left store before now bytes (session.Text (MissingEnd line)) read is_capture
+audit_ends_at_refused_text grain capture capture_left text text_left store before now bytes (session.Text (MissingEnd line)) read is_capture
     consumed limit at_end has too_long = record {
       read_to_end = read;
       accepted = is_capture;
-      first_fault = audit_end_text_is_faulty text text_left bytes (session.Text (MissingEnd line)) consumed at_end has too_long;
+      first_fault = audit_end_text_is_faulty grain text text_left bytes (session.Text (MissingEnd line)) consumed at_end has too_long;
       read_to_limit = at_end has.0;
     }
-audit_ends_at_refused_text capture capture_left text text_left store before now bytes session.OutOfMemory read is_capture consumed
+audit_ends_at_refused_text grain capture capture_left text text_left store before now bytes session.OutOfMemory read is_capture consumed
     limit at_end has too_long = tt
 
 -- how an audit ended
@@ -111,7 +112,7 @@ EndsAudit settings rules given read_before read_now sink written old new write_b
 -- an audit whose inputs were not accepted
 pub audit_ends_without_inputs : {K : Type 0} (settings : Settings) (rules : DealingRules) (given : InputBytes)
     (read_before read_now : SourceFaults) (sink : K) (old : Option (List ℕ)) (faults : ℕ) (status : Status)
-    → HasNoAudit given read_before read_now status → ((status ≡ ReadFault → ⊥) → read_now ≡ read_before)
+    → HasNoAudit settings.grain given read_before read_now status → ((status ≡ ReadFault → ⊥) → read_now ≡ read_before)
     → EndsAudit settings rules given read_before read_now sink sink old old faults faults status
 audit_ends_without_inputs settings rules given read_before read_now sink old faults Done none told =
     absurd none

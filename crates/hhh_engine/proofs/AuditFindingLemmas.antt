@@ -30,10 +30,12 @@ use Rattle.outside_io.specs.declared.sink.Sink.{Ghosts as SinkOf}
 use Rattle.slot_disk.specs.declared.disk.Disk.{Ghosts as DiskOf}
 use Rattle.hhh_engine.specs.Commands.{CommandEnds}
 use Rattle.hhh_engine.specs.TopCall.{FindsUnsound, LeavesUnwritten, RefusesText, Streams, run_inputs}
+use Rattle.prefix_lattice.specs.declared.grain.Grain.{Grain}
 
 -- a text has one fault at most
 abbrev pub AuditFindingHasOneFault : Type 0
-AuditFindingHasOneFault = (text : List ℕ) (fault other : TextFault) → HasSessionFault text fault → HasSessionFault text other → fault ≡ other
+AuditFindingHasOneFault = (grain : Grain) (text : List ℕ) (fault other : TextFault) → HasSessionFault grain text fault
+    → HasSessionFault grain text other → fault ≡ other
 
 -- an audit finds one report first, and none where all are sound
 pub record AuditFindingIsUnique : Type 0 where
@@ -52,11 +54,11 @@ audit_finding_of_known_inputs given file bytes Holds is_file is_text holds =
 
 -- the audit of a text with a fault says nothing
 audit_finding_excludes_bad_text : SessionStatusIsFaultless → (settings : Settings) (rules : DealingRules) (file bytes answer : List ℕ) (fault : TextFault)
-    → HasSessionFault bytes fault → IsAuditText settings rules file bytes answer → ⊥
+    → HasSessionFault settings.grain bytes fault → IsAuditText settings rules file bytes answer → ⊥
 audit_finding_excludes_bad_text no_fault settings rules file bytes answer fault has =
     ⊎_elim
-    (λ is. no_fault bytes is.session fault is.audited.is_session is.audited.not_long has)
-    (λ is. no_fault bytes is.2.session fault is.2.audited.is_session is.2.audited.not_long has)
+    (λ is. no_fault settings.grain bytes is.session fault is.audited.is_session is.audited.not_long has)
+    (λ is. no_fault settings.grain bytes is.2.session fault is.2.audited.is_session is.2.audited.not_long has)
 
 -- a run, whose command ended so
 module _ {S T K D : Type 0} (s : SourceOf S) (t : SourceOf T) (k : SinkOf K) (d : DiskOf D) (old new : Streams S T K D)
@@ -71,13 +73,13 @@ module _ {S T K D : Type 0} (s : SourceOf S) (t : SourceOf T) (k : SinkOf K) (d 
   -- an audit of a text with a fault is refused for it, unless a source fails or memory runs out
   pub audit_finding_is_text_fault : CaptureStatusIsFaultless → AuditFindingHasOneFault → SessionStatusIsFaultless
       → (settings : Settings) (status : Status) (file bytes : List ℕ) (frames : List FrameValue) (fault : TextFault)
-      → given.capture ≡ Some file → FileHasFrames file frames → given.text ≡ Some bytes → HasSessionFault bytes fault
+      → given.capture ≡ Some file → FileHasFrames file frames → given.text ≡ Some bytes → HasSessionFault settings.grain bytes fault
       → Ended (Audit settings) status
       → (status ≡ BadReport fault) ⊎ ((status ≡ ReadFault) ⊎ (status ≡ OutOfMemory))
   audit_finding_is_text_fault never_both one_fault no_fault settings Done file bytes frames fault is_file capture is_text has ends =
       let is =
       audit_finding_of_known_inputs given file bytes (λ f t. IsSoundAudit settings rules f t ends.1.text) is_file is_text ends.1.is_text in
-      absurd (no_fault bytes is.session fault is.audited.is_session is.audited.not_long has)
+      absurd (no_fault settings.grain bytes is.session fault is.audited.is_session is.audited.not_long has)
   audit_finding_is_text_fault never_both one_fault no_fault settings (BadWords kind) file bytes frames fault is_file capture is_text has ends =
       absurd ends
   audit_finding_is_text_fault never_both one_fault no_fault settings (BadCapture other) file bytes frames fault is_file capture is_text has ends =
@@ -102,10 +104,10 @@ module _ {S T K D : Type 0} (s : SourceOf S) (t : SourceOf T) (k : SinkOf K) (d 
   audit_finding_is_text_fault never_both one_fault no_fault settings (AuditNo report verdict) file bytes frames fault is_file capture is_text has ends =
       let is =
       audit_finding_of_known_inputs given file bytes (λ f t. IsUnsoundAudit settings rules f t report verdict) is_file is_text ends.1.0 in
-      absurd (no_fault bytes is.session fault is.audited.is_session is.audited.not_long has)
+      absurd (no_fault settings.grain bytes is.session fault is.audited.is_session is.audited.not_long has)
   audit_finding_is_text_fault never_both one_fault no_fault settings (BadReport wrong) file bytes frames fault is_file capture is_text has ends =
-      inl (ap BadReport (one_fault bytes wrong fault
-      (status_of_known_file given.text bytes (λ t. HasSessionFault t wrong) is_text ends.0.first_fault) has))
+      inl (ap BadReport (one_fault settings.grain bytes wrong fault
+      (status_of_known_file given.text bytes (λ t. HasSessionFault settings.grain t wrong) is_text ends.0.first_fault) has))
   audit_finding_is_text_fault never_both one_fault no_fault settings OutOfMemory file bytes frames fault is_file capture is_text has ends =
       inr (inr refl)
 
@@ -114,7 +116,7 @@ module _ {S T K D : Type 0} (s : SourceOf S) (t : SourceOf T) (k : SinkOf K) (d 
   pub audit_finding_is_first_unsound : CaptureStatusIsFaultless → SessionStatusIsFaultless → AuditFindingIsUnique
       → (settings : Settings) (status : Status) (file bytes : List ℕ) (frames : List FrameValue) (known : Session)
       (report : ℕ) (verdict : Verdict)
-      → given.capture ≡ Some file → FileHasFrames file frames → given.text ≡ Some bytes → IsSessionText bytes known
+      → given.capture ≡ Some file → FileHasFrames file frames → given.text ≡ Some bytes → IsSessionText settings.grain bytes known
       → length bytes ≤ longest_session
       → ((lists : List (List RecordValue)) (session : Session) → AreAudited settings rules file bytes lists session
       → IsFirstUnsound settings lists session.reports report verdict)
@@ -161,8 +163,8 @@ module _ {S T K D : Type 0} (s : SourceOf S) (t : SourceOf T) (k : SinkOf K) (d 
       inl (ap₂ AuditNo same.0 same.1)
   audit_finding_is_first_unsound never_both no_fault one settings (BadReport wrong) file bytes frames known report verdict is_file capture is_text is_session
       not_long first ends =
-      absurd (no_fault bytes known wrong is_session not_long
-      (status_of_known_file given.text bytes (λ t. HasSessionFault t wrong) is_text ends.0.first_fault))
+      absurd (no_fault settings.grain bytes known wrong is_session not_long
+      (status_of_known_file given.text bytes (λ t. HasSessionFault settings.grain t wrong) is_text ends.0.first_fault))
   audit_finding_is_first_unsound never_both no_fault one settings OutOfMemory file bytes frames known report verdict is_file capture is_text is_session
       not_long first ends =
       inr (inr (inr refl))

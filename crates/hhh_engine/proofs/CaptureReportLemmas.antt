@@ -21,6 +21,7 @@ use Rattle.slot_disk.specs.declared.disk.Disk.{Ghosts as DiskOf}
 use Rattle.hhh_engine.specs.Ending.{course}
 use Rattle.hhh_engine.specs.Tasks.{report_task}
 use Rattle.report_session.specs.{IsAsBefore, AreKeptOnDisk}
+use Rattle.report_session.specs.{asked_shape}
 
 -- what follows of each capture that may be known follows of the one that is
 pub capture_report_if_known : (left : Option (List ℕ)) (P Q : List ℕ → Type 0) → ((file : List ℕ) → P file → Q file) → IfSome left P
@@ -44,7 +45,7 @@ capture_report_writes_session settings rules keeping left store lists tail old n
     begins = writes.begins;
     represents = writes.represents;
     spelled =
-        subst (λ t. IsOverShards (session_opening settings.capacity lists writes.base) settings
+        subst (λ t. IsOverShards (session_opening (asked_shape settings) lists writes.base) settings
         (λ cuts. settings.store ≡ true → keeping (saves_settings settings) lists cuts []) t writes.writes.text)
         capture.is_tail writes.writes.is_text;
   };
@@ -68,7 +69,7 @@ capture_report_writes_in_part settings rules keeping left store lists tail old n
     represents = writes.represents;
     shards = writes.shards;
     begun =
-        subst (λ t. BeginsSession (session_opening settings.capacity lists writes.base) settings
+        subst (λ t. BeginsSession (session_opening (asked_shape settings) lists writes.base) settings
         (λ saved unfinished. settings.store ≡ true → keeping (saves_settings settings) lists saved unfinished) t
         writes.writes.text) capture.is_tail writes.writes.is_text;
   };

@@ -33,24 +33,25 @@ pub record DemoTextIsDealtOnce : Type 0 where
 -- and dealt lists have one report over all of them
 abbrev pub DemoTextReportIsUnique : Type 0
 DemoTextReportIsUnique =
-    (settings other : Settings) (lists : List (List RecordValue)) (report others : Report) → settings.capacity ≡ other.capacity
-    → settings.phi ≡ other.phi → IsWholeReport settings lists report → IsWholeReport other lists others → IsSameReport report others
+    (settings other : Settings) (lists : List (List RecordValue)) (report others : Report) → settings.grain ≡ other.grain
+    → settings.capacity ≡ other.capacity → settings.phi ≡ other.phi → IsWholeReport settings lists report
+    → IsWholeReport other lists others → IsSameReport report others
 
 -- so the summary of a report is one
 pub demo_text_is_unique : DemoTextIsDealtOnce → DemoTextReportIsUnique → (formula : DealKind → ℕ → RecordValue → ℕ → ℕ)
     (settings other : Settings) (seed frames : ℕ) (text other_text : List ℕ)
-    → settings.shards ≡ other.shards → settings.capacity ≡ other.capacity → settings.phi ≡ other.phi
+    → settings.grain ≡ other.grain → settings.shards ≡ other.shards → settings.capacity ≡ other.capacity → settings.phi ≡ other.phi
     → settings.deal ≡ other.deal → settings.weigh ≡ other.weigh
     → IsDemoText settings (rules_by formula) seed frames text
     → IsDemoText other (rules_by formula) seed frames other_text → text ≡ other_text
-demo_text_is_unique once one_report formula settings other seed frames text other_text shards capacity phi deal weigh is is_other =
+demo_text_is_unique once one_report formula settings other seed frames text other_text grain shards capacity phi deal weigh is is_other =
     let file = made_capture seed frames in
     let records : is.records.list ≡ is_other.records.list =
     once.records formula settings other file is.records is_other.records is.lists is_other.lists weigh is.dealt is_other.dealt in
     let lists : is.lists ≡ is_other.lists =
     once.lists formula settings other file is.records is_other.records is.lists is_other.lists shards deal weigh is.dealt is_other.dealt in
     let same : IsSameReport is.report is_other.report =
-    one_report settings other is.lists is.report is_other.report capacity phi is.is_report
+    one_report settings other is.lists is.report is_other.report grain capacity phi is.is_report
     (subst (λ l. IsWholeReport other l is_other.report) (sym lists) is_other.is_report) in
     is.spelled ∙ one_text seed frames is.records is_other.records is.report is_other.report records same
     ∙ sym is_other.spelled

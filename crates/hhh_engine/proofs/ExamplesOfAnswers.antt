@@ -78,7 +78,9 @@ asks_for_a_report = record {
     workers = refl;
     callers = refl;
     rounds = refl;
+    grain = refl;
     store = refl;
+    fits = record { few_entries = omega arith; saved_by_bytes = λ saved. refl };
   };
   wide = omega arith;
 }

@@ -22,6 +22,7 @@ use Rattle.run_status.specs.declared.status.Status.TheVariants.{Done, BadCapture
 use Rattle.hhh_engine.proofs.ExamplesOfAnswers.{empty_file_has_no_text}
 use Rattle.report_session.proofs.ExamplesOfSessions.{last, nothing_is_sound, report, report_at_the_ends, settings}
 use Rattle.report_session.proofs.ExamplesOfSessions.{lists}
+use Rattle.prefix_lattice.specs.declared.grain.Grain.TheVariants.{Byte}
 
 pub text_of_a_wide_line : verdict_text (TooWide 12) ≡ codes "too wide in line 12"
 unfolding digits
@@ -43,7 +44,7 @@ last_report_is_sound = nothing_is_sound
 abbrev past : Report
 past = record report { positions = 1 ∷ 0 ∷ 0 ∷ 0 ∷ [] }
 
-past_the_end : IsVerdict lists 512 10000 past BadPositions
+past_the_end : IsVerdict Byte lists 512 10000 past BadPositions
 past_the_end within = omega (arith, within.0)
 
 -- it is the first that is not sound
@@ -85,11 +86,11 @@ bytes_of_a_failed_source = omega arith
 pub bytes_are_there_at_success : HasNoBytes 3 3 Done → ⊥
 bytes_are_there_at_success none = none
 
-pub audit_of_an_empty_capture : HasNoAudit (inputs (Some []) (Some []) None None None) (faults_of_source 0 0)
+pub audit_of_an_empty_capture : HasNoAudit Byte (inputs (Some []) (Some []) None None None) (faults_of_source 0 0)
     (faults_of_source 0 0) (BadCapture (header_fault_at ShortHeader 0))
 audit_of_an_empty_capture = empty_file_has_no_text
 
-pub audit_whose_text_failed : HasNoAudit (inputs None None None None None) (faults_of_source 3 0) (faults_of_source 3 1) ReadFault
+pub audit_whose_text_failed : HasNoAudit Byte (inputs None None None None None) (faults_of_source 3 0) (faults_of_source 3 1) ReadFault
 audit_whose_text_failed = inr (omega arith)
 
 pub audit_of_one_report : Says settings lists (last ∷ []) (sound_audit 1) Done
@@ -107,4 +108,4 @@ unfolding digits
 text_of_a_demonstration = refl
 
 pub report_of_no_records : IsWholeReport settings lists report
-report_of_no_records = record { is_report = report_at_the_ends; at_ends = refl; is_sound = nothing_is_sound }
+report_of_no_records = record { is_report = report_at_the_ends; at_ends = refl; of_grain = All-nil _; is_sound = nothing_is_sound }

@@ -1,21 +1,21 @@
 -- Worked examples of what `weigh` writes for a capture of one packet.
-use Rattle.std.proofs.Common.{◌≡◌, ℕ, List, [], ◌∷◌, ◌++◌, refl, codes, arith}
+use Rattle.std.proofs.Common.{◌≡◌, ℕ, List, [], ◌∷◌, ◌++◌, refl, codes, take, arith}
 use Rattle.std.specs.Fmt.{digits}
-use Rattle.prefix_lattice.specs.{PrefixValue}
+use Rattle.prefix_lattice.specs.{PrefixValue, address_bits}
 use Rattle.pcap_frames.specs.declared.file_order.FileOrder.TheVariants.{Little}
 use Rattle.pcap_frames.specs.{number_in_order, FrameValue, order_of_magic}
 use Rattle.frame_records.specs.{FileHasFrames}
 use Rattle.frame_records.specs.declared.weigh.Weigh.TheVariants.{Bytes, Packets}
-use Rattle.hhh_engine.specs.Weigh.{text_capacity, weight_text, text_for, IsWeightText}
+use Rattle.hhh_engine.specs.Weigh.{text_shape, weight_text, text_for, IsWeightText}
 use Rattle.report_session.proofs.Examples.{header}
 use Rattle.dealt_capture.proofs.Examples.{packet}
 
 -- 10.0.0.0/8 20.0.0.0/8, and 11.0.0.0/8 20.0.0.0/8
 abbrev pub prefix : PrefixValue
-prefix = record { source = 10 ∷ []; dest = 20 ∷ [] }
+prefix = record { source = take 8 (address_bits 0x0a000000); dest = take 8 (address_bits 0x14000000) }
 
 abbrev other_source : PrefixValue
-other_source = record { source = 11 ∷ []; dest = 20 ∷ [] }
+other_source = record { source = take 8 (address_bits 0x0b000000); dest = take 8 (address_bits 0x14000000) }
 
 pub text_of_a_weight : weight_text 60 100 100 ≡ codes "low 60\nhigh 100\ntotal 100\n"
 unfolding digits
@@ -28,7 +28,7 @@ text_of_the_packet = refl
 pub text_of_another_source : text_for other_source (packet ∷ []) ≡ weight_text 0 0 100
 text_of_another_source = refl
 
-pub room_for_other_prefixes : text_capacity ≡ 64
+pub room_for_other_prefixes : text_shape.capacity ≡ 64
 room_for_other_prefixes = refl
 
 -- the header of its frame, 34 captured bytes of 100, and those bytes

@@ -27,9 +27,10 @@ own_session_is_dealt_alike settings other rules file records lists shards deal w
 
 -- its reports are sound for all settings that agree on this
 pub own_session_is_sound_alike : (settings other : Settings) (lists : List (List RecordValue)) (reports : List Reported)
-    → settings.capacity ≡ other.capacity → settings.phi ≡ other.phi
-    → All (λ reported. IsSound reported.report lists settings.capacity settings.phi) reports
+    → settings.grain ≡ other.grain → settings.capacity ≡ other.capacity → settings.phi ≡ other.phi
+    → All (λ reported. IsSound settings.grain reported.report lists settings.capacity settings.phi) reports
     → All (IsAuditedSound other lists) reports
-own_session_is_sound_alike settings other lists reports capacity phi sound = λ k d lt.
-    subst (λ n. IsSound (get_or reports k d).report lists n other.phi) capacity
-    (subst (λ n. IsSound (get_or reports k d).report lists settings.capacity n) phi (sound k d lt))
+own_session_is_sound_alike settings other lists reports grain capacity phi sound = λ k d lt.
+    subst (λ g. IsSound g (get_or reports k d).report lists other.capacity other.phi) grain
+    (subst (λ n. IsSound settings.grain (get_or reports k d).report lists n other.phi) capacity
+    (subst (λ n. IsSound settings.grain (get_or reports k d).report lists settings.capacity n) phi (sound k d lt)))

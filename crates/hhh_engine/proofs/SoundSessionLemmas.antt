@@ -36,7 +36,7 @@ module _ {S T K D : Type 0} (s : SourceOf S) (t : SourceOf T) (k : SinkOf K) (d 
   -- it is found so, however the records are dealt, unless a source or the sink fails or memory runs out
   pub sound_session_is_found : CaptureStatusIsFaultless → SessionStatusIsFaultless → AuditFindingIsUnique
       → (settings : Settings) (status : Status) (file bytes : List ℕ) (frames : List FrameValue) (known : Session)
-      → given.capture ≡ Some file → FileHasFrames file frames → given.text ≡ Some bytes → IsSessionText bytes known
+      → given.capture ≡ Some file → FileHasFrames file frames → given.text ≡ Some bytes → IsSessionText settings.grain bytes known
       → length bytes ≤ longest_session
       → ((lists : List (List RecordValue)) (session : Session) → AreAudited settings rules file bytes lists session
       → All (IsAuditedSound settings lists) session.reports)
@@ -81,8 +81,8 @@ module _ {S T K D : Type 0} (s : SourceOf S) (t : SourceOf T) (k : SinkOf K) (d 
   sound_session_is_found never_both no_fault one settings (BadReport wrong) file bytes frames known is_file capture is_text
       is_session not_long sound ends =
       absurd
-      (no_fault bytes known wrong is_session not_long
-      (status_of_known_file given.text bytes (λ t. HasSessionFault t wrong) is_text ends.0.first_fault))
+      (no_fault settings.grain bytes known wrong is_session not_long
+      (status_of_known_file given.text bytes (λ t. HasSessionFault settings.grain t wrong) is_text ends.0.first_fault))
   sound_session_is_found never_both no_fault one settings OutOfMemory file bytes frames known is_file capture is_text
       is_session not_long sound ends =
       inr (inr (inr refl))

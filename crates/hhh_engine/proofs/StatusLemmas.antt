@@ -42,6 +42,7 @@ use Rattle.run_status.specs.declared.status.Status.{Status}
 use Rattle.run_status.specs.declared.status.Status.TheVariants.{Done, BadWords, BadCapture, ReadFault, WriteFault}
 use Rattle.run_status.specs.declared.status.Status.TheVariants.{DiskFault, NotFormatted, Damaged, OtherSettings}
 use Rattle.run_status.specs.declared.status.Status.TheVariants.{OtherCapture, AuditNo, BadReport, OutOfMemory}
+use Rattle.prefix_lattice.specs.declared.grain.Grain.{Grain}
 
 -- no file is both a capture and a file with a fault
 abbrev pub CaptureStatusIsFaultless : Type 0
@@ -192,8 +193,8 @@ command_status_is_never_refusal decided opened rules (Demo seed frames settings)
 -- no text of a session that is not too long has a fault
 abbrev pub SessionStatusIsFaultless : Type 0
 SessionStatusIsFaultless =
-    (text : List ℕ) (session : Session) (fault : TextFault) → IsSessionText text session → length text ≤ longest_session
-    → ¬ HasSessionFault text fault
+    (grain : Grain) (text : List ℕ) (session : Session) (fault : TextFault) → IsSessionText grain text session → length text ≤ longest_session
+    → ¬ HasSessionFault grain text fault
 
 -- the text of a session is not refused
 status_is_never_bad_report : SessionStatusIsFaultless → (rules : DealingRules) (command : Command) (given : InputBytes) (old new : Option (List ℕ))
@@ -205,8 +206,8 @@ status_is_never_bad_report no_fault rules (Make seed frames) given old new fault
 status_is_never_bad_report no_fault rules (Demo seed frames settings) given old new fault can finds = finds
 status_is_never_bad_report no_fault rules (Audit settings) given old new fault can finds =
     let known = can.1 in
-    no_fault known.text known.session fault known.is_session known.not_long
-    (status_of_known_file given.text known.text (λ t. HasSessionFault t fault) known.told finds.first_fault)
+    no_fault settings.grain known.text known.session fault known.is_session known.not_long
+    (status_of_known_file given.text known.text (λ t. HasSessionFault settings.grain t fault) known.told finds.first_fault)
 
 -- a command whose text was written was answered
 status_done_answers : (command : Command) → EndsAnswered command Done

@@ -28,6 +28,7 @@ use Rattle.run_status.specs.declared.status.Status.TheVariants.{Done, BadWords, 
 use Rattle.run_status.specs.declared.status.Status.TheVariants.{DiskFault, NotFormatted, Damaged, OtherSettings}
 use Rattle.run_status.specs.declared.status.Status.TheVariants.{OtherCapture, AuditNo, BadReport, OutOfMemory}
 use Rattle.outside_io.specs.declared.sink.Sink.{Ghosts as SinkOf}
+use Rattle.prefix_lattice.specs.declared.grain.Grain.{Grain}
 
 -- the counts of faults of the two sources: that of the capture, and that of the text of a session
 pub record SourceFaults : Type 0 where
@@ -80,12 +81,12 @@ pub record IsRefusedStore (settings : Settings) (rules : DealingRules) (store : 
   pub dealt : AreDealtRecords settings rules file records lists
   pub refused : IfImageKnown store (λ image. RefusesOpening (saves_settings settings) lists image fault)
 
--- the text of a session was refused: the capture is one and was read to its end; this is the first fault of the text, where
+-- the text of a session by a grain was refused: the capture is one and was read to its end; this is the first fault of the text, where
 -- its bytes are known, which was read to its end, or to one byte past the longest one
-pub record TextRefused (read : InputBytes) (fault : TextFault) : Type 0 where
+pub record TextRefused (grain : Grain) (read : InputBytes) (fault : TextFault) : Type 0 where
   pub read_to_end : IsAtEnd read.capture_left
   pub accepted : IfSome read.capture IsCaptureFile
-  pub first_fault : IfSome read.text (λ text. HasSessionFault text fault)
+  pub first_fault : IfSome read.text (λ text. HasSessionFault grain text fault)
   pub read_to_limit : ReadOnFault fault read.text read.text_left
 
 -- the command was answered: its text was written, or an audit found a report that is not sound
@@ -155,7 +156,7 @@ abbrev pub EndsByFinding : Settings → DealingRules → InputBytes → (old new
 EndsByFinding settings rules read old new (AuditNo report verdict) =
     HoldsOfAudit read (λ file text. IsUnsoundAudit settings rules file text report verdict)
     × Appends old new (unsound_audit report verdict)
-EndsByFinding settings rules read old new (BadReport fault) = TextRefused read fault
+EndsByFinding settings rules read old new (BadReport fault) = TextRefused settings.grain read fault
 EndsByFinding settings rules read old new _ = ⊥
 
 -- within the crate: the same of any command: only `audit` audits

@@ -17,6 +17,7 @@ use Rattle.command_words.specs.declared.settings.Settings.{Settings}
 use Rattle.report_session.specs.{saves_settings}
 use Rattle.dealt_capture.specs.{AreDealtRecords, DealingRules}
 use Rattle.dealt_capture.specs.{IsCaptureFile}
+use Rattle.prefix_lattice.specs.declared.grain.Grain.{Grain}
 
 -- the bytes of the inputs when a command began, where they are known: the capture, the text of a session, and the disk of
 -- the store; and the bytes of the first two that remain unread
@@ -103,12 +104,12 @@ pub record HasCapture (bytes : Option (List ℕ)) : Type 0 where
   pub frames : List FrameValue
   pub capture : FileHasFrames file frames
 
--- the bytes of a text are known, and they are those of a session, and not too many
-pub record HasSession (bytes : Option (List ℕ)) : Type 0 where
+-- the bytes of a text are known, and they are those of a session by this grain, and not too many
+pub record HasSession (grain : Grain) (bytes : Option (List ℕ)) : Type 0 where
   pub text : List ℕ
   pub told : bytes ≡ Some text
   pub session : Session
-  pub is_session : IsSessionText text session
+  pub is_session : IsSessionText grain text session
   pub not_long : length text ≤ longest_session
 
 -- the bytes are a sound store that belongs to these dealt lists, and its sequence leaves room for the saves of a run
@@ -130,7 +131,7 @@ CanBeAnswered rules (Weigh prefix settings) read = HasCapture read.capture
 CanBeAnswered rules (Report settings) read =
     HasCapture read.capture × (settings.store ≡ true → HasStore settings rules read)
 CanBeAnswered rules (Format settings) read = ⊤
-CanBeAnswered rules (Audit settings) read = HasCapture read.capture × HasSession read.text
+CanBeAnswered rules (Audit settings) read = HasCapture read.capture × HasSession settings.grain read.text
 CanBeAnswered rules (Make seed frames) read = ⊤
 CanBeAnswered rules (Demo seed frames settings) read = ⊤
 

@@ -11,6 +11,7 @@ use Rattle.session_audit.specs.{AreAudited}
 use Rattle.hhh_engine.specs.Ending.{SourceFaultsRose, SourceFaults, TextRefused}
 use Rattle.hhh_engine.specs.Inputs.{InputBytes, HoldsOfAudit}
 use Rattle.session_audit.specs.declared.audit.Audited.{Audited}
+use Rattle.prefix_lattice.specs.declared.grain.Grain.{Grain}
 
 -- why a command returns no text: its capture has this first fault, the source's count of faults rose, or memory ran out
 abbrev pub HasNoText : Option (List ℕ) → ℕ → ℕ → Status → Type 0
@@ -21,12 +22,12 @@ HasNoText left before now _ = ⊥
 
 -- why the inputs of an audit were not accepted: a fault of the capture or of the text, or a source failed, or memory
 -- ran out
-abbrev pub HasNoAudit : InputBytes → (before now : SourceFaults) → Status → Type 0
-HasNoAudit read before now (BadCapture fault) = IfSome read.capture (λ file. IsRefusedFile file fault)
-HasNoAudit read before now ReadFault = SourceFaultsRose before now
-HasNoAudit read before now (BadReport fault) = TextRefused read fault
-HasNoAudit read before now OutOfMemory = ⊤
-HasNoAudit read before now _ = ⊥
+abbrev pub HasNoAudit : Grain → InputBytes → (before now : SourceFaults) → Status → Type 0
+HasNoAudit grain read before now (BadCapture fault) = IfSome read.capture (λ file. IsRefusedFile file fault)
+HasNoAudit grain read before now ReadFault = SourceFaultsRose before now
+HasNoAudit grain read before now (BadReport fault) = TextRefused grain read fault
+HasNoAudit grain read before now OutOfMemory = ⊤
+HasNoAudit grain read before now _ = ⊥
 
 -- the inputs of an audit, where their bytes are known
 abbrev pub AreAuditing : Settings → DealingRules → InputBytes → Audited → Type 0

@@ -94,7 +94,7 @@ module _ {S T K D : Type 0} (s : SourceOf S) (t : SourceOf T) (k : SinkOf K) (d 
     pub record RefusesText (fault : TextFault) : Type 0 where
       pub settings : Settings
       pub asked : AskForCommand words (command.Audit settings)
-      pub refusal : TextRefused run_inputs fault
+      pub refusal : TextRefused settings.grain run_inputs fault
       pub nothing : LeavesUnwritten
 
     -- ReadFault: a source failed, the capture's first; nothing was written
@@ -120,7 +120,7 @@ module _ {S T K D : Type 0} (s : SourceOf S) (t : SourceOf T) (k : SinkOf K) (d 
     MustRefuseText status =
         (settings : Settings) (file bytes : List ℕ) (frames : List FrameValue) (fault : TextFault)
         → AskForCommand words (command.Audit settings) → s.left old.capture ≡ Some file → FileHasFrames file frames
-        → t.left old.text ≡ Some bytes → HasSessionFault bytes fault
+        → t.left old.text ≡ Some bytes → HasSessionFault settings.grain bytes fault
         → (status ≡ BadReport fault) ⊎ ((status ≡ ReadFault) ⊎ (status ≡ OutOfMemory))
 
     -- under `rules`, which say to which shards the dealers may deal a record
@@ -183,7 +183,7 @@ module _ {S T K D : Type 0} (s : SourceOf S) (t : SourceOf T) (k : SinkOf K) (d 
       MustFindUnsound status =
           (settings : Settings) (file bytes : List ℕ) (frames : List FrameValue) (known : Session) (report : ℕ) (verdict : Verdict)
           → AskForCommand words (command.Audit settings) → s.left old.capture ≡ Some file → FileHasFrames file frames
-          → t.left old.text ≡ Some bytes → IsSessionText bytes known → length bytes ≤ longest_session
+          → t.left old.text ≡ Some bytes → IsSessionText settings.grain bytes known → length bytes ≤ longest_session
           → ((lists : List (List RecordValue)) (session : Session) → AreAudited settings rules file bytes lists session
           → IsFirstUnsound settings lists session.reports report verdict)
           → (status ≡ AuditNo report verdict) ⊎ ((status ≡ ReadFault) ⊎ ((status ≡ WriteFault) ⊎ (status ≡ OutOfMemory)))
@@ -194,7 +194,7 @@ module _ {S T K D : Type 0} (s : SourceOf S) (t : SourceOf T) (k : SinkOf K) (d 
       MustFindSound status =
           (settings : Settings) (file bytes : List ℕ) (frames : List FrameValue) (known : Session)
           → AskForCommand words (command.Audit settings) → s.left old.capture ≡ Some file → FileHasFrames file frames
-          → t.left old.text ≡ Some bytes → IsSessionText bytes known → length bytes ≤ longest_session
+          → t.left old.text ≡ Some bytes → IsSessionText settings.grain bytes known → length bytes ≤ longest_session
           → ((lists : List (List RecordValue)) (session : Session) → AreAudited settings rules file bytes lists session
           → All (IsAuditedSound settings lists) session.reports)
           → (status ≡ Done) ⊎ ((status ≡ ReadFault) ⊎ ((status ≡ WriteFault) ⊎ (status ≡ OutOfMemory)))

@@ -1,14 +1,15 @@
 -- The weight of a prefix as the program reports it.
 use Rattle.std.specs.Prelude.{ℕ, ◌≡◌, List, ◌++◌, codes, decimal}
 use Rattle.prefix_lattice.specs.{RecordValue, PrefixValue, total_weight}
-use Rattle.shard_state.specs.{HoldsNarrowlyOver, interval_over}
+use Rattle.prefix_lattice.specs.declared.grain.Grain.TheVariants.{Byte}
+use Rattle.shard_state.specs.{HoldsNarrowlyOver, TableShape, interval_over}
 use Rattle.pcap_frames.specs.{FrameValue}
 use Rattle.frame_records.specs.{FileHasFrames, records_of}
 use Rattle.frame_records.specs.declared.weigh.Weigh.{Weigh}
 
--- the capacity of the table that weighs a prefix
-abbrev pub text_capacity : ℕ
-text_capacity = 64
+-- the shape of the table that weighs a prefix, which is of whole bytes
+abbrev pub text_shape : TableShape
+text_shape = record { grain = Byte; capacity = 64 }
 
 -- three lines: the least and the greatest weight of the prefix, and the weight of all records
 abbrev pub weight_text : ℕ → ℕ → ℕ → List ℕ
@@ -19,7 +20,7 @@ weight_text low high total =
 -- what is written for a prefix and some records
 abbrev pub text_for : PrefixValue → List RecordValue → List ℕ
 text_for prefix records =
-    let interval = interval_over text_capacity prefix records in
+    let interval = interval_over text_shape prefix records in
     weight_text interval.low interval.high (total_weight records)
 
 -- the text that reports the weight of a prefix over the records of a capture; the interval holds the exact weight
@@ -27,4 +28,4 @@ pub record IsWeightText (prefix : PrefixValue) (weigh : Weigh) (file text : List
   pub frames : List FrameValue
   pub capture : FileHasFrames file frames
   pub spelled : text ≡ text_for prefix (records_of weigh frames)
-  pub holds : HoldsNarrowlyOver text_capacity prefix (records_of weigh frames)
+  pub holds : HoldsNarrowlyOver text_shape prefix (records_of weigh frames)

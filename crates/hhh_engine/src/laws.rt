@@ -47,13 +47,14 @@ pub fn runs_follow_formulas<S: Source, T: Source, K: Sink, D: Disk>(dealers: &De
         → RunEnds S.Source T.Source K.Sink D.Disk old new words (rules_by formula) status }
 {}
 
-/// An audit of a session's reports over the dealt records finds each of them good, for the capacity and the share of the
-/// session, also where the session went on from a saved cut, if the tables of this were those of its records.
+/// An audit of a session's reports over the dealt records finds each of them good, for the grain, the capacity and the share of
+/// the session, also where the session went on from a saved cut, if the tables of this were those of its records.
 pub fn own_reports_are_good<D: Disk>()
     ensures { (formula : DealKind → ℕ → RecordValue → ℕ → ℕ) (before now : D) (settings : Settings) (store file : Option (List ℕ)) (text : List ℕ)
         (is : IsSession settings (rules_by formula) (AreKeptOnDisk D.Disk before now) store file text)
         (verdict : Verdict) → IfSome is.base (λ cut. CutRepresents cut is.lists)
-        → All (λ reported. IsVerdict is.lists settings.capacity settings.phi reported.report verdict → verdict ≡ Good) (reports_in is.spelled.reports) }
+        → All (λ reported. IsVerdict settings.grain is.lists settings.capacity settings.phi reported.report verdict
+        → verdict ≡ Good) (reports_in is.spelled.reports) }
 {
     own_reports_are_sound::<D>();
     a_report_has_one_verdict();
@@ -61,17 +62,18 @@ pub fn own_reports_are_good<D: Disk>()
 
 /// What `report` writes over a capture is the text of a session, and an audit of it over this capture finds all its
 /// reports sound: those of each round of each caller, the calling thread among them, and the last one. The audit may have
-/// settings of its own that agree on the shards, the capacity, the share, the dealing and the weighing, and the text may
-/// not be longer than the longest that is audited. If the session went on from a saved cut, then the tables of this have
+/// settings of its own that agree on the grain, the shards, the capacity, the share, the dealing and the weighing, and the
+/// text may not be longer than the longest that is audited. If the session went on from a saved cut, then the tables of this have
 /// to be those of its records.
 pub fn own_sessions_are_audited_good<D: Disk>()
     ensures is_text { (formula : DealKind → ℕ → RecordValue → ℕ → ℕ) (before now : D) (settings : Settings) (store : Option (List ℕ)) (file text : List ℕ)
         (is : IsSession settings (rules_by formula) (AreKeptOnDisk D.Disk before now) store (Some file) text)
-        → AreLimited settings → IfSome is.base (λ cut. CutRepresents cut is.lists) → (known : Session) × IsSessionText text known }
+        → AreLimited settings → IfSome is.base (λ cut. CutRepresents cut is.lists) → (known : Session) × IsSessionText settings.grain text known }
     ensures good { (formula : DealKind → ℕ → RecordValue → ℕ → ℕ) (before now : D) (settings other : Settings) (store : Option (List ℕ)) (file text : List ℕ)
         (is : IsSession settings (rules_by formula) (AreKeptOnDisk D.Disk before now) store (Some file) text)
-        → AreLimited settings → settings.shards ≡ other.shards → settings.capacity ≡ other.capacity → settings.phi ≡ other.phi
-        → settings.deal ≡ other.deal → settings.weigh ≡ other.weigh → length text ≤ longest_session
+        → AreLimited settings → settings.grain ≡ other.grain → settings.shards ≡ other.shards
+        → settings.capacity ≡ other.capacity → settings.phi ≡ other.phi → settings.deal ≡ other.deal
+        → settings.weigh ≡ other.weigh → length text ≤ longest_session
         → IfSome is.base (λ cut. CutRepresents cut is.lists)
         → IsSoundAudit other (rules_by formula) file text (sound_audit ((settings.callers + 1) * settings.rounds + 1)) }
 {
@@ -84,13 +86,13 @@ pub fn made_captures_are_captures()
         → (frames : List FrameValue) × FileHasFrames (made_capture seed count) frames × (length frames ≡ count) }
 {}
 
-/// The text of a demonstration depends on the seed, the number of frames, the shards, the capacity, the share, the dealing
-/// and the weighing alone, where each kind of dealing is a formula: whatever the number of workers, the block and the
+/// The text of a demonstration depends on the seed, the number of frames, the grain, the shards, the capacity, the share,
+/// the dealing and the weighing alone, where each kind of dealing is a formula: whatever the number of workers, the block and the
 /// threads, its bytes are the same.
 pub fn demos_have_one_text()
     ensures { (formula : DealKind → ℕ → RecordValue → ℕ → ℕ) (settings other : Settings) (seed frames : ℕ) (text other_text : List ℕ)
-        → settings.shards ≡ other.shards → settings.capacity ≡ other.capacity → settings.phi ≡ other.phi
-        → settings.deal ≡ other.deal → settings.weigh ≡ other.weigh
+        → settings.grain ≡ other.grain → settings.shards ≡ other.shards → settings.capacity ≡ other.capacity
+        → settings.phi ≡ other.phi → settings.deal ≡ other.deal → settings.weigh ≡ other.weigh
         → IsDemoText settings (rules_by formula) seed frames text → IsDemoText other (rules_by formula) seed frames other_text
         → text ≡ other_text }
 {

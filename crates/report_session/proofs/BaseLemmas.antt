@@ -10,7 +10,7 @@ use Rattle.command_words.specs.{AreLimited}
 use Rattle.std.specs.Prelude.{IfSome, is_some}
 use Rattle.prefix_lattice.specs.{RecordValue}
 use Rattle.hhh_report.specs.{AreNotPast}
-use Rattle.shard_state.specs.{CutValue, ShardValue, core_capacity}
+use Rattle.shard_state.specs.{CutValue, ShardValue, core_shape}
 use Rattle.pass_tokens.specs.{first_view}
 use Rattle.checkpoint.specs.{AreSettings, SaverState, DiskMatches}
 use Rattle.recovery.specs.{CanGoOn, IsBaseFor, OpensToBase, base_positions, greatest_opened}
@@ -24,37 +24,53 @@ use Rattle.run_status.specs.declared.status.Status.TheVariants.{OutOfMemory}
 use Rattle.report_session.proofs.OpeningShardLemmas.{resumed_opening_shards_at_cut, opening_shards_start_at_zero}
 use Rattle.report_session.proofs.SeenPositionLemmas.{seen_positions_not_past_self}
 use Rattle.report_session.proofs.SessionThreadLemmas.{first_session_thread_sees_starts}
+use Rattle.report_session.specs.Session.{asked_shape}
+use Rattle.checkpoint.specs.{settings_shape}
+use Rattle.report_session.specs.Session.{GoesOnFrom}
+use Rattle.std.proofs.Common.{Bool}
+
+-- only tables by whole bytes are saved, so those of a store that is used are those asked for
+base_shape_is_asked : (settings : Settings) → AreLimited settings → settings.store ≡ true
+    → settings_shape (saves_settings settings) ≡ asked_shape settings
+base_shape_is_asked settings limited used =
+    ap (λ grain. record { grain = grain; capacity = settings.capacity }) (sym (limited.fits.saved_by_bytes used))
 
 -- shards may go on from the base
-pub base_goes_on : (settings : Settings) (lists : List (List RecordValue)) (base : Option CutValue)
-    → IfSome base (IsBaseFor (saves_settings settings) lists) → IfSome base (FeedGoesOn settings.capacity lists)
-base_goes_on settings lists None fits = tt
-base_goes_on settings lists (Some cut) fits = record { alike = fits.shape.alike; continues = fits.continues }
+pub base_goes_on : (settings : Settings) (lists : List (List RecordValue)) (store : Option (List ℕ)) (base : Option CutValue)
+    → AreLimited settings → GoesOnFrom settings lists store base → IfSome base (FeedGoesOn (asked_shape settings) lists)
+base_goes_on settings lists store None limited begins = tt
+base_goes_on settings lists store (Some cut) limited begins =
+    record { alike = begins.fits.shape.alike ∙ base_shape_is_asked settings limited (used settings.store refl); continues = begins.fits.continues }
+  where
+    used : (store_used : Bool) → settings.store ≡ store_used → settings.store ≡ true
+    used true is = is
+    used false is = cc (begins.unused is)
 
 -- the positions of the base are those at which the shards start
 pub base_starts : (settings : Settings) (lists : List (List RecordValue)) (base : Option CutValue)
     → length lists ≡ settings.shards → IfSome base (IsBaseFor (saves_settings settings) lists)
-    → base_positions (saves_settings settings) base ≡ session_start (session_opening settings.capacity lists base)
+    → base_positions (saves_settings settings) base ≡ session_start (session_opening (asked_shape settings) lists base)
 base_starts settings lists None many fits =
-    ap (λ n. replicate n 0) (sym many) ∙ sym (opening_shards_start_at_zero settings.capacity lists)
+    ap (λ n. replicate n 0) (sym many) ∙ sym (opening_shards_start_at_zero (asked_shape settings) lists)
 base_starts settings lists (Some cut) many fits = sym (resumed_opening_shards_at_cut lists cut.shards fits.continues)
 
 -- the saver of the base may make the saves of a session
 pub base_saver_is_ready : (settings : Settings) (lists : List (List RecordValue)) (reads : Option (List ℕ))
     (possible : List ℕ → Type 0) (opening : List ShardValue) (positions : List ℕ) (saver : Option SaverState)
-    → AreLimited settings → length opening ≡ settings.shards → core_capacity opening ≡ settings.capacity
-    → positions ≡ session_start opening → IfSome saver (IsFeedSaver settings lists positions)
+    → AreLimited settings → is_some saver ≡ settings.store → length opening ≡ settings.shards
+    → core_shape opening ≡ asked_shape settings → positions ≡ session_start opening → IfSome saver (IsFeedSaver settings lists positions)
     → IfSome saver (DiskMatches reads possible)
     → IfSome saver (CanMakeSaves reads possible opening (first_view opening) (settings.rounds + 1))
-base_saver_is_ready settings lists reads possible opening positions None limited many alike starts is stands = tt
-base_saver_is_ready settings lists reads possible opening positions (Some saver) limited many alike starts is stands =
+base_saver_is_ready settings lists reads possible opening positions None limited used many alike starts is stands = tt
+base_saver_is_ready settings lists reads possible opening positions (Some saver) limited used many alike starts is stands =
     let early : saver.sequence ≤ greatest_opened = is.early in
     let few : settings.rounds ≤ 32 = limited.few_rounds in
     record {
       fits = record {
         settings = subst AreSettings (sym is.settings_are) (saves_settings-allowed settings limited);
         shards = ap (λ (s : StoreSettings). s.shards) is.settings_are ∙ sym many;
-        capacity = ap (λ (s : StoreSettings). s.capacity) is.settings_are ∙ sym alike;
+        shape =
+            ap settings_shape is.settings_are ∙ base_shape_is_asked settings limited (sym used) ∙ sym alike;
         seen = subst (λ ps. AreNotPast ps (map (λ trail. trail.seen) (first_view opening).trails))
             (first_session_thread_sees_starts opening ∙ sym starts ∙ sym is.positions_are)
             (seen_positions_not_past_self (map (λ trail. trail.seen) (first_view opening).trails));
@@ -80,7 +96,7 @@ opened_base settings lists store opened base used many goes_on opens cut positio
   used = ap is_some saver ∙ sym used;
   positions_are =
       positions ∙ goes_on.positions_are ∙ base_starts settings lists opened.base many goes_on.base
-      ∙ ap (λ o. session_start (session_opening settings.capacity lists o)) (sym cut);
+      ∙ ap (λ o. session_start (session_opening (asked_shape settings) lists o)) (sym cut);
   saver =
       subst (λ o. IfSome o (IsFeedSaver settings lists base.positions)) (sym saver)
       (record {
@@ -104,7 +120,7 @@ new_base settings lists store base unused is =
         opens = λ used. absurd (false≢true (sym unused ∙ used));
       };
       used = sym unused;
-      positions_are = sym (opening_shards_start_at_zero settings.capacity lists);
+      positions_are = sym (opening_shards_start_at_zero (asked_shape settings) lists);
       saver = tt;
     })
 

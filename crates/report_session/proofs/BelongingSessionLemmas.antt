@@ -30,13 +30,15 @@ use Rattle.report_session.proofs.OpeningShardLemmas.{new_opening_shards_are_shar
 use Rattle.report_session.proofs.OwnReportLemmas.{own_report_lists_of_opening}
 use Rattle.report_session.proofs.ShownSessionLemmas.{shown_session_front_of_all}
 use Rattle.report_session.proofs.SessionTextLemmas.{session_text_whatever_was_saved, session_text_begins_saying_less}
+use Rattle.report_session.specs.Session.{asked_shape}
+use Rattle.shard_state.specs.{TableShape}
 
 -- the shards of a run, whose base represents the lists
-belonging_session_opens_shards : (capacity : ℕ) (lists : List (List RecordValue)) (base : Option CutValue) → 1 ≤ length lists
-    → length lists ≤ shard_limit → IfSome base (FeedGoesOn capacity lists) → IfSome base (λ cut. CutRepresents cut lists)
-    → AreCoreShards (session_opening capacity lists base)
-belonging_session_opens_shards capacity lists None some few goes_on represents = new_opening_shards_are_shards capacity lists some few
-belonging_session_opens_shards capacity lists (Some cut) some few goes_on represents =
+belonging_session_opens_shards : (shape : TableShape) (lists : List (List RecordValue)) (base : Option CutValue) → 1 ≤ length lists
+    → length lists ≤ shard_limit → IfSome base (FeedGoesOn shape lists) → IfSome base (λ cut. CutRepresents cut lists)
+    → AreCoreShards (session_opening shape lists base)
+belonging_session_opens_shards shape lists None some few goes_on represents = new_opening_shards_are_shards shape lists some few
+belonging_session_opens_shards shape lists (Some cut) some few goes_on represents =
     resumed_opening_shards_are_shards cut lists some few goes_on.continues represents.alike
 
 -- the base that a store of the lists opened to represents them
@@ -102,17 +104,17 @@ belonging_session_keeps_belonging one d read_is_image settings lists base saved 
 belonging_session_cuts_represent : SavedStoreCutsRepresent → (settings : Settings) (lists : List (List RecordValue))
     (store : Option (List ℕ)) (base : Option CutValue) (reports : List Reported) → AreLimited settings
     → length lists ≡ settings.shards → GoesOnFrom settings lists store base
-    → GoesOnSoundly lists base (session_opening settings.capacity lists base)
-    → All (IsShownInSession (session_opening settings.capacity lists base) settings) reports
+    → GoesOnSoundly lists base (session_opening (asked_shape settings) lists base)
+    → All (IsShownInSession (session_opening (asked_shape settings) lists base) settings) reports
     → IfSome base (λ cut. CutRepresents cut lists)
-    → All (λ cut. CutRepresents cut lists) (saved_cuts true (session_opening settings.capacity lists base) reports)
+    → All (λ cut. CutRepresents cut lists) (saved_cuts true (session_opening (asked_shape settings) lists base) reports)
 belonging_session_cuts_represent represent settings lists store base reports limited many begins represents shown standing =
-    let opening : List ShardValue = session_opening settings.capacity lists base in
+    let opening : List ShardValue = session_opening (asked_shape settings) lists base in
     subst (λ l. All (λ (cut : CutValue). CutRepresents cut l) (saved_cuts true opening reports))
     (own_report_lists_of_opening settings lists store base begins)
     (saved_store_cuts_represent represent opening settings reports
-    (belonging_session_opens_shards settings.capacity lists base (subst (λ n. 1 ≤ n) (sym many) limited.some_shards)
-    (subst (λ n. n ≤ shard_limit) (sym many) limited.few_shards) (base_goes_on settings lists base begins.fits) standing)
+    (belonging_session_opens_shards (asked_shape settings) lists base (subst (λ n. 1 ≤ n) (sym many) limited.some_shards)
+    (subst (λ n. n ≤ shard_limit) (sym many) limited.few_shards) (base_goes_on settings lists store base limited begins) standing)
     (represents standing) shown)
 
 -- the same, with or without a store
@@ -133,7 +135,7 @@ pub belonging_session_completed : OpenToOne → SavedStoreCutsRepresent → {D :
     → BelongThroughout d (saves_settings settings) is.lists is.base old new
 belonging_session_completed one represent d read_is_image rules settings old new store file text is limited
     used known belonged =
-    let opening : List ShardValue = session_opening settings.capacity is.lists is.base in
+    let opening : List ShardValue = session_opening (asked_shape settings) is.lists is.base in
     let many : length is.lists ≡ settings.shards = is.as_many in
     let reports : List Reported = caller_reports is.spelled.reports in
     belonging_session_keeps_belonging one d read_is_image settings is.lists is.base
@@ -155,7 +157,7 @@ belonging_session_broken_off one represent d read_is_image rules settings old ne
     used known belonged =
     let lists : List (List RecordValue) = is.lists in
     let base : Option CutValue = is.base in
-    let opening : List ShardValue = session_opening settings.capacity lists base in
+    let opening : List ShardValue = session_opening (asked_shape settings) lists base in
     let many : length lists ≡ settings.shards = is.as_many in
     let Stand : List CutValue → Type 0 = All (λ cut. CutRepresents cut lists) in
     let Standing : Type 0 = IfSome base (λ cut. CutRepresents cut lists) in

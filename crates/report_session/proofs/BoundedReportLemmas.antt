@@ -19,6 +19,10 @@ use Rattle.report_text.specs.{ShowsPositions}
 use Rattle.command_words.specs.{AreLimited}
 use Rattle.command_words.specs.declared.settings.Settings.{Settings}
 use Rattle.report_session.specs.Session.{IsShownInSession}
+use Rattle.prefix_lattice.specs.declared.grain.Grain.{Grain}
+use Rattle.shard_state.specs.{core_shape}
+use Rattle.shard_state.specs.{TableShape}
+use Rattle.report_session.specs.Session.{asked_shape}
 
 -- the list of a shard: at most 2^24 records, each of a weight below 2^32
 pub record IsBoundedReportList (list : List RecordValue) : Type 0 where
@@ -93,25 +97,26 @@ bounded_report_positions_within (position ∷ positions) (list ∷ lists) within
     All-cons (λ position. position ≤ record_limit) position positions (omega (arith, is.few, within.0))
     (bounded_report_positions_within positions lists within.1 (All-tail IsBoundedReportList list lists small))
 
--- a line whose prefix and numbers a text can show
-abbrev pub IsBoundedReportLine : Line → Type 0
-IsBoundedReportLine line = IsPrefix line.prefix × (line.lo < 2 ^ 64) × (line.hi < 2 ^ 64)
+-- a line whose prefix, of a grain, and numbers a text can show
+abbrev pub IsBoundedReportLine : Grain → Line → Type 0
+IsBoundedReportLine grain line = IsPrefix grain line.prefix × (line.lo < 2 ^ 64) × (line.hi < 2 ^ 64)
 
 -- a report over this many shards whose positions and numbers a text can show
-pub record IsBoundedReport (shards : ℕ) (report : Report) : Type 0 where
+pub record IsBoundedReport (grain : Grain) (shards : ℕ) (report : Report) : Type 0 where
   pub positions : ShowsPositions report.positions
   pub as_many : length report.positions ≡ shards
   pub total : report.total < 2 ^ 64
   pub some : 1 ≤ report.threshold
   pub threshold : report.threshold < 2 ^ 64
-  pub lines : All IsBoundedReportLine report.lines
+  pub lines : All (IsBoundedReportLine grain) report.lines
 
 -- a sound report of a session is one
 pub bounded_report_if_sound : (opening : List ShardValue) (settings : Settings) (lists : List (List RecordValue))
     (reported : Reported) → AreLimited settings → length opening ≡ settings.shards → length lists ≡ settings.shards
-    → All IsBoundedReportList lists → IsShownInSession opening settings reported → IsSound reported.report lists settings.capacity settings.phi
-    → IsBoundedReport settings.shards reported.report
-bounded_report_if_sound opening settings lists reported limited many many_lists small shown sound =
+    → core_shape opening ≡ asked_shape settings → All IsBoundedReportList lists → IsShownInSession opening settings reported
+    → IsSound settings.grain reported.report lists settings.capacity settings.phi
+    → IsBoundedReport settings.grain settings.shards reported.report
+bounded_report_if_sound opening settings lists reported limited many many_lists alike small shown sound =
     let report = reported.report in
     let counted = records_before lists report.positions in
     let as_many : length report.positions ≡ settings.shards = shown.is_report.as_many ∙ many in
@@ -137,6 +142,10 @@ bounded_report_if_sound opening settings lists reported limited many many_lists 
           let weight = bounded_report_prefix_weighs_less line.prefix counted in
           let high = bounded_report_high_is_within line.lo line.hi (prefix_weight line.prefix counted) settings.capacity report.total
           (omega (arith, capacity)) (omega (arith, weight, total_is)) holds (sound.width k d lt) in
-          let is_line = (shown.is_report.is.lines line).0 (Contains-get_or report.lines k d lt) in
-          (is_line.is_prefix, omega (arith, holds.low, weight, total_is, total), omega (arith, high, total));
+          let is_line = (shown.is_report.is.lines line).0 (Contains-get_or report.lines k d lt) in (
+            subst (λ (shape : TableShape). IsPrefix shape.grain line.prefix) alike is_line.is_prefix,
+            omega
+                (arith, holds.low, weight, total_is, total),
+            omega (arith, high, total),
+          );
     }

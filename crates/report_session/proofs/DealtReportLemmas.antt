@@ -31,6 +31,7 @@ use Rattle.report_session.proofs.SessionTextLemmas.{spelled_session_text_says_le
 use Rattle.outside_io.specs.declared.sink.Sink.{Ghosts as SinkOf}
 use Rattle.report_session.specs.DealtFeed.{feed_faults}
 use Rattle.report_session.specs.Saving.{IsAsBefore}
+use Rattle.report_session.specs.Session.{asked_shape}
 
 -- what a run keeps of its store, from the opening of the store and the saves after it
 pub dealt_report_keeps_saves : {D : Type 0} (d : DiskOf D) (settings : Settings) (lists : List (List RecordValue))
@@ -123,11 +124,11 @@ dealt_report_ends_without_base k d settings lists tail sink old new status same 
 -- bytes of a session, from the base on
 dealt_report_in_part : (settings : Settings) (lists : List (List RecordValue)) (tail : List ℕ) (keeping : SessionKeeping)
     (store : Option (List ℕ)) (base : Option CutValue) (Kept : SessionSaving) (old new : Option (List ℕ))
-    → GoesOnFrom settings lists store base → GoesOnSoundly lists base (session_opening settings.capacity lists base)
+    → GoesOnFrom settings lists store base → GoesOnSoundly lists base (session_opening (asked_shape settings) lists base)
     → ((saved unfinished : List CutValue) → Kept saved unfinished → settings.store ≡ true
     → keeping (saves_settings settings) lists saved unfinished)
-    → AreSessionShards settings.capacity (session_opening settings.capacity lists base)
-    × WritesAnswer (BeginsSession (session_opening settings.capacity lists base) settings Kept tail) old new
+    → AreSessionShards (asked_shape settings) (session_opening (asked_shape settings) lists base)
+    × WritesAnswer (BeginsSession (session_opening (asked_shape settings) lists base) settings Kept tail) old new
     → FeedWritesPart settings lists tail keeping store old new
 dealt_report_in_part settings lists tail keeping store base Kept old new begins represents keeps (shards, part) = record {
   base = base;
@@ -136,7 +137,7 @@ dealt_report_in_part settings lists tail keeping store base Kept old new begins 
   shards = shards;
   writes = record {
     text = part.text;
-    is_text = session_text_begins_weaker (session_opening settings.capacity lists base) settings Kept
+    is_text = session_text_begins_weaker (session_opening (asked_shape settings) lists base) settings Kept
         (λ saved unfinished. settings.store ≡ true → keeping (saves_settings settings) lists saved unfinished) tail part.text keeps
         part.is_text;
     written = part.written;
@@ -147,13 +148,13 @@ dealt_report_in_part settings lists tail keeping store base Kept old new begins 
 pub dealt_report_ends_broken_off : {K D : Type 0} (k : SinkOf K) (d : DiskOf D) (settings : Settings)
     (lists : List (List RecordValue)) (tail : List ℕ) (base : Option CutValue) (Kept : SessionSaving) (Same : Type 0)
     (sink written : K) (old new : D) (status : Status) → GoesOnFrom settings lists (d.reads old) base
-    → GoesOnSoundly lists base (session_opening settings.capacity lists base)
+    → GoesOnSoundly lists base (session_opening (asked_shape settings) lists base)
     → ((saved unfinished : List CutValue) → Kept saved unfinished → settings.store ≡ true
     → AreKeptOnDisk d old new (saves_settings settings) lists saved unfinished)
     → (Same → IsAsBefore d old new)
     → (((written ≡ sink) × Same) × (status ≡ OutOfMemory))
-    ⊎ (AreSessionShards settings.capacity (session_opening settings.capacity lists base)
-    × WritesAnswer (BeginsSession (session_opening settings.capacity lists base) settings Kept tail) (k.taken sink) (k.taken written))
+    ⊎ (AreSessionShards (asked_shape settings) (session_opening (asked_shape settings) lists base)
+    × WritesAnswer (BeginsSession (session_opening (asked_shape settings) lists base) settings Kept tail) (k.taken sink) (k.taken written))
     → IsFeedFault (feed_faults k d sink old) (feed_faults k d written new) status
     → FeedEnds k d settings lists tail sink written old new status
 dealt_report_ends_broken_off k d settings lists tail base Kept Same sink written old new WriteFault begins represents keeps unmoved part fault = (
@@ -198,9 +199,9 @@ dealt_report_ends_broken_off k d settings lists tail base Kept Same sink written
 -- the session was written whole
 pub dealt_report_is_written : (settings : Settings) (lists : List (List RecordValue)) (tail : List ℕ) (keeping : SessionKeeping)
     (store : Option (List ℕ)) (base : Option CutValue) (Kept : List CutValue → Type 0) (old new : Option (List ℕ))
-    → GoesOnFrom settings lists store base → GoesOnSoundly lists base (session_opening settings.capacity lists base)
+    → GoesOnFrom settings lists store base → GoesOnSoundly lists base (session_opening (asked_shape settings) lists base)
     → ((cuts : List CutValue) → Kept cuts → settings.store ≡ true → keeping (saves_settings settings) lists cuts [])
-    → WritesAnswer (IsOverShards (session_opening settings.capacity lists base) settings Kept tail) old new
+    → WritesAnswer (IsOverShards (session_opening (asked_shape settings) lists base) settings Kept tail) old new
     → FeedWrites settings lists tail keeping store old new
 dealt_report_is_written settings lists tail keeping store base Kept old new begins represents keeps writes = record {
   base = base;
@@ -208,7 +209,7 @@ dealt_report_is_written settings lists tail keeping store base Kept old new begi
   represents = represents;
   writes = record {
     text = writes.text;
-    is_text = spelled_session_text_says_less (session_opening settings.capacity lists base) settings Kept
+    is_text = spelled_session_text_says_less (session_opening (asked_shape settings) lists base) settings Kept
         (λ cuts. settings.store ≡ true → keeping (saves_settings settings) lists cuts []) tail writes.text keeps
         writes.is_text;
     written = writes.written;

@@ -32,6 +32,7 @@ use Rattle.report_session.proofs.ExamplesOfSessions.{dealt_from_the_header, in_t
 use Rattle.report_session.proofs.ExamplesOfSessions.{no_reports, once_more, one_number, one_report_with, opening}
 use Rattle.report_session.proofs.ExamplesOfSessions.{records, report, report_at_the_ends, running, session_shards}
 use Rattle.report_session.proofs.ExamplesOfSessions.{settings, shard}
+use Rattle.prefix_lattice.specs.declared.grain.Grain.TheVariants.{Byte}
 
 -- what the calling thread knows before its first round
 abbrev first : View
@@ -135,9 +136,9 @@ one_call = record {
   unsaved = All-cons (λ (reported : Reported). reported.saved ≡ None) last [] refl (All-nil _);
 }
 
-last_is_sound : All (λ (reported : Reported). IsSound reported.report lists 512 10000) (last ∷ [])
+last_is_sound : All (λ (reported : Reported). IsSound Byte reported.report lists 512 10000) (last ∷ [])
 last_is_sound =
-    All-cons (λ (reported : Reported). IsSound reported.report lists 512 10000) last [] nothing_is_sound (All-nil _)
+    All-cons (λ (reported : Reported). IsSound Byte reported.report lists 512 10000) last [] nothing_is_sound (All-nil _)
 
 pub one_round_is_written :
     WritesRounds opening 10000 false 1 first after_one none_saved (Some []) (Some (session_part false last))
@@ -316,7 +317,7 @@ pub dealt_capture : IsFeedCapture settings in_turn (Some header) lists (tail_tex
 dealt_capture = record { records = records; dealt = dealt_from_the_header; as_many = refl; is_tail = refl }
 
 pub two_shards_start_before_their_ends : StartsBefore two_shards
-two_shards_start_before_their_ends = new_opening_shards_before_ends 512 two_lists
+two_shards_start_before_their_ends = new_opening_shards_before_ends (record { grain = Byte; capacity = 512 }) two_lists
 
 -- a shard of no record can't have counted one
 pub shard_past_its_end : StartsBefore (record shard { position = 1 } ∷ []) → ⊥

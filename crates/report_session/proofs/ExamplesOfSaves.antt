@@ -34,6 +34,10 @@ use Rattle.report_session.specs.Session.{text_of_reports, session_start}
 use Rattle.run_status.specs.declared.status.Status.TheVariants.{NotFormatted}
 use Rattle.dealt_capture.proofs.Examples.{packet}
 use Rattle.report_session.proofs.ExamplesOfSessions.{last, opening as four_shards, settings}
+use Rattle.report_session.specs.Session.{asked_shape}
+use Rattle.shard_state.specs.{TableShape}
+use Rattle.prefix_lattice.specs.{address_bits}
+use Rattle.std.proofs.Common.{ap}
 
 -- `report --store`, with one shard and tables of two entries
 abbrev one_shard : Settings
@@ -53,15 +57,19 @@ settings_of_a_store = refl
 
 -- ---- what is saved
 
+-- the shape of its tables
+abbrev shape : TableShape
+shape = asked_shape one_shard
+
 -- cuts of no record, and, as it says, of one
 abbrev none_counted : CutValue
-none_counted = record { capacity = 2; shards = empty_snapshot 2 ∷ [] }
+none_counted = record { shape = shape; shards = empty_snapshot shape ∷ [] }
 
 abbrev snapshot : SnapshotValue
-snapshot = record { capacity = 2; position = 1; tables = no_entries }
+snapshot = record { shape = shape; position = 1; tables = no_entries shape.grain }
 
 abbrev one_counted : CutValue
-one_counted = record { capacity = 2; shards = snapshot ∷ [] }
+one_counted = record { shape = shape; shards = snapshot ∷ [] }
 
 abbrev saved : ℕ → CutValue → SavedValue
 saved sequence cut = record { sequence = sequence; digest = 9 ∷ []; cut = cut }
@@ -261,7 +269,7 @@ resumed = record { list = packet ∷ []; base = snapshot; position = 1 }
 pub one_resumed_shard : resumed_shards lists (snapshot ∷ []) ≡ resumed ∷ []
 one_resumed_shard = refl
 
-pub run_goes_on_from_a_cut : session_opening 2 lists (Some one_counted) ≡ resumed ∷ []
+pub run_goes_on_from_a_cut : session_opening shape lists (Some one_counted) ≡ resumed ∷ []
 run_goes_on_from_a_cut = refl
 
 pub resumed_shard_starts_at_its_cut : session_start (resumed ∷ []) ≡ 1 ∷ []
@@ -284,12 +292,12 @@ pub no_base_without_a_store : GoesOnFrom settings lists None (Some one_counted) 
 no_base_without_a_store goes_on = let none = goes_on.unused refl in cc none
 
 -- the cut of no record may be gone on from, in tables of its capacity alone
-pub cut_to_go_on_from : FeedGoesOn 2 lists none_counted
+pub cut_to_go_on_from : FeedGoesOn shape lists none_counted
 unfolding no_entries
 cut_to_go_on_from = record { alike = refl; continues = (record { within = omega arith; counted = refl }, tt) }
 
-pub cut_of_another_capacity : FeedGoesOn 4 lists none_counted → ⊥
-cut_of_another_capacity goes_on = omega (arith, goes_on.alike)
+pub cut_of_another_capacity : FeedGoesOn (record shape { capacity = 4 }) lists none_counted → ⊥
+cut_of_another_capacity goes_on = omega (arith, ap (λ (s : TableShape). s.capacity) goes_on.alike)
 
 -- a saver for the packet, from the start on
 pub saver_for_the_packet : IsFeedSaver one_shard lists (0 ∷ [])
@@ -297,11 +305,11 @@ pub saver_for_the_packet : IsFeedSaver one_shard lists (0 ∷ [])
 saver_for_the_packet = record { settings_are = refl; digest_is = refl; early = omega arith; positions_are = refl }
 
 -- it may save what any pass reads of new shards
-pub saver_fits_new_shards : SavesFitBoard (new_shards 2 lists) (first_view (new_shards 2 lists)) saver
+pub saver_fits_new_shards : SavesFitBoard (new_shards shape lists) (first_view (new_shards shape lists)) saver
 saver_fits_new_shards = record {
   settings = record { some = omega arith; few = omega arith; least = omega arith; most = omega arith };
   shards = refl;
-  capacity = refl;
+  shape = refl;
   seen = (omega arith, tt);
 }
 
@@ -319,7 +327,7 @@ no_base_on_an_unknown_disk = record {
 -- ---- the text of a session with a store, over the packet
 
 abbrev line : Line
-line = record { prefix = record { source = 10 ∷ 1 ∷ 2 ∷ 3 ∷ []; dest = 20 ∷ 1 ∷ 2 ∷ 3 ∷ [] }; lo = 100; hi = 100 }
+line = record { prefix = record { source = address_bits 0x0a010203; dest = address_bits 0x14010203 }; lo = 100; hi = 100 }
 
 pub one_line : AreReportLines (line ∷ [])
 one_line = record {

@@ -7,10 +7,10 @@ use Rattle.std.proofs.lemmas.List.{get_or-replicate}
 use Rattle.std.specs.List.Sorted.{IsNonDecreasing}
 use Rattle.std.proofs.lemmas.List.Sorted.{IsNonDecreasingBy-short}
 use Rattle.std.proofs.lemmas.List.Elements.{All-nil, All-cons, All-replicate}
-use Rattle.prefix_lattice.specs.{RecordValue, NodeValue, IsPrefixKey, IsNode, node_index, node_of_prefix, prefix_key}
+use Rattle.prefix_lattice.specs.{RecordValue, NodeValue, IsPrefixKey, IsNode, node_count, node_index, node_of_prefix, prefix_key}
 use Rattle.deal_rules.specs.declared.deal_kind.DealKind.TheVariants.{RoundRobin}
 use Rattle.deal_rules.specs.{IsDealing}
-use Rattle.shard_state.specs.{CutValue, IsShard, IsSnapshot, ShardValue, empty_snapshot, entries_at}
+use Rattle.shard_state.specs.{CutValue, IsShard, IsSnapshot, ShardValue, TableShape, empty_snapshot, entries_at}
 use Rattle.shard_state.specs.{no_entries}
 use Rattle.shard_state.specs.{BasesRepresent, SnapshotRepresents, table_at}
 use Rattle.space_saving.specs.declared.entry.Entry.{Entry}
@@ -40,10 +40,14 @@ use Rattle.report_session.specs.Session.{session_parts, session_rest, save_line,
 use Rattle.report_session.specs.Session.{session_start}
 use Rattle.report_session.proofs.Examples.{header, two_shards}
 use Rattle.report_session.proofs.ShownSessionLemmas.{shown_session_report, shown_session_reports}
+use Rattle.prefix_lattice.proofs.NodePlaceLemmas.{node_place_is_small}
+use Rattle.prefix_lattice.specs.declared.grain.Grain.TheVariants.{Byte}
+use Rattle.report_session.specs.Session.{asked_shape}
 
 -- `report`, with defaults filled in
 abbrev pub settings : Settings
 settings = record {
+  grain = Byte;
   shards = 4;
   capacity = 512;
   phi = 10000;
@@ -75,28 +79,33 @@ header_is_a_capture = (
   },
 )
 
+-- the shape of the tables that it asks for
+abbrev pub shape : TableShape
+shape = asked_shape settings
+
 -- four shards without records
 abbrev pub lists : List (List RecordValue)
 lists = [] ∷ [] ∷ [] ∷ [] ∷ []
 
 abbrev pub opening : List ShardValue
-opening = new_shards 512 lists
+opening = new_shards shape lists
 
 abbrev pub shard : ShardValue
-shard = record { list = []; base = empty_snapshot 512; position = 0 }
+shard = record { list = []; base = empty_snapshot shape; position = 0 }
 
 -- no table has an entry
-nothing_counted : (node : NodeValue) → IsNode node → entries_at node (empty_snapshot 512) ≡ []
+nothing_counted : (node : NodeValue) → IsNode Byte node → entries_at node (empty_snapshot shape) ≡ []
 unfolding no_entries
-nothing_counted node is_node = get_or-replicate 25 (node_index node) [] [] (omega (arith, is_node.source, is_node.dest))
+nothing_counted node is_node = get_or-replicate (node_count Byte) (node_index node) [] [] (node_place_is_small node is_node)
 
-empty_tables : IsSnapshot (empty_snapshot 512)
+empty_tables : IsSnapshot (empty_snapshot shape)
 unfolding no_entries
 empty_tables = record {
   least = omega arith;
   most = omega arith;
+  of_grain = omega arith;
   placed = omega arith;
-  shape = refl;
+  as_many = refl;
   tables = λ node is_node. record {
     are_entries =
         subst (AreTableEntries 512) (sym (nothing_counted node is_node)) (record {
@@ -145,8 +154,8 @@ least_threshold = record {
   least = λ weight heavy. heavy.some;
 }
 
-high_of_nothing : (node : NodeValue) (key : ℕ) → IsNode node
-    → (interval_in (table_at node (empty_snapshot 512)) key).high ≡ 0
+high_of_nothing : (node : NodeValue) (key : ℕ) → IsNode Byte node
+    → (interval_in (table_at node (empty_snapshot shape)) key).high ≡ 0
 high_of_nothing node key is_node =
     ap (λ entries. (interval_in (record { capacity = 512; entries = entries }) key).high)
     (nothing_counted node is_node)
@@ -154,11 +163,13 @@ high_of_nothing node key is_node =
 nothing_is_heavy : (line : Line) → IsLineOf cut 1 [] line → ⊥
 unfolding no_entries
 nothing_is_heavy line is_line =
-    let is_node : IsNode (node_of_prefix line.prefix) = record {
-      source = is_line.is_prefix.source.few;
-      dest = is_line.is_prefix.dest.few;
+    let node = node_of_prefix Byte line.prefix in
+    let is_node : IsNode Byte node = record {
+      of_grain = refl;
+      source = record { few = is_line.is_prefix.source.few; whole = is_line.is_prefix.source_steps };
+      dest = record { few = is_line.is_prefix.dest.few; whole = is_line.is_prefix.dest_steps };
     } in
-    let nothing = high_of_nothing (node_of_prefix line.prefix) (prefix_key line.prefix) is_node in
+    let nothing = high_of_nothing node (prefix_key line.prefix) is_node in
     omega (arith, is_line.high, is_line.heavy, nothing)
 
 report_of_nothing : IsReportOf cut 10000 report
@@ -170,7 +181,7 @@ report_of_nothing = record {
   lines = λ line. (λ h. absurd (omega (arith, h.1)), λ is_line. absurd (nothing_is_heavy line is_line));
 }
 
-pub nothing_is_sound : IsSound report lists 512 10000
+pub nothing_is_sound : IsSound Byte report lists 512 10000
 nothing_is_sound = record {
   positions = (omega arith, (omega arith, (omega arith, (omega arith, tt))));
   total = refl;
@@ -376,18 +387,18 @@ dealt_from_the_header = record {
 pub begins_anew : (store : Option (List ℕ)) → GoesOnFrom settings lists store None
 begins_anew store = record { unused = λ unused. refl; fits = tt; opens = λ used. absurd (cc used) }
 
-nothing_represents : SnapshotRepresents (empty_snapshot 512) []
+nothing_represents : SnapshotRepresents (empty_snapshot shape) []
 unfolding no_entries
 nothing_represents = record {
   within = omega arith;
-  shape = refl;
+  as_many = refl;
   tables = λ node is_node. nothing_counted node is_node;
 }
 
 pub tables_of_no_records : BasesRepresent opening
 tables_of_no_records = All-replicate (λ shard. SnapshotRepresents shard.base shard.list) 4 shard nothing_represents
 
-pub new_shards_represent : GoesOnSoundly lists None (session_opening 512 lists None)
+pub new_shards_represent : GoesOnSoundly lists None (session_opening shape lists None)
 new_shards_represent none = tables_of_no_records
 
 pub session_over_the_header : IsSession settings in_turn keeps_nothing None (Some header) text
@@ -500,14 +511,14 @@ pub most_bytes_of_the_session : BeginsSession opening settings saves_nothing (ta
     (codes "opened 0 0 0 0\nreport\nat 0 0 0 0\ntotal 0\nthreshold 1\ndone\nframes")
 most_bytes_of_the_session = inr (inr broken_off_in_the_last_lines)
 
--- its shards: four of one capacity, without a record
-pub session_shards : AreSessionShards 512 opening
+-- its shards: four of one shape, without a record
+pub session_shards : AreSessionShards shape opening
 session_shards = record {
   core = record {
     are_shards = record {
       some = omega arith;
       few = omega arith;
-      alike = All-replicate (λ (shard : ShardValue). shard.base.capacity ≡ 512) 4 shard refl;
+      alike = All-replicate (λ (shard : ShardValue). shard.base.shape ≡ shape) 4 shard refl;
     };
     kept = All-replicate IsShard 4 shard empty_shard;
   };

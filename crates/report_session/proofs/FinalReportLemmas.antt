@@ -6,7 +6,7 @@ use Rattle.std.proofs.lemmas.List.{length-map, length-replicate}
 use Rattle.std.proofs.lemmas.List.Elements.{All-cons, All-head, All-map, All-nil, All-replicate, All-tail}
 use Rattle.prefix_lattice.specs.{RecordValue}
 use Rattle.shard_state.specs.{AreCoreShards, BasesRepresent, CutRepresents, CutValue, IsCut, IsShard, IsSnapshot}
-use Rattle.shard_state.specs.{ShardValue, SnapshotValue, core_capacity, core_lists, shard_state_at, snapshot_of}
+use Rattle.shard_state.specs.{ShardValue, SnapshotValue, core_shape, core_lists, shard_state_at, snapshot_of}
 use Rattle.hhh_report.specs.{AreReportLines, IsSound}
 use Rattle.hhh_report.specs.declared.report.Report.{Report}
 use Rattle.hhh_report.specs.declared.reports.Reported.{Reported}
@@ -19,6 +19,8 @@ use Rattle.report_session.specs.Session.{AreOfCaller, AreReports, AreSessionShar
 use Rattle.report_session.specs.Session.{SessionReports, session_ends}
 use Rattle.report_session.proofs.SeenPositionLemmas.{seen_positions_of_cut}
 use Rattle.report_session.proofs.SessionTextLemmas.{session_text_with_last}
+use Rattle.report_session.specs.Session.{asked_shape}
+use Rattle.shard_state.specs.{TableShape}
 
 -- what the existence of a final report takes: each cut has a report; it is sound where the cut represents the records,
 -- as the cut of a report does where the bases do; and shards stay within their limits as they count on
@@ -26,8 +28,8 @@ pub record FinalReportLaws : Type 0 where
   pub exists : (cut : CutValue) (phi : ℕ) → IsCut cut → (report : Report) × IsReportOf cut phi report
   pub sound : (cut : CutValue) (lists : List (List RecordValue)) (phi : ℕ) (report : Report) → IsCut cut
       → CutRepresents cut lists → All (λ list. All (λ rec. 1 ≤ rec.weight) list) lists
-      → IsWideShare phi cut.capacity → AreReportLines report.lines → IsReportOf cut phi report
-      → IsSound report lists cut.capacity phi
+      → IsWideShare phi cut.shape.capacity → AreReportLines report.lines → IsReportOf cut phi report
+      → IsSound cut.shape.grain report lists cut.shape.capacity phi
   pub represent : (opening : List ShardValue) (phi : ℕ) (report : Report) → AreCoreShards opening
       → IsCoreReport opening phi report → BasesRepresent opening
       → CutRepresents (cut_at opening report.positions) (core_lists opening)
@@ -49,18 +51,18 @@ final_report_state_count : (opening : List ShardValue)
 final_report_state_count [] = refl
 final_report_state_count (shard ∷ rest) = ap suc (final_report_state_count rest)
 
-final_report_capacities : (capacity : ℕ) (opening : List ShardValue)
-    → All (λ (shard : ShardValue). shard.base.capacity ≡ capacity) opening
-    → All (λ (snapshot : SnapshotValue). snapshot.capacity ≡ capacity)
+final_report_shapes : (shape : TableShape) (opening : List ShardValue)
+    → All (λ (shard : ShardValue). shard.base.shape ≡ shape) opening
+    → All (λ (snapshot : SnapshotValue). snapshot.shape ≡ shape)
     (map snapshot_of (states_at opening (session_ends opening)))
-final_report_capacities capacity [] alike = All-nil (λ (snapshot : SnapshotValue). snapshot.capacity ≡ capacity)
-final_report_capacities capacity (shard ∷ rest) alike =
-    All-cons (λ (snapshot : SnapshotValue). snapshot.capacity ≡ capacity)
+final_report_shapes shape [] alike = All-nil (λ (snapshot : SnapshotValue). snapshot.shape ≡ shape)
+final_report_shapes shape (shard ∷ rest) alike =
+    All-cons (λ (snapshot : SnapshotValue). snapshot.shape ≡ shape)
     (snapshot_of (shard_state_at (length shard.list) shard))
     (map snapshot_of (states_at rest (session_ends rest)))
-    (All-head (λ (shard : ShardValue). shard.base.capacity ≡ capacity) shard rest alike)
-    (final_report_capacities capacity rest
-    (All-tail (λ (shard : ShardValue). shard.base.capacity ≡ capacity) shard rest alike))
+    (All-head (λ (shard : ShardValue). shard.base.shape ≡ shape) shard rest alike)
+    (final_report_shapes shape rest
+    (All-tail (λ (shard : ShardValue). shard.base.shape ≡ shape) shard rest alike))
 
 -- the cut at the ends is a cut
 final_report_cut_is_cut : FinalReportLaws → (opening : List ShardValue) → AreCoreShards opening → All IsShard opening
@@ -76,9 +78,10 @@ final_report_cut_is_cut laws (shard ∷ rest) are kept =
     record {
       least = first.tables.least;
       most = first.tables.most;
+      of_grain = first.tables.of_grain;
       some = omega (arith, many);
       few = omega (arith, many, are.few);
-      alike = final_report_capacities (core_capacity opening) opening are.alike;
+      alike = final_report_shapes (core_shape opening) opening are.alike;
       kept = All-map IsSnapshot snapshot_of states (λ k d lt. (at_ends k d lt).tables);
     }
 
@@ -90,7 +93,7 @@ pub record FinalReport (opening : List ShardValue) (settings : Settings) : Type 
 
 -- there is one
 pub final_report_exists : FinalReportLaws → (opening : List ShardValue) (settings : Settings) → HaveWideShare settings
-    → AreSessionShards settings.capacity opening → FinalReport opening settings
+    → AreSessionShards (asked_shape settings) opening → FinalReport opening settings
 final_report_exists laws opening settings wide are =
     let shards : AreCoreShards opening = are.core.are_shards in
     let cut : CutValue = cut_at opening (session_ends opening) in
@@ -111,13 +114,13 @@ final_report_exists laws opening settings wide are =
       shown = record {
         is_report = at_call;
         is_sound = λ bases.
-            subst (λ capacity. IsSound report (core_lists opening) capacity settings.phi) are.alike
+            subst (λ shape. IsSound shape.grain report (core_lists opening) shape.capacity settings.phi) are.alike
             (laws.sound cut (core_lists opening) settings.phi report is_cut
             (subst (λ ps. CutRepresents (cut_at opening ps) (core_lists opening)) ends
             (laws.represent opening settings.phi report shards at_call bases))
             (All-map (λ (list : List RecordValue). All (λ (rec : RecordValue). 1 ≤ rec.weight) list)
             (λ (shard : ShardValue). shard.list) opening (λ k d lt. (are.core.kept k d lt).weighed))
-            (subst (IsWideShare settings.phi) (sym are.alike) wide) report.are_lines made.1);
+            (subst (λ (shape : TableShape). IsWideShare settings.phi shape.capacity) (sym are.alike) wide) report.are_lines made.1);
       };
       at_ends = ends;
     }

@@ -38,6 +38,7 @@ use Rattle.report_session.proofs.ReopenedStoreLemmas.{reopened_store_positions, 
 use Rattle.report_session.proofs.ReopenedStoreLemmas.{reopened_store_start_positions}
 use Rattle.report_session.proofs.SeenPositionLemmas.{seen_positions_not_past_self, seen_positions_of_cut}
 use Rattle.report_session.proofs.ShownSessionLemmas.{shown_session_front_of_all}
+use Rattle.report_session.specs.Session.{asked_shape}
 
 -- which saves texts show, by their parts
 pub record KeptStoreTexts : Type 0 where
@@ -434,7 +435,7 @@ module _ (one : OpenToOne) {D : Type 0} (d : DiskOf D) (settings : Settings) (li
     (many : length lists ≡ settings.shards) (used : settings.store ≡ true) (begins : GoesOnFrom settings lists (d.reads old) base)
     (known : d.reads old ≡ Some store) where
   abbrev opening_of_kept : List ShardValue
-  opening_of_kept = session_opening settings.capacity lists base
+  opening_of_kept = session_opening (asked_shape settings) lists base
 
   abbrev digest_of_kept : List ℕ
   digest_of_kept = lists_digest (saves_settings settings) lists
@@ -690,7 +691,7 @@ pub kept_store_after_session : OpenToOne → KeptStoreTexts → {D : Type 0} (d 
 unfolding kept_store_whole
 kept_store_after_session one texts d rules settings old new store file text limited used known is =
     kept_store_of_shape one d settings is.lists is.base old new store text limited is.as_many used is.begins known texts true
-    (kept_store_whole texts (session_opening settings.capacity is.lists is.base) settings
+    (kept_store_whole texts (session_opening (asked_shape settings) is.lists is.base) settings
     (λ saved unfinished. settings.store ≡ true → AreKeptOnDisk d old new (saves_settings settings) is.lists saved unfinished)
     is.records text used is.spelled)
     (λ whole. refl)
@@ -703,7 +704,7 @@ pub kept_store_after_part : OpenToOne → KeptStoreTexts → {D : Type 0} (d : D
     → IsSessionInPart settings rules (AreKeptOnDisk d old new) (d.reads old) file front
     → StoreIsKept d (saves_settings settings) old new store front false
 kept_store_after_part one texts d reading_is_image rules settings old new store file front limited used known is =
-    let opening : List ShardValue = session_opening settings.capacity is.lists is.base in
+    let opening : List ShardValue = session_opening (asked_shape settings) is.lists is.base in
     let Kept : SessionSaving = λ saved unfinished. settings.store ≡ true
     → AreKeptOnDisk d old new (saves_settings settings) is.lists saved unfinished in
     let of_shape : KeptStoreShape opening settings Kept front → StoreIsKept d (saves_settings settings) old new store front false =

@@ -5,7 +5,7 @@ use Rattle.std.specs.Prelude.{IfSome, is_some, slice_index}
 use Rattle.std.proofs.lemmas.List.{length-map, map-append}
 use Rattle.std.proofs.lemmas.List.Elements.{All-head, All-tail}
 use Rattle.hhh_report.specs.{AreNotPast}
-use Rattle.shard_state.specs.{CutValue, HasCoreShape, ShardValue, core_capacity, cut_positions}
+use Rattle.shard_state.specs.{CutValue, HasCoreShape, ShardValue, core_shape, cut_positions}
 use Rattle.hhh_report.specs.declared.reports.Reported.{Reported}
 use Rattle.pass_tokens.specs.{WordsValue, first_view}
 use Rattle.gate_workers.specs.{IsCoreReport, View, cut_at}
@@ -24,6 +24,7 @@ use Rattle.report_session.proofs.SeenPositionLemmas.{seen_positions_are_not_past
 use Rattle.report_session.proofs.SessionThreadLemmas.{first_session_thread_sees_starts}
 use Rattle.report_session.proofs.SessionTextLemmas.{SessionTextFollowsSaves, session_text_within_ends}
 use Rattle.slot_disk.specs.declared.disk.Disk.{Ghosts as DiskOf}
+use Rattle.checkpoint.specs.{settings_shape}
 
 -- a saver that may make more saves may make fewer
 pub last_save_after_fewer_saves : (reads : Option (List ℕ)) (possible : List ℕ → Type 0) (opening : List ShardValue)
@@ -82,7 +83,7 @@ pub last_save_is_possible : {D : Type 0} (d : DiskOf D) (board : WordsValue) (se
     → AreOfCaller board.opening settings settings.rounds rounds
     → SavesInTurn d saver now old new (saved_cuts settings.store board.opening rounds)
     → IsFeedRest board settings called tail rest
-    → HasCoreShape (length board.opening) (core_capacity board.opening) rest.cut
+    → HasCoreShape (length board.opening) (core_shape board.opening) rest.cut
     → IfSome now (CanSaveCut (d.reads new) (d.image_now new) rest.cut)
 last_save_is_possible d board settings called tail rest rounds None now old new can used starts
     are saves end shape = subst (λ o. IfSome o (CanSaveCut (d.reads new) (d.image_now new) rest.cut)) (sym saves.saver) tt
@@ -109,9 +110,9 @@ last_save_is_possible d board settings called tail rest rounds (Some saver) now 
       settings = subst AreSettings (sym same) can.fits.settings;
       stands = done.saves.stands;
       early = omega (arith, sequence, many, as_many, early);
-      shape = subst (λ s. HasCoreShape s.shards s.capacity rest.cut) (sym same)
-          (subst (λ n. HasCoreShape n saver.settings.capacity rest.cut) (sym can.fits.shards)
-          (subst (λ n. HasCoreShape (length opening) n rest.cut) (sym can.fits.capacity) shape));
+      shape = subst (λ s. HasCoreShape s.shards (settings_shape s) rest.cut) (sym same)
+          (subst (λ n. HasCoreShape n (settings_shape saver.settings) rest.cut) (sym can.fits.shards)
+          (subst (λ n. HasCoreShape (length opening) n rest.cut) (sym can.fits.shape) shape));
       no_earlier = subst (AreNotPast after.positions) (sym positions)
           (last_save_positions_within_ends opening settings rounds saver (last_save_starts_within_ends opening saver.positions starts seen) are.shown);
     })

@@ -13,13 +13,17 @@ use Rattle.std.specs.Prelude.{IfSome}
 use Rattle.std.specs.List.{AllZip}
 use Rattle.std.proofs.lemmas.List.Elements.{All-cons, All-head, All-nil, All-tail}
 use Rattle.shard_state.specs.{AreCoreShards, BasesRepresent, CutValue, IsCut, ShardValue, SnapshotRepresents}
-use Rattle.shard_state.specs.{IsSnapshot, SnapshotValue, core_capacity, empty_snapshot, cut_positions}
+use Rattle.shard_state.specs.{IsSnapshot, SnapshotValue, core_shape, empty_snapshot, cut_positions}
 use Rattle.shard_state.specs.{core_lists}
 use Rattle.report_text.specs.{ShowsPositions}
 use Rattle.recovery.specs.{ContinuesList}
 use Rattle.report_session.specs.DealtFeed.{FeedGoesOn, StartsBefore}
 use Rattle.report_session.specs.Session.{GoesOnSoundly, new_shards, session_opening}
 use Rattle.report_session.specs.Session.{resumed_shards, session_start}
+use Rattle.report_session.specs.Session.{asked_shape}
+use Rattle.shard_state.specs.{TableShape}
+use Rattle.command_words.specs.declared.settings.Settings.{Settings}
+use Rattle.shard_state.specs.{CutRepresents}
 
 -- of few records in all each list has few
 pub opening_shards_have_few_records : (most : ℕ) (lists : List (List RecordValue)) → sum_by (λ list. length list) lists ≤ most
@@ -28,17 +32,17 @@ opening_shards_have_few_records most lists few k d lt =
     omega (arith, few, get_or-le-sum_by (λ (list : List RecordValue). length list) lists k d lt)
 
 -- one more shard
-pub opening_shards_grow_by_one : (capacity : ℕ) (lists : List (List RecordValue)) (list : List RecordValue)
-    → new_shards capacity (lists ++ list ∷ [])
-    ≡ new_shards capacity lists ++ record { list = list; base = empty_snapshot capacity; position = 0 } ∷ []
-opening_shards_grow_by_one capacity lists list =
-    map-append (λ list. record { list = list; base = empty_snapshot capacity; position = 0 }) lists (list ∷ [])
+pub opening_shards_grow_by_one : (shape : TableShape) (lists : List (List RecordValue)) (list : List RecordValue)
+    → new_shards shape (lists ++ list ∷ [])
+    ≡ new_shards shape lists ++ record { list = list; base = empty_snapshot shape; position = 0 } ∷ []
+opening_shards_grow_by_one shape lists list =
+    map-append (λ list. record { list = list; base = empty_snapshot shape; position = 0 }) lists (list ∷ [])
 
 -- they start at 0
-pub opening_shards_start_at_zero : (capacity : ℕ) (lists : List (List RecordValue))
-    → session_start (new_shards capacity lists) ≡ replicate (length lists) 0
-opening_shards_start_at_zero capacity [] = refl
-opening_shards_start_at_zero capacity (list ∷ lists) = ap (λ zeros. 0 ∷ zeros) (opening_shards_start_at_zero capacity lists)
+pub opening_shards_start_at_zero : (shape : TableShape) (lists : List (List RecordValue))
+    → session_start (new_shards shape lists) ≡ replicate (length lists) 0
+opening_shards_start_at_zero shape [] = refl
+opening_shards_start_at_zero shape (list ∷ lists) = ap (λ zeros. 0 ∷ zeros) (opening_shards_start_at_zero shape lists)
 
 -- zeros for 1 to 16 lists are positions that a text can show
 pub opening_shard_zeros_are_positions : (lists : List (List RecordValue)) → AreDealings lists
@@ -50,38 +54,45 @@ opening_shard_zeros_are_positions lists shards = record {
 }
 
 -- their lists are those that were dealt
-pub new_opening_shards_as_dealt : (capacity : ℕ) (lists : List (List RecordValue)) → core_lists (new_shards capacity lists) ≡ lists
-new_opening_shards_as_dealt capacity [] = refl
-new_opening_shards_as_dealt capacity (list ∷ lists) = ap (λ rest. list ∷ rest) (new_opening_shards_as_dealt capacity lists)
+-- settings of one grain and one capacity ask for tables of one shape
+pub opening_shards_have_same_shape : (settings other : Settings) → settings.grain ≡ other.grain → settings.capacity ≡ other.capacity
+    → asked_shape settings ≡ asked_shape other
+opening_shards_have_same_shape settings other grain capacity =
+    ap (λ g. record { grain = g; capacity = settings.capacity }) grain
+    ∙ ap (λ n. record { grain = other.grain; capacity = n }) capacity
 
-pub new_opening_shards_have_capacity : (capacity : ℕ) (lists : List (List RecordValue)) → 1 ≤ length lists
-    → core_capacity (new_shards capacity lists) ≡ capacity
-new_opening_shards_have_capacity capacity [] some = absurd (omega (arith, some))
-new_opening_shards_have_capacity capacity (list ∷ lists) some = refl
+pub new_opening_shards_as_dealt : (shape : TableShape) (lists : List (List RecordValue)) → core_lists (new_shards shape lists) ≡ lists
+new_opening_shards_as_dealt shape [] = refl
+new_opening_shards_as_dealt shape (list ∷ lists) = ap (λ rest. list ∷ rest) (new_opening_shards_as_dealt shape lists)
 
--- they are shards of one capacity
-pub new_opening_shards_are_shards : (capacity : ℕ) (lists : List (List RecordValue)) → 1 ≤ length lists → length lists ≤ shard_limit
-    → AreCoreShards (new_shards capacity lists)
-new_opening_shards_are_shards capacity lists some few = record {
+pub new_opening_shards_have_shape : (shape : TableShape) (lists : List (List RecordValue)) → 1 ≤ length lists
+    → core_shape (new_shards shape lists) ≡ shape
+new_opening_shards_have_shape shape [] some = absurd (omega (arith, some))
+new_opening_shards_have_shape shape (list ∷ lists) some = refl
+
+-- they are shards of one shape
+pub new_opening_shards_are_shards : (shape : TableShape) (lists : List (List RecordValue)) → 1 ≤ length lists → length lists ≤ shard_limit
+    → AreCoreShards (new_shards shape lists)
+new_opening_shards_are_shards shape lists some few = record {
   some = subst (λ n. 1 ≤ n) (sym (length-map lists _)) some;
   few = subst (λ n. n ≤ shard_limit) (sym (length-map lists _)) few;
   alike =
-      All-map (λ (shard : ShardValue). shard.base.capacity ≡ core_capacity (new_shards capacity lists)) _ lists
-      (λ k d lt. sym (new_opening_shards_have_capacity capacity lists some));
+      All-map (λ (shard : ShardValue). shard.base.shape ≡ core_shape (new_shards shape lists)) _ lists
+      (λ k d lt. sym (new_opening_shards_have_shape shape lists some));
 }
 
 -- and their bases represent their lists
-pub new_opening_shards_represent : (capacity : ℕ) (lists : List (List RecordValue))
-    → ((capacity : ℕ) (list : List RecordValue) → SnapshotRepresents (empty_snapshot capacity) list)
-    → BasesRepresent (new_shards capacity lists)
-new_opening_shards_represent capacity lists begins =
-    All-map (λ (shard : ShardValue). SnapshotRepresents shard.base shard.list) _ lists (λ k d lt. begins capacity _)
+pub new_opening_shards_represent : (shape : TableShape) (lists : List (List RecordValue))
+    → ((shape : TableShape) (list : List RecordValue) → SnapshotRepresents (empty_snapshot shape) list)
+    → BasesRepresent (new_shards shape lists)
+new_opening_shards_represent shape lists begins =
+    All-map (λ (shard : ShardValue). SnapshotRepresents shard.base shard.list) _ lists (λ k d lt. begins shape _)
 
 -- and they start before the ends of their lists
-pub new_opening_shards_before_ends : (capacity : ℕ) (lists : List (List RecordValue)) → StartsBefore (new_shards capacity lists)
-new_opening_shards_before_ends capacity [] shard = omega arith
-new_opening_shards_before_ends capacity (list ∷ lists) zero = omega arith
-new_opening_shards_before_ends capacity (list ∷ lists) (suc shard) = new_opening_shards_before_ends capacity lists shard
+pub new_opening_shards_before_ends : (shape : TableShape) (lists : List (List RecordValue)) → StartsBefore (new_shards shape lists)
+new_opening_shards_before_ends shape [] shard = omega arith
+new_opening_shards_before_ends shape (list ∷ lists) zero = omega arith
+new_opening_shards_before_ends shape (list ∷ lists) (suc shard) = new_opening_shards_before_ends shape lists shard
 
 -- as many shards as lists
 resumed_opening_shards_count : (lists : List (List RecordValue)) (bases : List SnapshotValue) → AllZip ContinuesList bases lists
@@ -92,41 +103,41 @@ resumed_opening_shards_count (list ∷ lists) (base ∷ bases) continues =
     let rest : length (resumed_shards lists bases) ≡ length lists = resumed_opening_shards_count lists bases continues.1 in
     omega (arith, rest)
 
-resumed_opening_shards_alike : (capacity : ℕ) (lists : List (List RecordValue)) (bases : List SnapshotValue)
-    → All (λ (snapshot : SnapshotValue). snapshot.capacity ≡ capacity) bases
-    → All (λ (shard : ShardValue). shard.base.capacity ≡ capacity) (resumed_shards lists bases)
-resumed_opening_shards_alike capacity [] bases alike = All-nil (λ (shard : ShardValue). shard.base.capacity ≡ capacity)
-resumed_opening_shards_alike capacity (list ∷ lists) [] alike = All-nil (λ (shard : ShardValue). shard.base.capacity ≡ capacity)
-resumed_opening_shards_alike capacity (list ∷ lists) (base ∷ bases) alike =
-    All-cons (λ (shard : ShardValue). shard.base.capacity ≡ capacity)
+resumed_opening_shards_alike : (shape : TableShape) (lists : List (List RecordValue)) (bases : List SnapshotValue)
+    → All (λ (snapshot : SnapshotValue). snapshot.shape ≡ shape) bases
+    → All (λ (shard : ShardValue). shard.base.shape ≡ shape) (resumed_shards lists bases)
+resumed_opening_shards_alike shape [] bases alike = All-nil (λ (shard : ShardValue). shard.base.shape ≡ shape)
+resumed_opening_shards_alike shape (list ∷ lists) [] alike = All-nil (λ (shard : ShardValue). shard.base.shape ≡ shape)
+resumed_opening_shards_alike shape (list ∷ lists) (base ∷ bases) alike =
+    All-cons (λ (shard : ShardValue). shard.base.shape ≡ shape)
     (record { list = list; base = base; position = base.position }) (resumed_shards lists bases)
-    (All-head (λ (snapshot : SnapshotValue). snapshot.capacity ≡ capacity) base bases alike)
-    (resumed_opening_shards_alike capacity lists bases
-    (All-tail (λ (snapshot : SnapshotValue). snapshot.capacity ≡ capacity) base bases alike))
+    (All-head (λ (snapshot : SnapshotValue). snapshot.shape ≡ shape) base bases alike)
+    (resumed_opening_shards_alike shape lists bases
+    (All-tail (λ (snapshot : SnapshotValue). snapshot.shape ≡ shape) base bases alike))
 
-resumed_opening_shards_capacity : (capacity : ℕ) (lists : List (List RecordValue)) (bases : List SnapshotValue) → 1 ≤ length lists
-    → AllZip ContinuesList bases lists → All (λ (snapshot : SnapshotValue). snapshot.capacity ≡ capacity) bases
-    → core_capacity (resumed_shards lists bases) ≡ capacity
-resumed_opening_shards_capacity capacity [] bases some continues alike = absurd (omega (arith, some))
-resumed_opening_shards_capacity capacity (list ∷ lists) [] some continues alike = absurd continues
-resumed_opening_shards_capacity capacity (list ∷ lists) (base ∷ bases) some continues alike =
-    All-head (λ (snapshot : SnapshotValue). snapshot.capacity ≡ capacity) base bases alike
+resumed_opening_shards_shape : (shape : TableShape) (lists : List (List RecordValue)) (bases : List SnapshotValue) → 1 ≤ length lists
+    → AllZip ContinuesList bases lists → All (λ (snapshot : SnapshotValue). snapshot.shape ≡ shape) bases
+    → core_shape (resumed_shards lists bases) ≡ shape
+resumed_opening_shards_shape shape [] bases some continues alike = absurd (omega (arith, some))
+resumed_opening_shards_shape shape (list ∷ lists) [] some continues alike = absurd continues
+resumed_opening_shards_shape shape (list ∷ lists) (base ∷ bases) some continues alike =
+    All-head (λ (snapshot : SnapshotValue). snapshot.shape ≡ shape) base bases alike
 
--- they are shards of one capacity
+-- they are shards of one shape
 pub resumed_opening_shards_are_shards : (cut : CutValue) (lists : List (List RecordValue)) → 1 ≤ length lists
     → length lists ≤ shard_limit → AllZip ContinuesList cut.shards lists
-    → All (λ (snapshot : SnapshotValue). snapshot.capacity ≡ cut.capacity) cut.shards
+    → All (λ (snapshot : SnapshotValue). snapshot.shape ≡ cut.shape) cut.shards
     → AreCoreShards (resumed_shards lists cut.shards)
 resumed_opening_shards_are_shards cut lists some few continues alike =
     let many : length (resumed_shards lists cut.shards) ≡ length lists = resumed_opening_shards_count lists cut.shards continues in
-    let capacity_is : core_capacity (resumed_shards lists cut.shards) ≡ cut.capacity =
-    resumed_opening_shards_capacity cut.capacity lists cut.shards some continues alike in
+    let shape_is : core_shape (resumed_shards lists cut.shards) ≡ cut.shape =
+    resumed_opening_shards_shape cut.shape lists cut.shards some continues alike in
     record {
       some = subst (λ n. 1 ≤ n) (sym many) some;
       few = subst (λ n. n ≤ shard_limit) (sym many) few;
       alike =
-          subst (λ n. All (λ (shard : ShardValue). shard.base.capacity ≡ n) (resumed_shards lists cut.shards))
-          (sym capacity_is) (resumed_opening_shards_alike cut.capacity lists cut.shards alike);
+          subst (λ n. All (λ (shard : ShardValue). shard.base.shape ≡ n) (resumed_shards lists cut.shards))
+          (sym shape_is) (resumed_opening_shards_alike cut.shape lists cut.shards alike);
     }
 
 resumed_opening_shards_before_ends : (lists : List (List RecordValue)) (bases : List SnapshotValue)
@@ -156,37 +167,37 @@ resumed_opening_shards_at_cut (list ∷ lists) (base ∷ bases) continues =
     ap (λ positions. base.position ∷ positions) (resumed_opening_shards_at_cut lists bases continues.1)
 
 -- the shards of a run, from the base on
-pub opening_shards_count : (capacity : ℕ) (lists : List (List RecordValue)) (base : Option CutValue)
-    → IfSome base (FeedGoesOn capacity lists) → length (session_opening capacity lists base) ≡ length lists
-opening_shards_count capacity lists None goes_on = length-map lists _
-opening_shards_count capacity lists (Some cut) goes_on = resumed_opening_shards_count lists cut.shards goes_on.continues
+pub opening_shards_count : (shape : TableShape) (lists : List (List RecordValue)) (base : Option CutValue)
+    → IfSome base (FeedGoesOn shape lists) → length (session_opening shape lists base) ≡ length lists
+opening_shards_count shape lists None goes_on = length-map lists _
+opening_shards_count shape lists (Some cut) goes_on = resumed_opening_shards_count lists cut.shards goes_on.continues
 
-pub opening_shards_have_capacity : (capacity : ℕ) (lists : List (List RecordValue)) (base : Option CutValue)
-    → AreDealings lists → IfSome base (FeedGoesOn capacity lists) → IfSome base IsCut
-    → core_capacity (session_opening capacity lists base) ≡ capacity
-opening_shards_have_capacity capacity lists None shards goes_on kept = new_opening_shards_have_capacity capacity lists shards.some
-opening_shards_have_capacity capacity lists (Some cut) shards goes_on kept =
-    resumed_opening_shards_capacity capacity lists cut.shards shards.some goes_on.continues
-    (subst (λ n. All (λ (snapshot : SnapshotValue). snapshot.capacity ≡ n) cut.shards) goes_on.alike kept.alike)
+pub opening_shards_have_shape : (shape : TableShape) (lists : List (List RecordValue)) (base : Option CutValue)
+    → AreDealings lists → IfSome base (FeedGoesOn shape lists) → IfSome base IsCut
+    → core_shape (session_opening shape lists base) ≡ shape
+opening_shards_have_shape shape lists None shards goes_on kept = new_opening_shards_have_shape shape lists shards.some
+opening_shards_have_shape shape lists (Some cut) shards goes_on kept =
+    resumed_opening_shards_shape shape lists cut.shards shards.some goes_on.continues
+    (subst (λ n. All (λ (snapshot : SnapshotValue). snapshot.shape ≡ n) cut.shards) goes_on.alike kept.alike)
 
-pub opening_shards_are_shards : (capacity : ℕ) (lists : List (List RecordValue)) (base : Option CutValue)
-    → AreDealings lists → IfSome base (FeedGoesOn capacity lists) → IfSome base IsCut
-    → AreCoreShards (session_opening capacity lists base)
-opening_shards_are_shards capacity lists None shards goes_on kept = new_opening_shards_are_shards capacity lists shards.some shards.few
-opening_shards_are_shards capacity lists (Some cut) shards goes_on kept =
+pub opening_shards_are_shards : (shape : TableShape) (lists : List (List RecordValue)) (base : Option CutValue)
+    → AreDealings lists → IfSome base (FeedGoesOn shape lists) → IfSome base IsCut
+    → AreCoreShards (session_opening shape lists base)
+opening_shards_are_shards shape lists None shards goes_on kept = new_opening_shards_are_shards shape lists shards.some shards.few
+opening_shards_are_shards shape lists (Some cut) shards goes_on kept =
     resumed_opening_shards_are_shards cut lists shards.some shards.few goes_on.continues kept.alike
 
-pub opening_shards_before_ends : (capacity : ℕ) (lists : List (List RecordValue)) (base : Option CutValue)
-    → IfSome base (FeedGoesOn capacity lists) → StartsBefore (session_opening capacity lists base)
-opening_shards_before_ends capacity lists None goes_on = new_opening_shards_before_ends capacity lists
-opening_shards_before_ends capacity lists (Some cut) goes_on =
+pub opening_shards_before_ends : (shape : TableShape) (lists : List (List RecordValue)) (base : Option CutValue)
+    → IfSome base (FeedGoesOn shape lists) → StartsBefore (session_opening shape lists base)
+opening_shards_before_ends shape lists None goes_on = new_opening_shards_before_ends shape lists
+opening_shards_before_ends shape lists (Some cut) goes_on =
     resumed_opening_shards_before_ends lists cut.shards goes_on.continues
 
-pub opening_shards_represent : (capacity : ℕ) (lists : List (List RecordValue)) (base : Option CutValue)
-    → ((capacity : ℕ) (list : List RecordValue) → SnapshotRepresents (empty_snapshot capacity) list)
-    → GoesOnSoundly lists base (session_opening capacity lists base)
-opening_shards_represent capacity lists None begins = λ of_lists. new_opening_shards_represent capacity lists begins
-opening_shards_represent capacity lists (Some cut) begins = λ of_lists. resumed_opening_shards_represent lists cut.shards of_lists.shards
+pub opening_shards_represent : (shape : TableShape) (lists : List (List RecordValue)) (base : Option CutValue)
+    → ((shape : TableShape) (list : List RecordValue) → SnapshotRepresents (empty_snapshot shape) list)
+    → GoesOnSoundly lists base (session_opening shape lists base)
+opening_shards_represent shape lists None begins = λ of_lists. new_opening_shards_represent shape lists begins
+opening_shards_represent shape lists (Some cut) begins = λ of_lists. resumed_opening_shards_represent lists cut.shards of_lists.shards
 
 -- what a match on the base shows
 pub opening_shards_without_base : (base : Option CutValue) → None ≡ base → IfSome base IsCut
@@ -212,12 +223,12 @@ opening_shard_positions_are_small bases kept =
     (λ k d lt. (kept k d lt).placed)
 
 -- a text can show the positions at which the shards of a run start
-pub opening_shards_have_positions : (capacity : ℕ) (lists : List (List RecordValue)) (base : Option CutValue)
-    → AreDealings lists → IfSome base (FeedGoesOn capacity lists) → IfSome base IsCut
-    → ShowsPositions (session_start (session_opening capacity lists base))
-opening_shards_have_positions capacity lists None shards goes_on kept =
-    subst ShowsPositions (sym (opening_shards_start_at_zero capacity lists)) (opening_shard_zeros_are_positions lists shards)
-opening_shards_have_positions capacity lists (Some cut) shards goes_on kept =
+pub opening_shards_have_positions : (shape : TableShape) (lists : List (List RecordValue)) (base : Option CutValue)
+    → AreDealings lists → IfSome base (FeedGoesOn shape lists) → IfSome base IsCut
+    → ShowsPositions (session_start (session_opening shape lists base))
+opening_shards_have_positions shape lists None shards goes_on kept =
+    subst ShowsPositions (sym (opening_shards_start_at_zero shape lists)) (opening_shard_zeros_are_positions lists shards)
+opening_shards_have_positions shape lists (Some cut) shards goes_on kept =
     let starts : session_start (resumed_shards lists cut.shards) ≡ cut_positions cut =
     resumed_opening_shards_at_cut lists cut.shards goes_on.continues in
     let many : length (session_start (resumed_shards lists cut.shards)) ≡ length lists =
@@ -227,3 +238,12 @@ opening_shards_have_positions capacity lists (Some cut) shards goes_on kept =
       few = subst (λ n. n ≤ 16) (sym many) shards.few;
       within = subst (All (λ position. position ≤ record_limit)) (sym starts) (opening_shard_positions_are_small cut.shards kept.kept);
     }
+
+-- the shards with which a session begins have the tables asked for, if its base represents the lists
+pub session_opening_has_shape : (shape : TableShape) (lists : List (List RecordValue)) (base : Option CutValue)
+    → 1 ≤ length lists → IfSome base (FeedGoesOn shape lists) → IfSome base (λ cut. CutRepresents cut lists)
+    → core_shape (session_opening shape lists base) ≡ shape
+session_opening_has_shape shape lists None some goes_on represents = new_opening_shards_have_shape shape lists some
+session_opening_has_shape shape lists (Some cut) some goes_on represents =
+    resumed_opening_shards_shape shape lists cut.shards some goes_on.continues
+    (subst (λ s. All (λ (snapshot : SnapshotValue). snapshot.shape ≡ s) cut.shards) goes_on.alike represents.alike)

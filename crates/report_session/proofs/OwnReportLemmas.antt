@@ -13,6 +13,7 @@ use Rattle.report_session.specs.Session.{SessionKeeping, caller_reports, session
 use Rattle.report_session.specs.Session.{reports_in, resumed_shards}
 use Rattle.dealt_capture.specs.{DealingRules}
 use Rattle.report_session.proofs.OpeningShardLemmas.{new_opening_shards_as_dealt}
+use Rattle.report_session.specs.Session.{asked_shape}
 
 -- the lists of shards that go on are those that were dealt
 own_report_lists_when_resumed : (lists : List (List RecordValue)) (bases : List SnapshotValue) → AllZip ContinuesList bases lists
@@ -24,20 +25,20 @@ own_report_lists_when_resumed (list ∷ lists) (base ∷ bases) continues =
 
 pub own_report_lists_of_opening : (settings : Settings) (lists : List (List RecordValue)) (store : Option (List ℕ))
     (base : Option CutValue) → GoesOnFrom settings lists store base
-    → core_lists (session_opening settings.capacity lists base) ≡ lists
-own_report_lists_of_opening settings lists store None begins = new_opening_shards_as_dealt settings.capacity lists
+    → core_lists (session_opening (asked_shape settings) lists base) ≡ lists
+own_report_lists_of_opening settings lists store None begins = new_opening_shards_as_dealt (asked_shape settings) lists
 own_report_lists_of_opening settings lists store (Some cut) begins = own_report_lists_when_resumed lists cut.shards begins.fits.continues
 
 -- a report is sound over the dealt lists
 abbrev pub IsOwnReportSound : Settings → List (List RecordValue) → Reported → Type 0
-IsOwnReportSound settings lists reported = IsSound reported.report lists settings.capacity settings.phi
+IsOwnReportSound settings lists reported = IsSound settings.grain reported.report lists settings.capacity settings.phi
 
 -- reports that are shown are
 own_reports_shown_are_sound : (opening : List ShardValue) (settings : Settings) (lists : List (List RecordValue))
     (reports : List Reported) → core_lists opening ≡ lists → BasesRepresent opening
     → All (IsShownInSession opening settings) reports → All (IsOwnReportSound settings lists) reports
 own_reports_shown_are_sound opening settings lists reports same bases shown = λ k d lt.
-    subst (λ l. IsSound (get_or reports k d).report l settings.capacity settings.phi) same ((shown k d lt).is_sound bases)
+    subst (λ l. IsSound settings.grain (get_or reports k d).report l settings.capacity settings.phi) same ((shown k d lt).is_sound bases)
 
 -- those of all callers are shown
 own_caller_reports_are_shown : (opening : List ShardValue) (settings : Settings) (count : ℕ) (callers : List (List Reported))
@@ -53,9 +54,9 @@ own_caller_reports_are_shown opening settings count (reports ∷ callers) are =
 -- the reports of a session are shown
 pub own_reports_are_shown : (settings : Settings) (rules : DealingRules) (keeping : SessionKeeping) (store file : Option (List ℕ))
     (text : List ℕ) (is : IsSession settings rules keeping store file text)
-    → All (IsShownInSession (session_opening settings.capacity is.lists is.base) settings) (reports_in is.spelled.reports)
+    → All (IsShownInSession (session_opening (asked_shape settings) is.lists is.base) settings) (reports_in is.spelled.reports)
 own_reports_are_shown settings rules keeping store file text is =
-    let opening = session_opening settings.capacity is.lists is.base in
+    let opening = session_opening (asked_shape settings) is.lists is.base in
     let reports = is.spelled.reports in
     All-append (IsShownInSession opening settings) (caller_reports reports) (flat_map (λ made. made) reports.callers)
     is.spelled.are_reports.calling.shown
@@ -67,6 +68,6 @@ pub own_reports_are_sound : (settings : Settings) (rules : DealingRules) (keepin
     → IfSome is.base (λ cut. CutRepresents cut is.lists)
     → All (IsOwnReportSound settings is.lists) (reports_in is.spelled.reports)
 own_reports_are_sound settings rules keeping store file text is represents =
-    own_reports_shown_are_sound (session_opening settings.capacity is.lists is.base) settings is.lists (reports_in is.spelled.reports)
+    own_reports_shown_are_sound (session_opening (asked_shape settings) is.lists is.base) settings is.lists (reports_in is.spelled.reports)
     (own_report_lists_of_opening settings is.lists store is.base is.begins) (is.represents represents)
     (own_reports_are_shown settings rules keeping store file text is)

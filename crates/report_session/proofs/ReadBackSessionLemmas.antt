@@ -30,6 +30,9 @@ use Rattle.report_session.proofs.ShownSessionLemmas.{shown_session_report, shown
 use Rattle.report_session.proofs.ShownSessionLemmas.{shown_session_report_count, shown_session_reports, shown_session}
 use Rattle.report_session.proofs.BoundedReportLemmas.{IsBoundedReport, IsBoundedReportList}
 use Rattle.report_session.proofs.BoundedReportLemmas.{bounded_report_lists_if_kept, bounded_report_if_sound}
+use Rattle.report_session.specs.Session.{asked_shape}
+use Rattle.shard_state.specs.{core_shape}
+use Rattle.report_session.proofs.OpeningShardLemmas.{session_opening_has_shape}
 
 -- a session is printed as its text
 abbrev pub PrintsOwnSession : Type 0
@@ -53,16 +56,16 @@ own_session_shows_something store reports =
 own_session_is_showable : (settings : Settings) (opened : List ℕ) (reports : SessionReports) (records : Records)
     (frames : List FrameValue) → ShowsPositions opened → length opened ≡ settings.shards
     → length frames ≤ frame_count_limit → AreRecordsOf settings.weigh frames records
-    → All (λ reported. IsBoundedReport settings.shards reported.report) (reports_in reports)
-    → IsShowableSession (shown_session settings.store opened reports records)
+    → All (λ reported. IsBoundedReport settings.grain settings.shards reported.report) (reports_in reports)
+    → IsShowableSession settings.grain (shown_session settings.store opened reports records)
 own_session_is_showable settings opened reports records frames positions many few are fit =
-    let fits = shown_session_keeps_property (λ (reported : Reported). IsBoundedReport settings.shards reported.report) settings.store reports
+    let fits = shown_session_keeps_property (λ (reported : Reported). IsBoundedReport settings.grain settings.shards reported.report) settings.store reports
     (λ store reported has. has) fit in
     record {
       opened = positions;
       some = own_session_shows_something settings.store reports;
       reports = λ k d lt.
-          let here : IsBoundedReport settings.shards (get_or (shown_session_reports settings.store reports) k d).report =
+          let here : IsBoundedReport settings.grain settings.shards (get_or (shown_session_reports settings.store reports) k d).report =
           fits k d lt in
           record {
             positions = record { are_positions = here.positions; as_many = here.as_many ∙ sym many };
@@ -108,18 +111,21 @@ own_session_starts_are_positions opening settings limited many before small =
 pub own_session_is_valid : PrintsOwnSession → (settings : Settings) (rules : DealingRules) (keeping : SessionKeeping) (store : Option (List ℕ))
     (file text : List ℕ) (is : IsSession settings rules keeping store (Some file) text) → AreLimited settings
     → IfSome is.base (λ cut. CutRepresents cut is.lists)
-    → IsSessionText text (shown_session settings.store (session_start (session_opening settings.capacity is.lists is.base))
+    → IsSessionText settings.grain text (shown_session settings.store (session_start (session_opening (asked_shape settings) is.lists is.base))
     is.spelled.reports is.records)
 own_session_is_valid prints settings rules keeping store file text is limited represents =
-    let opening = session_opening settings.capacity is.lists is.base in
+    let opening = session_opening (asked_shape settings) is.lists is.base in
     let reports = is.spelled.reports in
     let known = shown_session settings.store (session_start opening) reports is.records in
-    let goes_on = base_goes_on settings is.lists is.base is.begins.fits in
+    let goes_on = base_goes_on settings is.lists store is.base limited is.begins in
     let many_lists = is.as_many in
     let many : length opening ≡ settings.shards =
-    opening_shards_count settings.capacity is.lists is.base goes_on ∙ many_lists in
+    opening_shards_count (asked_shape settings) is.lists is.base goes_on ∙ many_lists in
     let last : IsShownInSession opening settings reports.last =
     last_report_is_among_all (IsShownInSession opening settings) reports.rounds reports.last is.spelled.are_reports.calling.shown in
+    let alike : core_shape opening ≡ asked_shape settings =
+    session_opening_has_shape (asked_shape settings) is.lists is.base
+    (subst (λ n. 1 ≤ n) (sym many_lists) limited.some_shards) goes_on represents in
     let small = bounded_report_lists_if_kept opening reports.last.report.positions last.is_report.as_many last.is_report.kept in
     let small_lists : All IsBoundedReportList is.lists =
     subst (λ lists. All IsBoundedReportList lists) (own_report_lists_of_opening settings is.lists store is.base is.begins)
@@ -127,11 +133,11 @@ own_session_is_valid prints settings rules keeping store file text is limited re
     let shown = own_reports_are_shown settings rules keeping store (Some file) text is in
     let sound = own_reports_are_sound settings rules keeping store (Some file) text is represents in
     let starts = own_session_starts_are_positions opening settings limited many
-    (opening_shards_before_ends settings.capacity is.lists is.base goes_on) small in
+    (opening_shards_before_ends (asked_shape settings) is.lists is.base goes_on) small in
     record {
       is_session = own_session_is_showable settings (session_start opening) reports is.records is.dealt.frames starts
           (length-map opening _ ∙ many) is.dealt.capture.1.limit is.dealt.are_records
-          (λ k d lt. bounded_report_if_sound opening settings is.lists (get_or (reports_in reports) k d) limited many many_lists
+          (λ k d lt. bounded_report_if_sound opening settings is.lists (get_or (reports_in reports) k d) limited many many_lists alike
           small_lists (shown k d lt) (sound k d lt));
       spelled = is.spelled.spelled ∙ shown_session_prints_the_same settings.store (session_start opening) reports is.records ∙ prints known;
     }
@@ -140,10 +146,10 @@ own_session_is_valid prints settings rules keeping store file text is limited re
 pub own_session_reads_back : PrintsOwnSession → (settings : Settings) (rules : DealingRules) (keeping : SessionKeeping)
     (store : Option (List ℕ)) (file text : List ℕ) (is : IsSession settings rules keeping store (Some file) text)
     → AreLimited settings → IfSome is.base (λ cut. CutRepresents cut is.lists)
-    → (known : Session) × IsSessionText text known × All (IsOwnReportSound settings is.lists) known.reports
+    → (known : Session) × IsSessionText settings.grain text known × All (IsOwnReportSound settings is.lists) known.reports
     × (length known.reports ≡ (settings.callers + 1) * settings.rounds + 1)
 own_session_reads_back prints settings rules keeping store file text is limited represents =
-    let opening = session_opening settings.capacity is.lists is.base in
+    let opening = session_opening (asked_shape settings) is.lists is.base in
     let reports = is.spelled.reports in (
       shown_session settings.store (session_start opening) reports is.records,
       own_session_is_valid prints settings rules keeping store file text is limited represents,

@@ -29,6 +29,7 @@ use Rattle.report_session.proofs.SessionTextLemmas.{session_text_begins_saying_l
 use Rattle.report_session.proofs.SeenPositionLemmas.{seen_positions_of_cut, seen_positions_are_not_past}
 use Rattle.report_session.proofs.SeenPositionLemmas.{seen_positions_not_past_self}
 use Rattle.slot_disk.specs.declared.disk.Disk.{Ghosts as DiskOf}
+use Rattle.report_session.specs.Session.{asked_shape}
 
 -- from these positions on, those of these reports never fall, and each report has one for each shard
 pub record RisesInReopenedStore (shards : ℕ) (positions : List ℕ) (reports : List Reported) : Type 0 where
@@ -98,7 +99,7 @@ pub reopened_store_start_positions : OpenToOne → (settings : Settings) (lists 
     (base : Option CutValue) (opened : Option SavedValue) → AreLimited settings → length lists ≡ settings.shards
     → IfSome base (IsBaseFor (saves_settings settings) lists) → OpensToBase (saves_settings settings) lists store base
     → StoreOpensTo (saves_settings settings) store opened
-    → store_positions (saves_settings settings) opened ≡ session_start (session_opening settings.capacity lists base)
+    → store_positions (saves_settings settings) opened ≡ session_start (session_opening (asked_shape settings) lists base)
 reopened_store_start_positions one settings lists store base opened limited many fits found opens =
     let same : found.0 ≡ opened =
     one (saves_settings settings) store found.0 opened (saves_settings-allowed settings limited) found.1 opens in
@@ -130,17 +131,17 @@ reopened_store_after_whole_saves d settings lists saved old new kept = λ store 
 reopened_store_after_broken_save : OpenToOne → {D : Type 0} (d : DiskOf D) (settings : Settings) (lists : List (List RecordValue))
     (base : Option CutValue) (count : ℕ) (rounds : List Reported) (next : Reported) (old new : D) → AreLimited settings
     → length lists ≡ settings.shards → settings.store ≡ true → GoesOnFrom settings lists (d.reads old) base
-    → AreOfCaller (session_opening settings.capacity lists base) settings count (rounds ++ next ∷ [])
+    → AreOfCaller (session_opening (asked_shape settings) lists base) settings count (rounds ++ next ∷ [])
     → AreKeptOnDisk d old new (saves_settings settings) lists
-    (saved_cuts true (session_opening settings.capacity lists base) rounds)
-    (saved_cuts true (session_opening settings.capacity lists base) (next ∷ []))
+    (saved_cuts true (session_opening (asked_shape settings) lists base) rounds)
+    (saved_cuts true (session_opening (asked_shape settings) lists base) (next ∷ []))
     → AreReopened d old new (saves_settings settings) lists
-    (saved_cuts true (session_opening settings.capacity lists base) rounds)
-    (saved_cuts true (session_opening settings.capacity lists base) (next ∷ []))
+    (saved_cuts true (session_opening (asked_shape settings) lists base) rounds)
+    (saved_cuts true (session_opening (asked_shape settings) lists base) (next ∷ []))
 reopened_store_after_broken_save one d settings lists base count rounds next old new limited many used begins
     are kept = λ store known.
     let keeps = kept store known in
-    let opening : List ShardValue = session_opening settings.capacity lists base in
+    let opening : List ShardValue = session_opening (asked_shape settings) lists base in
     let digest : List ℕ = lists_digest (saves_settings settings) lists in
     let sequence : ℕ = store_sequence keeps.opened in
     let cuts : List CutValue = saved_cuts true opening rounds in
@@ -190,17 +191,17 @@ reopened_store_after_broken_save one d settings lists base count rounds next old
 reopened_store_of_session : OpenToOne → {D : Type 0} (d : DiskOf D) (settings : Settings) (lists : List (List RecordValue))
     (base : Option CutValue) (count : ℕ) (rounds : List Reported) (next : Reported) (old new : D) → AreLimited settings
     → length lists ≡ settings.shards → GoesOnFrom settings lists (d.reads old) base
-    → AreOfCaller (session_opening settings.capacity lists base) settings count (rounds ++ next ∷ [])
-    → rest_after_saves settings.store (session_opening settings.capacity lists base) rounds (λ saved unfinished.
+    → AreOfCaller (session_opening (asked_shape settings) lists base) settings count (rounds ++ next ∷ [])
+    → rest_after_saves settings.store (session_opening (asked_shape settings) lists base) rounds (λ saved unfinished.
     settings.store ≡ true
     → AreKeptOnDisk d old new (saves_settings settings) lists saved unfinished)
-    [] (saved_cuts settings.store (session_opening settings.capacity lists base) (next ∷ []))
-    → rest_after_saves settings.store (session_opening settings.capacity lists base) rounds (λ saved unfinished.
+    [] (saved_cuts settings.store (session_opening (asked_shape settings) lists base) (next ∷ []))
+    → rest_after_saves settings.store (session_opening (asked_shape settings) lists base) rounds (λ saved unfinished.
     settings.store ≡ true → AreReopened d old new (saves_settings settings) lists saved unfinished)
-    [] (saved_cuts settings.store (session_opening settings.capacity lists base) (next ∷ []))
+    [] (saved_cuts settings.store (session_opening (asked_shape settings) lists base) (next ∷ []))
 reopened_store_of_session one d settings lists base count rounds next old new limited many begins are
     kept = λ used.
-    let opening : List ShardValue = session_opening settings.capacity lists base in
+    let opening : List ShardValue = session_opening (asked_shape settings) lists base in
     let Kept : List CutValue → List CutValue → Type 0 =
     AreKeptOnDisk d old new (saves_settings settings) lists in
     let Less : List CutValue → List CutValue → Type 0 = AreReopened d old new (saves_settings settings) lists in
@@ -226,7 +227,7 @@ reopened_store_after_completion d rules settings old new file text session = rec
   base = session.base;
   begins = session.begins;
   represents = session.represents;
-  spelled = spelled_session_text_says_less (session_opening settings.capacity session.lists session.base) settings
+  spelled = spelled_session_text_says_less (session_opening (asked_shape settings) session.lists session.base) settings
       (λ cuts. settings.store ≡ true
       → AreKeptOnDisk d old new (saves_settings settings) session.lists cuts [])
       (λ cuts. settings.store ≡ true → AreReopened d old new (saves_settings settings) session.lists cuts [])
@@ -243,7 +244,7 @@ pub reopened_store_after_breaking_off : OpenToOne → {D : Type 0} (d : DiskOf D
 reopened_store_after_breaking_off one d rules settings old new file front limited session =
     let lists : List (List RecordValue) = session.lists in
     let base : Option CutValue = session.base in
-    let opening : List ShardValue = session_opening settings.capacity lists base in
+    let opening : List ShardValue = session_opening (asked_shape settings) lists base in
     let many : length lists ≡ settings.shards = session.as_many in
     let Kept : SessionSaving = λ saved unfinished. settings.store ≡ true
     → AreKeptOnDisk d old new (saves_settings settings) lists saved unfinished in

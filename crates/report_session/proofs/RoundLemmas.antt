@@ -12,7 +12,7 @@ use Rattle.std.specs.List.{flat_map}
 use Rattle.std.specs.Io.KnownBytes.{Appends}
 use Rattle.std.proofs.KnownBytes.{Appends-trans, Appends-nil}
 use Rattle.std.proofs.lemmas.List.Elements.{All-nil, All-cons, All-head, All-tail, All-append}
-use Rattle.shard_state.specs.{AreCoreShards, BasesRepresent, CutValue, IsShard, ShardValue, core_capacity}
+use Rattle.shard_state.specs.{AreCoreShards, BasesRepresent, CutValue, IsShard, ShardValue, core_shape}
 use Rattle.shard_state.specs.{core_lists, shard_state_at}
 use Rattle.prefix_lattice.specs.{record_limit}
 use Rattle.hhh_report.specs.{IsSound}
@@ -79,7 +79,7 @@ saved_cuts-no_rounds true opening = refl
 pub writes_one_round : (opening : List ShardValue) (phi : ℕ) (before now : View) (store : Bool)
     (Kept : List CutValue → Type 0) (old new : Option (List ℕ)) (report : Report)
     → Calls opening phi 1 before now (record { report = report; saved = None } ∷ [])
-    → (BasesRepresent opening → IsSound report (core_lists opening) (core_capacity opening) phi)
+    → (BasesRepresent opening → IsSound (core_shape opening).grain report (core_lists opening) (core_shape opening).capacity phi)
     → Appends old new (session_part store (record { report = report; saved = None }))
     → Kept (saved_cuts store opening (record { report = report; saved = None } ∷ []))
     → WritesRounds opening phi store 1 before now Kept old new
@@ -87,9 +87,9 @@ writes_one_round opening phi before now store Kept old new report calls sound wr
   reports = record { report = report; saved = None } ∷ [];
   calls = calls;
   sound = λ bases.
-      All-cons (λ (reported : Reported). IsSound reported.report (core_lists opening) (core_capacity opening) phi)
+      All-cons (λ (reported : Reported). IsSound (core_shape opening).grain reported.report (core_lists opening) (core_shape opening).capacity phi)
       (record { report = report; saved = None }) [] (sound bases)
-      (All-nil (λ (reported : Reported). IsSound reported.report (core_lists opening) (core_capacity opening) phi));
+      (All-nil (λ (reported : Reported). IsSound (core_shape opening).grain reported.report (core_lists opening) (core_shape opening).capacity phi));
   written = subst (Appends old new) (sym (round_prints_its_report store (record { report = report; saved = None }))) written;
   kept = kept;
 }
@@ -102,7 +102,7 @@ writes_no_round opening phi now store Kept old calls kept = record {
   reports = [];
   calls = calls;
   sound = λ bases.
-      All-nil (λ (reported : Reported). IsSound reported.report (core_lists opening) (core_capacity opening) phi);
+      All-nil (λ (reported : Reported). IsSound (core_shape opening).grain reported.report (core_lists opening) (core_shape opening).capacity phi);
   written = Appends-nil old;
   kept = subst Kept (sym (saved_cuts-no_rounds store opening)) kept;
 }
@@ -124,7 +124,7 @@ writes_more_rounds opening phi rounds more before middle now store First Second 
   reports = one.reports ++ two.reports;
   calls = follow phi rounds more middle now one.reports two.reports one.calls two.calls;
   sound = λ bases.
-      All-append (λ (reported : Reported). IsSound reported.report (core_lists opening) (core_capacity opening) phi)
+      All-append (λ (reported : Reported). IsSound (core_shape opening).grain reported.report (core_lists opening) (core_shape opening).capacity phi)
       one.reports two.reports (one.sound bases) (two.sound bases);
   written =
       subst (Appends old new) (sym (flat_map-append_rounds (session_part store) one.reports two.reports))

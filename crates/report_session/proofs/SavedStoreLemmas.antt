@@ -5,7 +5,7 @@ use Rattle.std.specs.Prelude.{IsSomeAnd}
 use Rattle.std.proofs.lemmas.List.{length-append, length-map, map-append}
 use Rattle.std.proofs.lemmas.List.Elements.{All-head, All-map, All-tail}
 use Rattle.prefix_lattice.specs.{RecordValue}
-use Rattle.shard_state.specs.{AreCoreShards, BasesRepresent, CutRepresents, CutValue, ShardValue, core_capacity}
+use Rattle.shard_state.specs.{AreCoreShards, BasesRepresent, CutRepresents, CutValue, ShardValue, core_shape}
 use Rattle.shard_state.specs.{core_lists}
 use Rattle.shard_state.specs.{cut_positions}
 use Rattle.hhh_report.specs.{AreReportLines, IsSameReport}
@@ -32,7 +32,7 @@ SavedStoreCutsRepresent = (opening : List ShardValue) (phi : ℕ) (report : Repo
 -- cuts that represent the same lists have one report
 abbrev pub SavedStoreReportIsUnique : Type 0
 SavedStoreReportIsUnique = (cut other_cut : CutValue) (lists : List (List RecordValue)) (phi : ℕ) (report other : Report)
-    → cut.capacity ≡ other_cut.capacity → cut_positions cut ≡ cut_positions other_cut → CutRepresents cut lists
+    → cut.shape ≡ other_cut.shape → cut_positions cut ≡ cut_positions other_cut → CutRepresents cut lists
     → CutRepresents other_cut lists → AreReportLines report.lines → AreReportLines other.lines → IsReportOf cut phi report
     → IsReportOf other_cut phi other → IsSameReport report other
 
@@ -44,7 +44,7 @@ saved_store_ends_by_lists (shard ∷ rest) = ap (λ ends. length shard.list ∷ 
 pub saved_store_sessions_end_alike : SavedStoreReportIsUnique → SavedStoreCutsRepresent → LastReportTextIsUnique → (opening other_opening : List ShardValue)
     (settings other : Settings) (reports others : SessionReports) → AreCoreShards opening → AreCoreShards other_opening
     → BasesRepresent opening → BasesRepresent other_opening → core_lists opening ≡ core_lists other_opening
-    → core_capacity opening ≡ core_capacity other_opening → settings.phi ≡ other.phi
+    → core_shape opening ≡ core_shape other_opening → settings.phi ≡ other.phi
     → AreReports opening settings reports → AreReports other_opening other others
     → report_text reports.last.report ≡ report_text others.last.report
 saved_store_sessions_end_alike one represent text opening other_opening settings other reports others shards other_shards bases other_bases

@@ -6,7 +6,7 @@ use Rattle.std.specs.Prelude.{IfSome, is_some, option_map, slice_index}
 use Rattle.std.specs.List.Sorted.{IsNonDecreasing}
 use Rattle.std.proofs.lemmas.List.{length-map}
 use Rattle.hhh_report.specs.{AreNotPast}
-use Rattle.shard_state.specs.{CutValue, HasCoreShape, ShardValue, core_capacity, cut_positions}
+use Rattle.shard_state.specs.{CutValue, HasCoreShape, ShardValue, core_shape, cut_positions}
 use Rattle.shard_state.specs.{snapshot_of}
 use Rattle.hhh_report.specs.declared.report.Report.{Report}
 use Rattle.hhh_report.specs.declared.reports.Reported.{Reported}
@@ -19,6 +19,7 @@ use Rattle.report_session.specs.Session.{saved_cuts}
 use Rattle.report_session.proofs.RoundLemmas.{round_makes_report}
 use Rattle.report_session.proofs.SaveLemmas.{saves_raise_sequence}
 use Rattle.slot_disk.specs.declared.disk.Disk.{Ghosts as DiskOf}
+use Rattle.checkpoint.specs.{settings_shape}
 
 -- the positions of the cut of the pure core
 pub seen_positions_of_cut : (opening : List ShardValue) (positions : List ℕ) → length positions ≡ length opening
@@ -39,7 +40,7 @@ seen_position_snapshot_count (shard ∷ rest) (position ∷ positions) many =
     let tail = seen_position_snapshot_count rest positions (omega (arith, many)) in omega (arith, tail)
 
 pub seen_position_cut_has_shape : (opening : List ShardValue) (positions : List ℕ) → length positions ≡ length opening
-    → HasCoreShape (length opening) (core_capacity opening) (cut_at opening positions)
+    → HasCoreShape (length opening) (core_shape opening) (cut_at opening positions)
 seen_position_cut_has_shape opening positions many = record { as_many = seen_position_snapshot_count opening positions many; alike = refl }
 
 -- positions that aren't past others, shard by shard
@@ -154,15 +155,15 @@ pub seen_positions_can_be_saved : (reads : Option (List ℕ)) (possible : List �
 seen_positions_can_be_saved reads possible opening phi before now report None cut is trails calls can = tt
 seen_positions_can_be_saved reads possible opening phi before now report (Some saver) cut is trails calls can =
     let at = round_makes_report opening phi before now report calls in
-    let shape : HasCoreShape (length opening) (core_capacity opening) (cut_at opening report.positions) =
+    let shape : HasCoreShape (length opening) (core_shape opening) (cut_at opening report.positions) =
     seen_position_cut_has_shape opening report.positions at.as_many in
     record {
       settings = can.fits.settings;
       stands = can.stands;
       early = can.early;
-      shape = subst (HasCoreShape saver.settings.shards saver.settings.capacity) (sym is)
-          (subst (λ n. HasCoreShape n saver.settings.capacity (cut_at opening report.positions)) (sym can.fits.shards)
-          (subst (λ n. HasCoreShape (length opening) n (cut_at opening report.positions)) (sym can.fits.capacity) shape));
+      shape = subst (HasCoreShape saver.settings.shards (settings_shape saver.settings)) (sym is)
+          (subst (λ n. HasCoreShape n (settings_shape saver.settings) (cut_at opening report.positions)) (sym can.fits.shards)
+          (subst (λ n. HasCoreShape (length opening) n (cut_at opening report.positions)) (sym can.fits.shape) shape));
       no_earlier = subst (AreNotPast saver.positions)
           (sym (ap cut_positions is ∙ seen_positions_of_cut opening report.positions at.as_many))
           (seen_positions_not_past_report opening phi before now report saver.positions trails calls can.fits.seen);
@@ -186,7 +187,7 @@ seen_positions_fit_next_saver reads possible opening phi before now report (Some
     (record {
       settings = can.fits.settings;
       shards = can.fits.shards;
-      capacity = can.fits.capacity;
+      shape = can.fits.shape;
       seen = subst (AreNotPast (cut_positions cut)) positions (seen_positions_not_past_self (cut_positions cut));
     })
 

@@ -12,7 +12,7 @@ use Rattle.std.proofs.KnownBytes.{Appends-trans, Appends-nil}
 use Rattle.std.proofs.lemmas.List.{length-map, take_more}
 use Rattle.std.proofs.lemmas.List.Elements.{All-map, All-append, All-cons, All-head, All-nil, All-tail}
 use Rattle.std.proofs.lemmas.List.Sorted.{IsNonDecreasingBy-short}
-use Rattle.shard_state.specs.{BasesRepresent, CutValue, IsShard, ShardValue, core_capacity, core_lists}
+use Rattle.shard_state.specs.{BasesRepresent, CutValue, IsShard, ShardValue, core_shape, core_lists}
 use Rattle.shard_state.specs.{shard_state_at}
 use Rattle.hhh_report.specs.{IsSound}
 use Rattle.hhh_report.specs.declared.report.Report.{Report}
@@ -39,6 +39,7 @@ use Rattle.run_status.specs.declared.status.Status.TheVariants.{OtherCapture, Au
 use Rattle.report_session.proofs.RoundLemmas.{RoundsFollowRounds, flat_map-append_rounds, round_makes_report}
 use Rattle.report_session.proofs.RoundLemmas.{saved_cuts-no_rounds}
 use Rattle.report_session.proofs.SeenPositionLemmas.{seen_position_report_count, seen_position_before_one_read}
+use Rattle.report_session.specs.Session.{asked_shape}
 
 -- a view has seen the positions at which shards start, and no others
 abbrev pub HasSessionThreadSeenStarts : List ShardValue → View → Type 0
@@ -59,7 +60,7 @@ new_session_thread_sees_starts opening view seen = map-map_of_session_threads _ 
 
 -- what a caller with such a view reports in its rounds
 pub session_thread_reports_of_calls : (opening : List ShardValue) (settings : Settings) (rounds : ℕ) (before now : View)
-    (reports : List Reported) → core_capacity opening ≡ settings.capacity → HasSessionThreadSeenStarts opening before
+    (reports : List Reported) → core_shape opening ≡ asked_shape settings → HasSessionThreadSeenStarts opening before
     → Calls opening settings.phi rounds before now reports → (BasesRepresent opening → AreSoundReports opening settings.phi reports)
     → AreOfCaller opening settings rounds reports
 session_thread_reports_of_calls opening settings rounds before now reports alike seen calls sound = record {
@@ -67,7 +68,7 @@ session_thread_reports_of_calls opening settings rounds before now reports alike
   shown = λ k d lt. record {
     is_report = calls.each k d lt;
     is_sound = λ bases.
-        subst (λ capacity. IsSound (get_or reports k d).report (core_lists opening) capacity settings.phi) alike
+        subst (λ shape. IsSound shape.grain (get_or reports k d).report (core_lists opening) shape.capacity settings.phi) alike
         (sound bases k d lt);
   };
   never_fall = λ shard inside.
@@ -84,7 +85,7 @@ session_thread_reports_of_calls opening settings rounds before now reports alike
 -- whole rounds, and one more that broke off
 session_thread_breaks_in_round : (opening : List ShardValue) (settings : Settings) (whole : ℕ) (before middle now : View) (Kept : SessionSaving)
     (old between new : Option (List ℕ)) (reports : List Reported) (report : Report) (more : List ℕ)
-    → core_capacity opening ≡ settings.capacity → HasSessionThreadSeenStarts opening before → RoundsFollowRounds opening before
+    → core_shape opening ≡ asked_shape settings → HasSessionThreadSeenStarts opening before → RoundsFollowRounds opening before
     → whole < settings.rounds → Calls opening settings.phi whole before middle reports
     → (BasesRepresent opening → AreSoundReports opening settings.phi reports)
     → Appends old between (session_parts settings.store reports)
@@ -101,11 +102,11 @@ session_thread_breaks_in_round opening settings whole before middle now Kept old
     follow settings.phi whole 1 middle now reports (next ∷ []) made once.calls in
     let are_sound : BasesRepresent opening → AreSoundReports opening settings.phi all =
     λ bases.
-    All-append (λ (reported : Reported). IsSound reported.report (core_lists opening) (core_capacity opening) settings.phi)
+    All-append (λ (reported : Reported). IsSound (core_shape opening).grain reported.report (core_lists opening) (core_shape opening).capacity settings.phi)
     reports (next ∷ []) (sound bases)
-    (All-cons (λ (reported : Reported). IsSound reported.report (core_lists opening) (core_capacity opening) settings.phi)
+    (All-cons (λ (reported : Reported). IsSound (core_shape opening).grain reported.report (core_lists opening) (core_shape opening).capacity settings.phi)
     next [] (once.sound bases)
-    (All-nil (λ (reported : Reported). IsSound reported.report (core_lists opening) (core_capacity opening) settings.phi))) in
+    (All-nil (λ (reported : Reported). IsSound (core_shape opening).grain reported.report (core_lists opening) (core_shape opening).capacity settings.phi))) in
     let are : AreOfCaller opening settings (whole + 1) all =
     session_thread_reports_of_calls opening settings (whole + 1) before now all alike seen calls are_sound in
     let many : length reports ≡ whole = seen_position_report_count opening settings.phi whole before middle reports made in
@@ -126,7 +127,7 @@ session_thread_breaks_in_round opening settings whole before middle now Kept old
 -- whole rounds, and nothing more
 session_thread_between_rounds : (opening : List ShardValue) (settings : Settings) (whole : ℕ) (before middle : View) (Kept : SessionSaving)
     (old between new : Option (List ℕ)) (reports : List Reported)
-    → core_capacity opening ≡ settings.capacity → HasSessionThreadSeenStarts opening before
+    → core_shape opening ≡ asked_shape settings → HasSessionThreadSeenStarts opening before
     → whole ≤ settings.rounds → Calls opening settings.phi whole before middle reports
     → (BasesRepresent opening → AreSoundReports opening settings.phi reports)
     → Appends old between (session_parts settings.store reports) → new ≡ between
@@ -150,7 +151,7 @@ session_thread_between_rounds opening settings whole before middle Kept old betw
 -- whole rounds, and a report whose cut wasn't saved
 session_thread_unsaved_round : (opening : List ShardValue) (settings : Settings) (before now : View) (Kept : SessionSaving)
     (old new : Option (List ℕ)) (faults_before faults_now : RoundFaults) (status : Status) (unfinished : Bool)
-    → core_capacity opening ≡ settings.capacity → HasSessionThreadSeenStarts opening before → RoundsFollowRounds opening before
+    → core_shape opening ≡ asked_shape settings → HasSessionThreadSeenStarts opening before → RoundsFollowRounds opening before
     → (off : RoundsBreakOff opening settings.phi settings.store settings.rounds before now Kept old new faults_before faults_now
     status)
     → (unsaved : WritesUnsaved opening settings.phi off.middle now unfinished
@@ -169,7 +170,7 @@ session_thread_unsaved_round opening settings before now Kept old new faults_bef
 -- rounds that broke off: whole ones, and one more that broke off
 session_thread_broken_rounds : (opening : List ShardValue) (settings : Settings) (before now : View) (Kept : SessionSaving)
     (old new : Option (List ℕ)) (faults_before faults_now : RoundFaults) (status : Status)
-    → core_capacity opening ≡ settings.capacity → HasSessionThreadSeenStarts opening before → RoundsFollowRounds opening before
+    → core_shape opening ≡ asked_shape settings → HasSessionThreadSeenStarts opening before → RoundsFollowRounds opening before
     → RoundsBreakOff opening settings.phi settings.store settings.rounds before now Kept old new faults_before faults_now status
     → FeedBreaksOff opening settings Kept old new
 session_thread_broken_rounds opening settings before now Kept old new faults_before faults_now WriteFault alike seen follow off =
@@ -232,7 +233,7 @@ session_thread_broken_rounds opening settings before now Kept old new faults_bef
 -- rounds that ended, whole or not. What became of the cuts of whole rounds is also known where they are a part of a session
 session_thread_ended_rounds : (opening : List ShardValue) (settings : Settings) (before now : View)
     (Kept : List CutValue → Type 0) (KeptInPart : SessionSaving) (old new : Option (List ℕ))
-    (faults_before faults_now : RoundFaults) (stop : Option Status) → core_capacity opening ≡ settings.capacity
+    (faults_before faults_now : RoundFaults) (stop : Option Status) → core_shape opening ≡ asked_shape settings
     → HasSessionThreadSeenStarts opening before → RoundsFollowRounds opening before
     → ((cuts : List CutValue) → Kept cuts → KeptInPart cuts [])
     → EndRounds opening settings.phi settings.store settings.rounds before now Kept KeptInPart old new faults_before
@@ -271,7 +272,7 @@ session_thread_without_round opening settings Kept old new same kept = record {
 pub session_threads_leave_rounds : (same : Type 0) (relates : View → View → Type 0) (opening : List ShardValue) (settings : Settings)
     (passes : ℕ) (view : View) (Kept : List CutValue → Type 0) (KeptInPart : SessionSaving) (old new : Option (List ℕ))
     (faults_before faults_now : RoundFaults) (stop : Option Status)
-    → view ≡ first_view opening → core_capacity opening ≡ settings.capacity
+    → view ≡ first_view opening → core_shape opening ≡ asked_shape settings
     → ((before now : View) → relates before now → EndRounds before.opening settings.phi settings.store settings.rounds before
     now Kept KeptInPart old new faults_before faults_now stop)
     → ((phi rounds more : ℕ) (before middle now : View) (reports later : List Reported)
@@ -338,7 +339,7 @@ session_thread_ended_all_rounds shards phi rounds before now store Kept KeptInPa
 -- what the threads bring back, where the rounds of the calling thread were all made
 pub session_threads_gathered_all : (relates : View → View → Type 0) (opening : List ShardValue) (settings : Settings)
     (plan : ThreadPlan) (view : View) (gathered : Gathered) (Kept : List CutValue → Type 0) (old new : Option (List ℕ))
-    → view ≡ first_view opening → core_capacity opening ≡ settings.capacity
+    → view ≡ first_view opening → core_shape opening ≡ asked_shape settings
     → plan.phi ≡ settings.phi → plan.rounds ≡ settings.rounds → plan.callers ≡ settings.callers
     → ((before now : View) → relates before now
     → WritesRounds before.opening settings.phi settings.store settings.rounds before now Kept old new)
@@ -466,16 +467,16 @@ session_thread_positions_at_ends (shard ∷ rest) (position ∷ positions) many 
 
 -- a report that was read after the ends of all lists were seen is that over all records
 pub session_thread_reports_at_ends : (opening : List ShardValue) (settings : Settings) (before now : View) (report : Report)
-    → core_capacity opening ≡ settings.capacity → HasSeenEnds opening before
+    → core_shape opening ≡ asked_shape settings → HasSeenEnds opening before
     → Calls opening settings.phi 1 before now (record { report = report; saved = None } ∷ [])
-    → (BasesRepresent opening → IsSound report (core_lists opening) (core_capacity opening) settings.phi)
+    → (BasesRepresent opening → IsSound (core_shape opening).grain report (core_lists opening) (core_shape opening).capacity settings.phi)
     → IsShownInSession opening settings (record { report = report; saved = None }) × (report.positions ≡ session_ends opening)
 session_thread_reports_at_ends opening settings before now report alike ends calls sound =
     let is_report = round_makes_report opening settings.phi before now report calls in (
       record {
         is_report = is_report;
         is_sound = λ bases.
-            subst (λ capacity. IsSound report (core_lists opening) capacity settings.phi) alike (sound bases);
+            subst (λ shape. IsSound shape.grain report (core_lists opening) shape.capacity settings.phi) alike (sound bases);
       },
       session_thread_positions_at_ends opening report.positions is_report.as_many is_report.kept
           (λ shard state is.

@@ -13,18 +13,33 @@ use Rattle.std.proofs.Common.{None}
 use Rattle.shard_state.specs.{BasesRepresent, core_lists}
 use Rattle.hhh_report.specs.{IsSound}
 use Rattle.report_session.proofs.OpeningShardLemmas.{new_opening_shards_as_dealt}
+use Rattle.report_session.specs.Session.{asked_shape}
+use Rattle.hhh_report.specs.{AreOfGrain}
+use Rattle.shard_state.specs.{core_shape}
+use Rattle.shard_state.specs.{TableShape}
+use Rattle.std.proofs.lemmas.List.{get_or_default}
+use Rattle.std.proofs.Common.{get_or}
+
+-- the lines of a report of shards are of their grain
+pub core_report_is_of_grain : (opening : List ShardValue) (phi : ℕ) (report : Report) → IsCoreReport opening phi report
+    → AreOfGrain (core_shape opening).grain report.lines
+core_report_is_of_grain opening phi report is place default within =
+    ((is.is.lines (get_or report.lines place default)).0 (place, within, get_or_default report.lines place _ default within)).is_prefix
 
 -- the report that is shown at the ends of new shards counts all their records
 pub whole_report_counts_all_records : (settings : Settings) (lists : List (List RecordValue)) (opening : List ShardValue) (report : Report)
-    → opening ≡ new_shards settings.capacity lists → BasesRepresent (new_shards settings.capacity lists)
+    → opening ≡ new_shards (asked_shape settings) lists → core_shape opening ≡ asked_shape settings → BasesRepresent (new_shards (asked_shape settings) lists)
     → IsShownInSession opening settings (record { report = report; saved = None }) → report.positions ≡ session_ends opening
     → IsWholeReport settings lists report
-whole_report_counts_all_records settings lists opening report same bases shown at_ends = record {
+whole_report_counts_all_records settings lists opening report same alike bases shown at_ends = record {
   is_report = subst (λ o. IsCoreReport o settings.phi report) same shown.is_report;
   at_ends = at_ends ∙ ap session_ends same;
+  of_grain =
+      subst (λ (shape : TableShape). AreOfGrain shape.grain report.lines) alike
+      (core_report_is_of_grain opening settings.phi report shown.is_report);
   is_sound =
-      subst (λ l. IsSound report l settings.capacity settings.phi)
-      (ap core_lists same ∙ new_opening_shards_as_dealt settings.capacity lists)
+      subst (λ l. IsSound settings.grain report l settings.capacity settings.phi)
+      (ap core_lists same ∙ new_opening_shards_as_dealt (asked_shape settings) lists)
       (shown.is_sound (subst BasesRepresent (sym same) bases));
 }
 

@@ -20,6 +20,7 @@ use Rattle.report_session.specs.Saving.{saves_settings}
 use Rattle.report_session.proofs.FinalReportLemmas.{FinalReport, FinalReportLaws, final_report_after_none}
 use Rattle.report_session.proofs.FinalReportLemmas.{final_report_exists, final_report_makes_whole}
 use Rattle.report_session.proofs.FinalReportLemmas.{reports_with_final_report}
+use Rattle.report_session.specs.Session.{asked_shape}
 
 -- a beginning of a text begins a longer one, and so it does behind another text
 whole_session_goes_on : (front text more : List ℕ) → IsBeginning front text → IsBeginning front (text ++ more)
@@ -148,7 +149,7 @@ pub whole_session_exists : FinalReportLaws → (settings : Settings) (rules : De
     (store file : Option (List ℕ)) (front : List ℕ) → HaveWideShare settings
     → IsSessionInPart settings rules keeping store file front → BeginsWholeSession settings rules store file front
 whole_session_exists laws settings rules keeping store file front wide is =
-    let opening : List ShardValue = session_opening settings.capacity is.lists is.base in
+    let opening : List ShardValue = session_opening (asked_shape settings) is.lists is.base in
     let final : FinalReport opening settings = final_report_exists laws opening settings wide is.shards in
     let tail : List ℕ = tail_text is.records in
     let whole : WholeSessionText opening settings tail front =

@@ -4,7 +4,7 @@ use Rattle.std.specs.Prelude.{slice_index, is_some}
 use Rattle.std.specs.Io.KnownBytes.{Appends}
 use Rattle.prefix_lattice.specs.{RecordValue}
 use Rattle.hhh_report.specs.{AreNotPast}
-use Rattle.shard_state.specs.{CutValue, HasCoreShape, IsShard, ShardValue, core_capacity, cut_positions}
+use Rattle.shard_state.specs.{CutValue, HasCoreShape, IsShard, ShardValue, core_shape, cut_positions}
 use Rattle.hhh_report.specs.declared.reports.Reported.{Reported}
 use Rattle.gate_workers.specs.declared.gathered.Called.{Called}
 use Rattle.gate_workers.specs.declared.gathered.Gathered.{Gathered}
@@ -40,6 +40,9 @@ use Rattle.dealt_capture.specs.{AreDealtRecords, DealingRules}
 use Rattle.outside_io.specs.declared.sink.Sink.{Ghosts as SinkOf}
 use Rattle.slot_disk.specs.declared.disk.Disk.{Ghosts as DiskOf}
 use Rattle.report_session.specs.Saving.{IsAsBefore, AreKeptOnDisk}
+use Rattle.report_session.specs.Session.{asked_shape}
+use Rattle.shard_state.specs.{TableShape}
+use Rattle.checkpoint.specs.{settings_shape}
 
 -- the dealt lists of a capture, as many as shards, and the last lines of the session over them
 pub record IsFeedCapture (settings : Settings) (rules : DealingRules) (file : Option (List ℕ)) (lists : List (List RecordValue))
@@ -62,7 +65,7 @@ pub record IsFeedBase (settings : Settings) (lists : List (List RecordValue)) (s
     : Type 0 where
   pub begins : GoesOnFrom settings lists store base.cut
   pub used : is_some base.saver ≡ settings.store
-  pub positions_are : base.positions ≡ session_start (session_opening settings.capacity lists base.cut)
+  pub positions_are : base.positions ≡ session_start (session_opening (asked_shape settings) lists base.cut)
   pub saver : IfSome base.saver (IsFeedSaver settings lists base.positions)
 
 -- why a run has no base: its store was refused for a fault, or memory ran out
@@ -75,9 +78,9 @@ pub record HasNoBase (settings : Settings) (lists : List (List RecordValue)) (st
   pub rose : fault ≡ opening.DiskFault → FaultRose before now
   pub kept : (fault ≡ opening.DiskFault → ⊥) → now ≡ before
 
--- a cut of this capacity from which the shards of dealt lists may go on
-pub record FeedGoesOn (capacity : ℕ) (lists : List (List RecordValue)) (cut : CutValue) : Type 0 where
-  pub alike : cut.capacity ≡ capacity
+-- a cut of this shape from which the shards of dealt lists may go on
+pub record FeedGoesOn (shape : TableShape) (lists : List (List RecordValue)) (cut : CutValue) : Type 0 where
+  pub alike : cut.shape ≡ shape
   pub continues : ContinuesLists cut lists
 
 -- why a save failed: the disk's count of faults rose, or memory ran out, and the count is as before
@@ -91,8 +94,8 @@ pub record FeedWrites (settings : Settings) (lists : List (List RecordValue)) (t
     (store old new : Option (List ℕ)) : Type 0 where
   pub base : Option CutValue
   pub begins : GoesOnFrom settings lists store base
-  pub represents : GoesOnSoundly lists base (session_opening settings.capacity lists base)
-  pub writes : WritesAnswer (IsOverShards (session_opening settings.capacity lists base) settings
+  pub represents : GoesOnSoundly lists base (session_opening (asked_shape settings) lists base)
+  pub writes : WritesAnswer (IsOverShards (session_opening (asked_shape settings) lists base) settings
       (λ cuts. settings.store ≡ true → keeping (saves_settings settings) lists cuts []) tail) old new
 
 -- bytes of it were written, before it broke off
@@ -100,9 +103,9 @@ pub record FeedWritesPart (settings : Settings) (lists : List (List RecordValue)
     (keeping : SessionKeeping) (store old new : Option (List ℕ)) : Type 0 where
   pub base : Option CutValue
   pub begins : GoesOnFrom settings lists store base
-  pub represents : GoesOnSoundly lists base (session_opening settings.capacity lists base)
-  pub shards : AreSessionShards settings.capacity (session_opening settings.capacity lists base)
-  pub writes : WritesAnswer (BeginsSession (session_opening settings.capacity lists base) settings
+  pub represents : GoesOnSoundly lists base (session_opening (asked_shape settings) lists base)
+  pub shards : AreSessionShards (asked_shape settings) (session_opening (asked_shape settings) lists base)
+  pub writes : WritesAnswer (BeginsSession (session_opening (asked_shape settings) lists base) settings
       (λ saved unfinished. settings.store ≡ true → keeping (saves_settings settings) lists saved unfinished) tail) old new
 
 -- a store is refused for this fault over dealt lists, and its disk is as before
@@ -158,7 +161,7 @@ pub record IsFeedOpening (shards : List ShardValue) (opened : Opened) : Type 0 w
   pub kept : All IsShard shards
   pub pass : IsPassOf opened.board opened.reader.pass
   pub view : view opened.reader.pass ≡ first_view shards
-  pub shape : HasCoreShape (length shards) (core_capacity shards) opened.reader.cut
+  pub shape : HasCoreShape (length shards) (core_shape shards) opened.reader.cut
 
 -- no shard starts past the end of its list
 abbrev pub StartsBefore : List ShardValue → Type 0
@@ -176,6 +179,7 @@ feed_plan settings = record {
   rounds = settings.rounds;
   block = settings.block;
   phi = settings.phi;
+  grain = settings.grain;
   capacity = settings.capacity;
 }
 
@@ -206,7 +210,7 @@ pub record IsGathered (board : WordsValue) (settings : Settings) (Kept : List Cu
 pub record IsFeedResult (board : WordsValue) (settings : Settings) (Kept : List CutValue → Type 0)
     (old new : Option (List ℕ)) (fed : Fed) : Type 0 where
   pub gathered : IsGathered board settings Kept old new fed.gathered
-  pub shape : HasCoreShape (length board.opening) (core_capacity board.opening) fed.cut
+  pub shape : HasCoreShape (length board.opening) (core_shape board.opening) fed.cut
 
 -- the rest of a session over a board, which ends with the lines `tail`: the last report, which counts all records, the cut
 -- that it is of, the text up to it, and the text after it
@@ -225,7 +229,7 @@ pub record CanSaveCut (reads : Option (List ℕ)) (possible : List ℕ → Type 
   pub settings : AreSettings saver.settings
   pub stands : DiskMatches reads possible saver
   pub early : saver.sequence + 1 ≤ greatest_sequence
-  pub shape : HasCoreShape saver.settings.shards saver.settings.capacity cut
+  pub shape : HasCoreShape saver.settings.shards (settings_shape saver.settings) cut
   pub no_earlier : AreNotPast saver.positions (cut_positions cut)
 
 -- bytes of the calling thread's rounds were written, before they broke off

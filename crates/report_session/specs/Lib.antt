@@ -9,7 +9,7 @@ pub use Rattle.report_session.specs.Saving.{saves_settings, saves_settings-allow
 pub use Rattle.report_session.specs.Session.{BeginsSession, BeginsWholeSession, IsWholeReport, IsSession}
 pub use Rattle.report_session.specs.Session.{IsSessionInPart}
 pub use Rattle.report_session.specs.Session.{IsOverShards, GoesOnFrom, SessionKeeping, WritesAnswer}
-pub use Rattle.report_session.specs.Session.{session_opening, reports_in}
+pub use Rattle.report_session.specs.Session.{asked_shape, session_opening, reports_in}
 pub use Rattle.report_session.specs.LiveRounds.{RoundFaults}
 pub use Rattle.report_session.specs.DealtFeed.{IsFeedCapture}
 pub use Rattle.report_session.specs.DealtFeed.{FeedEnds, FeedRefuses, FeedWrites}

@@ -2,7 +2,7 @@
 use Rattle.std.specs.Prelude.{ℕ, ◌≡◌, ◌<◌, ◌⊎◌, ⊤, Bool, true, false, List, [], ◌∷◌, Option, None, Some}
 use Rattle.std.specs.Io.KnownBytes.{Appends}
 use Rattle.outside_io.specs.{AppendsPart, FaultRose}
-use Rattle.shard_state.specs.{BasesRepresent, CutValue, ShardValue, core_capacity, core_lists}
+use Rattle.shard_state.specs.{BasesRepresent, CutValue, ShardValue, core_shape, core_lists}
 use Rattle.hhh_report.specs.{IsSound}
 use Rattle.hhh_report.specs.declared.report.Report.{Report}
 use Rattle.hhh_report.specs.declared.reports.Reported.{Reported}
@@ -42,7 +42,7 @@ module _ (opening : List ShardValue) where
     -- a round that read each shard once, and whose report began to be written
     pub record ReportsOnce (before now : View) (report : Report) : Type 0 where
       pub calls : Calls opening phi 1 before now (record { report = report; saved = None } ∷ [])
-      pub sound : BasesRepresent opening → IsSound report (core_lists opening) (core_capacity opening) phi
+      pub sound : BasesRepresent opening → IsSound (core_shape opening).grain report (core_lists opening) (core_shape opening).capacity phi
 
     -- a round that was cut short in its report's text: its cut was not saved. Kept says which cuts were saved, and which save
     -- is unfinished

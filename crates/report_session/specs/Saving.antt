@@ -3,7 +3,7 @@ use Rattle.std.specs.Prelude.{ℕ, suc, ◌≡◌, ◌+◌, ◌≤◌, ◌⊎◌
 use Rattle.std.specs.Prelude.{Option, None, Some, IfSome, option_map, is_some, refl}
 use Rattle.std.proofs.Common.{arith}
 use Rattle.hhh_report.specs.{AreNotPast}
-use Rattle.shard_state.specs.{CutRepresents, CutValue, ShardValue, core_capacity}
+use Rattle.shard_state.specs.{CutRepresents, CutValue, ShardValue, core_shape}
 use Rattle.gate_workers.specs.{IsLaterView, View}
 use Rattle.slot_disk.specs.{IfImageKnown, CrashLeaves}
 use Rattle.slot_disk.specs.declared.disk.Disk.{Ghosts as DiskOf}
@@ -16,6 +16,7 @@ use Rattle.command_words.specs.declared.settings.Settings.{Settings}
 use Rattle.command_words.specs.{AreLimited}
 use Rattle.slot_disk.specs.{CrashLeaves-none}
 use Rattle.std.proofs.Common.{subst, sym}
+use Rattle.checkpoint.specs.{settings_shape}
 
 -- the settings of the store that a command uses
 abbrev pub saves_settings : Settings → StoreSettings
@@ -155,7 +156,7 @@ pub record SavesBreakOff {D : Type 0} (d : DiskOf D) (before after : Option Save
 pub record SavesFitBoard (opening : List ShardValue) (view : View) (saver : SaverState) : Type 0 where
   pub settings : AreSettings saver.settings
   pub shards : saver.settings.shards ≡ length opening
-  pub capacity : saver.settings.capacity ≡ core_capacity opening
+  pub shape : settings_shape saver.settings ≡ core_shape opening
   pub seen : AreNotPast saver.positions (map (λ trail. trail.seen) view.trails)
 
 -- a saver that may make this many saves of such reads, into the disk as it is
@@ -192,7 +193,7 @@ CanMakeSaves-later reads possible opening before now count (Some saver) later ca
   fits = record {
     settings = can.fits.settings;
     shards = can.fits.shards;
-    capacity = can.fits.capacity;
+    shape = can.fits.shape;
     seen = not_past_later (λ trail. trail.seen) saver.positions before.trails now.trails later.as_many
         (λ shard trail next is is_next. (later.trails shard trail next is is_next).later) can.fits.seen;
   };

@@ -5,9 +5,9 @@ use Rattle.std.specs.List.{flat_map}
 use Rattle.std.specs.List.Sorted.{IsNonDecreasing}
 use Rattle.outside_io.specs.{IsBeginning}
 use Rattle.prefix_lattice.specs.{RecordValue}
-use Rattle.shard_state.specs.{BasesRepresent, CutRepresents, CutValue, ShardValue, SnapshotValue, empty_snapshot}
-use Rattle.shard_state.specs.{IsCore, core_capacity, core_lists}
-use Rattle.hhh_report.specs.{IsSound}
+use Rattle.shard_state.specs.{BasesRepresent, CutRepresents, CutValue, ShardValue, SnapshotValue, TableShape, empty_snapshot}
+use Rattle.shard_state.specs.{IsCore, core_shape, core_lists}
+use Rattle.hhh_report.specs.{AreOfGrain, IsSound}
 use Rattle.hhh_report.specs.declared.report.Report.{Report}
 use Rattle.hhh_report.specs.declared.reports.Reported.{Reported}
 use Rattle.gate_workers.specs.{IsCoreReport, cut_at}
@@ -23,9 +23,13 @@ use Rattle.report_session.specs.Saving.{saves_after, saves_settings}
 use Rattle.std.specs.Io.KnownBytes.{Appends}
 use Rattle.dealt_capture.specs.{DealingRules, AreDealtRecords}
 
--- new shards of dealt lists, none of whose records has been counted yet: their tables, of this capacity, are empty
-abbrev pub new_shards : ℕ → List (List RecordValue) → List ShardValue
-new_shards capacity lists = map (λ list. record { list = list; base = empty_snapshot capacity; position = 0 }) lists
+-- the shape of the tables that settings ask for
+abbrev pub asked_shape : Settings → TableShape
+asked_shape settings = record { grain = settings.grain; capacity = settings.capacity }
+
+-- new shards of dealt lists, none of whose records has been counted yet: their tables, of this shape, are empty
+abbrev pub new_shards : TableShape → List (List RecordValue) → List ShardValue
+new_shards shape lists = map (λ list. record { list = list; base = empty_snapshot shape; position = 0 }) lists
 
 -- the shards of dealt lists that go on from saved snapshots, one for each
 abbrev pub resumed_shards : List (List RecordValue) → List SnapshotValue → List ShardValue
@@ -35,9 +39,9 @@ resumed_shards (list ∷ lists) (base ∷ bases) =
     record { list = list; base = base; position = base.position } ∷ resumed_shards lists bases
 
 -- the shards of dealt lists as a run begins: they go on from a saved cut, or are new
-abbrev pub session_opening : ℕ → List (List RecordValue) → Option CutValue → List ShardValue
-session_opening capacity lists None = new_shards capacity lists
-session_opening capacity lists (Some cut) = resumed_shards lists cut.shards
+abbrev pub session_opening : TableShape → List (List RecordValue) → Option CutValue → List ShardValue
+session_opening shape lists None = new_shards shape lists
+session_opening shape lists (Some cut) = resumed_shards lists cut.shards
 
 -- the positions at which shards start
 abbrev pub session_start : List ShardValue → List ℕ
@@ -55,17 +59,17 @@ pub record GoesOnFrom (settings : Settings) (lists : List (List RecordValue)) (s
   pub fits : IfSome base (IsBaseFor (saves_settings settings) lists)
   pub opens : settings.store ≡ true → IfImageKnown store (λ image. OpensToBase (saves_settings settings) lists image base)
 
--- what always holds of the shards with which a session begins: there are 1 to 16 of them, of the capacity asked for, each
+-- what always holds of the shards with which a session begins: there are 1 to 16 of them, of the shape asked for, each
 -- within its limits
-pub record AreSessionShards (capacity : ℕ) (opening : List ShardValue) : Type 0 where
+pub record AreSessionShards (shape : TableShape) (opening : List ShardValue) : Type 0 where
   pub core : IsCore opening
-  pub alike : core_capacity opening ≡ capacity
+  pub alike : core_shape opening ≡ shape
 
 -- a report that a session shows: it is the report of the tables at its own positions; and it is sound over the records
 -- themselves, if the shards began with the tables of their records
 pub record IsShownInSession (opening : List ShardValue) (settings : Settings) (reported : Reported) : Type 0 where
   pub is_report : IsCoreReport opening settings.phi reported.report
-  pub is_sound : BasesRepresent opening → IsSound reported.report (core_lists opening) settings.capacity settings.phi
+  pub is_sound : BasesRepresent opening → IsSound settings.grain reported.report (core_lists opening) settings.capacity settings.phi
 
 -- from these positions on, the positions of one caller's reports never fall. They may stay the same
 abbrev pub ReportsNeverFall : List ℕ → List Reported → Type 0
@@ -242,8 +246,8 @@ pub record IsSession (settings : Settings) (rules : DealingRules) (keeping : Ses
   pub as_many : length lists ≡ settings.shards
   pub base : Option CutValue
   pub begins : GoesOnFrom settings lists store base
-  pub represents : GoesOnSoundly lists base (session_opening settings.capacity lists base)
-  pub spelled : IsOverShards (session_opening settings.capacity lists base) settings
+  pub represents : GoesOnSoundly lists base (session_opening (asked_shape settings) lists base)
+  pub spelled : IsOverShards (session_opening (asked_shape settings) lists base) settings
       (λ cuts. settings.store ≡ true → keeping (saves_settings settings) lists cuts []) (tail_text records) text
 
 -- the bytes that were written of a session over a capture that broke off. With a store, they say which cuts were saved, and
@@ -256,9 +260,9 @@ pub record IsSessionInPart (settings : Settings) (rules : DealingRules) (keeping
   pub as_many : length lists ≡ settings.shards
   pub base : Option CutValue
   pub begins : GoesOnFrom settings lists store base
-  pub represents : GoesOnSoundly lists base (session_opening settings.capacity lists base)
-  pub shards : AreSessionShards settings.capacity (session_opening settings.capacity lists base)
-  pub begun : BeginsSession (session_opening settings.capacity lists base) settings
+  pub represents : GoesOnSoundly lists base (session_opening (asked_shape settings) lists base)
+  pub shards : AreSessionShards (asked_shape settings) (session_opening (asked_shape settings) lists base)
+  pub begun : BeginsSession (session_opening (asked_shape settings) lists base) settings
       (λ saved unfinished. settings.store ≡ true → keeping (saves_settings settings) lists saved unfinished) (tail_text records) front
 
 -- these bytes begin a whole session; nothing is said of the disk
@@ -268,9 +272,10 @@ BeginsWholeSession settings rules store file front =
 
 -- the report over all records of dealt lists, which new tables counted; it is sound
 pub record IsWholeReport (settings : Settings) (lists : List (List RecordValue)) (report : Report) : Type 0 where
-  pub is_report : IsCoreReport (new_shards settings.capacity lists) settings.phi report
-  pub at_ends : report.positions ≡ session_ends (new_shards settings.capacity lists)
-  pub is_sound : IsSound report lists settings.capacity settings.phi
+  pub is_report : IsCoreReport (new_shards (asked_shape settings) lists) settings.phi report
+  pub at_ends : report.positions ≡ session_ends (new_shards (asked_shape settings) lists)
+  pub of_grain : AreOfGrain settings.grain report.lines
+  pub is_sound : IsSound settings.grain report lists settings.capacity settings.phi
 
 -- a text of this kind was appended to what the sink had taken; where that isn't known, only that there is such a text
 pub record WritesAnswer (IsText : List ℕ → Type 0) (old new : Option (List ℕ)) : Type 0 where

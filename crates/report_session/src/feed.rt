@@ -1,12 +1,13 @@
 //! The running feed: workers count records while the calling thread and the other callers make their rounds.
 
 ghost use Rattle.std.specs.Prelude.{◌≡◌, length, IfErr, IfOk, IfSome, None, OnErr, OnOk, is_some};
-ghost use Rattle.shard_state.specs.{HasCoreShape, core_capacity};
+ghost use Rattle.shard_state.specs.{HasCoreShape, core_shape};
 ghost use Rattle.pass_tokens.specs.{IsPassOf, first_view, view};
 ghost use Rattle.command_words.specs.{AreLimited, HaveWideShare};
 ghost use Rattle.report_session.specs.DealtFeed.{IsFeedFault, IsFeedResult, IsGathered};
 ghost use Rattle.report_session.specs.DealtFeed.{FeedBreaksOff, RunsPlan, feed_plan};
 ghost use Rattle.report_session.specs.Saving.{CanMakeSaves, SavesInPart, SavesInTurn};
+ghost use Rattle.report_session.specs.Session.{asked_shape};
 
 use crate::LiveRounds;
 use checkpoint::Saver;
@@ -62,8 +63,8 @@ pub(crate) fn feed<'a, R: Threads + Wait + Sync, K: Sink, D: Disk, G: Gate + Syn
     requires wide { HaveWideShare setup.now.settings.now }
     requires pass { IsPassOf board.now reader.pass }
     requires view { view reader.pass ≡ first_view board.now.opening }
-    requires shape { HasCoreShape (length board.now.opening) (core_capacity board.now.opening) reader.cut }
-    requires alike { core_capacity board.now.opening ≡ setup.now.settings.now.capacity }
+    requires shape { HasCoreShape (length board.now.opening) (core_shape board.now.opening) reader.cut }
+    requires alike { core_shape board.now.opening ≡ asked_shape setup.now.settings.now }
     requires used { is_some saver.old ≡ setup.now.settings.now.store }
     requires can_save { IfSome saver.old (CanMakeSaves (D.reads disk.old) (D.image_now disk.old) board.now.opening (view reader.pass)
         setup.now.settings.now.rounds) }
@@ -106,8 +107,8 @@ fn run_feed<R: Threads + Wait + Sync, K: Sink, D: Disk, G: Gate + Sync>(
     requires wide { HaveWideShare setup.now.settings.now }
     requires pass { IsPassOf board.now pass }
     requires view { view pass ≡ first_view board.now.opening }
-    requires alike { core_capacity board.now.opening ≡ setup.now.settings.now.capacity }
-    requires shape { HasCoreShape (length board.now.opening) (core_capacity board.now.opening) rounds.old.cut.now }
+    requires alike { core_shape board.now.opening ≡ asked_shape setup.now.settings.now }
+    requires shape { HasCoreShape (length board.now.opening) (core_shape board.now.opening) rounds.old.cut.now }
     requires share { rounds.old.phi ≡ setup.now.settings.now.phi }
     requires count { rounds.old.rounds ≡ setup.now.settings.now.rounds }
     requires number { rounds.old.callers ≡ setup.now.settings.now.callers }
@@ -119,7 +120,7 @@ fn run_feed<R: Threads + Wait + Sync, K: Sink, D: Disk, G: Gate + Sync>(
     ensures same_disk { rounds.new.disk.ghost_name ≡ rounds.old.disk.ghost_name }
     ensures same_saver { rounds.new.saver.ghost_name ≡ rounds.old.saver.ghost_name }
     ensures same_cut { rounds.new.cut.ghost_name ≡ rounds.old.cut.ghost_name }
-    ensures shape { HasCoreShape (length board.now.opening) (core_capacity board.now.opening) rounds.new.cut.now }
+    ensures shape { HasCoreShape (length board.now.opening) (core_shape board.now.opening) rounds.new.cut.now }
     ensures ran { IfOk result (RunsPlan board.now setup.now.settings.now (view pass)) }
     ensures fed { IfOk result (IsGathered board.now setup.now.settings.now
         (SavesInTurn D.Disk rounds.old.saver.now rounds.new.saver.now rounds.old.disk.now rounds.new.disk.now)
@@ -155,6 +156,7 @@ pub(crate) fn plan_of(settings: &Settings) -> ThreadPlan
     ensures { result ≡ feed_plan settings.now }
 {
     ThreadPlan {
+        grain: settings.grain,
         workers: settings.workers,
         callers: settings.callers,
         rounds: settings.rounds,

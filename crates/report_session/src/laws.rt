@@ -12,7 +12,7 @@ ghost use Rattle.report_text.specs.{IsSessionText, mark_text, report_text};
 ghost use Rattle.report_text.specs.declared.mark.Mark.TheVariants.{Opened};
 ghost use Rattle.report_text.specs.declared.session.Session.{Session};
 ghost use Rattle.shard_state.specs.{AreCoreShards, BasesRepresent, CutRepresents};
-ghost use Rattle.shard_state.specs.{ShardValue, core_capacity, core_lists, cut_positions};
+ghost use Rattle.shard_state.specs.{ShardValue, core_shape, core_lists, cut_positions};
 ghost use Rattle.checkpoint.specs.declared.settings.StoreSettings.{StoreSettings};
 ghost use Rattle.checkpoint.specs.{StoreBelongs, IsStoreOf, StoreOpensTo, SavedValue};
 ghost use Rattle.checkpoint.specs.{store_sequence};
@@ -27,6 +27,7 @@ ghost use Rattle.report_session.specs.Saving.{IsAsBefore, BelongThroughout, Open
 ghost use Rattle.report_session.specs.Saving.{last_of_saves, AreReopened, saves_settings};
 ghost use Rattle.hhh_report.specs.{IsSameReport, IsSound};
 ghost use Rattle.hhh_report.specs.declared.report.Report.{Report};
+ghost use Rattle.report_session.specs.Session.{asked_shape};
 
 use checkpoint::stores_open_to_one;
 use deal_rules::{Dealer, Dealers, Deals};
@@ -38,12 +39,13 @@ use report_text::{printed_sessions_read_back, same_reports_have_one_text, texts_
 use shard_state::shards_keep_their_limits;
 use slot_disk::Disk;
 
-/// The text of the last report of a session depends on the dealt lists, the capacity and the share alone: whatever the
-/// numbers of workers, callers and rounds, the block and the threads, its bytes are the same.
+/// The text of the last report of a session depends on the dealt lists, the grain, the capacity and the share alone: whatever
+/// the numbers of workers, callers and rounds, the block and the threads, its bytes are the same.
 pub fn last_reports_are_one()
-    ensures { (lists : List (List RecordValue)) (settings other : Settings) (reports others : SessionReports) → settings.capacity ≡ other.capacity
-        → settings.phi ≡ other.phi → AreReports (new_shards settings.capacity lists) settings reports
-        → AreReports (new_shards other.capacity lists) other others
+    ensures { (lists : List (List RecordValue)) (settings other : Settings) (reports others : SessionReports) → settings.grain ≡ other.grain
+        → settings.capacity ≡ other.capacity → settings.phi ≡ other.phi
+        → AreReports (new_shards (asked_shape settings) lists) settings reports
+        → AreReports (new_shards (asked_shape other) lists) other others
         → report_text reports.last.report ≡ report_text others.last.report }
 {
     a_cut_has_one_report();
@@ -63,7 +65,7 @@ pub fn sessions_without_rounds_have_one_report()
 pub fn resumed_sessions_end_alike()
     ensures { (opening other_opening : List ShardValue) (settings other : Settings) (reports others : SessionReports)
         → AreCoreShards opening → AreCoreShards other_opening → BasesRepresent opening → BasesRepresent other_opening
-        → core_lists opening ≡ core_lists other_opening → core_capacity opening ≡ core_capacity other_opening
+        → core_lists opening ≡ core_lists other_opening → core_shape opening ≡ core_shape other_opening
         → settings.phi ≡ other.phi → AreReports opening settings reports → AreReports other_opening other others
         → report_text reports.last.report ≡ report_text others.last.report }
 {
@@ -137,11 +139,12 @@ pub fn stores_belong_throughout<D: Disk>()
     reported_cuts_represent();
 }
 
-/// Two reports over all records of the same dealt lists are the same, where the capacity and the share are: whatever the
-/// numbers of workers and callers, the block and the threads.
+/// Two reports over all records of the same dealt lists are the same, where the grain, the capacity and the share are: whatever
+/// the numbers of workers and callers, the block and the threads.
 pub fn whole_reports_are_one()
-    ensures { (settings other : Settings) (lists : List (List RecordValue)) (report others : Report) → settings.capacity ≡ other.capacity
-        → settings.phi ≡ other.phi → IsWholeReport settings lists report → IsWholeReport other lists others → IsSameReport report others }
+    ensures { (settings other : Settings) (lists : List (List RecordValue)) (report others : Report) → settings.grain ≡ other.grain
+        → settings.capacity ≡ other.capacity → settings.phi ≡ other.phi → IsWholeReport settings lists report
+        → IsWholeReport other lists others → IsSameReport report others }
 {
     a_cut_has_one_report();
 }
@@ -152,7 +155,7 @@ pub fn own_reports_are_sound<D: Disk>()
     ensures { (formula : DealKind → ℕ → RecordValue → ℕ → ℕ) (before now : D) (settings : Settings) (store file : Option (List ℕ)) (text : List ℕ)
         (is : IsSession settings (rules_by formula) (AreKeptOnDisk D.Disk before now) store file text)
         → IfSome is.base (λ cut. CutRepresents cut is.lists)
-        → All (λ reported. IsSound reported.report is.lists settings.capacity settings.phi) (reports_in is.spelled.reports) }
+        → All (λ reported. IsSound settings.grain reported.report is.lists settings.capacity settings.phi) (reports_in is.spelled.reports) }
 {}
 
 /// Where each kind of dealing is a formula, what `report` writes over a capture is the text of a session, whose reports are
@@ -161,8 +164,8 @@ pub fn own_reports_are_sound<D: Disk>()
 pub fn sessions_read_back<D: Disk>()
     ensures { (formula : DealKind → ℕ → RecordValue → ℕ → ℕ) (before now : D) (settings : Settings) (store : Option (List ℕ)) (file text : List ℕ)
         (is : IsSession settings (rules_by formula) (AreKeptOnDisk D.Disk before now) store (Some file) text) → AreLimited settings
-        → IfSome is.base (λ cut. CutRepresents cut is.lists) → (known : Session) × IsSessionText text known
-        × All (λ reported. IsSound reported.report is.lists settings.capacity settings.phi) known.reports
+        → IfSome is.base (λ cut. CutRepresents cut is.lists) → (known : Session) × IsSessionText settings.grain text known
+        × All (λ reported. IsSound settings.grain reported.report is.lists settings.capacity settings.phi) known.reports
         × (length known.reports ≡ (settings.callers + 1) * settings.rounds + 1) }
 {
     printed_sessions_read_back();

@@ -1,7 +1,7 @@
 //! The rounds of the calling thread: reports that are written, and cuts that are saved, while workers feed.
 
 ghost use Rattle.std.specs.Prelude.{◌≡◌, ◌≤◌, length, IfErr, IfSome, OnOk, None, is_some};
-ghost use Rattle.shard_state.specs.{HasCoreShape, core_capacity};
+ghost use Rattle.shard_state.specs.{HasCoreShape, core_shape};
 ghost use Rattle.hhh_report.specs.{million};
 ghost use Rattle.hhh_output.specs.{IsWideShare};
 ghost use Rattle.pass_tokens.specs.{IsPassOf, view};
@@ -49,14 +49,14 @@ pub struct LiveRounds<'a, K: Sink, D: Disk, G: Gate> {
 
 impl<K: Sink, D: Disk, G: Gate> Rounds for LiveRounds<'_, K, D, G> {
     ghost use Rattle.std.specs.Prelude.{◌≡◌, ◌≤◌, length, IfSome, None, is_some};
-    ghost use Rattle.shard_state.specs.{HasCoreShape, core_capacity};
+    ghost use Rattle.shard_state.specs.{HasCoreShape, core_shape};
     ghost use Rattle.hhh_report.specs.{million};
     ghost use Rattle.hhh_output.specs.{IsWideShare};
     ghost use Rattle.report_session.specs.LiveRounds.{EndRounds};
     ghost use Rattle.report_session.specs.Saving.{CanMakeSaves, CanMakeSaves-later, SavesBreakOff, SavesInTurn};
 
-    ghost ready = { λ rounds board view. HasCoreShape (length board.opening) (core_capacity board.opening) rounds.cut.now
-        × (1 ≤ rounds.phi) × (rounds.phi ≤ million) × IsWideShare rounds.phi (core_capacity board.opening)
+    ghost ready = { λ rounds board view. HasCoreShape (length board.opening) (core_shape board.opening) rounds.cut.now
+        × (1 ≤ rounds.phi) × (rounds.phi ≤ million) × IsWideShare rounds.phi (core_shape board.opening).capacity
         × (rounds.stop ≡ None)
         × IfSome rounds.saver.now (CanMakeSaves (D.reads rounds.disk.now) (D.image_now rounds.disk.now) board.opening view rounds.rounds) };
 
@@ -74,7 +74,7 @@ impl<K: Sink, D: Disk, G: Gate> Rounds for LiveRounds<'_, K, D, G> {
         × (after.disk.ghost_name ≡ before.disk.ghost_name)
         × (after.saver.ghost_name ≡ before.saver.ghost_name)
         × (after.cut.ghost_name ≡ before.cut.ghost_name)
-        × HasCoreShape (length view.opening) (core_capacity view.opening) after.cut.now
+        × HasCoreShape (length view.opening) (core_shape view.opening) after.cut.now
         × EndRounds view.opening before.phi (is_some before.saver.now) before.rounds view later
         (SavesInTurn D.Disk before.saver.now after.saver.now before.disk.now after.disk.now)
         (SavesBreakOff D.Disk before.saver.now after.saver.now before.disk.now after.disk.now)
@@ -107,10 +107,10 @@ impl<K: Sink, D: Disk, G: Gate> LiveRounds<'_, K, D, G> {
         round: u32,
     ) -> Result<(), Status>
         requires pass { IsPassOf board.now pass.old }
-        requires shape { HasCoreShape (length board.now.opening) (core_capacity board.now.opening) self.old.cut.now }
+        requires shape { HasCoreShape (length board.now.opening) (core_shape board.now.opening) self.old.cut.now }
         requires some { 1 ≤ self.old.phi }
         requires most { self.old.phi ≤ million }
-        requires wide { IsWideShare self.old.phi (core_capacity board.now.opening) }
+        requires wide { IsWideShare self.old.phi (core_shape board.now.opening).capacity }
         requires can_save { IfSome self.old.saver.now (CanMakeSaves (D.reads self.old.disk.now) (D.image_now self.old.disk.now)
             board.now.opening (view pass.old) 1) }
         ensures whole { OnOk result (WritesRounds board.now.opening self.old.phi (is_some self.old.saver.now) 1
@@ -127,7 +127,7 @@ impl<K: Sink, D: Disk, G: Gate> LiveRounds<'_, K, D, G> {
             (record { sink = K.faults self.old.sink.now; disk = D.faults self.old.disk.now })
             (record { sink = K.faults self.new.sink.now; disk = D.faults self.new.disk.now })) }
         ensures unused { self.old.saver.now ≡ None → (self.new.saver.now ≡ None) × (self.new.disk.now ≡ self.old.disk.now) }
-        ensures shape { HasCoreShape (length board.now.opening) (core_capacity board.now.opening) self.new.cut.now }
+        ensures shape { HasCoreShape (length board.now.opening) (core_shape board.now.opening) self.new.cut.now }
         ensures pass { IsPassOf board.now pass.new }
         ensures same_sink { self.new.sink.ghost_name ≡ self.old.sink.ghost_name }
         ensures same_disk { self.new.disk.ghost_name ≡ self.old.disk.ghost_name }

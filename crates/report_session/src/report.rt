@@ -52,7 +52,7 @@ pub fn report_dealt<R: Threads + Wait + Sync, K: Sink, D: Disk, G: Gate + Sync>(
         Ok(base) => base,
         Err(status) => return status,
     };
-    openings_stand(&dealt, &base.cut, settings.capacity);
+    openings_stand(&dealt, &base.cut, settings);
     let setup = Setup {
         rt,
         alloc,

@@ -6,7 +6,7 @@ ghost use Rattle.std.specs.List.{AllZip};
 ghost use Rattle.std.specs.Io.KnownBytes.{Appends};
 ghost use Rattle.deal_rules.specs.{AreDealings};
 ghost use Rattle.space_saving.specs.{least_capacity, most_capacity};
-ghost use Rattle.shard_state.specs.{AreCoreShards, HasCoreShape, IsShard, core_capacity};
+ghost use Rattle.shard_state.specs.{AreCoreShards, HasCoreShape, IsShard, core_shape};
 ghost use Rattle.pass_tokens.specs.{IsPassOf, first_view, view};
 ghost use Rattle.gate_workers.specs.{HasSeenEnds};
 ghost use Rattle.checkpoint.specs.{DiskMatches};
@@ -23,6 +23,7 @@ ghost use Rattle.report_session.specs.DealtFeed.{IsFeedFault, IsFeedOpening, IsF
 ghost use Rattle.report_session.specs.DealtFeed.{StartsBefore, other_reports};
 ghost use Rattle.report_session.specs.Saving.{CanMakeSaves, Saves, SavesInPart, SavesInTurn};
 ghost use Rattle.run_status.specs.declared.status.Status.TheVariants.{OutOfMemory};
+ghost use Rattle.report_session.specs.Session.{asked_shape};
 
 use crate::base::Base;
 use crate::feed::{Fed, Reader, Setup, feed};
@@ -79,12 +80,12 @@ pub(crate) fn write_session<R: Threads + Wait + Sync, K: Sink, D: Disk, G: Gate 
     requires base { IsFeedBase setup.now.settings.now dealt (D.reads disk.old) base }
     requires stands { IfSome base.saver (DiskMatches (D.reads disk.old) (D.image_now disk.old)) }
     requires tail { 0 < length tail.now }
-    ensures whole { OnOk result (WritesAnswer (IsOverShards (session_opening setup.now.settings.now.capacity dealt base.cut) setup.now.settings.now
+    ensures whole { OnOk result (WritesAnswer (IsOverShards (session_opening (asked_shape setup.now.settings.now) dealt base.cut) setup.now.settings.now
         (λ cuts. Saves D.Disk base.saver cuts disk.old disk.new) tail.now) (K.taken sink.old) (K.taken sink.new)) }
     ensures faults { OnOk result ((K.faults sink.new ≡ K.faults sink.old) × (D.faults disk.new ≡ D.faults disk.old)) }
     ensures part { IfErr result (λ status. (((sink.new ≡ sink.old) × (disk.new ≡ disk.old)) × (status ≡ OutOfMemory))
-        ⊎ (AreSessionShards setup.now.settings.now.capacity (session_opening setup.now.settings.now.capacity dealt base.cut)
-        × WritesAnswer (BeginsSession (session_opening setup.now.settings.now.capacity dealt base.cut) setup.now.settings.now
+        ⊎ (AreSessionShards (asked_shape setup.now.settings.now) (session_opening (asked_shape setup.now.settings.now) dealt base.cut)
+        × WritesAnswer (BeginsSession (session_opening (asked_shape setup.now.settings.now) dealt base.cut) setup.now.settings.now
         (SavesInPart D.Disk base.saver disk.old disk.new) tail.now) (K.taken sink.old) (K.taken sink.new))) }
     ensures fault { IfErr result (IsFeedFault (record { sink = K.faults sink.old; disk = D.faults disk.old })
         (record { sink = K.faults sink.new; disk = D.faults disk.new })) }
@@ -95,9 +96,9 @@ pub(crate) fn write_session<R: Threads + Wait + Sync, K: Sink, D: Disk, G: Gate 
         positions,
         saver,
     } = base;
-    openings_stand(&dealt, &cut, setup.settings.capacity);
+    openings_stand(&dealt, &cut, setup.settings);
     let line = opened_line(setup.alloc, &positions)?;
-    let opened = open(setup.alloc, dealt, cut, setup.settings.capacity)?;
+    let opened = open(setup.alloc, dealt, cut, setup.settings)?;
     write_feed(setup, opened, saver, &line, tail, sink, disk)
 }
 
@@ -106,32 +107,31 @@ pub(crate) fn open(
     alloc: Global,
     dealt: Dealt,
     base: Option<Cut>,
-    capacity: u32,
+    settings: &Settings,
 ) -> Result<Opened, AllocError>
-    requires least { least_capacity ≤ capacity }
-    requires most { capacity ≤ most_capacity }
-    requires fits { IfSome base (FeedGoesOn capacity dealt) }
-    ensures { IfOk result (IsFeedOpening (session_opening capacity dealt base)) }
+    requires limited { AreLimited settings.now }
+    requires fits { IfSome base (FeedGoesOn (asked_shape settings.now) dealt) }
+    ensures { IfOk result (IsFeedOpening (session_opening (asked_shape settings.now) dealt base)) }
 {
-    openings_stand(&dealt, &base, capacity);
+    openings_stand(&dealt, &base, settings);
     let shards = dealt.shards();
-    let states = states_of(alloc, dealt, base, capacity)?;
+    let states = states_of(alloc, dealt, base, settings)?;
     let (board, pass) = Board::start(alloc, states)?;
-    let cut = Cut::with_room(alloc, shards, capacity)?;
+    let cut = Cut::with_room(alloc, settings.grain, shards, settings.capacity)?;
     let reader = Reader { pass, cut };
     Ok(Opened { board, reader })
 }
 
-/// Shards of dealt lists have the capacity asked for, and start before the ends of their lists. The tables of their base
+/// Shards of dealt lists have the tables asked for, and start before the ends of their lists. The tables of their base
 /// represent the lists, if they were saved of them or are empty.
-pub(crate) fn openings_stand(dealt: &Dealt, base: &Option<Cut>, capacity: u32)
-    requires { IfSome base.now (FeedGoesOn capacity dealt.now) }
-    ensures shards { AreCoreShards (session_opening capacity dealt.now base.now) }
-    ensures many { length (session_opening capacity dealt.now base.now) ≡ length dealt.now }
-    ensures alike { core_capacity (session_opening capacity dealt.now base.now) ≡ capacity }
-    ensures starts { StartsBefore (session_opening capacity dealt.now base.now) }
-    ensures positions { ShowsPositions (session_start (session_opening capacity dealt.now base.now)) }
-    ensures represents { GoesOnSoundly dealt.now base.now (session_opening capacity dealt.now base.now) }
+pub(crate) fn openings_stand(dealt: &Dealt, base: &Option<Cut>, settings: &Settings)
+    requires { IfSome base.now (FeedGoesOn (asked_shape settings.now) dealt.now) }
+    ensures shards { AreCoreShards (session_opening (asked_shape settings.now) dealt.now base.now) }
+    ensures many { length (session_opening (asked_shape settings.now) dealt.now base.now) ≡ length dealt.now }
+    ensures alike { core_shape (session_opening (asked_shape settings.now) dealt.now base.now) ≡ asked_shape settings.now }
+    ensures starts { StartsBefore (session_opening (asked_shape settings.now) dealt.now base.now) }
+    ensures positions { ShowsPositions (session_start (session_opening (asked_shape settings.now) dealt.now base.now)) }
+    ensures represents { GoesOnSoundly dealt.now base.now (session_opening (asked_shape settings.now) dealt.now base.now) }
 {
     shards_stand();
     let _shards = dealt.shards();
@@ -148,31 +148,33 @@ fn states_of(
     alloc: Global,
     dealt: Dealt,
     base: Option<Cut>,
-    capacity: u32,
+    settings: &Settings,
 ) -> Result<Vec<ShardState>, AllocError>
-    requires least { least_capacity ≤ capacity }
-    requires most { capacity ≤ most_capacity }
-    requires fits { IfSome base (FeedGoesOn capacity dealt) }
-    ensures states { IfOk result (λ states. states.items ≡ session_opening capacity dealt base) }
+    requires limited { AreLimited settings.now }
+    requires fits { IfSome base (FeedGoesOn (asked_shape settings.now) dealt) }
+    ensures states { IfOk result (λ states. states.items ≡ session_opening (asked_shape settings.now) dealt base) }
     ensures kept { IfOk result (λ states. All IsShard states.items) }
 {
     match base {
-        None => new_states(alloc, dealt, capacity),
+        None => new_states(alloc, dealt, settings),
         Some(cut) => resumed_states(alloc, dealt, cut),
     }
 }
 
 // The states of shards, none of their records counted.
-fn new_states(alloc: Global, dealt: Dealt, capacity: u32) -> Result<Vec<ShardState>, AllocError>
-    requires least { least_capacity ≤ capacity }
-    requires most { capacity ≤ most_capacity }
-    ensures states { IfOk result (λ states. states.items ≡ new_shards capacity dealt) }
+fn new_states(
+    alloc: Global,
+    dealt: Dealt,
+    settings: &Settings,
+) -> Result<Vec<ShardState>, AllocError>
+    requires limited { AreLimited settings.now }
+    ensures states { IfOk result (λ states. states.items ≡ new_shards (asked_shape settings.now) dealt) }
     ensures kept { IfOk result (λ states. All IsShard states.items) }
     ensures shards { AreDealings dealt }
 {
     let mut states = Vec::new(alloc);
     for list in dealt.into_lists() {
-        let state = ShardState::start(alloc, list, capacity)?;
+        let state = ShardState::start(alloc, settings.grain, list, settings.capacity)?;
         let _kept = state.position();
         states.push(state)?;
     }
@@ -217,7 +219,7 @@ fn write_feed<R: Threads + Wait + Sync, K: Sink, D: Disk, G: Gate + Sync>(
     requires limited { AreLimited setup.now.settings.now }
     requires wide { HaveWideShare setup.now.settings.now }
     requires opened { IsFeedOpening opened.board.opening opened }
-    requires alike { core_capacity opened.board.opening ≡ setup.now.settings.now.capacity }
+    requires alike { core_shape opened.board.opening ≡ asked_shape setup.now.settings.now }
     requires starts { StartsBefore opened.board.opening }
     requires line { line.now ≡ mark_text OpenedMark (session_start opened.board.opening) }
     requires tail { 0 < length tail.now }
@@ -294,11 +296,11 @@ fn rest_of_session<R: Wait>(
     requires wide { HaveWideShare settings.now }
     requires pass { IsPassOf board.now fed.gathered.pass }
     requires ends { HasSeenEnds board.now.opening (view fed.gathered.pass) }
-    requires shape { HasCoreShape (length board.now.opening) (core_capacity board.now.opening) fed.cut }
+    requires shape { HasCoreShape (length board.now.opening) (core_shape board.now.opening) fed.cut }
     requires callers { All (AreOfCaller board.now.opening settings.now settings.now.rounds) (other_reports fed.gathered.called.items) }
-    requires alike { core_capacity board.now.opening ≡ settings.now.capacity }
+    requires alike { core_shape board.now.opening ≡ asked_shape settings.now }
     ensures rest { IfOk result (IsFeedRest board.now settings.now fed.gathered.called.items tail.now) }
-    ensures shape { IfOk result (λ rest. HasCoreShape (length board.now.opening) (core_capacity board.now.opening) rest.cut) }
+    ensures shape { IfOk result (λ rest. HasCoreShape (length board.now.opening) (core_shape board.now.opening) rest.cut) }
 {
     let Fed { gathered, mut cut } = fed;
     let Gathered { mut pass, called } = gathered;

@@ -1,12 +1,13 @@
 //! The report over all dealt records, without a session.
 
 ghost use Rattle.std.specs.Prelude.{◌≡◌, length, None, IfOk};
-ghost use Rattle.shard_state.specs.{core_capacity};
+ghost use Rattle.shard_state.specs.{core_shape};
 ghost use Rattle.pass_tokens.specs.{IsPassOf, view};
 ghost use Rattle.gate_workers.specs.{HasSeenEnds};
 ghost use Rattle.command_words.specs.{AreLimited, HaveWideShare};
 ghost use Rattle.report_session.specs.Session.{IsWholeReport, IsShownInSession, session_ends};
 ghost use Rattle.report_session.specs.DealtFeed.{RunsPlan, IsFeedOpening};
+ghost use Rattle.report_session.specs.Session.{asked_shape};
 
 use crate::feed::{Reader, plan_of};
 use crate::session::{Opened, open, openings_stand};
@@ -33,8 +34,8 @@ pub fn report_all<R: Threads + Wait + Sync, G: Gate + Sync>(
     requires shards { length dealt ≡ settings.now.shards }
     ensures { IfOk result (IsWholeReport settings.now dealt) }
 {
-    openings_stand(&dealt, &None, settings.capacity);
-    let opened = open(alloc, dealt, None, settings.capacity)?;
+    openings_stand(&dealt, &None, settings);
+    let opened = open(alloc, dealt, None, settings)?;
     let report = report_opened(rt, alloc, opened, settings, gate)?;
     Ok(report)
 }
@@ -50,7 +51,7 @@ fn report_opened<R: Threads + Wait + Sync, G: Gate + Sync>(
     requires limited { AreLimited settings.now }
     requires wide { HaveWideShare settings.now }
     requires opened { IsFeedOpening opened.board.opening opened }
-    requires alike { core_capacity opened.board.opening ≡ settings.now.capacity }
+    requires alike { core_shape opened.board.opening ≡ asked_shape settings.now }
     ensures shown { IfOk result (λ report. IsShownInSession opened.board.opening settings.now (record { report = report; saved = None })) }
     ensures at_ends { IfOk result (λ report. report.positions ≡ session_ends opened.board.opening) }
 {
@@ -79,7 +80,7 @@ fn count_all<R: Threads + Wait + Sync, G: Gate + Sync>(
     requires limited { AreLimited settings.now }
     requires wide { HaveWideShare settings.now }
     requires pass { IsPassOf board.now pass }
-    requires alike { core_capacity board.now.opening ≡ settings.now.capacity }
+    requires alike { core_shape board.now.opening ≡ asked_shape settings.now }
     ensures ran { IfOk result (RunsPlan board.now settings.now (view pass)) }
     ensures ends { IfOk result (λ gathered. HasSeenEnds board.now.opening (view gathered.pass)) }
     ensures pass { IfOk result (λ gathered. IsPassOf board.now gathered.pass) }

@@ -18,11 +18,13 @@ use Rattle.session_audit.specs.Audit.{IsUnsoundAudit, sound_audit}
 use Rattle.dealt_capture.specs.{AreDealtRecords, rules_by}
 use Rattle.session_audit.proofs.FirstUnsoundLemmas.{FirstUnsoundHasOneVerdict, first_unsound_holds_at_index}
 use Rattle.session_audit.proofs.FirstUnsoundLemmas.{first_unsound_is_not_sound, first_unsound_reports_agree}
+use Rattle.prefix_lattice.specs.declared.grain.Grain.{Grain}
 
 -- a text is that of one session
 abbrev pub AuditAnswerHasOneSession : Type 0
 AuditAnswerHasOneSession =
-    (text : List ℕ) (session other : Session) → IsSessionText text session → IsSessionText text other
+    (grain : Grain) (text : List ℕ) (session other : Session) → IsSessionText grain text session
+    → IsSessionText grain text other
     → AreSameSessions session other
 
 -- a capture is dealt in one way
@@ -79,9 +81,10 @@ audit_answer_sessions_are_equal session other same =
     session.reports other.reports same.reports audit_answer_reported_is_equal
 
 -- what the reports of a text over a capture are
-audit_answer_reports_of_text : AuditAnswerHasOneSession → (text : List ℕ) (session other : Session) → IsSessionText text session
-    → IsSessionText text other → other.reports ≡ session.reports
-audit_answer_reports_of_text one text session other is is_other = audit_answer_sessions_are_equal session other (one text session other is is_other)
+audit_answer_reports_of_text : AuditAnswerHasOneSession → (grain : Grain) (text : List ℕ) (session other : Session) → IsSessionText grain text session
+    → IsSessionText grain text other → other.reports ≡ session.reports
+audit_answer_reports_of_text one grain text session other is is_other =
+    audit_answer_sessions_are_equal session other (one grain text session other is is_other)
 
 -- all reports of a text are sound, where some session of it is found sound
 pub audit_answer_all_sound : AuditAnswerIsDealtOnce → AuditAnswerHasOneSession → (formula : DealKind → ℕ → RecordValue → ℕ → ℕ)
@@ -93,7 +96,7 @@ audit_answer_all_sound once one formula settings file text answer lists session 
     let same_lists : lists ≡ is.lists =
     once formula settings settings file audited.records is.audited.records lists is.lists refl refl refl audited.dealt is.audited.dealt in
     let same_reports : session.reports ≡ is.session.reports =
-    audit_answer_reports_of_text one text is.session session is.audited.is_session audited.is_session in (
+    audit_answer_reports_of_text one settings.grain text is.session session is.audited.is_session audited.is_session in (
       subst (λ l. All (IsAuditedSound settings l) session.reports) (sym same_lists)
           (subst (λ reports. All (IsAuditedSound settings is.lists) reports) (sym same_reports) is.sound),
       is.spelled ∙ sym (ap (λ (reports : List Reported). sound_audit (length reports)) same_reports),
@@ -109,7 +112,7 @@ audit_answer_first_unsound once one formula settings file text number verdict li
     subst (λ l. IsFirstUnsound settings l session.reports number verdict)
     (once formula settings settings file is.audited.records audited.records is.lists lists refl refl refl is.audited.dealt audited.dealt)
     (subst (λ reports. IsFirstUnsound settings is.lists reports number verdict)
-    (audit_answer_reports_of_text one text session is.session audited.is_session is.audited.is_session) is.first)
+    (audit_answer_reports_of_text one settings.grain text session is.session audited.is_session is.audited.is_session) is.first)
 
 -- a session of sound reports has none that is not
 pub audit_answer_is_never_both : AuditAnswerIsDealtOnce → AuditAnswerHasOneSession → FirstUnsoundHasOneVerdict

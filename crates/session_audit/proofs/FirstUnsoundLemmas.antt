@@ -13,12 +13,13 @@ use Rattle.exact_audit.specs.declared.verdict.Verdict.{Verdict}
 use Rattle.exact_audit.specs.declared.verdict.Verdict.TheVariants.{Good}
 use Rattle.command_words.specs.declared.settings.Settings.{Settings}
 use Rattle.session_audit.specs.Audit.{IsFirstUnsound, IsAuditedSound}
+use Rattle.prefix_lattice.specs.declared.grain.Grain.{Grain}
 
 -- a report has one verdict
 abbrev pub FirstUnsoundHasOneVerdict : Type 0
 FirstUnsoundHasOneVerdict =
-    (lists : List (List RecordValue)) (capacity phi : ℕ) (report : Report) (verdict other : Verdict)
-    → IsVerdict lists capacity phi report verdict → IsVerdict lists capacity phi report other → verdict ≡ other
+    (grain : Grain) (lists : List (List RecordValue)) (capacity phi : ℕ) (report : Report) (verdict other : Verdict)
+    → IsVerdict grain lists capacity phi report verdict → IsVerdict grain lists capacity phi report other → verdict ≡ other
 
 -- what holds of each element holds of the one at an index
 pub first_unsound_holds_at_index : {A : Type 0} (P : A → Type 0) (xs : List A) (place : ℕ) (x : A) → slice_get xs place ≡ Some x → All P xs
@@ -46,7 +47,7 @@ first_unsound_next_is_sound settings lists reports place reported within at soun
 -- the next report is the first that is not sound
 pub first_unsound_next_is_unsound : (settings : Settings) (lists : List (List RecordValue)) (reports : List Reported) (place : ℕ)
     (reported : Reported) (verdict : Verdict) → place < length reports → reported ≡ get_or reports place reported
-    → IsVerdict lists settings.capacity settings.phi reported.report verdict → verdict ≢ Good
+    → IsVerdict settings.grain lists settings.capacity settings.phi reported.report verdict → verdict ≢ Good
     → All (IsAuditedSound settings lists) (take place reports)
     → IsFirstUnsound settings lists reports (place + 1) verdict
 first_unsound_next_is_unsound settings lists reports place reported verdict within at found not_good sound = record {
@@ -65,7 +66,7 @@ pub first_unsound_is_not_sound : FirstUnsoundHasOneVerdict → (settings : Setti
     → IsAuditedSound settings lists first.reported → ⊥
 first_unsound_is_not_sound one settings lists reports number verdict first sound =
     first.not_good
-    (one lists settings.capacity settings.phi first.reported.report verdict Good first.found sound)
+    (one settings.grain lists settings.capacity settings.phi first.reported.report verdict Good first.found sound)
 
 -- of two reports that are the first that is not sound, neither comes before the other
 first_unsound_is_not_earlier : FirstUnsoundHasOneVerdict → (settings : Settings) (lists : List (List RecordValue)) (reports : List Reported)
@@ -84,8 +85,8 @@ first_unsound_at_one_place one settings lists reports number other_number verdic
     let is = subst (λ p. slice_get reports p ≡ Some first.reported) place first.is in
     let same : first.reported ≡ second.reported = cc (is, second.is) in (
       omega (arith, first.counted, second.counted, place),
-      one lists settings.capacity settings.phi second.reported.report other verdict second.found
-          (subst (λ (r : Reported). IsVerdict lists settings.capacity settings.phi r.report verdict) same first.found),
+      one settings.grain lists settings.capacity settings.phi second.reported.report other verdict second.found
+          (subst (λ (r : Reported). IsVerdict settings.grain lists settings.capacity settings.phi r.report verdict) same first.found),
     )
 
 -- so they are the same report

@@ -39,7 +39,7 @@ unsound_audit number verdict = codes "report " ++ decimal number ++ codes ": " +
 
 -- a report is sound over dealt lists, for the capacity and the share of the settings
 abbrev pub IsAuditedSound : Settings → List (List RecordValue) → Reported → Type 0
-IsAuditedSound settings lists reported = IsSound reported.report lists settings.capacity settings.phi
+IsAuditedSound settings lists reported = IsSound settings.grain reported.report lists settings.capacity settings.phi
 
 -- the report of this number, from 1, is the first that is not sound, and this is the verdict on it
 pub record IsFirstUnsound (settings : Settings) (lists : List (List RecordValue)) (reports : List Reported) (number : ℕ)
@@ -48,7 +48,7 @@ pub record IsFirstUnsound (settings : Settings) (lists : List (List RecordValue)
   pub counted : number ≡ before + 1
   pub reported : Reported
   pub is : slice_get reports before ≡ Some reported
-  pub found : IsVerdict lists settings.capacity settings.phi reported.report verdict
+  pub found : IsVerdict settings.grain lists settings.capacity settings.phi reported.report verdict
   pub not_good : verdict ≢ Good
   pub sound : All (IsAuditedSound settings lists) (take before reports)
 
@@ -58,7 +58,7 @@ pub record AreAudited (settings : Settings) (rules : DealingRules) (file text : 
     (session : Session) : Type 0 where
   pub records : Records
   pub dealt : AreDealtRecords settings rules file records lists
-  pub is_session : IsSessionText text session
+  pub is_session : IsSessionText settings.grain text session
   pub not_long : length text ≤ longest_session
 
 -- all reports of a session are sound over the records of a capture, and the answer is their number

@@ -2,6 +2,7 @@
 
 ghost use Rattle.std.specs.Prelude.{◌≡◌, ◌++◌, All, Option, IfOk, IfSome, IfNone, OnOk};
 ghost use Rattle.prefix_lattice.specs.{prefix_text};
+ghost use Rattle.hhh_report.specs.{AreOfGrain};
 ghost use Rattle.command_words.specs.{AreLimited};
 ghost use Rattle.session_audit.specs.Audit.{IsFirstUnsound, IsAuditedSound};
 ghost use Rattle.session_audit.specs.Audit.{sound_audit as text_of_sound, unsound_audit as text_of_unsound};
@@ -50,7 +51,8 @@ pub fn audit_session(
     settings: &Settings,
     audited: &Audited,
 ) -> Result<Answer, AllocError>
-    requires { AreLimited settings.now }
+    requires limited { AreLimited settings.now }
+    requires of_grain { All (λ reported. AreOfGrain settings.now.grain reported.report.lines) audited.now.session.reports }
     ensures { IfOk result (IsAuditingAnswer settings.now audited.now.dealt audited.now.session.reports) }
 {
     match first_unsound(alloc, settings, audited)? {
@@ -74,7 +76,8 @@ fn first_unsound(
     settings: &Settings,
     audited: &Audited,
 ) -> Result<Option<Unsound>, AllocError>
-    requires { AreLimited settings.now }
+    requires limited { AreLimited settings.now }
+    requires of_grain { All (λ reported. AreOfGrain settings.now.grain reported.report.lines) audited.now.session.reports }
     ensures none { IfOk result (λ found. IfNone found (All (IsAuditedSound settings.now audited.now.dealt) audited.now.session.reports)) }
     ensures some { IfOk result (λ found. IfSome found (λ unsound. IsFirstUnsound settings.now audited.now.dealt audited.now.session.reports
         unsound.report unsound.verdict)) }
@@ -86,6 +89,7 @@ fn first_unsound(
             alloc,
             &audited.dealt,
             report,
+            settings.grain,
             settings.capacity,
             settings.phi,
         )? {

@@ -157,6 +157,7 @@ fn each_made_capture<R: Abort + Threads + Wait + Sync>(
 ) -> Result<(), Fail> {
     made::makes_a_capture(rt, alloc, dealers)?;
     made::demonstrates(rt, alloc, dealers)?;
+    made::demonstrates_by_half_bytes(rt, alloc, dealers)?;
     made::demonstrates_the_same_with_one_worker(rt, alloc, dealers)
 }
 

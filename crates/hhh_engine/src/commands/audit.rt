@@ -1,9 +1,10 @@
 //! The audit of a session by the records of a capture.
 
-ghost use Rattle.std.specs.Prelude.{⊤, ◌≡◌, List, ℕ, Option, IfOk, IfErr, OnOk, IsErrOf};
+ghost use Rattle.std.specs.Prelude.{⊤, ◌≡◌, List, ℕ, All, Option, IfOk, IfErr, OnOk, IsErrOf};
 ghost use Rattle.std.specs.Io.KnownBytes.{IsAtEnd};
 ghost use Rattle.outside_io.specs.{ReadsFront};
 ghost use Rattle.deal_rules.specs.{dealer_of};
+ghost use Rattle.hhh_report.specs.{AreOfGrain};
 ghost use Rattle.command_words.specs.{AreLimited};
 ghost use Rattle.hhh_engine.specs.Reading.{AreAuditing, HasNoAudit};
 ghost use Rattle.hhh_engine.specs.Tasks.{audit_task};
@@ -68,12 +69,13 @@ fn read_audited<S: Source, T: Source>(
     ensures audited { (store : Option (List ℕ))
         → IfOk result (AreAuditing settings.now (λ kind. ⟦<Dealer as Deals>⟧.may_answer (dealer_of kind dealers.now))
         (inputs (S.left capture.old) (S.left capture.new) (T.left text.old) (T.left text.new) store)) }
+    ensures of_grain { IfOk result (λ audited. All (λ reported. AreOfGrain settings.now.grain reported.report.lines) audited.session.reports) }
     ensures capture_at_end { OnOk result (IsAtEnd (S.left capture.new)) }
     ensures text_at_end { OnOk result (IsAtEnd (T.left text.new)) }
     ensures capture_front { ReadsFront (S.left capture.old) (S.left capture.new) }
     ensures text_front { ReadsFront (T.left text.old) (T.left text.new) }
     ensures refused { (store : Option (List ℕ))
-        → IfErr result (HasNoAudit (inputs (S.left capture.old) (S.left capture.new) (T.left text.old) (T.left text.new) store)
+        → IfErr result (HasNoAudit settings.now.grain (inputs (S.left capture.old) (S.left capture.new) (T.left text.old) (T.left text.new) store)
         (faults_of_source (S.faults capture.old) (T.faults text.old)) (faults_of_source (S.faults capture.new) (T.faults text.new))) }
     ensures order { (store : Option (List ℕ))
         → IfErr result (EndsInOrder ⊤ ⊤ (inputs (S.left capture.old) (S.left capture.new) (T.left text.old) (T.left text.new) store)
@@ -83,7 +85,7 @@ fn read_audited<S: Source, T: Source>(
 {
     let records = read_records(alloc, capture, settings.weigh)?;
     let bytes = read_text(alloc, text)?;
-    let session = read_session(alloc, &bytes)?;
+    let session = read_session(alloc, settings.grain, &bytes)?;
     let dealt = deal_records(alloc, records.list, settings, dealers)?;
     Ok(Audited { dealt, session })
 }

@@ -7,7 +7,7 @@ ghost use Rattle.frame_records.specs.{AreRecordsOf, FileHasFrames, HasRecords};
 ghost use Rattle.deal_rules.specs.{dealer_of};
 ghost use Rattle.pcap_frames.specs.declared.fault.CaptureFault.{CaptureFault};
 ghost use Rattle.traffic_maker.specs.{made_capture, most_frames};
-ghost use Rattle.hhh_report.specs.{IsSound};
+ghost use Rattle.hhh_report.specs.{AreOfGrain, IsSound};
 ghost use Rattle.exact_audit.specs.{IsVerdict};
 ghost use Rattle.exact_audit.specs.declared.verdict.Verdict.TheVariants.{Good};
 ghost use Rattle.command_words.specs.{AreLimited, HaveWideShare};
@@ -96,11 +96,19 @@ fn verdict_on(
     report: &Report,
     settings: &Settings,
 ) -> Result<Verdict, AllocError>
-    requires { AreLimited settings.now }
-    ensures verdict { IfOk result (IsVerdict plain.now settings.now.capacity settings.now.phi report.now) }
-    ensures good { IfOk result (λ verdict. (verdict ≡ Good) ↔ IsSound report.now plain.now settings.now.capacity settings.now.phi) }
+    requires limited { AreLimited settings.now }
+    requires of_grain { AreOfGrain settings.now.grain report.now.lines }
+    ensures verdict { IfOk result (IsVerdict settings.now.grain plain.now settings.now.capacity settings.now.phi report.now) }
+    ensures good { IfOk result (λ verdict. (verdict ≡ Good) ↔ IsSound settings.now.grain report.now plain.now settings.now.capacity settings.now.phi) }
 {
-    audit(alloc, plain, report, settings.capacity, settings.phi)
+    audit(
+        alloc,
+        plain,
+        report,
+        settings.grain,
+        settings.capacity,
+        settings.phi,
+    )
 }
 
 // The records of the capture that a seed and a number of frames determine.

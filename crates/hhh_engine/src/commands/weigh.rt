@@ -3,17 +3,18 @@
 ghost use Rattle.std.specs.Prelude.{ℕ, ◌≡◌, ◌≤◌, length, All, IfOk, IfErr, IfSome, OnOk, IsErrOf};
 ghost use Rattle.std.specs.Io.KnownBytes.{IsAtEnd};
 ghost use Rattle.outside_io.specs.{ReadsFront};
-ghost use Rattle.prefix_lattice.specs.{record_limit};
+ghost use Rattle.prefix_lattice.specs.{IsPrefix, record_limit};
+ghost use Rattle.prefix_lattice.specs.declared.grain.Grain.TheVariants.{Byte};
 ghost use Rattle.shard_state.specs.{records_table, HoldsNarrowlyOver};
 ghost use Rattle.hhh_engine.specs.Tasks.{weigh_task};
 ghost use Rattle.hhh_engine.specs.Ending.{course, Ends, faults_of_source};
 ghost use Rattle.hhh_engine.specs.Reading.{HasNoText};
-ghost use Rattle.hhh_engine.specs.Weigh.{text_for, text_capacity, weight_text, IsWeightText};
+ghost use Rattle.hhh_engine.specs.Weigh.{text_for, text_shape, weight_text, IsWeightText};
 
 use crate::{Settings, Status};
 use frame_records::read_records;
 use outside_io::{Sink, Source, write_all};
-use prefix_lattice::{Node, Prefix, Record};
+use prefix_lattice::{Grain, Node, Prefix, Record};
 use run_status::push_number;
 use shard_state::tables_hold_weights;
 use space_saving::{PlainTable, Summary};
@@ -22,7 +23,7 @@ use std::alloc::{AllocError, Global};
 // How many prefixes of the same node the table can monitor.
 const WEIGH_CAPACITY: u32 = 64;
 
-/// Reads a capture to its end, and writes the weight of a prefix over its records.
+/// Reads a capture to its end, and writes the weight of a prefix of whole bytes over its records.
 pub(crate) fn weigh<S: Source, K: Sink>(
     alloc: Global,
     prefix: &Prefix,
@@ -30,6 +31,7 @@ pub(crate) fn weigh<S: Source, K: Sink>(
     capture: &mut S,
     sink: &mut K,
 ) -> Status
+    requires { IsPrefix Byte prefix.now }
     ensures ends { (other : ℕ) → Ends (weigh_task prefix.now settings.now (S.left capture.old) (S.left capture.new))
         (course K.Sink (S.left capture.old) (faults_of_source (S.faults capture.old) other) (faults_of_source (S.faults capture.new) other)
         sink.old sink.new) result }
@@ -52,6 +54,7 @@ fn read_weight<S: Source>(
     settings: &Settings,
     capture: &mut S,
 ) -> Result<Vec<u8>, Status>
+    requires { IsPrefix Byte prefix.now }
     ensures text { IfOk result (λ text. IfSome (S.left capture.old) (λ file. IsWeightText prefix.now settings.now.weigh file text.items)) }
     ensures at_end { OnOk result (IsAtEnd (S.left capture.new)) }
     ensures front { ReadsFront (S.left capture.old) (S.left capture.new) }
@@ -64,14 +67,16 @@ fn read_weight<S: Source>(
 
 // The text with the weight of a prefix over at most 16,777,216 records. Its interval holds the exact weight.
 fn weigh_text(alloc: Global, prefix: &Prefix, records: &[Record]) -> Result<Vec<u8>, AllocError>
+    requires of_bytes { IsPrefix Byte prefix.now }
     requires few { length records.now ≤ record_limit }
     requires weighed { All (λ rec. 1 ≤ rec.weight) records.now }
     ensures text { IfOk result (λ text. text.items ≡ text_for prefix.now records.now) }
-    ensures holds { IfOk result (λ _. HoldsNarrowlyOver text_capacity prefix.now records.now) }
+    ensures holds { IfOk result (λ _. HoldsNarrowlyOver text_shape prefix.now records.now) }
 {
     tables_hold_weights();
     let key = prefix.key();
-    let table = fold_records(alloc, prefix.node(), records)?;
+    let node = prefix.node(Grain::Byte).unwrap();
+    let table = fold_records(alloc, node, records)?;
     let (low, high) = table.interval(key);
     three_lines(alloc, low, high, table.total())
 }
@@ -80,7 +85,7 @@ fn weigh_text(alloc: Global, prefix: &Prefix, records: &[Record]) -> Result<Vec<
 fn fold_records(alloc: Global, node: Node, records: &[Record]) -> Result<PlainTable, AllocError>
     requires { length records.now ≤ record_limit }
     ensures { IfOk result (λ table.
-        table ≡ record { capacity = text_capacity; entries = records_table text_capacity node records.now }) }
+        table ≡ record { capacity = text_shape.capacity; entries = records_table text_shape.capacity node records.now }) }
 {
     let mut table = PlainTable::with_capacity(alloc, WEIGH_CAPACITY)?;
     for rec in records {

@@ -5,6 +5,7 @@ use deal_rules::Dealers;
 use gate_workers::OpenGate;
 use hhh_engine::{Status, run};
 use outside_io::{MemorySink, MemorySource};
+use prefix_lattice::Grain;
 use report_text::{SessionFault, TextFault, read_session};
 use slot_disk::MemoryDisk;
 use std::alloc::{AllocError, Global};
@@ -172,7 +173,7 @@ fn filled<R: Threads + Wait + Sync>(
 
 // What is wrong with the text of a session.
 fn fault_in(alloc: Global, text: &[u8]) -> Option<SessionFault> {
-    read_session(alloc, text).err()
+    read_session(alloc, Grain::Byte, text).err()
 }
 
 // Whether whole lines begin a session, and are not all of one.

@@ -1,7 +1,7 @@
 //! What `audit` finds.
 
 use super::endings::{compare, run_with};
-use super::reports::ELEVEN;
+use super::reports::{ELEVEN, HALVES, HALVES_BY_BYTES, HALVES_BY_NIBBLES};
 use deal_rules::Dealers;
 use exact_audit::Verdict;
 use hhh_engine::Status;
@@ -28,6 +28,24 @@ const NARROW: [&str; 7] = [
     "--deal=round",
 ];
 
+// The share of the whole.
+const WHOLE: [&str; 5] = [
+    "audit",
+    "--report=r",
+    "--shards=1",
+    "--phi=1000000",
+    "--weigh=packets",
+];
+
+const WHOLE_BY_NIBBLES: [&str; 6] = [
+    "audit",
+    "--report=r",
+    "--shards=1",
+    "--phi=1000000",
+    "--weigh=packets",
+    "--bits=4",
+];
+
 // The session over one packet.
 const SOUND_TEXT: &str =
     "opened 0\nreport\nat 1\ntotal 100\nthreshold 1\nline 10.1.2.3/32 20.1.2.3/32 100 100\ndone\nframes 1\nskipped 0 0 0\nend\n";
@@ -41,8 +59,8 @@ type Case = (
     &'static str,
 );
 
-// A session over one packet, with its lines changed.
-const CASES: [Case; 8] = [
+// A session over one packet, with its lines changed. Then sessions by half bytes.
+const CASES: [Case; 10] = [
     (&AUDIT, &[ONE], SOUND_TEXT, Status::Done, "good 1\n"),
     (
         &AUDIT,
@@ -113,6 +131,21 @@ const CASES: [Case; 8] = [
         Status::Done,
         "good 2\n",
     ),
+    (
+        &WHOLE_BY_NIBBLES,
+        &HALVES,
+        HALVES_BY_NIBBLES,
+        Status::Done,
+        "good 1\n",
+    ),
+    // By bytes no length is 12.
+    (
+        &WHOLE,
+        &HALVES,
+        HALVES_BY_NIBBLES,
+        Status::BadReport(TextFault::BadLine(6)),
+        "",
+    ),
 ];
 
 pub(crate) fn audits<R: Abort + Threads + Wait + Sync>(
@@ -121,7 +154,7 @@ pub(crate) fn audits<R: Abort + Threads + Wait + Sync>(
     dealers: &Dealers,
 ) -> Result<(), Fail> {
     each_is_audited(rt, alloc, dealers, &CASES)?;
-    names_what_is_left_out(rt, alloc, dealers)
+    each_names_what_is_left_out(rt, alloc, dealers, &LEFT_OUT)
 }
 
 // A table is a parameter of what goes through it: a proof with the table in every fact takes far longer.
@@ -139,29 +172,58 @@ fn each_is_audited<R: Abort + Threads + Wait + Sync>(
     Ok(())
 }
 
-// No line has the packet's prefix.
-fn names_what_is_left_out<R: Abort + Threads + Wait + Sync>(
+// The arguments, the packets, the text, the weight of what is left out, and what is written.
+type LeftOut = (
+    &'static [&'static str],
+    &'static [Packet],
+    &'static str,
+    u64,
+    &'static str,
+);
+
+const LEFT_OUT: [LeftOut; 2] = [
+    // No line has the packet's prefix.
+    (
+        &AUDIT,
+        &[ONE],
+        "opened 0\nreport\nat 1\ntotal 100\nthreshold 1\ndone\nframes 1\nskipped 0 0 0\nend\n",
+        100,
+        "report 1: left out 10.1.2.3/32 20.1.2.3/32 100\n",
+    ),
+    // By half bytes a network inside that of the line has all packets.
+    (
+        &WHOLE_BY_NIBBLES,
+        &HALVES,
+        HALVES_BY_BYTES,
+        2,
+        "report 1: left out 10.16.0.0/12 20.0.0.1/32 2\n",
+    ),
+];
+
+fn each_names_what_is_left_out<R: Abort + Threads + Wait + Sync>(
     rt: &R,
     alloc: Global,
     dealers: &Dealers,
+    cases: &[LeftOut],
 ) -> Result<(), Fail> {
-    let text =
-        b"opened 0\nreport\nat 1\ntotal 100\nthreshold 1\ndone\nframes 1\nskipped 0 0 0\nend\n";
-    let ended = audit_over(rt, alloc, dealers, &AUDIT, &[ONE], text, SOUND_CALLS)?;
-    assert!(rt;
-        matches!(
-            ended.status,
-            Status::AuditNo {
-                report: 1,
-                verdict: Verdict::LeftOut(_, 100)
-            }
-        )
-    );
-    assert_eq!(rt;
-        ended.text.as_slice(),
-        b"report 1: left out 10.1.2.3/32 20.1.2.3/32 100\n".as_slice()
-    );
+    for (words, packets, text, weight, written) in cases {
+        let text = text.as_bytes();
+        let ended = audit_over(rt, alloc, dealers, words, packets, text, SOUND_CALLS)?;
+        assert!(rt; is_left_out(&ended.status, *weight));
+        assert_eq!(rt; ended.text.as_slice(), written.as_bytes());
+    }
     Ok(())
+}
+
+// Whether the first report left out something of this weight.
+fn is_left_out(status: &Status, weight: u64) -> bool {
+    match status {
+        Status::AuditNo {
+            report: 1,
+            verdict: Verdict::LeftOut(_, left),
+        } => *left == weight,
+        _ => false,
+    }
 }
 
 // The lines of a report over eleven packets, of which one, two or none are changed, and what the audit writes.

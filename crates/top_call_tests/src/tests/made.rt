@@ -73,6 +73,18 @@ pub(crate) fn demonstrates<R: Abort + Threads + Wait + Sync>(
     ends_with(rt, alloc, dealers, &DEMO, fails, Status::WriteFault, b"")
 }
 
+pub(crate) fn demonstrates_by_half_bytes<R: Abort + Threads + Wait + Sync>(
+    rt: &R,
+    alloc: Global,
+    dealers: &Dealers,
+) -> Result<(), Fail> {
+    let words = ["demo", "7", "20000", "--bits", "4"];
+    let ended = run_over(rt, alloc, dealers, &words, Vec::new(alloc), SOUND)?;
+    assert_eq!(rt; ended.status, Status::Done);
+    assert!(rt; ended.text.ends_with(b"\naudit good\nend\n"));
+    Ok(())
+}
+
 // 200,000 frames: 200,000 records and 50,000,000 bytes, of which 1 % is the threshold. Another program of the same
 // algorithm, that of bench/space_saving.c, also has 28 lines. However many workers count, they are the same.
 pub(crate) fn demonstrates_the_same_with_one_worker<R: Abort + Threads + Wait + Sync>(

@@ -20,7 +20,7 @@ use test_runs::{ONE, Outside, SOUND, capture_of, run_over};
 // The arguments, what is wrong with them, and the line that reports it.
 type Case = (&'static [&'static str], WordsKind, &'static str);
 
-const CASES: [Case; 14] = [
+const CASES: [Case; 17] = [
     (&[], WordsKind::NoCommand, "hhh: bad words: no command\n"),
     (
         &["way"],
@@ -67,6 +67,21 @@ const CASES: [Case; 14] = [
         &["report", "--capacity", "17", "--phi", "117647"],
         WordsKind::Bound,
         "hhh: bad words: bound\n",
+    ),
+    (
+        &["report", "--bits", "5"],
+        WordsKind::OutOfLimits(Opt::Bits),
+        "hhh: bad words: limits\n",
+    ),
+    (
+        &["report", "--bits", "4", "--capacity", "1025"],
+        WordsKind::OutOfLimits(Opt::Bits),
+        "hhh: bad words: limits\n",
+    ),
+    (
+        &["report", "--bits", "4", "--store", "s"],
+        WordsKind::OutOfLimits(Opt::Bits),
+        "hhh: bad words: limits\n",
     ),
     (
         &["report", "x"],

@@ -33,6 +33,16 @@ const NETWORK: [Packet; 4] = [
     (0x0a00_0004, 0x1400_0001),
 ];
 
+// Two sources whose addresses first differ in the last half of their second byte, and one destination.
+pub(crate) const HALVES: [Packet; 2] = [(0x0a10_0001, 0x1400_0001), (0x0a1f_0001, 0x1400_0001)];
+
+// The session over these, with one shard and no share below the whole, by bytes and by half bytes.
+pub(crate) const HALVES_BY_BYTES: &str =
+    "opened 0\nreport\nat 2\ntotal 2\nthreshold 2\nline 10.0.0.0/8 20.0.0.1/32 2 2\ndone\nframes 2\nskipped 0 0 0\nend\n";
+
+pub(crate) const HALVES_BY_NIBBLES: &str =
+    "opened 0\nreport\nat 2\ntotal 2\nthreshold 2\nline 10.16.0.0/12 20.0.0.1/32 2 2\ndone\nframes 2\nskipped 0 0 0\nend\n";
+
 // Three packets from 10.0.0.0/8 and three to 20.0.0.0/8, one of which is both, and three that are neither.
 const CROSSING: [Packet; 8] = [
     (0x0a01_0001, 0x1f00_0001),
@@ -49,7 +59,7 @@ const CROSSING: [Packet; 8] = [
 const OF_ONE: &str =
     "opened 0\nreport\nat 1\ntotal 100\nthreshold 1\nline 10.1.2.3/32 20.1.2.3/32 100 100\ndone\nframes 1\nskipped 0 0 0\nend\n";
 
-const CASES: [Written; 8] = [
+const CASES: [Written; 11] = [
     (
         &["report", "--shards", "1"],
         &[],
@@ -109,6 +119,27 @@ const CASES: [Written; 8] = [
         ],
         &NETWORK,
         "opened 0\nreport\nat 4\ntotal 4\nthreshold 2\nline 10.0.0.0/24 20.0.0.1/32 4 4\ndone\nframes 4\nskipped 0 0 0\nend\n",
+    ),
+    (
+        &[
+            "report", "--shards", "1", "--phi", "500000", "--weigh", "packets", "--bits", "4",
+        ],
+        &NETWORK,
+        "opened 0\nreport\nat 4\ntotal 4\nthreshold 2\nline 10.0.0.0/28 20.0.0.1/32 4 4\ndone\nframes 4\nskipped 0 0 0\nend\n",
+    ),
+    (
+        &[
+            "report", "--shards", "1", "--phi", "1000000", "--weigh", "packets",
+        ],
+        &HALVES,
+        HALVES_BY_BYTES,
+    ),
+    (
+        &[
+            "report", "--shards", "1", "--phi", "1000000", "--weigh", "packets", "--bits", "4",
+        ],
+        &HALVES,
+        HALVES_BY_NIBBLES,
     ),
     // The packet that both lines cover is counted once for the root.
     (

@@ -8,11 +8,12 @@ use Rattle.report_session.proofs.DealtReportLemmas.{dealt_report_ends_broken_off
 use Rattle.report_session.proofs.FeedFaultLemmas.{feed_fault_after_good_steps}
 use Rattle.report_session.proofs.SaveLemmas.{part_of_saves}
 use Rattle.run_status.specs.declared.status.Status.TheVariants.{OutOfMemory}
+use Rattle.report_session.specs.Session.{asked_shape}
 use Rattle.report_session.proofs.report.report_dealt.Goals as goal
 
 pub openings_stand-requires : goal.openings_stand-requires
 openings_stand-requires g c =
-    base_goes_on c.args.settings.now c.args.fed.dealt c.in-Ok.base.cut c.in-Ok.ensures.base.begins.fits
+    base_goes_on c.args.settings.now c.args.fed.dealt _ c.in-Ok.base.cut c.requires.limited c.in-Ok.ensures.base.begins
 
 pub returns-in-Err-clause-ends : goal.returns-in-Err-clause-ends
 returns-in-Err-clause-ends g c =
@@ -39,7 +40,7 @@ returns-in-Ok-write_session-clause-ends g c =
           c.open_base.ensures.reads
           (part_of_saves g.D.Disk c.in-Ok.base.saver
           c.open_base.new.disk c.write_session.new.disk cuts saves) used)
-          (subst (λ tail. WritesAnswer (IsOverShards (session_opening c.args.settings.now.capacity c.args.fed.dealt c.in-Ok.base.cut)
+          (subst (λ tail. WritesAnswer (IsOverShards (session_opening (asked_shape c.args.settings.now) c.args.fed.dealt c.in-Ok.base.cut)
           c.args.settings.now
           (λ cuts. Saves g.D.Disk c.in-Ok.base.saver cuts
           c.open_base.new.disk c.write_session.new.disk) tail) (g.K.Sink.taken c.args.sink.now)
@@ -64,9 +65,9 @@ returns-clause-ends g c =
     (record { same_reads = c.open_base.ensures.reads; any_moment = c.open_base.ensures.any_moment }))
     (subst (λ tail. (((c.write_session.new.sink ≡ c.args.sink.now) × (c.write_session.new.disk ≡ c.open_base.new.disk))
     × (c.in-Err-write_session.status ≡ OutOfMemory))
-    ⊎ (AreSessionShards c.args.settings.now.capacity
-    (session_opening c.args.settings.now.capacity c.args.fed.dealt c.in-Ok.base.cut)
-    × WritesAnswer (BeginsSession (session_opening c.args.settings.now.capacity c.args.fed.dealt c.in-Ok.base.cut)
+    ⊎ (AreSessionShards (asked_shape c.args.settings.now)
+    (session_opening (asked_shape c.args.settings.now) c.args.fed.dealt c.in-Ok.base.cut)
+    × WritesAnswer (BeginsSession (session_opening (asked_shape c.args.settings.now) c.args.fed.dealt c.in-Ok.base.cut)
     c.args.settings.now
     (SavesInPart g.D.Disk c.in-Ok.base.saver
     c.open_base.new.disk c.write_session.new.disk) tail) (g.K.Sink.taken c.args.sink.now)

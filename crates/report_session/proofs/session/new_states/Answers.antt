@@ -6,6 +6,7 @@ use Rattle.std.proofs.lemmas.List.Elements.{All-append, All-cons, All-drop, All-
 use Rattle.shard_state.specs.{IsShard}
 use Rattle.report_session.specs.Session.{new_shards}
 use Rattle.report_session.proofs.OpeningShardLemmas.{opening_shards_have_few_records, opening_shards_grow_by_one}
+use Rattle.report_session.specs.Session.{asked_shape}
 use Rattle.report_session.proofs.session.new_states.Goals as goal
 
 pub loop-list-init : goal.loop-list-init
@@ -32,7 +33,7 @@ loop-list-preserved c =
       states =
           c.in_ok-push.ensures.items
           ∙ ap₂ (λ states state. states ++ state ∷ []) kept.states c.in_ok-state.ensures
-          ∙ sym (opening_shards_grow_by_one c.args.capacity done c.in-Some.list);
+          ∙ sym (opening_shards_grow_by_one (asked_shape c.args.settings.now) done c.in-Some.list);
       kept = subst (All IsShard) (sym c.in_ok-push.ensures.items)
           (All-append IsShard c.loop-list.states.items (c.in_ok-state.state ∷ []) kept.kept
           (All-cons IsShard c.in_ok-state.state [] c.position-kept.ensures.kept (All-nil IsShard)));
@@ -48,4 +49,4 @@ returns-clause-states c =
     let none =
     nil_from_length (into_iter_items c.loop-list.list-iterator)
     (sym c.loop-list.list-iterator.rest.ok.0 ∙ c.in-None.ensures.steps.0) in
-    kept.states ∙ ap (new_shards c.args.capacity) (sym (kept.parted ∙ ap (λ xs. done ++ xs) none ∙ append-nil done))
+    kept.states ∙ ap (new_shards (asked_shape c.args.settings.now)) (sym (kept.parted ∙ ap (λ xs. done ++ xs) none ∙ append-nil done))

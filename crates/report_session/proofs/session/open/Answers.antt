@@ -2,6 +2,7 @@ use Rattle.std.proofs.Common.{◌∙◌, All, sym, ap, subst, length}
 use Rattle.std.proofs.lemmas.List.{length-replicate}
 use Rattle.pass_tokens.specs.{first_view}
 use Rattle.shard_state.specs.{AreCoreShards, CutValue, IsShard, empty_snapshot}
+use Rattle.report_session.specs.Session.{asked_shape}
 use Rattle.report_session.proofs.session.open.Goals as goal
 
 pub start-requires : goal.start-requires
@@ -18,9 +19,9 @@ returns c =
       shape = record {
         as_many =
             ap (λ (cut : CutValue). length cut.shards) c.in_ok-cut.ensures
-            ∙ length-replicate c.shards-shards.result (empty_snapshot c.args.capacity)
+            ∙ length-replicate c.shards-shards.result (empty_snapshot (asked_shape c.args.settings.now))
             ∙ c.shards-shards.ensures.value ∙ sym c.openings_stand.ensures.many;
         alike =
-            ap (λ (cut : CutValue). cut.capacity) c.in_ok-cut.ensures ∙ sym c.openings_stand.ensures.alike;
+            ap (λ (cut : CutValue). cut.shape) c.in_ok-cut.ensures ∙ sym c.openings_stand.ensures.alike;
       };
     }

@@ -1,5 +1,5 @@
 use Rattle.std.proofs.Common.{◌∙◌, inr, length, sym, ap, subst}
-use Rattle.shard_state.specs.{core_capacity}
+use Rattle.shard_state.specs.{core_shape}
 use Rattle.report_text.specs.{ShowsPositions, mark_text}
 use Rattle.report_text.specs.declared.mark.Mark.TheVariants.{Opened}
 use Rattle.report_session.specs.Session.{WritesAnswer, BeginsSession, IsOverShards, session_start}
@@ -11,7 +11,7 @@ use Rattle.report_session.proofs.session.write_session.Goals as goal
 
 pub openings_stand-requires : goal.openings_stand-requires
 openings_stand-requires g c =
-    base_goes_on c.args.setup.now.settings.now c.args.dealt c.args.base.cut c.requires.base.begins.fits
+    base_goes_on c.args.setup.now.settings.now c.args.dealt _ c.args.base.cut c.requires.limited c.requires.base.begins
 
 pub opened_line-requires : goal.opened_line-requires
 opened_line-requires g c =
@@ -19,7 +19,7 @@ opened_line-requires g c =
 
 pub open-requires-clause-fits : goal.open-requires-clause-fits
 open-requires-clause-fits g c =
-    base_goes_on c.args.setup.now.settings.now c.args.dealt c.args.base.cut c.requires.base.begins.fits
+    base_goes_on c.args.setup.now.settings.now c.args.dealt _ c.args.base.cut c.requires.limited c.requires.base.begins
 
 pub write_feed-requires-clause-opened : goal.write_feed-requires-clause-opened
 write_feed-requires-clause-opened g c = λ lifetimes outlive.
@@ -27,7 +27,7 @@ write_feed-requires-clause-opened g c = λ lifetimes outlive.
 
 pub write_feed-requires-clause-alike : goal.write_feed-requires-clause-alike
 write_feed-requires-clause-alike g c = λ lifetimes outlive.
-    ap core_capacity c.in_ok-opened.ensures.opening ∙ c.openings_stand.ensures.alike
+    ap core_shape c.in_ok-opened.ensures.opening ∙ c.openings_stand.ensures.alike
 
 pub write_feed-requires-clause-starts : goal.write_feed-requires-clause-starts
 write_feed-requires-clause-starts g c = λ lifetimes outlive.
@@ -42,8 +42,8 @@ pub write_feed-requires-clause-can_save : goal.write_feed-requires-clause-can_sa
 write_feed-requires-clause-can_save g c = λ lifetimes outlive.
     let opening = c.in_ok-opened.ensures.opening in
     base_saver_is_ready c.args.setup.now.settings.now c.args.dealt _ _ c.in_ok-opened.opened.board.opening c.args.base.positions
-    c.args.base.saver c.requires.limited (ap length opening ∙ c.openings_stand.ensures.many ∙ c.requires.shards)
-    (ap core_capacity opening ∙ c.openings_stand.ensures.alike) (c.requires.base.positions_are ∙ ap session_start (sym opening))
+    c.args.base.saver c.requires.limited c.requires.base.used (ap length opening ∙ c.openings_stand.ensures.many ∙ c.requires.shards)
+    (ap core_shape opening ∙ c.openings_stand.ensures.alike) (c.requires.base.positions_are ∙ ap session_start (sym opening))
     c.requires.base.saver c.requires.stands
 
 pub returns-clause-whole : goal.returns-clause-whole

@@ -2,7 +2,7 @@ use Rattle.std.proofs.Common.{◌∙◌, ◌≤◌, length, refl, sym, ap₂, su
 use Rattle.std.specs.Prelude.{is_some}
 use Rattle.hhh_report.specs.{million}
 use Rattle.hhh_output.specs.{IsWideShare}
-use Rattle.shard_state.specs.{HasCoreShape, core_capacity}
+use Rattle.shard_state.specs.{HasCoreShape, core_shape}
 use Rattle.pass_tokens.specs.{view}
 use Rattle.report_session.specs.LiveRounds.{WritesRounds}
 use Rattle.report_session.specs.Saving.{SavesBreakOff, SavesInTurn}
@@ -46,7 +46,7 @@ make_round-requires-clause-most g c =
 
 pub make_round-requires-clause-wide : goal.make_round-requires-clause-wide
 make_round-requires-clause-wide g c =
-    subst (λ phi. IsWideShare phi (core_capacity c.args.board.now.opening)) (sym c.loop-round.invariant.same_share)
+    subst (λ phi. IsWideShare phi (core_shape c.args.board.now.opening).capacity) (sym c.loop-round.invariant.same_share)
     c.requires.ready.3
 
 pub make_round-requires-clause-can_save : goal.make_round-requires-clause-can_save
@@ -66,7 +66,7 @@ returns-in-Err-clause-does g c =
       c.make_round.ensures.same_disk ∙ far.same_disk,
       c.make_round.ensures.same_saver ∙ far.same_saver,
       c.make_round.ensures.same_cut ∙ far.same_cut,
-      subst (λ shards. HasCoreShape (length shards) (core_capacity shards) c.make_round.new.self.cut.now) (sym opening)
+      subst (λ shards. HasCoreShape (length shards) (core_shape shards) c.make_round.new.self.cut.now) (sym opening)
           c.in-Err.ensures.shape,
       one_round_broke_off _ _ _ _ _ _ _ _ _ _ _
           (SavesInTurn g.D.Disk c.args.self.now.saver.now
@@ -150,7 +150,7 @@ returns-clause-does g c =
       far.same_disk,
       far.same_saver,
       far.same_cut,
-      subst (λ shards. HasCoreShape (length shards) (core_capacity shards) c.loop-round.self.cut.now) (sym opening) far.shape,
+      subst (λ shards. HasCoreShape (length shards) (core_shape shards) c.loop-round.self.cut.now) (sym opening) far.shape,
       all_rounds_were_made _ _ _ _ _ _ _ _ _ _ _ _ _ _ c.loop-round.self.stop opening far.unstopped
           (omega (arith, c.loop-round.auto.round-end, c.loop-round-test.false))
           (ap₂ (λ s d. record { sink = s; disk = d }) far.sink_faults far.disk_faults) far.written,

@@ -1,6 +1,6 @@
 use Rattle.std.proofs.Common.{◌≡◌, length, None}
 use Rattle.std.specs.Prelude.{IfSome, is_some}
-use Rattle.shard_state.specs.{HasCoreShape, core_capacity}
+use Rattle.shard_state.specs.{HasCoreShape, core_shape}
 use Rattle.pass_tokens.specs.{IsPassOf, view}
 use Rattle.report_session.specs.LiveRounds.{WritesRounds}
 use Rattle.report_session.specs.Saving.{SavesFitBoard, SavesInTurn}
@@ -10,7 +10,7 @@ use Rattle.report_session.proofs.live_rounds.LiveRoundsRounds.go.Given as goal
 abbrev pub invariant-loop-round : goal.invariant-loop-round
 invariant-loop-round g l = record {
   pass : IsPassOf l.board l.pass;
-  shape : HasCoreShape (length l.board.opening) (core_capacity l.board.opening) l.self.cut.now;
+  shape : HasCoreShape (length l.board.opening) (core_shape l.board.opening) l.self.cut.now;
   same_sink : l.self.sink.ghost_name ≡ l.fn.self.sink.ghost_name;
   same_disk : l.self.disk.ghost_name ≡ l.fn.self.disk.ghost_name;
   same_saver : l.self.saver.ghost_name ≡ l.fn.self.saver.ghost_name;
