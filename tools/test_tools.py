@@ -218,6 +218,10 @@ class Export(unittest.TestCase):
         text = run("hhh-export", "prometheus", text=SESSION.encode()).decode()
         self.assertEqual(text, PROMETHEUS)
 
+    def test_lengths_of_four_bits(self):
+        rows = run("hhh-export", "csv", text=SESSION.replace("10.0.0.0/8", "10.16.0.0/12").encode()).decode().split("\n")
+        self.assertEqual(rows[2], "10.16.0.0/12,20.1.0.0/16,290,300")
+
     def test_last_report_counts(self):
         first = SESSION[: SESSION.index("frames")].replace("200", "100") + "saved 1 1\n"
         text = first + SESSION[SESSION.index("report") :].replace("frames", "saved 1 1\nframes")
@@ -241,9 +245,9 @@ class Export(unittest.TestCase):
 
 
 class Lattice(unittest.TestCase):
-    def drawn(self, text):
+    def drawn(self, text, *words):
         """A drawing, its labels from dot to dot, its dots as places with a radius, and its edges as ends."""
-        drawing = run("hhh-lattice", "/dev/stdin", text=text.encode()).decode()
+        drawing = run("hhh-lattice", *words, "/dev/stdin", text=text.encode()).decode()
         labels = re.findall(r'class="prefix"[^>]*>(\S+|to \S+) <tspan class="share">([^<]*)<', drawing)
         dots = [tuple(map(float, dot)) for dot in re.findall(r'class="dot" cx="(\S+)" cy="(\S+)" r="(\S+)"', drawing)]
         number = r"(-?[\d.]+)"
@@ -286,7 +290,34 @@ class Lattice(unittest.TestCase):
         for text in ("", "end\n", "done\n", SESSION.replace("10.0.0.0/8", "10.0.0.0/9"), SESSION.replace(" 290 300", "")):
             self.assertEqual(run("hhh-lattice", "/dev/stdin", text=text.encode(), status=1, said=b"no whole report"), b"")
         run("hhh-lattice", "/no/such/file", status=1, said=b"No such file")
-        run("hhh-lattice", "--help", status=1, said=b"hhh-lattice SESSION")
+        for words in (["--help"], [], ["--bits", "8"], ["--bits", "16", "/dev/stdin"], ["--bit", "4", "/dev/stdin"]):
+            run("hhh-lattice", *words, status=1, said=b"hhh-lattice [--bits 8|4] SESSION")
+
+    def numbers(self, drawing):
+        """The numbers of both axes, and how many boxes there are."""
+        return re.findall(r'class="axis"[^>]*>(\d+)<', drawing), drawing.count('class="node"')
+
+    def test_axes(self):
+        drawing, *_ = self.drawn(SESSION, "--bits", "8")
+        self.assertEqual(drawing, self.drawn(SESSION)[0])
+        self.assertEqual(self.numbers(drawing), ([str(n) for n in range(5) for _ in range(2)], 25))
+        drawing, *_ = self.drawn(SESSION, "--bits", "4")
+        self.assertEqual(self.numbers(drawing), ([str(n) for n in range(0, 33, 4) for _ in range(2)], 81))
+        self.assertIn(">kept source bits<", drawing)
+
+    def test_lines_of_four_bits(self):
+        line = "line 10.16.0.0/12 20.1.0.0/16 90 90\n"
+        text = SESSION.replace("line 10.0.0.0/8", line + "line 10.0.0.0/8")
+        _, labels, dots, edges = self.drawn(text, "--bits", "4")
+        self.assertEqual([first for first, _ in labels[::2]], ["10.0.0.0/8", "10.16.0.0/12", "10.1.2.3/32"])
+        wide, middle, narrow = [dot[:2] for dot in sorted(dots)]
+        # 10.1.2.3 begins with the first four bits of 10.16.0.0 alone, so its line is a part of that of 10.0.0.0/8 alone.
+        self.assertEqual(sorted(edges), sorted([(*middle, *wide), (*narrow, *wide)]))
+        _, _, dots, edges = self.drawn(text.replace("10.1.2.3", "10.17.2.3"), "--bits", "4")
+        wide, middle, narrow = [dot[:2] for dot in sorted(dots)]
+        self.assertEqual(sorted(edges), sorted([(*middle, *wide), (*narrow, *middle)]))
+        for words in ([], ["--bits", "8"]):
+            run("hhh-lattice", *words, "/dev/stdin", text=text.encode(), status=1, said=b"draw it with --bits 4")
 
 
 if __name__ == "__main__":
