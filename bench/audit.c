@@ -1,6 +1,6 @@
 // The plain program to compare `audit` with: reads a capture from standard input and a session text from the file that
-// is named first, and tests every report against the records, dealt in turn. Its other arguments are the capacity and
-// the share in parts per million, 512 and 10,000 if they are missing.
+// is named first, and tests every report against the records, dealt in turn. Its other arguments are the capacity, the
+// share in parts per million, and the bits of a unit: 512, 10,000 and 8 if they are missing.
 //
 // For each report it notes at which nodes a line covers each record, one bit a node. Then it sums the weights of each
 // node in a hash table, and beside them what no line strictly below the node covers. It prints what `audit` prints, and
@@ -10,6 +10,8 @@
 #include <stdio.h>
 
 #define LONGEST_LINE 512
+#define WORD_BITS 32
+#define MOST_WORDS 3
 
 // A slot of a hash table. One with weight 0 is free.
 struct slot {
@@ -24,12 +26,33 @@ static unsigned bits;
 static uint32_t *homes;
 static size_t last_home;
 
-// The records that a report counts, by their numbers, and at which nodes a line covers each.
+// The records that a report counts, by their numbers, and at which nodes a line covers each. A set of nodes has so many
+// words.
 static uint32_t *counted, *covered;
 static size_t counted_count;
+static unsigned set_words;
 
 // For each node those below it.
-static uint32_t below[NODES];
+static uint32_t below[MOST_NODES][MOST_WORDS];
+
+static inline void put_in(uint32_t *set, unsigned node) {
+    set[node / WORD_BITS] |= 1u << node % WORD_BITS;
+}
+
+static inline int share_a_node(const uint32_t *set, const uint32_t *other) {
+    uint32_t shared = 0;
+    for (unsigned word = 0; word < set_words; word++)
+        shared |= set[word] & other[word];
+    return shared != 0;
+}
+
+static void find_nodes_below(void) {
+    set_words = (node_count + WORD_BITS - 1) / WORD_BITS;
+    for (unsigned node = 0; node < node_count; node++)
+        for (unsigned other = 0; other < node_count; other++)
+            if (is_below(other, node))
+                put_in(below[node], other);
+}
 
 static struct slot *slot_of(uint64_t key) {
     size_t last = ((size_t)1 << bits) - 1, place = key * 0x9e3779b97f4a7c15 >> (64 - bits);
@@ -98,24 +121,27 @@ static void count_records(const struct report *report) {
 }
 
 static void note_covered(const struct report *report) {
-    int has_lines[NODES] = {0};
+    int has_lines[MOST_NODES] = {0};
+    uint64_t masks[MOST_NODES];
     for (size_t i = 0; i < report->count; i++)
         has_lines[report->lines[i].node] = 1;
-    for (size_t i = 0; i < counted_count; i++) {
-        covered[i] = 0;
-        for (unsigned node = 0; node < NODES; node++)
-            if (has_lines[node] && homes[home_of(report, node, key_of(counted[i], node))])
-                covered[i] |= 1u << node;
-    }
+    for (unsigned node = 0; node < node_count; node++)
+        masks[node] = mask_of(node);
+    memset(covered, 0, counted_count * set_words * sizeof *covered);
+    for (size_t i = 0; i < counted_count; i++)
+        for (unsigned node = 0; node < node_count; node++)
+            if (has_lines[node] && homes[home_of(report, node, pair_of(counted[i]) & masks[node])])
+                put_in(&covered[i * set_words], node);
 }
 
 // Sums each node, notes the sums of its lines, and finds the first prefix that is left out.
 static int sum_nodes(struct report *report, struct place *first, uint64_t *left) {
     int found = 0;
-    for (unsigned node = 0; node < NODES; node++) {
+    for (unsigned node = 0; node < node_count; node++) {
+        uint64_t mask = mask_of(node);
         empty_table();
         for (size_t i = 0; i < counted_count; i++)
-            add(key_of(counted[i], node), records[counted[i]].weight, (covered[i] & below[node]) != 0);
+            add(pair_of(counted[i]) & mask, records[counted[i]].weight, share_a_node(&covered[i * set_words], below[node]));
         for (size_t i = 0; i < report->count; i++)
             if (report->lines[i].node == node) {
                 struct slot *slot = slot_of(report->lines[i].key);
@@ -135,8 +161,8 @@ static int sum_nodes(struct report *report, struct place *first, uint64_t *left)
     return found;
 }
 
-static void print_side(uint32_t address, unsigned bytes) {
-    printf(" %u.%u.%u.%u/%u", address >> 24, address >> 16 & 255, address >> 8 & 255, address & 255, 8 * bytes);
+static void print_side(uint32_t address, unsigned units) {
+    printf(" %u.%u.%u.%u/%u", address >> 24, address >> 16 & 255, address >> 8 & 255, address & 255, grain * units);
 }
 
 static int says(const char *verdict, size_t number) {
@@ -179,8 +205,8 @@ static int test(struct report *report, size_t number, uint64_t capacity, uint64_
     if (!found)
         return 1;
     printf("%sleft out", front);
-    print_side(first.key >> 32, first.node / 5);
-    print_side(first.key, first.node % 5);
+    print_side(first.key >> 32, source_units(first.node));
+    print_side(first.key, destination_units(first.node));
     printf(" %llu\n", (unsigned long long)left);
     return 0;
 }
@@ -202,10 +228,10 @@ static int read_line(const char *text, struct line *line) {
             &d[2], &d[3], &d[4], &low, &high) != 12)
         return 0;
     line->key = (uint64_t)(s[0] << 24 | s[1] << 16 | s[2] << 8 | s[3]) << 32 | (d[0] << 24 | d[1] << 16 | d[2] << 8 | d[3]);
-    line->node = 5 * (s[4] / 8) + d[4] / 8;
+    line->node = sides * (s[4] / grain) + d[4] / grain;
     line->low = low;
     line->high = high;
-    return line->node < NODES;
+    return s[4] <= 32 && d[4] <= 32 && s[4] % grain == 0 && d[4] % grain == 0;
 }
 
 // Reads the next report of a session. Answers 1, 0 at the end of the text, and 12 for a text that isn't read.
@@ -244,14 +270,15 @@ int main(int number, char **arguments) {
     uint64_t capacity = number > 2 ? strtoull(arguments[2], 0, 10) : 512;
     uint64_t share = number > 3 ? strtoull(arguments[3], 0, 10) : 10000;
     FILE *session = number > 1 ? fopen(arguments[1], "r") : 0;
+    if (!set_grain(number > 4 ? strtoull(arguments[4], 0, 10) : 8))
+        return 2;
     if (!session)
         return 12;
     if (!read_capture())
         return 3;
-    for (unsigned node = 0; node < NODES; node++)
-        below[node] = nodes_below(node);
+    find_nodes_below();
     counted = zeros(count, sizeof *counted);
-    covered = zeros(count, sizeof *covered);
+    covered = zeros(count * set_words, sizeof *covered);
     size_t reports = 0;
     for (;;) {
         struct report report = {.lines = 0};

@@ -3,11 +3,11 @@
 # one thread and by `fold_block` alone, and reading a cut of all shards at their ends. The program for this
 # (`bench/board_program`) is no part of the product, so it is proved and built in a copy of the repository. It is run as
 #
-#     board_bench none|plain|board 4 100000 CAPACITY READS
+#     board_bench none|plain|board 4 100000 CAPACITY READS [BITS]
 #
-# `none` only makes records and tables, and its time is taken from the others'; only `board` reads. Prints the least
-# processor times, and the instructions, which don't depend on other work on the machine. Needs python3, valgrind and
-# 5 GB for the copy.
+# BITS is 8 unless it is given. `none` only makes records and tables, and its time is taken from the others'; only
+# `board` reads. Prints the least processor times, and the instructions, which don't depend on other work on the
+# machine. Needs python3, valgrind and 5 GB for the copy.
 set -eu
 here=$(dirname "$(readlink -f "$0")")
 turns=${1:-25}

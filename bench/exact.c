@@ -1,10 +1,13 @@
-// The plain program to compare `report` with: reads a capture and finds the exact lines at 1 % of its weight.
+// The plain program to compare `report` with: reads a capture and finds the exact lines at 1 % of its weight. Its argument
+// is how many bits a unit of an address has, 8 if it is missing, or 4.
 // Level by level from the most specific prefixes up, it sums the weight of each prefix in a hash table, one node
 // at a time, over the records that no line of a greater level covers. A prefix with enough of it is a line.
 #include "capture.h"
 #include <stdio.h>
 
 #define PARTS_PER_MILLION 10000
+
+static int grain = 8;
 
 // A slot of the table. One with weight 0 is free.
 struct slot {
@@ -61,27 +64,28 @@ static void add(uint64_t key, uint32_t weight) {
         widen();
 }
 
-static uint32_t kept(uint32_t address, unsigned bytes) {
-    return bytes ? address & 0xffffffff << (32 - 8 * bytes) : 0;
+static uint32_t mask_of(unsigned units) {
+    return units ? 0xffffffff << (32 - grain * units) : 0;
 }
 
-static uint64_t key_of(size_t i, unsigned source, unsigned destination) {
-    return (uint64_t)kept(records[i].source, source) << 32 | kept(records[i].destination, destination);
+static uint64_t pair_of(size_t i) {
+    return (uint64_t)records[i].source << 32 | records[i].destination;
 }
 
-static void print_side(uint32_t address, unsigned bytes) {
-    printf(" %u.%u.%u.%u/%u", address >> 24, address >> 16 & 255, address >> 8 & 255, address & 255, 8 * bytes);
+static void print_side(uint32_t address, unsigned units) {
+    printf(" %u.%u.%u.%u/%u", address >> 24, address >> 16 & 255, address >> 8 & 255, address & 255, grain * units);
 }
 
-// Prints the lines of the node that keeps these bytes, and notes the records that they cover.
+// Prints the lines of the node that keeps these units, and notes the records that they cover.
 static void find_lines(unsigned source, unsigned destination, uint64_t threshold) {
     unsigned here = source + destination + 1;
+    uint64_t mask = (uint64_t)mask_of(source) << 32 | mask_of(destination);
     empty_table();
     for (size_t i = 0; i < count; i++)
         if (!covered[i] || covered[i] == here)
-            add(key_of(i, source, destination), records[i].weight);
+            add(pair_of(i) & mask, records[i].weight);
     for (size_t i = 0; i < count; i++)
-        if (!covered[i] && slot_of(key_of(i, source, destination))->weight >= threshold)
+        if (!covered[i] && slot_of(pair_of(i) & mask)->weight >= threshold)
             covered[i] = here;
     for (struct slot *slot = slots; slot < slots + ((size_t)1 << bits); slot++)
         if (slot->weight >= threshold) {
@@ -92,14 +96,18 @@ static void find_lines(unsigned source, unsigned destination, uint64_t threshold
         }
 }
 
-int main(void) {
+int main(int number, char **arguments) {
+    grain = number > 1 ? atoi(arguments[1]) : 8;
+    if (grain != 8 && grain != 4)
+        return 2;
     if (!read_capture())
         return 3;
     covered = zeros(count + 1, 1);
     uint64_t threshold = (total_weight() * PARTS_PER_MILLION + 999999) / 1000000;
     threshold += !threshold;
-    for (int level = 8; level >= 0; level--)
-        for (int source = 0; source <= 4; source++)
-            if (level - source >= 0 && level - source <= 4)
+    int most = 32 / grain;
+    for (int level = 2 * most; level >= 0; level--)
+        for (int source = 0; source <= most; source++)
+            if (level - source >= 0 && level - source <= most)
                 find_lines(source, level - source, threshold);
 }

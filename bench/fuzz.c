@@ -369,21 +369,21 @@ static void draw_prefix(uint64_t *key, unsigned *node) {
     *key = *node = 0;
     if (!one_in(8))
         return;
-    *node = draw_below(NODES);
+    *node = draw_below(node_count);
     read_file(input.capture.at, input.capture.length, &offset);
     uint64_t pair = draw();
     if (count && !one_in(8)) {
         const struct record *record = &records[draw_below(count)];
         pair = (uint64_t)record->source << 32 | record->destination;
     }
-    *key = (uint64_t)kept(pair >> 32, *node / 5) << 32 | kept((uint32_t)pair, *node % 5);
+    *key = pair & mask_of(*node);
 }
 
 static void add_prefix(uint64_t key, unsigned node) {
     static struct bytes side;
     for (int i = 0; i < 2; i++) {
         side.length = 0;
-        put_side(&side, i ? key : key >> 32, i ? node % 5 : node / 5);
+        put_side(&side, i ? key : key >> 32, i ? destination_units(node) : source_units(node));
         add_word("%s", (char *)side.at + 1);
     }
 }

@@ -23,8 +23,8 @@ from pathlib import Path
 import session_text
 from plain_audit import NODES, place_in_report, prefix_at, side_text
 
-WIDE = [(0, 0), (0, 1), (1, 0)]
-DEEPEST_FIRST = sorted((node for node in NODES if node not in WIDE), key=sum, reverse=True)
+WIDE = [(0, 0), (0, 8), (8, 0)]
+DEEPEST_FIRST = sorted((node for node in NODES[8] if node not in WIDE), key=sum, reverse=True)
 THRESHOLD = 2
 
 
@@ -46,7 +46,7 @@ def report_with_lines(nodes, capture):
 
 
 def report_without_weights(lines):
-    return report_of(0, 1, [line_of((number, 4, 0, 4), 0) for number in range(lines)])
+    return report_of(0, 1, [line_of((number, 32, 0, 32), 0) for number in range(lines)])
 
 
 def write_session(report, times):

@@ -1,12 +1,16 @@
 // Lines of a report, for the plain audits: which is under which, their order, and when one is justified. A line has its
-// two addresses in one key and the index of its node, 5 * s + d where s and d bytes are kept.
+// two addresses in one key and the index of its node, `sides * s + d` where s and d units are kept. A unit has eight bits,
+// or four after `set_grain(4)`.
 #ifndef LINES_H
 #define LINES_H
 
 #include "records.h"
 
-#define NODES 25
+#define MOST_NODES 81
 #define MOST_SHARDS 16
+
+// The bits of a unit, how many lengths a side may have, and how many nodes that makes.
+static unsigned grain = 8, sides = 5, node_count = 25;
 
 struct line {
     uint64_t key, low, high, weight, left;
@@ -27,26 +31,50 @@ static inline void *zeros(size_t number, size_t size) {
     return space;
 }
 
-static inline unsigned level_of(unsigned node) {
-    return node / 5 + node % 5;
+// Whether there is a grain of so many bits, which then counts.
+static inline int set_grain(uint64_t bits) {
+    if (bits != 8 && bits != 4)
+        return 0;
+    grain = bits;
+    sides = 32 / grain + 1;
+    node_count = sides * sides;
+    return 1;
 }
 
-static inline uint32_t kept(uint32_t address, unsigned bytes) {
-    return bytes ? address & 0xffffffff << (32 - 8 * bytes) : 0;
+// The units that a node keeps. Each division is by a constant, since one by a variable takes longer.
+static inline unsigned source_units(unsigned node) {
+    return grain == 8 ? node / 5 : node / 9;
+}
+
+static inline unsigned destination_units(unsigned node) {
+    return grain == 8 ? node % 5 : node % 9;
+}
+
+static inline unsigned level_of(unsigned node) {
+    return source_units(node) + destination_units(node);
+}
+
+static inline uint32_t kept(uint32_t address, unsigned units) {
+    return units ? address & 0xffffffff << (32 - grain * units) : 0;
+}
+
+// The bits of a key that a node keeps.
+static inline uint64_t mask_of(unsigned node) {
+    return (uint64_t)kept(0xffffffff, source_units(node)) << 32 | kept(0xffffffff, destination_units(node));
+}
+
+static inline uint64_t pair_of(size_t i) {
+    return (uint64_t)records[i].source << 32 | records[i].destination;
 }
 
 // The key of a record at a node.
 static inline uint64_t key_of(size_t i, unsigned node) {
-    return (uint64_t)kept(records[i].source, node / 5) << 32 | kept(records[i].destination, node % 5);
+    return pair_of(i) & mask_of(node);
 }
 
-// The nodes that keep no fewer bytes of either address, one bit each; the node itself isn't among them.
-static inline uint32_t nodes_below(unsigned node) {
-    uint32_t nodes = 0;
-    for (unsigned other = 0; other < NODES; other++)
-        if (other != node && other / 5 >= node / 5 && other % 5 >= node % 5)
-            nodes |= 1u << other;
-    return nodes;
+// Whether a node keeps no fewer units of either address than another one.
+static inline int is_below(unsigned node, unsigned above) {
+    return node != above && source_units(node) >= source_units(above) && destination_units(node) >= destination_units(above);
 }
 
 // A prefix as it stands in a report.
@@ -61,13 +89,12 @@ static inline int compare(struct place one, struct place other) {
     if (one.key >> 32 != other.key >> 32)
         return one.key >> 32 < other.key >> 32 ? -1 : 1;
     if (one.node != other.node)
-        return one.node / 5 < other.node / 5 ? -1 : 1;
+        return source_units(one.node) < source_units(other.node) ? -1 : 1;
     return one.key < other.key ? -1 : one.key > other.key;
 }
 
 static inline int begins(uint64_t key, unsigned node, uint64_t upper, unsigned above) {
-    return above / 5 <= node / 5 && above % 5 <= node % 5
-        && kept(key >> 32, above / 5) == upper >> 32 && kept((uint32_t)key, above % 5) == (uint32_t)upper;
+    return (above == node || is_below(node, above)) && (key & mask_of(above)) == upper;
 }
 
 static inline int under(const struct line *lower, const struct line *upper) {
@@ -84,21 +111,22 @@ static inline int strictly_under(const struct line *lower, const struct line *up
 
 // The longer of two halves of a prefix, if it begins with the other. Answers whether it does.
 static inline int longer(
-    uint32_t one, unsigned bytes, uint32_t other, unsigned other_bytes, uint32_t *half, unsigned *length) {
-    unsigned shared = bytes < other_bytes ? bytes : other_bytes;
-    *half = bytes < other_bytes ? other : one;
-    *length = bytes < other_bytes ? other_bytes : bytes;
+    uint32_t one, unsigned units, uint32_t other, unsigned other_units, uint32_t *half, unsigned *length) {
+    unsigned shared = units < other_units ? units : other_units;
+    *half = units < other_units ? other : one;
+    *length = units < other_units ? other_units : units;
     return kept(one, shared) == kept(other, shared);
 }
 
 static inline int meet(const struct line *one, const struct line *other, struct line *lowest) {
     uint32_t source, destination;
-    unsigned source_bytes, destination_bytes;
-    if (!longer(one->key >> 32, one->node / 5, other->key >> 32, other->node / 5, &source, &source_bytes)
-        || !longer(one->key, one->node % 5, other->key, other->node % 5, &destination, &destination_bytes))
+    unsigned source_length, destination_length;
+    if (!longer(one->key >> 32, source_units(one->node), other->key >> 32, source_units(other->node), &source, &source_length)
+        || !longer(one->key, destination_units(one->node), other->key, destination_units(other->node), &destination,
+            &destination_length))
         return 0;
     lowest->key = (uint64_t)source << 32 | destination;
-    lowest->node = 5 * source_bytes + destination_bytes;
+    lowest->node = sides * source_length + destination_length;
     return 1;
 }
 

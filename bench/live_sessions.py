@@ -14,9 +14,11 @@ was killed after some of its saves. Of each session is tested
 - that its store, if it isn't large, then opens at the ends of the lists, by `store_bytes.py`;
 - for one in ten of the shorter ones that `bench/audit.c` finds it good, or `plain_audit.py` where that can't deal as it was.
 
-Prints each session that fails, and at the end the counts. Needs cc.
+Prints each session that fails, and at the end the counts. With 4 for BITS in the environment prefixes go by four bits, and
+no session uses a store. Needs cc.
 """
 
+import os
 import random
 import subprocess
 import sys
@@ -37,6 +39,8 @@ MOST_STORED = 500_000  # bytes of a store that `store_bytes.py` reads
 
 program, sessions, seed, captures = sys.argv[1], int(sys.argv[2]), int(sys.argv[3]), sys.argv[4:]
 source = random.Random(seed)
+BITS = int(os.environ.get("BITS") or "8")
+MOST_CAPACITY = {8: 4096, 4: 1024}[BITS]
 counts = dict.fromkeys(("sessions", "reports", "with a store", "gone on with", "past position 0", "by audit.c",
     "by plain_audit.py", "wrong"), 0)
 
@@ -50,11 +54,11 @@ class Settings(StoredCapture):
     """A capture and the settings that decide its last report."""
 
     def __init__(self, capture):
-        self.shards, self.capacity = source.randint(1, 16), up_to(2, 4096)
+        self.shards, self.capacity = source.randint(1, 16), up_to(2, MOST_CAPACITY)
         self.phi = up_to(least_share(self.capacity), 1_000_000)
         self.weigh = source.choice(store_bytes.WEIGHINGS)
         self.deal = source.choice(store_bytes.DEALINGS)
-        super().__init__(program, capture, (self.shards, self.capacity, self.weigh, self.deal), self.phi)
+        super().__init__(program, capture, (self.shards, self.capacity, self.weigh, self.deal), self.phi, BITS)
 
     def draw_words(self):
         """Workers, callers, rounds and block of a session that isn't too long to audit, and the number of its reports."""
@@ -121,11 +125,11 @@ def independent(settings, session, text):
     """Audits by a program that shares nothing with the audited one, where it doesn't take too long."""
     if settings.deal == "round" and settings.weigh == "bytes":
         with open(settings.path, "rb") as capture:
-            run = subprocess.run([audit_program, text, str(settings.capacity), str(settings.phi)], stdin=capture,
-                capture_output=True, text=True, timeout=SECONDS)
+            run = subprocess.run([audit_program, text, str(settings.capacity), str(settings.phi), str(BITS)],
+                stdin=capture, capture_output=True, text=True, timeout=SECONDS)
         line, kind = run.stdout, "by audit.c"
     elif len(session.reports) * len(set(settings.capture.records)) <= MOST_PLAIN:
-        line = plain_audit.audit(session, settings.lists, settings.capacity, settings.phi) + "\n"
+        line = plain_audit.audit(session, settings.lists, settings.capacity, settings.phi, BITS) + "\n"
         kind = "by plain_audit.py"
     else:
         return
@@ -136,7 +140,7 @@ def independent(settings, session, text):
 def run_session(settings, folder):
     store, text = f"{folder}/store", f"{folder}/session"
     words, callers, rounds = settings.draw_words()
-    has_store = source.random() < 0.5
+    has_store = source.random() < 0.5 and BITS == 8
     floor, opens_there = prepare(settings, store) if has_store else ([0] * settings.shards, True)
     command = settings.report(*words, *(["--store", store] if has_store else []))
     try:

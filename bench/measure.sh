@@ -1,8 +1,18 @@
 # What the measurements share. A script that reads this has set `here` to the folder of both, and `rounds` if it measures
-# by `measure`. PROGRAM may name a program that is built already.
+# by `measure`. PROGRAM may name a program that is built already. With 4 for BITS prefixes go by four bits in those scripts
+# that use `grain`, which are the words for the program.
 work=$(mktemp -d)
 trap 'rm -rf "$work"' EXIT
 hhh=${PROGRAM:-$here/../crates/hhh/out/hhh}
+
+bits=${BITS:-8}
+grain=${BITS:+--bits $BITS}
+most_capacity=4096
+nodes=25
+if [ "$bits" = 4 ]; then
+    most_capacity=1024
+    nodes=81
+fi
 
 # Where the program of the repository is missing or old, it is proved and built first.
 [ "${PROGRAM:-}" ] || "$here/../hhh" weigh 0.0.0.0/0 0.0.0.0/0 <"$here/../crates/hhh/stdin" >/dev/null

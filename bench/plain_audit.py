@@ -1,10 +1,11 @@
 #!/usr/bin/env python3
-"""Audits a session by plain sums: plain_audit.py CAPTURE SESSION SHARDS CAPACITY PHI WEIGH DEAL
+"""Audits a session by plain sums: plain_audit.py CAPTURE SESSION SHARDS CAPACITY PHI WEIGH DEAL [BITS]
 
 Deals the records of the capture, and tests each report of the session: its positions, its total and its threshold, the
 interval, the width and the height of each line, that each line is justified, and that no prefix is left out. Prints what
 `audit` prints, and ends with 1 where a report isn't sound. Nothing here is shared with the program or with `audit.c`: each
-pair of addresses is summed under each of its 25 prefixes.
+pair of addresses is summed under each of its prefixes, 25 by BITS of 8, the default, and 81 by 4. A line whose lengths
+aren't those of BITS is no line of such a session: then the end is 2, with `bad report`.
 """
 
 import sys
@@ -13,12 +14,26 @@ from pathlib import Path
 
 import session_text
 
-NODES = [(source, destination) for source in range(5) for destination in range(5)]
-BELOW = {node: [n for n in NODES if n != node and n[0] >= node[0] and n[1] >= node[1]] for node in NODES}
+GRAINS = 8, 4
 
 
-def kept(address, count):
-    return address >> 32 - 8 * count << 32 - 8 * count
+def nodes_of(grain):
+    """How many bits of source and destination each node of a grain keeps."""
+    lengths = range(0, 33, grain)
+    return [(source, destination) for source in lengths for destination in lengths]
+
+
+def nodes_below(nodes):
+    """For each node the others that keep no fewer bits of either address."""
+    return {node: [n for n in nodes if n != node and n[0] >= node[0] and n[1] >= node[1]] for node in nodes}
+
+
+NODES = {grain: nodes_of(grain) for grain in GRAINS}
+BELOW = {grain: nodes_below(nodes) for grain, nodes in NODES.items()}
+
+
+def kept(address, bits):
+    return address >> 32 - bits << 32 - bits
 
 
 def prefix_at(node, source, destination):
@@ -31,9 +46,9 @@ def is_under(lower, upper):
 
 def meet(one, other):
     """The greatest prefix under both, or none."""
-    source, source_bytes = max((one[0], one[1]), (other[0], other[1]), key=lambda side: side[1])
-    destination, destination_bytes = max((one[2], one[3]), (other[2], other[3]), key=lambda side: side[1])
-    lowest = source, source_bytes, destination, destination_bytes
+    source, source_bits = max((one[0], one[1]), (other[0], other[1]), key=lambda side: side[1])
+    destination, destination_bits = max((one[2], one[3]), (other[2], other[3]), key=lambda side: side[1])
+    lowest = source, source_bits, destination, destination_bits
     return lowest if is_under(lowest, one) and is_under(lowest, other) else None
 
 
@@ -53,28 +68,28 @@ def is_justified(missing, total, prefix, prefixes):
     return missing <= (1 + len(closest) + pairs) * total
 
 
-def side_text(address, count):
-    return ".".join(str(part) for part in address.to_bytes(4, "big")) + f"/{8 * count}"
+def side_text(address, bits):
+    return ".".join(str(part) for part in address.to_bytes(4, "big")) + f"/{bits}"
 
 
 def place_in_report(prefix):
     return -(prefix[1] + prefix[3]), prefix[0], prefix[1], prefix[2]
 
 
-def sums_of(weights, prefixes):
+def sums_of(weights, prefixes, grain):
     """The weight of each prefix, and what no line strictly under it has of that."""
     lines, whole, left = set(prefixes), {}, {}
     for (source, destination), weight in weights.items():
-        own = {node: prefix_at(node, source, destination) for node in NODES}
+        own = {node: prefix_at(node, source, destination) for node in NODES[grain]}
         covered = {node for node, prefix in own.items() if prefix in lines}
         for node, prefix in own.items():
             whole[prefix] = whole.get(prefix, 0) + weight
-            if covered.isdisjoint(BELOW[node]):
+            if covered.isdisjoint(BELOW[grain][node]):
                 left[prefix] = left.get(prefix, 0) + weight
     return whole, left
 
 
-def verdict_on(report, lists, capacity, phi):
+def verdict_on(report, lists, capacity, phi, grain):
     """What is wrong with a report, or none."""
     if len(report.positions) != len(lists) or any(p > len(l) for p, l in zip(report.positions, lists)):
         return "bad positions"
@@ -88,7 +103,7 @@ def verdict_on(report, lists, capacity, phi):
     if report.threshold != max(1, -(-phi * total // 1_000_000)):
         return "bad threshold"
     prefixes = [prefix for prefix, _, _ in report.lines]
-    whole, left = sums_of(weights, prefixes)
+    whole, left = sums_of(weights, prefixes, grain)
     tests = (
         ("bad interval", lambda prefix, low, high: low <= whole.get(prefix, 0) <= high),
         ("too wide", lambda prefix, low, high: (high - low) * capacity <= total),
@@ -107,19 +122,29 @@ def verdict_on(report, lists, capacity, phi):
     return None
 
 
-def audit(session, lists, capacity, phi):
+def is_of(grain, session):
+    """Whether each line of a session has lengths of a grain."""
+    return all(prefix[1::2] in NODES[grain] for report in session.reports for prefix, _, _ in report.lines)
+
+
+def audit(session, lists, capacity, phi, grain=8):
     """The line that `audit` prints."""
     for number, report in enumerate(session.reports, 1):
-        verdict = verdict_on(report, lists, capacity, phi)
+        verdict = verdict_on(report, lists, capacity, phi, grain)
         if verdict:
             return f"report {number}: {verdict}"
     return f"good {len(session.reports)}"
 
 
 def main():
-    capture, session, shards, capacity, phi, weigh, deal = sys.argv[1:]
+    capture, session, shards, capacity, phi, weigh, deal, *bits = sys.argv[1:]
+    grain = int(*bits or "8")
     lists = session_text.deal(session_text.read_capture(capture), int(shards), deal, weigh)
-    line = audit(session_text.read_session(Path(session).read_text()), lists, int(capacity), int(phi))
+    session = session_text.read_session(Path(session).read_text())
+    if not is_of(grain, session):
+        print(f"{sys.argv[0]}: bad report: a length isn't of {grain} bits", file=sys.stderr)
+        sys.exit(2)
+    line = audit(session, lists, int(capacity), int(phi), grain)
     print(line)
     sys.exit(not line.startswith("good"))
 

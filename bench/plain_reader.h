@@ -350,7 +350,7 @@ static int take_line(struct rest *rest, struct session *session) {
     if (!take(rest, " ") || !take_number(rest, UINT64_MAX, &line.high) || line.low > line.high)
         return 0;
     line.key = (uint64_t)source << 32 | destination;
-    line.node = 5 * source_bytes + destination_bytes;
+    line.node = sides * source_bytes + destination_bytes;
     struct report *report = last_report(session);
     if (report->count && !is_earlier(&report->lines[report->count - 1], &line))
         return 0;
@@ -517,7 +517,7 @@ static int is_first_with_key(const struct report *report, size_t i, unsigned nod
 // The first prefix that is left out. Answers whether there is one.
 static int find_left_out(const struct report *report, struct line *first) {
     int found = 0;
-    for (unsigned node = 0; node < NODES; node++)
+    for (unsigned node = 0; node < node_count; node++)
         for (size_t i = 0; i < count; i++) {
             struct line prefix = {.key = key_of(i, node), .node = node};
             if (!is_first_with_key(report, i, node) || has_line(report, &prefix))
@@ -723,7 +723,7 @@ static int read_store_header(const unsigned char *header, struct settings *setti
 }
 
 static uint64_t span_of(const struct settings *settings) {
-    return BODY_FRONT + (uint64_t)settings->shards * (8 + NODES * (12 + 24 * (uint64_t)settings->capacity));
+    return BODY_FRONT + (uint64_t)settings->shards * (8 + node_count * (12 + 24 * (uint64_t)settings->capacity));
 }
 
 static size_t place_of_body(const struct settings *settings, unsigned slot) {
@@ -778,7 +778,7 @@ static const char *fault_of_entries(
             return "a key twice";
         if (error >= weight || (unsigned __int128)error * capacity > total)
             return "a great error";
-        if (key != ((uint64_t)kept(key >> 32, node / 5) << 32 | kept((uint32_t)key, node % 5)))
+        if (key & ~mask_of(node))
             return "a bit that isn't kept";
         last = weight;
         sum += weight;
@@ -810,7 +810,7 @@ static const char *read_shard(
         return "too short";
     body->positions[shard] = big_number(*at);
     *at += 8;
-    for (unsigned node = 0; node < NODES; node++) {
+    for (unsigned node = 0; node < node_count; node++) {
         uint64_t total;
         const char *fault = read_table(at, end, capacity, node, &total);
         if (fault)

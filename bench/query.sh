@@ -3,7 +3,8 @@
 # networks, each with ten frames and a line of its own, so that about K * K pairs of closest lines are kept at the root
 # (`crossed`), or at nine nodes (`nested`). For K of 500, 1,000 and 2,000 it prints the processor time of the query, how
 # often that of half the K goes into it, that of the feeding, and peak memory. Then the share of the query in the feeding
-# at the defaults over 1,000,000 frames.
+# at the defaults over 1,000,000 frames. With 4 for BITS in the environment prefixes go by four bits, and K is a quarter
+# of these, as the greatest capacity is.
 # Needs python3, and gdb with Python.
 set -eu
 here=$(dirname "$(readlink -f "$0")")
@@ -28,11 +29,12 @@ query_times() {
         END { print query, feeding, peak }'
 }
 
+parts=$((4096 / most_capacity))
 for kind in crossed nested; do
     last=
-    for nets in 500 1000 2000; do
+    for nets in $((500 / parts)) $((1000 / parts)) $((2000 / parts)); do
         python3 "$here/make_capture.py" 7 $((10 * nets)) $kind >"$work/against"
-        set -- $(query_times "$work/against" --shards 1 --weigh packets --capacity 4096 --phi $((1000000 / nets)))
+        set -- $(query_times "$work/against" --shards 1 --weigh packets --capacity $most_capacity --phi $((1000000 / nets)) $grain)
         awk -v kind=$kind -v nets=$nets -v query="$1" -v feeding="$2" -v peak="$3" -v last="$last" 'BEGIN {
             printf "%s, %d a side: query %.1f ms, feeding %.1f ms, peak memory %d kB", kind, nets, query, feeding, peak
             if (last != "") printf "; query %.2f times that of half as many", query / last
@@ -44,7 +46,7 @@ done
 
 for kind in short skewed; do
     make_capture $kind
-    set -- $(query_times "$work/$kind")
+    set -- $(query_times "$work/$kind" $grain)
     awk -v kind=$kind -v query="$1" -v feeding="$2" 'BEGIN {
         printf "%s frames at the defaults: query %.2f ms, feeding %.0f ms, query/feeding %.5f\n", kind, query, feeding, query / feeding
     }'

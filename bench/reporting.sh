@@ -2,7 +2,7 @@
 # Measures `report` over two captures of 1,000,000 frames beside two plain programs, one of the same algorithm and an
 # exact one, in one run: processor times as ratios, frames a second and peak memory, then each part of it, then the
 # times by capacity, those over a capture made against the index of the tables, and the instructions of
-# folding by capacity. Needs cc, python3, /usr/bin/time, gdb with Python, and valgrind.
+# folding by capacity. With 4 for BITS in the environment prefixes go by four bits, at capacities up to 1,024. Needs cc, python3, /usr/bin/time, gdb with Python, and valgrind.
 set -eu
 here=$(dirname "$(readlink -f "$0")")
 rounds=${1:-3}
@@ -15,7 +15,7 @@ few_bytes=$((24 + 50 * few))
 # The milliseconds and the peak memory of each part, the least and the greatest of the rounds: INPUT.
 part_times() {
     for _ in $(seq "$rounds"); do
-        INPUT=$1 gdb -nx -batch -x "$here/parts.py" "$hhh"
+        INPUT=$1 WORDS=$grain gdb -nx -batch -x "$here/parts.py" "$hhh"
     done | awk '
         $1 != "part" { next }
         !($2 in ms) { names[++parts] = $2; ms[$2] = $3 }
@@ -36,7 +36,7 @@ part_instructions() {
         --dump-before='frame_records::reading::read_records*' --dump-before='report_text::putting::put_number*' \
         --dump-before='report_text::putting::put_positions*' --dump-before='cut_merge::merged::merge_node*' \
         --dump-before='hhh_output::selecting::select_lines*' \
-        "$hhh" report "$@" <"$work/few" >/dev/null
+        "$hhh" report "$@" $grain <"$work/few" >/dev/null
     awk '
         BEGIN { part = "starting" }
         /^desc: Trigger:/ { trigger = $0 }
@@ -65,10 +65,11 @@ compile exact
 compile space_saving
 for kind in short skewed; do
     make_capture $kind
-    "$work/space_saving" <"$work/$kind" >"$work/session"
-    "$hhh" report <"$work/$kind" | cmp - "$work/session" && echo "$kind frames: the plain program of the same algorithm writes the same session"
+    "$work/space_saving" $grain <"$work/$kind" >"$work/session"
+    "$hhh" report $grain <"$work/$kind" | cmp - "$work/session" && echo "$kind frames: the plain program of the same algorithm writes the same session"
     for plain in space_saving exact; do
-        set -- $(measure 3 "$work/$kind" "$work/$plain") $(measure 3 "$work/$kind" "$hhh" report)
+        [ $plain = exact ] && words=$bits || words=$grain
+        set -- $(measure 3 "$work/$kind" "$work/$plain" $words) $(measure 3 "$work/$kind" "$hhh" report $grain)
         awk -v kind=$kind -v plain=$plain -v ms="$1" -v peak="$2" -v hhh="$3" -v hhh_peak="$4" 'BEGIN {
             printf "%s frames: %s %d ms, hhh %d ms; ratio %.2f; hhh %d frames a second; peak memory: %s %d kB, hhh %d kB, ratio %.2f\n",
                 kind, plain, ms, hhh, hhh / ms, 1000000000 / hhh, plain, peak, hhh_peak, hhh_peak / peak
@@ -89,17 +90,17 @@ done
 # Times by capacity, and over a capture made against the index at the default capacity.
 make_capture met
 for kind in short skewed met; do
-    for capacity in 64 512 4096; do
-        set -- $(measure 3 "$work/$kind" "$hhh" report --capacity $capacity --phi $((2000000 / capacity + 1)))
+    for capacity in 64 512 $most_capacity; do
+        set -- $(measure 3 "$work/$kind" "$hhh" report $grain --capacity $capacity --phi $((2000000 / capacity + 1)))
         echo "$kind frames, capacity $capacity: hhh $1 ms"
     done
 done
 
 # One shard, so that its tables are full early. The capacity bounds `phi` from below.
-for capacity in 32 128 512 4096; do
+for capacity in 32 128 512 $most_capacity; do
     part_instructions "$work/short" --shards 1 --capacity $capacity --phi $((2000000 / capacity + 1)) >"$work/part_instructions"
-    awk -v capacity=$capacity -v few=$few '$1 == "folding" {
+    awk -v capacity=$capacity -v few=$few -v nodes=$nodes '$1 == "folding" {
         printf "short frames, one shard of capacity %d: folding has %.0f instructions a frame, %.0f a frame and node\n",
-            capacity, $2 / few, $2 / few / 25
+            capacity, $2 / few, $2 / few / nodes
     }' "$work/part_instructions"
 done

@@ -1,6 +1,6 @@
 """Reads captures and the texts of sessions, for the trials: a plain reader beside the program's own.
 
-A prefix is a source, how many of its bytes are kept, a destination, and how many of its bytes are kept.
+A prefix is a source, how many of its bits are kept, a destination, and how many of its bits are kept.
 """
 
 import struct
@@ -84,7 +84,7 @@ def numbers(line):
 def read_side(text):
     address, length = text.split("/")
     bytes_of = [int(part) for part in address.split(".")]
-    return int.from_bytes(bytes(bytes_of), "big"), int(length) // 8
+    return int.from_bytes(bytes(bytes_of), "big"), int(length)
 
 
 def read_session(text):

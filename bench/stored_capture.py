@@ -30,9 +30,9 @@ def least_share(capacity):
 
 
 class StoredCapture:
-    """A capture and settings: shards, capacity, the way of weighing and that of dealing."""
+    """A capture and settings: shards, capacity, the way of weighing and that of dealing; a store goes with 8 bits alone."""
 
-    def __init__(self, program, path, settings, phi=None):
+    def __init__(self, program, path, settings, phi=None, bits=8):
         self.program, self.path, self.settings = program, path, settings
         shards, capacity, weigh, deal = settings
         self.capture = session_text.read_capture(path)
@@ -41,6 +41,7 @@ class StoredCapture:
         self.digest = store_bytes.digest_of(settings, self.lists)
         self.store_words = ["--shards", str(shards), "--capacity", str(capacity), "--weigh", weigh, "--deal", deal]
         self.words = ["--capture", path, *self.store_words, "--phi", str(phi or least_share(capacity))]
+        self.words += ["--bits", str(bits)] if bits != 8 else []
         self.last_report = session_text.last_report(self.run(self.report("--workers", "1")).stdout)
 
     def report(self, *words):

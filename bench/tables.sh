@@ -7,10 +7,11 @@
 # The program for this (`bench/table_program`) is no part of the product, so it is proved and built in a copy of the
 # repository. It is run as
 #
-#     table_bench none|plain|rank|stream bytes|packets CAPACITY < CAPTURE
+#     table_bench none|plain|rank|stream bytes|packets CAPACITY [BITS] < CAPTURE
 #
-# `none` only reads, and its time is taken from the others'. `PlainTable`, which looks at each entry, has one turn. Needs
-# python3 and 5 GB for the copy. With 40,000 frames, unless FRAMES says how many, it takes some five minutes.
+# BITS is 8 unless it is given; with 4 there are 81 tables. `none` only reads, and its time is taken from the others'.
+# `PlainTable`, which looks at each entry, has one turn. Needs python3 and 5 GB for the copy. With 40,000 frames, unless
+# FRAMES says how many, it takes some five minutes.
 set -eu
 here=$(dirname "$(readlink -f "$0")")
 turns=${1:-9}

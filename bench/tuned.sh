@@ -5,7 +5,8 @@
 # `space_saving`, and prints the least processor time of each in three turns, or in TURNS, and their ratio. The greatest
 # ratio is last. Whole runs are compared: reading a capture takes 30 to 50 ms of each. With `yes` for FETCHES the plain
 # program fetches each table into the cache before a block, for which the toolchain of `report` has no call; else it
-# doesn't. Needs cc and python3, and some ten minutes.
+# doesn't. With 4 for BITS in the environment prefixes go by four bits, and the greatest capacity is 1,024. Needs cc and
+# python3, and some ten minutes.
 set -eu
 here=$(dirname "$(readlink -f "$0")")
 turns=${1:-3}
@@ -18,7 +19,7 @@ echo 'input=$1; shift; exec "$@" <"$input"' >"$work/over"
 
 # A point of the comparison: KIND CAPACITY WEIGHT BLOCK. The capacity bounds `phi` from below, and this one fits all.
 compare_tables() {
-    words="--capacity $2 --phi 31251 --weigh $3 --block $4"
+    words="--capacity $2 --phi 31251 --weigh $3 --block $4 $grain"
     ours="$hhh report --workers 1 $words"
     plain="$work/space_saving $words --fetch $fetches"
     name="$1 frames, capacity $2, by $3, blocks of $4"
@@ -32,7 +33,7 @@ compare_tables() {
 
 for kind in short skewed zipf; do
     make_capture $kind
-    for capacity in 64 512 4096; do
+    for capacity in 64 512 $most_capacity; do
         for weight in bytes packets; do
             for block in 1024 65536; do
                 compare_tables $kind $capacity $weight $block

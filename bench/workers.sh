@@ -3,12 +3,12 @@
 # workers over four shards, and where there are fewer shards than workers. The program for this (`bench/board_program`)
 # is run as
 #
-#     board_bench none|plain|threads SHARDS RECORDS CAPACITY WORKERS
+#     board_bench none|plain|threads SHARDS RECORDS CAPACITY WORKERS [BITS]
 #
-# with RECORDS records in each shard. `none` only makes records and tables, and its times are taken from the others'.
-# `plain` folds without a board: four processes of it, with a shard each, show what the machine itself can gain. Prints
-# the least time by the clock and the least processor time of each. Needs python3, a machine of four processors with
-# little else to do, and 5 GB for the copy in which the program is proved and built.
+# with RECORDS records in each shard. BITS is 8 unless it is given. `none` only makes records and tables, and its
+# times are taken from the others'. `plain` folds without a board: four processes of it, with a shard each, show what
+# the machine itself can gain. Prints the least time by the clock and the least processor time of each. Needs python3,
+# a machine of four processors with little else to do, and 5 GB for the copy in which the program is proved and built.
 set -eu
 here=$(dirname "$(readlink -f "$0")")
 turns=${1:-15}
