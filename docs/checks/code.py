@@ -10,7 +10,7 @@ LONGEST_STATEMENT = 160
 MOST_TRIED_BY_GATE = 4
 
 # Lemmas on lists and on places of nodes, which the standard library lacks.
-SHARED_LEMMAS = {("prefix_lattice", "ListLemmas"), ("prefix_lattice", "NodePlaceLemmas")}
+SHARED_LEMMAS = {("prefix_lattice", name) for name in ("ListLemmas", "NodePlaceLemmas", "GrainLemmas")}
 
 
 def passed_on(crate):
