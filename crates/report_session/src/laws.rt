@@ -32,6 +32,7 @@ ghost use Rattle.report_session.specs.Session.{asked_shape};
 
 use checkpoint::{stores_open_to_one, stores_show_their_header};
 use deal_rules::{Dealer, Dealers, Deals};
+use frame_records::files_are_read_or_refused;
 use gate_workers::reported_cuts_represent;
 use hhh_output::{
     a_cut_has_one_report, each_cut_has_a_report, reports_are_sound, standing_cuts_have_one_report,
@@ -171,6 +172,7 @@ pub fn sessions_read_back<D: Disk>()
         × All (λ reported. IsSound settings.grain reported.report is.lists settings.capacity settings.phi) known.reports
         × (length known.reports ≡ (settings.callers + 1) * settings.rounds + 1) }
 {
+    files_are_read_or_refused();
     printed_sessions_read_back();
 }
 
