@@ -1,11 +1,11 @@
 -- What a file gives, or why it is refused, with and without the front of a cut capture.
 use Rattle.std.proofs.Common.{◌≡◌, ◌⊎◌, inl, inr, ℕ, Bool, true, false, List, Option, Some, None, refl, sym, ap, subst}
-use Rattle.std.proofs.Common.{◌≤◌, length, Result, Ok, Err, IfSome, IfOk, OnOk, arith}
+use Rattle.std.proofs.Common.{◌≤◌, ◌<◌, ◌^◌, length, Result, Ok, Err, IfSome, IfOk, OnOk, arith}
 use Rattle.pcap_frames.specs.declared.fault.CaptureFault.{CaptureFault}
 use Rattle.pcap_frames.specs.declared.fault.FaultKind.{FaultKind}
 use Rattle.pcap_frames.specs.declared.fault.FaultKind.TheVariants.{ShortHeader, NotCapture, Version, Link}
 use Rattle.pcap_frames.specs.declared.fault.FaultKind.TheVariants.{LongFrame, CutFrame, TooManyFrames}
-use Rattle.pcap_frames.specs.{FrameValue, IsCapture, HasFaultAfter, HasCaptureFault, header_fault_at}
+use Rattle.pcap_frames.specs.{FrameValue, IsCapture, HasFaultAfter, HasCaptureFault, header_fault_at, frame_count_limit}
 use Rattle.pcap_frames.specs.{IsSeen, ShowsBeforeFault}
 use Rattle.pcap_frames.specs.declared.fault.ReadRefusal.{ReadRefusal}
 use Rattle.pcap_frames.specs.declared.fault.ReadRefusal.TheVariants.{Capture}
@@ -101,6 +101,14 @@ pub front_is_decided : (front : Bool) (file : List ℕ)
 front_is_decided front file (inl (frames, is)) = inl (frames, None, is)
 front_is_decided false file (inr (fault, has)) = inr (fault, record { first = has; no_front = λ (asked : false ≡ true) cut. cc })
 front_is_decided true file (inr (fault, has)) = front_is_decided_by_kind file fault fault.kind refl has
+
+-- no more frames are before a cut than in a capture, and its place is a number of 64 bits
+pub front_is_limited : ((file : List ℕ) (frames : List FrameValue) (place : ℕ) → IsFrontOf file frames place
+    → (length frames ≤ frame_count_limit) × (place < 2 ^ 64))
+    → (front : Bool) (file : List ℕ) (frames : List FrameValue) (cut : Option ℕ) → FileGives front file frames cut
+    → (length frames ≤ frame_count_limit) × IfSome cut (λ place. place < 2 ^ 64)
+front_is_limited limited front file frames None (order, splits) = (splits.limit, tt)
+front_is_limited limited front file frames (Some place) (asked, after) = limited file frames place after
 
 module _ (never_both : (file : List ℕ) (frames : List FrameValue) (fault : CaptureFault) → IsCapture file frames
     → HasCaptureFault file fault → ⊥)

@@ -1,4 +1,5 @@
 use Rattle.frame_records.proofs.FrontLemmas.{front_is_decided, front_is_not_refused, front_has_one_cut, front_has_one_list}
+use Rattle.frame_records.proofs.FrontLemmas.{front_is_limited}
 use Rattle.frame_records.proofs.laws.files_are_read_or_refused.Goals as goal
 
 pub returns-clause-either : goal.returns-clause-either
@@ -18,3 +19,6 @@ returns-clause-one_cut c = front_has_one_cut c.files_are_decided.ensures.never_b
 pub returns-clause-one_fault : goal.returns-clause-one_fault
 returns-clause-one_fault c = λ front other file fault other_fault is is_other.
     c.files_are_decided.ensures.one_fault file fault other_fault is.first is_other.first
+
+pub returns-clause-limited : goal.returns-clause-limited
+returns-clause-limited c = front_is_limited c.files_are_decided.ensures.cut_is_limited
