@@ -69,11 +69,7 @@ fn read_weighed<S: Source, const PACKETS: bool>(
 }
 
 // The records before this fault, where it is a cut frame and the front of a cut capture is asked for.
-fn up_to_cut(
-    mut records: Records,
-    fault: CaptureFault,
-    front: bool,
-) -> Result<Records, ReadRefusal>
+fn up_to_cut(mut records: Records, fault: CaptureFault, front: bool) -> Result<Records, ReadRefusal>
     ensures taken { IfOk result (λ taken. taken ≡ record records { cut = Some fault.place }) }
     ensures asked { OnOk result (front ≡ true) }
     ensures cut { OnOk result (fault.kind ≡ CutFrame) }
