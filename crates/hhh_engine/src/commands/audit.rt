@@ -1,16 +1,16 @@
 //! The audit of a session by the records of a capture.
 
-ghost use Rattle.std.specs.Prelude.{⊤, ◌≡◌, List, ℕ, All, Option, IfOk, IfErr, IfSome, OnOk, IsErrOf};
+ghost use Rattle.std.specs.Prelude.{⊤, ◌≡◌, List, ℕ, All, Option, IfOk, IfErr, OnOk, IsErrOf};
 ghost use Rattle.std.specs.Io.KnownBytes.{IsAtEnd};
 ghost use Rattle.outside_io.specs.{ReadsFront};
 ghost use Rattle.deal_rules.specs.{dealer_of};
 ghost use Rattle.hhh_report.specs.{AreOfGrain};
 ghost use Rattle.command_words.specs.{AreLimited};
-ghost use Rattle.dealt_capture.specs.{IsCaptureFile};
+ghost use Rattle.command_words.specs.declared.command.Command.TheVariants.{Audit as AuditCommand};
 ghost use Rattle.hhh_engine.specs.Reading.{AreAuditing, HasNoAudit};
 ghost use Rattle.hhh_engine.specs.Tasks.{audit_task};
 ghost use Rattle.hhh_engine.specs.Ending.{course, Ends, EndsInOrder, faults_of_source};
-ghost use Rattle.hhh_engine.specs.Inputs.{inputs};
+ghost use Rattle.hhh_engine.specs.Inputs.{ReadsSession, inputs};
 
 use crate::{Settings, Status};
 use deal_rules::{Dealer, Dealers, Deals};
@@ -38,7 +38,8 @@ pub(crate) fn audit<S: Source, T: Source, K: Sink>(
         (inputs (S.left capture.old) (S.left capture.new) (T.left text.old) (T.left text.new) store) (K.taken sink.old) (K.taken sink.new))
         (course K.Sink (S.left capture.old) (faults_of_source (S.faults capture.old) (T.faults text.old))
         (faults_of_source (S.faults capture.new) (T.faults text.new)) sink.old sink.new) result }
-    ensures order { (store : Option (List ℕ)) → EndsInOrder ⊤ (IfSome (S.left capture.old) (IsCaptureFile settings.now.front)) (inputs (S.left capture.old) (S.left capture.new) (T.left text.old) (T.left text.new) store)
+    ensures order { (store : Option (List ℕ)) → EndsInOrder ⊤ (ReadsSession (inputs (S.left capture.old) (S.left capture.new) (T.left text.old) (T.left text.new) store)
+        (AuditCommand settings.now)) (inputs (S.left capture.old) (S.left capture.new) (T.left text.old) (T.left text.new) store)
         (faults_of_source (S.faults capture.old) (T.faults text.old))
         (faults_of_source (S.faults capture.new) (T.faults text.new)) text.old text.new result }
     ensures capture_front { ReadsFront (S.left capture.old) (S.left capture.new) }
@@ -79,7 +80,8 @@ fn read_audited<S: Source, T: Source>(
         → IfErr result (HasNoAudit settings.now (inputs (S.left capture.old) (S.left capture.new) (T.left text.old) (T.left text.new) store)
         (faults_of_source (S.faults capture.old) (T.faults text.old)) (faults_of_source (S.faults capture.new) (T.faults text.new))) }
     ensures order { (store : Option (List ℕ))
-        → IfErr result (EndsInOrder ⊤ (IfSome (S.left capture.old) (IsCaptureFile settings.now.front)) (inputs (S.left capture.old) (S.left capture.new) (T.left text.old) (T.left text.new) store)
+        → IfErr result (EndsInOrder ⊤ (ReadsSession (inputs (S.left capture.old) (S.left capture.new) (T.left text.old) (T.left text.new) store)
+        (AuditCommand settings.now)) (inputs (S.left capture.old) (S.left capture.new) (T.left text.old) (T.left text.new) store)
         (faults_of_source (S.faults capture.old) (T.faults text.old)) (faults_of_source (S.faults capture.new) (T.faults text.new)) text.old text.new) }
     ensures told { (IsErrOf result Status.ReadFault → ⊥)
         → faults_of_source (S.faults capture.new) (T.faults text.new) ≡ faults_of_source (S.faults capture.old) (T.faults text.old) }
