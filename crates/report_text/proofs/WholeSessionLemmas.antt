@@ -111,7 +111,8 @@ whole_session_reports_lead grain n [] frames skips place all = record {
   after_saved = (counted, refl, whole_session_counts-lead skips place);
 }
 whole_session_reports_lead grain n (reported ∷ reports) frames skips place all =
-    let first = whole_session_first_report grain n reported reports frames skips place all.0 (whole_session_reports_lead grain n reports frames skips place all.1) in
+    let first = whole_session_first_report grain n reported reports frames skips place all.0
+    (whole_session_reports_lead grain n reports frames skips place all.1) in
     record { after_done = (begun n, refl, first); after_saved = (begun n, refl, first) }
 
 -- one report or more
@@ -121,7 +122,8 @@ whole_session_some_reports : (grain : Grain) (n : ℕ) (reports : List Reported)
     → LeadsFromStage (opened n) (flat_map reported_lines reports ++ whole_session_counts frames skips place) ended
 whole_session_some_reports grain n [] frames skips place some all = absurd (omega arith)
 whole_session_some_reports grain n (reported ∷ reports) frames skips place some all =
-    (begun n, refl, whole_session_first_report grain n reported reports frames skips place all.0 (whole_session_reports_lead grain n reports frames skips place all.1))
+    let rest = whole_session_reports_lead grain n reports frames skips place all.1 in
+    (begun n, refl, whole_session_first_report grain n reported reports frames skips place all.0 rest)
 
 -- the skips of a session
 abbrev pub whole_session_skips : Session → Skips
