@@ -1,5 +1,5 @@
 -- The values of options and positionals, and the first fault among them.
-use Rattle.std.specs.Prelude.{ℕ, ◌≡◌, ◌<◌, ◌⊎◌, Option, Some}
+use Rattle.std.specs.Prelude.{ℕ, ◌≡◌, ◌<◌, ◌⊎◌, Some}
 use Rattle.prefix_lattice.specs.declared.grain.Grain.{Grain}
 use Rattle.command_words.specs.Arguments.{ArgumentText}
 use Rattle.command_words.specs.Options.{OptionKind, kind_of, place_of, IsGood, IsNoNumber}
