@@ -134,10 +134,13 @@ status_tells_capture_if_faulty rules (Audit settings) given old new file fault k
 -- an accepted capture is one
 status_tells_accepted_capture : (command : Command) (given : InputBytes) (file : List ℕ) → UsesCapture command
     → given.capture ≡ Some file → WereAccepted command given → IsCaptureFile (takes_front command) file
-status_tells_accepted_capture (Weigh prefix settings) given file reads known was = status_of_known_file given.capture file (IsCaptureFile settings.front) known was
-status_tells_accepted_capture (Report settings) given file reads known was = status_of_known_file given.capture file (IsCaptureFile settings.front) known was
+status_tells_accepted_capture (Weigh prefix settings) given file reads known was =
+    status_of_known_file given.capture file (IsCaptureFile settings.front) known was
+status_tells_accepted_capture (Report settings) given file reads known was =
+    status_of_known_file given.capture file (IsCaptureFile settings.front) known was
 status_tells_accepted_capture (Format settings) given file reads known was = absurd reads
-status_tells_accepted_capture (Audit settings) given file reads known was = status_of_known_file given.capture file (IsCaptureFile settings.front) known was
+status_tells_accepted_capture (Audit settings) given file reads known was =
+    status_of_known_file given.capture file (IsCaptureFile settings.front) known was
 status_tells_accepted_capture (Make seed frames) given file reads known was = absurd reads
 status_tells_accepted_capture (Demo seed frames settings) given file reads known was = absurd reads
 

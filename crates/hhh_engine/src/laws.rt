@@ -63,8 +63,8 @@ pub fn own_reports_are_good<D: Disk>()
 /// What `report` writes over a capture is the text of a session, and an audit of it over this capture finds all its
 /// reports sound: those of each round of each caller, the calling thread among them, and the last one. The audit may have
 /// settings of its own that agree on the grain, the shards, the capacity, the share, the dealing, the weighing and whether a
-/// cut capture is taken up to its cut, and the text may not be longer than the longest that is audited. If the session went on from a saved cut, then the tables of this have
-/// to be those of its records.
+/// cut capture is taken up to its cut, and the text may not be longer than the longest that is audited. If the session went
+/// on from a saved cut, then the tables of this have to be those of its records.
 pub fn own_sessions_are_audited_good<D: Disk>()
     ensures is_text { (formula : DealKind → ℕ → RecordValue → ℕ → ℕ) (before now : D) (settings : Settings) (store : Option (List ℕ)) (file text : List ℕ)
         (is : IsSession settings (rules_by formula) (AreKeptOnDisk D.Disk before now) store (Some file) text)

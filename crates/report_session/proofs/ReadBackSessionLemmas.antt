@@ -53,8 +53,8 @@ own_session_shows_something store reports =
     )
 
 -- what a file gives is within the limits of a capture
-abbrev pub GivesWithinLimits : Type 0
-GivesWithinLimits = (front : Bool) (file : List ℕ) (frames : List FrameValue) (cut : Option ℕ) → FileGives front file frames cut
+abbrev pub ReadFilesAreWithinLimits : Type 0
+ReadFilesAreWithinLimits = (front : Bool) (file : List ℕ) (frames : List FrameValue) (cut : Option ℕ) → FileGives front file frames cut
     → (length frames ≤ frame_count_limit) × IfSome cut (λ place. place < 2 ^ 64)
 
 -- what the text of a session says is a session that a text can show
@@ -114,8 +114,8 @@ own_session_starts_are_positions opening settings limited many before small =
     }
 
 -- the session that `report` writes is one, if the saved cut that it went on from represents the lists
-pub own_session_is_valid : PrintsOwnSession → GivesWithinLimits → (settings : Settings) (rules : DealingRules) (keeping : SessionKeeping) (store : Option (List ℕ))
-    (file text : List ℕ) (is : IsSession settings rules keeping store (Some file) text) → AreLimited settings
+pub own_session_is_valid : PrintsOwnSession → ReadFilesAreWithinLimits → (settings : Settings) (rules : DealingRules) (keeping : SessionKeeping)
+    (store : Option (List ℕ)) (file text : List ℕ) (is : IsSession settings rules keeping store (Some file) text) → AreLimited settings
     → IfSome is.base (λ cut. CutRepresents cut is.lists)
     → IsSessionText settings.grain text (shown_session settings.store (session_start (session_opening (asked_shape settings) is.lists is.base))
     is.spelled.reports is.records)
@@ -150,7 +150,7 @@ own_session_is_valid prints within settings rules keeping store file text is lim
     }
 
 -- all its reports are sound: as many as each caller made rounds, with the calling thread, and the last
-pub own_session_reads_back : PrintsOwnSession → GivesWithinLimits → (settings : Settings) (rules : DealingRules) (keeping : SessionKeeping)
+pub own_session_reads_back : PrintsOwnSession → ReadFilesAreWithinLimits → (settings : Settings) (rules : DealingRules) (keeping : SessionKeeping)
     (store : Option (List ℕ)) (file text : List ℕ) (is : IsSession settings rules keeping store (Some file) text)
     → AreLimited settings → IfSome is.base (λ cut. CutRepresents cut is.lists)
     → (known : Session) × IsSessionText settings.grain text known × All (IsOwnReportSound settings is.lists) known.reports

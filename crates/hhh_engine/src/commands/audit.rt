@@ -38,8 +38,9 @@ pub(crate) fn audit<S: Source, T: Source, K: Sink>(
         (inputs (S.left capture.old) (S.left capture.new) (T.left text.old) (T.left text.new) store) (K.taken sink.old) (K.taken sink.new))
         (course K.Sink (S.left capture.old) (faults_of_source (S.faults capture.old) (T.faults text.old))
         (faults_of_source (S.faults capture.new) (T.faults text.new)) sink.old sink.new) result }
-    ensures order { (store : Option (List ℕ)) → EndsInOrder ⊤ (ReadsSession (inputs (S.left capture.old) (S.left capture.new) (T.left text.old) (T.left text.new) store)
-        (AuditCommand settings.now)) (inputs (S.left capture.old) (S.left capture.new) (T.left text.old) (T.left text.new) store)
+    ensures order { (store : Option (List ℕ)) → EndsInOrder ⊤
+        (ReadsSession (inputs (S.left capture.old) (S.left capture.new) (T.left text.old) (T.left text.new) store) (AuditCommand settings.now))
+        (inputs (S.left capture.old) (S.left capture.new) (T.left text.old) (T.left text.new) store)
         (faults_of_source (S.faults capture.old) (T.faults text.old))
         (faults_of_source (S.faults capture.new) (T.faults text.new)) text.old text.new result }
     ensures capture_front { ReadsFront (S.left capture.old) (S.left capture.new) }
@@ -80,8 +81,9 @@ fn read_audited<S: Source, T: Source>(
         → IfErr result (HasNoAudit settings.now (inputs (S.left capture.old) (S.left capture.new) (T.left text.old) (T.left text.new) store)
         (faults_of_source (S.faults capture.old) (T.faults text.old)) (faults_of_source (S.faults capture.new) (T.faults text.new))) }
     ensures order { (store : Option (List ℕ))
-        → IfErr result (EndsInOrder ⊤ (ReadsSession (inputs (S.left capture.old) (S.left capture.new) (T.left text.old) (T.left text.new) store)
-        (AuditCommand settings.now)) (inputs (S.left capture.old) (S.left capture.new) (T.left text.old) (T.left text.new) store)
+        → IfErr result (EndsInOrder ⊤
+        (ReadsSession (inputs (S.left capture.old) (S.left capture.new) (T.left text.old) (T.left text.new) store) (AuditCommand settings.now))
+        (inputs (S.left capture.old) (S.left capture.new) (T.left text.old) (T.left text.new) store)
         (faults_of_source (S.faults capture.old) (T.faults text.old)) (faults_of_source (S.faults capture.new) (T.faults text.new)) text.old text.new) }
     ensures told { (IsErrOf result Status.ReadFault → ⊥)
         → faults_of_source (S.faults capture.new) (T.faults text.new) ≡ faults_of_source (S.faults capture.old) (T.faults text.old) }
