@@ -1,13 +1,13 @@
 #!/usr/bin/env python3
 """Runs over each beginning of small captures, with `--front yes` and without: cut_captures.py PROGRAM
 
-Makes three captures: a plain one, one with VLAN tags, and one in the other byte order. Over each beginning of them, from no
-byte to the whole capture, runs `weigh`, `report` and `audit` under `--front yes`, under `--front no` and without the option.
-Status, standard output and standard error must be what docs/FORMATS.md says. All of it is worked out here, and nothing by
-the program: where the capture is cut, which frames stand before that, and the report on them by plain sums, since there are
-fewer pairs of addresses than a table has entries. The session that `audit` reads is that of the frames before the cut. So
-under `--front yes` it is good, and otherwise the capture is refused, whatever the session. Prints each run that ends
-otherwise, and at the end the counts.
+Makes three captures: a plain one, one with VLAN tags, and one in the other byte order. Over each beginning of them,
+from no byte to the whole capture, runs `weigh`, `report` and `audit` under `--front yes`, under `--front no` and
+without the option. Status, standard output and standard error must be what docs/FORMATS.md says. All of it is worked
+out here, and nothing by the program: where the capture is cut, which frames stand before that, and the report on them
+by plain sums, since there are fewer pairs of addresses than a table has entries. The session that `audit` reads is
+that of the frames before the cut. So under `--front yes` it is good, and otherwise the capture is refused, whatever
+the session. Prints each run that ends otherwise, and at the end the counts.
 """
 
 import struct
@@ -64,8 +64,9 @@ class Case:
     capacity: int = 64
 
     def words(self):
-        options = {"shards": self.shards, "capacity": self.capacity, "phi": self.phi, "deal": self.deal, "bits": self.bits}
-        return [word for name, value in options.items() for word in (f"--{name}", str(value))]
+        options = [("shards", self.shards), ("capacity", self.capacity), ("phi", self.phi), ("weigh", self.weigh),
+            ("deal", self.deal), ("bits", self.bits)]
+        return [word for name, value in options for word in (f"--{name}", str(value))]
 
 
 PLAIN = capture_of("<", 0xA1B2C3D4, [
@@ -137,7 +138,8 @@ def session_of(case, capture, cut):
         weights[source, destination] += weight
     total = weights.total()
     threshold = plain_audit.threshold_of(total, case.phi)
-    lines = [f"line {prefix_text(prefix)} {weight} {weight}" for prefix, weight in lines_of(weights, threshold, case.bits)]
+    found = lines_of(weights, threshold, case.bits)
+    lines = [f"line {prefix_text(prefix)} {weight} {weight}" for prefix, weight in found]
     texts = [
         line_text("opened", [0] * case.shards), "report", line_text("at", map(len, lists)), f"total {total}",
         f"threshold {threshold}", *lines, "done", f"frames {capture.frames}", line_text("skipped", capture.skipped),
@@ -147,24 +149,26 @@ def session_of(case, capture, cut):
 
 
 def weighed(case, capture):
-    """What `weigh` writes: no interval is wider than a number, since its table has an entry for each key."""
-    source, destination = map(session_text.read_side, case.prefix)
-    weights = [(record, record[2] if case.weigh == "bytes" else 1) for record in capture.records]
-    prefix = (*source, *destination)
-    of_prefix = sum(weight for record, weight in weights
-        if plain_audit.prefix_at((source[1], destination[1]), *record[:2]) == prefix)
-    return f"low {of_prefix}\nhigh {of_prefix}\ntotal {sum(weight for _, weight in weights)}\n"
+    """What `weigh` writes: both ends are the weight, since its table has an entry for each key."""
+    (records,) = session_text.deal(capture, 1, case.deal, case.weigh)
+    (source, bits), (destination, other_bits) = map(session_text.read_side, case.prefix)
+    weight = sum(record[2] for record in records
+        if plain_audit.prefix_at((bits, other_bits), *record[:2]) == (source, bits, destination, other_bits))
+    return f"low {weight}\nhigh {weight}\ntotal {sum(record[2] for record in records)}\n"
 
 
-def endings_of(case, data, front):
-    """How `weigh`, `report` and `audit` must end: status, standard output and standard error; and the session to audit."""
-    fault, place = fault_of(data) or (None, None)
-    cut = place if fault == "cut frame" else None
-    capture = session_text.decode_capture(data if fault is None else data[:cut or 0])
-    session = session_of(case, capture, cut)
-    if fault is None or (cut is not None and front == YES):
-        return [(0, text, "") for text in (weighed(case, capture), session, "good 1\n")], session
-    return [(3, "", f"hhh: bad capture: {fault} at {place}\n")] * 3, session
+def session_before(case, data, fault):
+    """What `weigh` and `report` write of the frames before a fault of a capture, or of a whole one."""
+    name, place = fault or (None, len(data))
+    capture = session_text.decode_capture(data[:place] if name != "short header" else b"")
+    return weighed(case, capture), session_of(case, capture, place if name == "cut frame" else None)
+
+
+def endings_of(texts, fault, front):
+    """How `weigh`, `report` and `audit` must end: the status, and what is on standard output and standard error."""
+    if fault is None or (fault[0] == "cut frame" and front == YES):
+        return [(0, text, "") for text in (*texts, "good 1\n")]
+    return [(3, "", f"hhh: bad capture: {fault[0]} at {fault[1]}\n")] * 3
 
 
 def run(words, data):
@@ -174,34 +178,38 @@ def run(words, data):
 
 def commands_of(case, front, path, session):
     """The command lines: the first reads standard input, the others a file."""
-    files = ["--capture", str(path), "--weigh", case.weigh]
     return [
         ["weigh", *case.prefix, "--weigh", case.weigh, *front],
-        ["report", *files, *case.words(), *front],
-        ["audit", *files, *case.words(), "--report", str(session), *front],
+        ["report", "--capture", path, *case.words(), *front],
+        ["audit", "--capture", path, *case.words(), "--report", session, *front],
     ]
 
 
+def endings_over(case, length, folder):
+    """For each run over a beginning of a capture its words, how it must end and how it ends."""
+    path, session, data = f"{folder}/capture", f"{folder}/session", case.data[:length]
+    fault = fault_of(data)
+    texts = session_before(case, data, fault)
+    Path(path).write_bytes(data)
+    Path(session).write_text(texts[1])
+    for front in FRONTS:
+        for words, wanted in zip(commands_of(case, front, path, session), endings_of(texts, fault, front)):
+            yield words, wanted, run(words, data)
+
+
 def main():
-    ends, wrong = Counter(), 0
+    ends, wrong, beginnings = Counter(), 0, [(case, length) for case in CASES for length in range(len(case.data) + 1)]
     with tempfile.TemporaryDirectory() as folder:
-        path, session = Path(folder, "capture"), Path(folder, "session")
-        for case in CASES:
-            for length in range(len(case.data) + 1):
-                data = case.data[:length]
-                path.write_bytes(data)
-                for front in FRONTS:
-                    wanted, text = endings_of(case, data, front)
-                    session.write_text(text)
-                    for words, ending in zip(commands_of(case, front, path, session), wanted):
-                        found = run(words, data)
-                        ends[ending[0], "\ncut " in ending[1]] += 1
-                        if found != ending:
-                            wrong += 1
-                            print(f"{case.name}, {length} bytes: {' '.join(words)}: {found} in place of {ending}", flush=True)
-    beginnings = sum(len(case.data) + 1 for case in CASES)
-    print(f"{beginnings} beginnings of {len(CASES)} captures, {ends.total()} runs: {ends[3, False]} refused, "
-        f"{ends[0, False] + ends[0, True]} ended well, {ends[0, True]} of them with a line cut, {wrong} wrong")
+        for case, length in beginnings:
+            for words, wanted, found in endings_over(case, length, folder):
+                ends["refused" if wanted[0] else "ended well"] += 1
+                ends["with a line cut"] += "\ncut " in wanted[1]
+                if found != wanted:
+                    wrong += 1
+                    print(f"{case.name}, {length} bytes: {' '.join(words)}: {found} in place of {wanted}", flush=True)
+    names = ("refused", "ended well", "with a line cut")
+    print(f"{len(beginnings)} beginnings of {len(CASES)} captures", *(f"{ends[name]} {name}" for name in names),
+        f"{wrong} wrong", sep=", ")
     sys.exit(wrong > 0)
 
 

@@ -1,14 +1,14 @@
 #!/usr/bin/env python3
 """Damages stores in one byte each, and runs over them: damaged_stores.py PROGRAM RUNS SEED CAPTURE...
 
-Makes stores of random settings and of both versions over the captures: after `format`, after a whole run without rounds and
-with some, and after a run that was killed. Then it changes one byte of a copy: half of the times any, half of the times one
-of a gate, of the header, or of a body beside its entries. One copy in ten gets another whole header instead, one of the
-other version, by other bits or both. What the bytes then open to follows from docs/FORMATS.md (`store_bytes.py`): a report
-over them must end with that status, and with that slot. On 7 to 10 nothing may be written, and the file must be as it was.
-On 0 the session must begin at these positions, and leave a store that has the same header and opens at the ends of the lists;
-where its last report isn't the true one, `audit` is asked. Prints each run that does otherwise, how many ended with which
-status, and at the end the counts.
+Makes stores of random settings and of both versions over the captures: after `format`, after a whole run without
+rounds and with some, and after a run that was killed. Then it changes one byte of a copy: half of the times any, half
+of the times one of a gate, of the header, or of a body beside its entries. One copy in ten gets another whole header
+instead, one of the other version, by other bits or both. What the bytes then open to follows from docs/FORMATS.md
+(`store_bytes.py`): a report over them must end with that status, and with that slot. On 7 to 10 nothing may be
+written, and the file must be as it was. On 0 the session must begin at these positions, and leave a store that has the
+same header and opens at the ends of the lists; where its last report isn't the true one, `audit` is asked. Prints each
+run that does otherwise, how many ended with which status, and at the end the counts.
 """
 
 import random

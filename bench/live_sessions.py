@@ -14,8 +14,8 @@ was killed after some of its saves. Of each session is tested
 - that its store, if it isn't large, then opens at the ends of the lists, by `store_bytes.py`;
 - for one in ten of the shorter ones that `bench/audit.c` finds it good, or `plain_audit.py` where that can't deal as it was.
 
-A store by 8 bits is of version 1 or 2. Prints each session that fails, and at the end the counts. With 4 for BITS in the
-environment prefixes go by four bits. Needs cc.
+A store by 8 bits is of version 1 or 2. Prints each session that fails, and at the end the counts. With 4 for BITS in
+the environment prefixes go by four bits. Needs cc.
 """
 
 import os

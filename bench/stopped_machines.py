@@ -2,12 +2,12 @@
 """Makes what a stop of the machine leaves of stores, and runs over it: stopped_machines.py PROGRAM [--runs N] [--images N]
 [--failing N] [--seed N] [--wrong FOLDER]
 
-Each run is a `format` or a `report --store` over a made capture, with random settings, rounds, callers, workers and block.
-Stores are of both versions; as `format` writes version 2, the first bytes of one of version 1 are written by the script.
-strace records what it wrote to its store and to standard output, and when it synced. It begins on no file, on bytes that are
-no store, on a store that was formatted only, on what an earlier run left at its end or when it was killed, or on an image of
-a stop of an earlier run. From the record are made images of stops (`stop_images.py`): after any of the run's steps, with
-what wasn't synced kept, dropped, torn or replaced by other bytes. Of each image is tested
+Each run is a `format` or a `report --store` over a made capture, with random settings, rounds, callers, workers and
+block. Stores are of both versions; `format` writes version 2, so the script writes the first bytes of one of version
+1. strace records what a run wrote to its store and to standard output, and when it synced. It begins on no file, on
+bytes that are no store, on a store that was formatted only, on what an earlier run left at its end or when it was
+killed, or on an image of a stop of an earlier run. From the record are made images of stops (`stop_images.py`): after
+any of the run's steps, with what wasn't synced kept, dropped, torn or replaced by other bytes. Of each image is tested
 
 - that its bytes open, by `store_bytes.py`, to the cut of the last whole line `saved`, or where there is none to the one at
   which the run opened, or else to the next cut that the run saves; each under its sequence, which counts the saves. Before
@@ -67,8 +67,8 @@ def up_to(source, least, most):
 def draw_settings(source):
     bits = source.choice((8, 8, 4))
     while True:
-        settings = store_bytes.Settings(up_to(source, 1, 16), up_to(source, 2, 512), source.choice(store_bytes.WEIGHINGS),
-            source.choice(store_bytes.DEALINGS), bits)
+        settings = store_bytes.Settings(up_to(source, 1, 16), up_to(source, 2, 512),
+            source.choice(store_bytes.WEIGHINGS), source.choice(store_bytes.DEALINGS), bits)
         if store_bytes.span_of(settings) <= MOST_SPAN:
             return settings
 
@@ -383,7 +383,8 @@ def main():
             case = Case(words.program, folder, random.Random(f"{words.seed} {first}"))
             for number in range(first, min(first + PER_CASE, words.runs)):
                 trial.run(case, random.Random(f"{words.seed} {number} run"), number)
-    names = ("runs", "images", "of second stops", "of version 1", "by 4 bits", "failing calls", "images after them", "wrong")
+    names = ("runs", "images", "of second stops", "of version 1", "by 4 bits", "failing calls", "images after them",
+        "wrong")
     print(*(f"{trial.counts[name]} {name}" for name in names), sep=", ")
     sys.exit(trial.counts["wrong"] > 0)
 

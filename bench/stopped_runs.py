@@ -1,13 +1,13 @@
 #!/usr/bin/env python3
 """Kills runs with a store at random moments: stopped_runs.py PROGRAM CAPTURE KILLS
 
-Each run is `report --store` over the capture with eight rounds and small blocks. It is killed by SIGKILL, or ends before
-that; a run that was killed is begun again, and after one that ended the store is made anew: of version 1, or of version 2 by
-8 or by 4 bits, as is drawn. Each run must begin at the positions of the last whole `saved` line, or past them, and the last
-report of each that ends must be that of a run without a store. After each kill a run over a copy of the store must end well
-too, must begin where `store_bytes.py` says that the bytes of the store open to, and must have that last report. The header
-must stay as it is. Prints each run that does otherwise, and at the end the counts. SIGKILL shows the death of a process
-alone, and nothing of what a power failure leaves.
+Each run is `report --store` over the capture with eight rounds and small blocks. It is killed by SIGKILL, or ends
+before that; a run that was killed is begun again, and after one that ended the store is made anew: of version 1, or of
+version 2 by 8 or by 4 bits, as is drawn. Each run must begin at the positions of the last whole `saved` line, or past
+them, and the last report of each that ends must be that of a run without a store. After each kill a run over a copy of
+the store must end well too, must begin where `store_bytes.py` says that the bytes of the store open to, and must have
+that last report. The header must stay as it is. Prints each run that does otherwise, and at the end the counts.
+SIGKILL shows the death of a process alone, and nothing of what a power failure leaves.
 """
 
 import random
@@ -105,6 +105,6 @@ with tempfile.TemporaryDirectory() as folder:
             ended_runs += 1
             store = Store(place, captures)
 of_kinds = ", ".join(f"{killed[version, bits]} over version {version} by {bits} bits" for version, bits in KINDS)
-print(f"{killed.total()} runs killed ({of_kinds}), {copies} of them with a save past position 0, {resumed} runs begun past "
-    f"position 0, {ended_runs} ended with the report of a run without a store, {wrong} wrong")
+print(f"{killed.total()} runs killed ({of_kinds}), {copies} of them with a save past position 0, {resumed} runs begun "
+    f"past position 0, {ended_runs} ended with the report of a run without a store, {wrong} wrong")
 sys.exit(wrong > 0)
