@@ -86,7 +86,7 @@ def test_damage(store, image, text):
 
 
 with tempfile.TemporaryDirectory() as folder:
-    stores = [Store(source.choice(captures), f"{folder}/store{number}") for number in range(max(1, runs // 50))]
+    stores = [Store(source.choice(captures), f"{folder}/store{number}") for number in range(max(1, runs // 20))]
     ends, kinds, wrong = Counter(), Counter(), 0
     for number in range(runs):
         store = stores[number % len(stores)]

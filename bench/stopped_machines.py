@@ -17,10 +17,11 @@ any of the run's steps, with what wasn't synced kept, dropped, torn or replaced 
 
 Of some runs (10 unless `--failing` says otherwise) each call of the system fails in turn, from the first on that names the
 capture or the store: with EIO, those that may fill a disk also with ENOSPC, and those that a signal may interrupt with EINTR.
-Where a thread beside the first makes as many calls of this name, that call fails there too. A run must go on after EINTR. Else
-a call on the store or its folder must end it with 6, one on the capture with 4, a write to standard output with 5; any other
-call with one of these, with 13 or with 0. It must have written the beginning of a session, whose whole reports have a good
-audit. What it leaves, and an image of a stop in it, are tested as above.
+Where a thread beside the first makes as many calls of this name, that call fails there too. A run must go on after
+EINTR, and where its store's folder can't be opened, since the first sync tries that again. Else a call on the store or
+its folder must end it with 6, one on the capture with 4, a write to standard output with 5; any other call with one of
+these, with 13 or with 0. It must have written the beginning of a session, whose whole reports have a good audit. What it
+leaves, and an image of a stop in it, are tested as above.
 
 Prints each wrong case with what to run to see it again; its files are put into FOLDER. Ends with a line of counts, and with 1
 if anything was wrong. What is drawn depends on the seed; what the threads did doesn't. Needs strace.
@@ -139,6 +140,12 @@ def empty_cut(command):
     return 0, 0, [0] * int(command[command.index("--shards") + 1])
 
 
+def looks_for_folder(call, folder):
+    """Whether a call is one of those by which a store's folder is opened: it follows the store's name through links."""
+    asks_for_link = call.name == "readlink" or (call.name == "statx" and "AT_SYMLINK_NOFOLLOW" in call.words)
+    return asks_for_link or (call.name == "openat" and folder in call.paths())
+
+
 class Case(StoredCapture):
     """A made capture and settings, with the records of the runs over them."""
 
@@ -243,6 +250,8 @@ class Case(StoredCapture):
         if call.name == "munmap":
             return {0, ABORTED}
         if fault == "EINTR" and call.name in INTERRUPTED:
+            return {0}
+        if (self.store in paths or folder in paths) and looks_for_folder(call, folder):
             return {0}
         if self.store in paths or folder in paths:
             return {6}
