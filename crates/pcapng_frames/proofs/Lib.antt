@@ -4,3 +4,6 @@ pub mod WholeBlockLemmas
 pub mod BlockSplitLemmas
 pub mod NgFileLemmas
 pub mod Examples
+pub mod PacketHeadLemmas
+pub mod KeptVerdictLemmas
+pub mod NgStepLemmas

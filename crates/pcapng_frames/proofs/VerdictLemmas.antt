@@ -159,7 +159,7 @@ verdict_stays at bytes more given =
 -- ---- what a verdict tells of its tests
 
 -- a whole block passed this test
-verdict_passed : (came needed : ℕ) (fails : Bool) (kind : FaultKind) (next : Verdict) → tested came needed fails kind next ≡ IsWhole
+pub verdict_passed : (came needed : ℕ) (fails : Bool) (kind : FaultKind) (next : Verdict) → tested came needed fails kind next ≡ IsWhole
     → (needed ≤ came) × (fails ≡ false) × (next ≡ IsWhole)
 verdict_passed came needed fails kind next whole = elim (cases_lt came needed) [
   | inl short ↦ absurd (let wrong = rw (lt-ltb came needed short) at whole in cc)
@@ -170,7 +170,7 @@ verdict_passed came needed fails kind next whole = elim (cases_lt came needed) [
 ]
 
 -- a block that waits for more bytes waits at this test, or passed it
-verdict_waited : (came needed : ℕ) (fails : Bool) (kind : FaultKind) (next : Verdict) → tested came needed fails kind next ≡ Waits
+pub verdict_waited : (came needed : ℕ) (fails : Bool) (kind : FaultKind) (next : Verdict) → tested came needed fails kind next ≡ Waits
     → (came < needed) ⊎ ((needed ≤ came) × (fails ≡ false) × (next ≡ Waits))
 verdict_waited came needed fails kind next waits = elim (cases_lt came needed) [
   | inl short ↦ inl short

@@ -47,7 +47,7 @@ block_content-of_longer_whole_block EnhancedPacket order size interfaces bytes m
     ) refl
 block_content-of_longer_whole_block Other order size interfaces bytes more fits tells = refl
 
-block_order-of_longer_whole_block : (kind : BlockKind) (order : FileOrder) (bytes more : List ℕ) → 12 ≤ length bytes
+pub block_order-of_longer_whole_block : (kind : BlockKind) (order : FileOrder) (bytes more : List ℕ) → 12 ≤ length bytes
     → block_order kind order (bytes ++ more) ≡ block_order kind order bytes
 block_order-of_longer_whole_block SectionHeader order bytes more long = rw (order_of_section-of_longer_block bytes more long) refl
 block_order-of_longer_whole_block InterfaceDescription order bytes more long = refl

@@ -4,6 +4,8 @@
 
 mod block;
 mod laws;
+mod reader;
 mod verdict;
 
 pub use laws::{ng_files_are_decided, ng_fronts_are_decided};
+pub use reader::NgReader;
