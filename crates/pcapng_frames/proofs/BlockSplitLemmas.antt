@@ -82,6 +82,11 @@ frames_of_split_blocks at (block ∷ blocks) more =
     ap (λ l. own ++ l) (frames_of_split_blocks (after_block at block) blocks more)
     ∙ sym (append_assoc own (frames_of_blocks (after_block at block) blocks) (frames_of_blocks (after_blocks (after_block at block) blocks) more))
 
+-- the number of the blocks
+pub split_blocks_count : (at : SectionPlace) (blocks : List BlockValue) → SectionPlace.count (after_blocks at blocks) ≡ at.count + length blocks
+split_blocks_count at [] = omega arith
+split_blocks_count at (block ∷ blocks) = omega (arith, split_blocks_count (after_block at block) blocks)
+
 -- the bytes of the blocks and of the rest
 pub split_blocks_place : (at : SectionPlace) (bytes : List ℕ) (blocks : List BlockValue) (rest : List ℕ)
     → BeginsWithBlocks at bytes blocks rest → SectionPlace.place (after_blocks at blocks) + length rest ≡ at.place + length bytes

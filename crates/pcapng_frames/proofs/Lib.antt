@@ -7,3 +7,4 @@ pub mod Examples
 pub mod PacketHeadLemmas
 pub mod KeptVerdictLemmas
 pub mod NgStepLemmas
+pub mod NgFedLemmas

@@ -85,7 +85,7 @@ ng_file_of_capture file frames is = record {
   no_more = verdict_waits_or_is_whole _ (verdict_on_nothing (after_blocks before_blocks is.blocks) _);
 }
 
-ng_file_of_shown_fault : (file : List ℕ) (frames : List FrameValue) (fault : CaptureFault) → ShowsNgFault file frames fault
+pub ng_file_of_shown_fault : (file : List ℕ) (frames : List FrameValue) (fault : CaptureFault) → ShowsNgFault file frames fault
     → CompletesBlocks file frames
 ng_file_of_shown_fault file frames fault shows = record {
   blocks = shows.blocks;
@@ -127,17 +127,23 @@ ng_file_shows_still front more frames fault shows =
 
 -- ---- never both
 
--- what a split that no block can follow is: its end, a fault that it shows, or the end of the file in a block
+-- a fault that is shown, and a rest that waits
+pub ng_file_shows_or_waits : (file : List ℕ) (frames others : List FrameValue) (fault : CaptureFault) (blocks : List BlockValue)
+    (rest : List ℕ) → SplitsBlocks file blocks rest others → block_verdict (after_blocks before_blocks blocks) rest ≡ Waits
+    → ShowsNgFault file frames fault → ⊥
+ng_file_shows_or_waits file frames others fault blocks rest splits waits shows =
+    let one = ng_file_splits_once file shows.blocks blocks shows.rest rest frames others shows.splits splits
+    (verdict_is_wrong_or_whole _ fault.kind shows.shown) (verdict_waits_or_is_whole _ waits) in
+    let at = after_blocks before_blocks blocks in
+    let shown : block_verdict at rest ≡ IsWrong fault.kind =
+    subst (λ (bs : List BlockValue). block_verdict (after_blocks before_blocks bs) rest ≡ IsWrong fault.kind) (sym one.blocks_are)
+    (subst (λ (l : List ℕ). block_verdict (after_blocks before_blocks shows.blocks) l ≡ IsWrong fault.kind) (sym one.rest_is) shows.shown) in
+    verdict_is_wrong_or_waits (block_verdict at rest) fault.kind shown waits
+
 ng_file_shows_or_ends : (file : List ℕ) (frames others : List FrameValue) (fault other : CaptureFault)
     → ShowsNgFault file frames fault → EndsInBlock file others other → ⊥
 ng_file_shows_or_ends file frames others fault other shows ends =
-    let one = ng_file_splits_once file shows.blocks ends.blocks shows.rest ends.rest frames others shows.splits ends.splits
-    (verdict_is_wrong_or_whole _ fault.kind shows.shown) (verdict_waits_or_is_whole _ ends.none_shown) in
-    let at = after_blocks before_blocks ends.blocks in
-    let shown : block_verdict at ends.rest ≡ IsWrong fault.kind =
-    subst (λ (bs : List BlockValue). block_verdict (after_blocks before_blocks bs) ends.rest ≡ IsWrong fault.kind) (sym one.blocks_are)
-    (subst (λ (l : List ℕ). block_verdict (after_blocks before_blocks shows.blocks) l ≡ IsWrong fault.kind) (sym one.rest_is) shows.shown) in
-    verdict_is_wrong_or_waits (block_verdict at ends.rest) fault.kind shown ends.none_shown
+    ng_file_shows_or_waits file frames others fault ends.blocks ends.rest ends.splits ends.none_shown shows
 
 ng_file_never_both : (file : List ℕ) (frames others : List FrameValue) (fault : CaptureFault) → IsNgCapture file frames
     → HasNgFaultAfter file others fault → ⊥

@@ -7,19 +7,20 @@ use Rattle.pcap_frames.specs.{FrameValue, number_in_order, header_fault_at}
 use Rattle.pcap_frames.specs.declared.file_order.FileOrder.{FileOrder}
 use Rattle.pcap_frames.specs.declared.fault.CaptureFault.{CaptureFault}
 use Rattle.pcap_frames.specs.declared.fault.FaultKind.{FaultKind}
+use Rattle.pcap_frames.specs.declared.fault.FaultKind.TheVariants.{CutBlock}
 use Rattle.pcapng_frames.specs.declared.block.BlockKind.{BlockKind}
 use Rattle.pcapng_frames.specs.declared.block.BlockKind.TheVariants.{SectionHeader, InterfaceDescription, EnhancedPacket, Other}
 use Rattle.pcapng_frames.specs.declared.verdict.Verdict.TheVariants.{Waits, IsWrong, IsWhole}
-use Rattle.pcapng_frames.specs.Block.{BlockValue, block_kind, block_order, block_length, block_at, least_length}
+use Rattle.pcapng_frames.specs.Block.{BlockValue, block_kind, block_order, block_length, block_content, block_at, least_length}
 use Rattle.pcapng_frames.specs.Section.{SectionPlace, before_blocks, after_block, after_blocks, frames_of_blocks, frames_of_content}
 use Rattle.pcapng_frames.specs.Verdict.{verdict_of, block_verdict}
-use Rattle.pcapng_frames.specs.NgCapture.{BeginsWithBlock, BeginsWithBlocks, SplitsBlocks, ShowsNgFault}
+use Rattle.pcapng_frames.specs.NgCapture.{BeginsWithBlock, BeginsWithBlocks, SplitsBlocks, IsNgCapture, ShowsNgFault, HasNgFaultAfter}
 use Rattle.pcapng_frames.specs.Kept.{KeptValue, kept_of, kept_and, kept_verdict}
 use Rattle.pcapng_frames.specs.NgReader.{BlockPlace, NgReaderState, InBlocks, AtFault, LacksMemory, IsInBlock, NgRepresents, NgAdvances}
-use Rattle.pcapng_frames.specs.NgPart.{block_needs}
-use Rattle.pcapng_frames.proofs.VerdictLemmas.{verdict_fits, verdict_on_nothing}
+use Rattle.pcapng_frames.specs.NgPart.{block_needs, gives_frame}
+use Rattle.pcapng_frames.proofs.VerdictLemmas.{VerdictTells, PacketVerdictTells, verdict_fits, verdict_tells, verdict_on_nothing}
 use Rattle.pcapng_frames.proofs.WholeBlockLemmas.{whole_block_is_long, block_at-of_whole_block_front}
-use Rattle.pcapng_frames.proofs.BlockSplitLemmas.{split_blocks_stay, split_blocks_and_one, after_split_blocks, frames_of_split_blocks}
+use Rattle.pcapng_frames.proofs.BlockSplitLemmas.{split_blocks_stay, split_blocks_and_one, after_split_blocks, frames_of_split_blocks, split_blocks_count}
 use Rattle.pcapng_frames.proofs.KeptVerdictLemmas.{kept_verdict_is, kept_of-in_longer_kept_verdict, block_length-of_kept_verdict}
 use Rattle.pcapng_frames.proofs.KeptVerdictLemmas.{block_length-of_longer_kept_verdict}
 use Rattle.pcapng_frames.proofs.NgFileLemmas.{ng_file_shows_still}
@@ -226,3 +227,133 @@ ng_reader_before_first_step = record {
   count_is = refl;
   kept_is = refl;
 }
+
+-- ---- the same steps, by what is kept now
+
+-- the verdict on what is kept, by its parts
+pub ng_step_verdict : (at : SectionPlace) (kept : KeptValue) (came : ℕ) (first last : List ℕ) → came ≡ kept.came → first ≡ kept.first
+    → last ≡ kept.last → verdict_of at came first last ≡ kept_verdict at kept
+ng_step_verdict at kept came first last came_is first_is last_is =
+    ap (λ n. verdict_of at n first last) came_is ∙ ap (λ l. verdict_of at kept.came l last) first_is
+    ∙ ap (λ l. verdict_of at kept.came kept.first l) last_is
+
+pub ng_step_still_waits : (at : BlockPlace) (now : KeptValue) (front : List ℕ) → now ≡ kept_and at.kept front
+    → kept_verdict at.section now ≡ Waits
+    → at.kept.came + length front ≤ block_needs at.section.order at.kept.came at.kept.first
+    → NgAdvances (InBlocks at) (InBlocks (record at { kept = now })) front []
+ng_step_still_waits at now front is waits needs =
+    subst (λ (k : KeptValue). NgAdvances (InBlocks at) (InBlocks (record at { kept = k })) front []) (sym is)
+    (ng_step_waits at front (subst (λ k. kept_verdict at.section k ≡ Waits) is waits) needs)
+
+pub ng_step_shows_fault : (at : BlockPlace) (now : KeptValue) (front : List ℕ) (kind : FaultKind) → now ≡ kept_and at.kept front
+    → kept_verdict at.section now ≡ IsWrong kind
+    → at.kept.came + length front ≤ block_needs at.section.order at.kept.came at.kept.first
+    → NgAdvances (InBlocks at) (AtFault (header_fault_at kind at.section.place)) front []
+ng_step_shows_fault at now front kind is wrong needs =
+    ng_step_to_fault at front kind (subst (λ k. kept_verdict at.section k ≡ IsWrong kind) is wrong) needs
+
+pub ng_step_is_whole : (at new : BlockPlace) (now : KeptValue) (front : List ℕ) (given : List FrameValue)
+    → now ≡ kept_and at.kept front → kept_verdict at.section now ≡ IsWhole
+    → at.kept.came + length front ≤ block_needs at.section.order at.kept.came at.kept.first
+    → new ≡ ng_step_next_place at now.first given
+    → given ≡ frames_of_content at.section.interfaces (block_at at.section.order now.first).content
+    → NgAdvances (InBlocks at) (InBlocks new) front given
+ng_step_is_whole at new now front given is whole needs new_is given_is =
+    let first : now.first ≡ take 70 (at.kept.first ++ front) = ap (λ (k : KeptValue). k.first) is in
+    subst (λ p. NgAdvances (InBlocks at) (InBlocks p) front given)
+    (sym (new_is ∙ ap (λ l. ng_step_next_place at l given) first))
+    (ng_step_ends_block at front given (subst (λ k. kept_verdict at.section k ≡ IsWhole) is whole) needs
+    (given_is ∙ ap (λ l. frames_of_content at.section.interfaces (block_at at.section.order l).content) first))
+
+-- ---- the facts of a whole block
+
+pub ng_step_least_is_kept : (kind : BlockKind) → least_length kind ≤ 32
+ng_step_least_is_kept SectionHeader = omega arith
+ng_step_least_is_kept InterfaceDescription = omega arith
+ng_step_least_is_kept EnhancedPacket = omega arith
+ng_step_least_is_kept Other = omega arith
+
+-- the kept bytes of a whole block have the fields of its kind
+pub ng_step_has_fields : (at : SectionPlace) (kept : KeptValue) (first : List ℕ) → kept_verdict at kept ≡ IsWhole → first ≡ kept.first
+    → length first ≡ min 70 kept.came → least_length (block_kind at.order first) ≤ length first
+ng_step_has_fields at kept first whole is size =
+    let fits = verdict_fits at kept.came kept.first kept.last whole in
+    let least : least_length (block_kind at.order first) ≡ least_length (block_kind at.order kept.first) =
+    ap (λ l. least_length (block_kind at.order l)) is in
+    omega (arith, least, fits.least, fits.there, size, ng_step_least_is_kept (block_kind at.order kept.first))
+
+-- a whole packet is of an interface that the section described
+pub ng_step_names_interface : (at : SectionPlace) (kept : KeptValue) (first : List ℕ) → kept_verdict at kept ≡ IsWhole → first ≡ kept.first
+    → block_kind at.order first ≡ EnhancedPacket → number_in_order at.order 4 8 first < length at.interfaces
+ng_step_names_interface at kept first whole is kind =
+    let tells = verdict_tells at kept.came kept.first kept.last whole in
+    let packet : block_kind at.order kept.first ≡ EnhancedPacket = ap (block_kind at.order) (sym is) ∙ kind in
+    let told : PacketVerdictTells at.order (block_length at.order kept.first) (length at.interfaces) kept.first =
+    subst (λ k. VerdictTells k (block_order k at.order kept.first) (block_length at.order kept.first) (length at.interfaces) kept.first) packet tells in
+    subst (λ l. number_in_order at.order 4 8 l < length at.interfaces) (sym is) told.named
+
+-- what is kept of a packet that gives a frame holds its fields and its head
+pub record NgStepHolds (order : FileOrder) (first : List ℕ) : Type 0 where
+  pub header : 28 ≤ length first
+  pub limit : number_in_order order 4 20 first ≤ 262144
+  pub head : 28 + min 42 (number_in_order order 4 20 first) ≤ length first
+
+ng_step_holds_packet : (kind : BlockKind) (order : FileOrder) (size : ℕ) (interfaces : List Bool) (first : List ℕ) (came : ℕ)
+    → VerdictTells kind (block_order kind order first) size (length interfaces) first
+    → gives_frame interfaces (block_content kind order first) ≡ true → size ≤ came → length first ≡ min 70 came
+    → NgStepHolds order first
+ng_step_holds_packet SectionHeader order size interfaces first came tells gives there long = absurd (let wrong : false ≡ true = gives in cc)
+ng_step_holds_packet InterfaceDescription order size interfaces first came tells gives there long = absurd (let wrong : false ≡ true = gives in cc)
+ng_step_holds_packet EnhancedPacket order size interfaces first came tells gives there long = record {
+  header = omega (arith, tells.room);
+  limit = tells.limit;
+  head = omega (arith, tells.room);
+}
+ng_step_holds_packet Other order size interfaces first came tells gives there long = absurd (let wrong : false ≡ true = gives in cc)
+
+pub ng_step_holds : (at : SectionPlace) (kept : KeptValue) (first : List ℕ) (given : Bool) → kept_verdict at kept ≡ IsWhole
+    → first ≡ kept.first → length first ≡ min 70 kept.came
+    → given ≡ gives_frame at.interfaces (block_at at.order first).content → given ≡ true → NgStepHolds at.order kept.first
+ng_step_holds at kept first given whole is long gives yes_given =
+    let fits = verdict_fits at kept.came kept.first kept.last whole in
+    let tells = verdict_tells at kept.came kept.first kept.last whole in
+    ng_step_holds_packet (block_kind at.order kept.first) at.order (block_length at.order kept.first) at.interfaces kept.first kept.came tells
+    (ap (λ l. gives_frame at.interfaces (block_at at.order l).content) (sym is) ∙ sym gives ∙ yes_given) fits.there
+    (ap length (sym is) ∙ long)
+
+-- nothing kept waits
+pub ng_step_starts_block : (at : SectionPlace) (kept : KeptValue) → kept ≡ kept_of [] → kept_verdict at kept ≡ Waits
+ng_step_starts_block at kept is = ap (kept_verdict at) is ∙ verdict_on_nothing at _
+
+-- ---- the end of the file
+
+-- a reader between two blocks has read a capture
+pub ng_step_ends_capture : (at : BlockPlace) (file : List ℕ) (frames : List FrameValue) → IsInBlock at file frames
+    → at.kept.came ≡ 0 → 0 < at.section.count → IsNgCapture file frames × (at.frames ≡ length frames)
+ng_step_ends_capture at file frames stands none some =
+    let nothing : stands.rest ≡ [] = nil_from_length stands.rest (sym (ap (λ (k : KeptValue). k.came) stands.kept_is) ∙ none) in
+    let count : at.section.count ≡ 0 + length stands.blocks =
+    ap (λ (s : SectionPlace). s.count) stands.section_is ∙ split_blocks_count before_blocks stands.blocks in (
+      record {
+        blocks = stands.blocks;
+        splits = subst (λ l. SplitsBlocks file stands.blocks l frames) nothing stands.splits;
+        some = omega arith;
+      },
+      stands.count_is,
+    )
+
+-- a reader inside a block, or before the first one, has read a file that is cut there
+pub ng_step_ends_in_block : (at : BlockPlace) (file : List ℕ) (frames : List FrameValue) → IsInBlock at file frames
+    → (0 < at.kept.came) ⊎ (at.section.count ≡ 0) → HasNgFaultAfter file frames (header_fault_at CutBlock at.section.place)
+ng_step_ends_in_block at file frames stands cut =
+    let came : at.kept.came ≡ length stands.rest = ap (λ (k : KeptValue). k.came) stands.kept_is in
+    let count : at.section.count ≡ 0 + length stands.blocks =
+    ap (λ (s : SectionPlace). s.count) stands.section_is ∙ split_blocks_count before_blocks stands.blocks in
+    inr (record {
+      blocks = stands.blocks;
+      rest = stands.rest;
+      splits = stands.splits;
+      none_shown = subst (λ s. block_verdict s stands.rest ≡ Waits) stands.section_is stands.waits;
+      is_cut = elim cut [ inl some ↦ inl (omega arith) | inr first ↦ inr (nil_from_length stands.blocks (omega arith)) ];
+      is_fault = ap (λ (s : SectionPlace). header_fault_at CutBlock s.place) stands.section_is;
+    })

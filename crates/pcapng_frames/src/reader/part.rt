@@ -3,7 +3,9 @@
 ghost use Rattle.std.specs.Prelude.{◌≡◌, ℕ, ◌+◌, ◌^◌, ◌<◌, ◌≤◌, List, [], length, IfOk};
 ghost use Rattle.pcapng_frames.specs.declared.verdict.Verdict.TheVariants as verdicts;
 ghost use Rattle.pcapng_frames.specs.Block.{block_at};
-ghost use Rattle.pcap_frames.specs.{FrameValue};
+ghost use Rattle.pcap_frames.specs.{FrameValue, header_fault_at};
+ghost use Rattle.pcap_frames.specs.declared.fault.FaultKind.TheVariants.{CutBlock};
+ghost use Rattle.pcap_frames.specs.declared.fault.FeedFault.TheVariants.{Refused};
 ghost use Rattle.pcapng_frames.specs.NgFeeding.{IsNgFinalResult};
 ghost use Rattle.pcapng_frames.specs.Kept.{KeptValue, kept_of, kept_and, kept_verdict};
 ghost use Rattle.pcapng_frames.specs.NgReader as state;
@@ -155,13 +157,23 @@ impl BlockPart {
         ensures { (file : List ℕ) (frames : List FrameValue) → state.IsInBlock (place_of_part self.now) file frames
             → IsNgFinalResult file frames result }
     {
-        if self.kept.came() == 0 && self.section.count > 0 {
-            return Ok(self.frames as u64);
+        if self.kept.came() > 0 {
+            return Err(self.cut());
         }
-        Err(FeedFault::Refused(CaptureFault {
+        if self.section.count == 0 {
+            return Err(self.cut());
+        }
+        Ok(self.frames as u64)
+    }
+
+    /// The fault of a file that ends here.
+    fn cut(&self) -> FeedFault
+        ensures { result ≡ Refused (header_fault_at CutBlock self.now.section.place) }
+    {
+        FeedFault::Refused(CaptureFault {
             kind: FaultKind::CutBlock,
             place: self.section.place,
-        }))
+        })
     }
 
     /// Goes past a whole block, and gives its packet if that is of an Ethernet interface.
