@@ -1,5 +1,5 @@
 -- The numbers of a block in the bytes at its front, and when more bytes follow.
-use Rattle.std.proofs.Common.{ℕ, ◌≡◌, ◌+◌, ◌≤◌, List, ◌++◌, length, take, refl, sym, ap, ◌∙◌, arith}
+use Rattle.std.proofs.Common.{ℕ, ◌≡◌, ◌+◌, ◌≤◌, List, ◌++◌, length, take, refl, sym, ap, ◌∙◌}
 use Rattle.std.proofs.lemmas.List.{take_at}
 use Rattle.byteorder.specs.Numbers.{big_from-take, little_from-take}
 use Rattle.pcap_frames.specs.declared.file_order.FileOrder.{FileOrder}

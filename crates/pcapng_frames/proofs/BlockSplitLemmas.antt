@@ -1,10 +1,8 @@
 -- Splits of bytes into blocks: when more bytes follow, one block more, and that there is one.
 use Rattle.std.proofs.Common.{ℕ, zero, suc, ◌≡◌, ◌+◌, ◌≤◌, List, [], ◌∷◌, ◌++◌, length, drop, refl, sym, ap, ◌∙◌, arith}
-use Rattle.std.proofs.Common.{length-append, length-drop, subst, inl, inr, ◌⊎◌, append-nil, append_assoc}
-use Rattle.std.proofs.lemmas.List.{drop-append-le, nil_from_length}
-use Rattle.std.proofs.lemmas.Bool.{cases_lt}
-use Rattle.pcap_frames.specs.{FrameValue}
-use Rattle.pcapng_frames.specs.declared.verdict.Verdict.TheVariants.{Waits, IsWrong, IsWhole}
+use Rattle.std.proofs.Common.{length-drop, subst, inl, inr, append-nil, append_assoc}
+use Rattle.std.proofs.lemmas.List.{drop-append-le}
+use Rattle.pcapng_frames.specs.declared.verdict.Verdict.TheVariants.{IsWhole}
 use Rattle.pcapng_frames.specs.Block.{BlockValue, block_kind, block_at, block_length}
 use Rattle.pcapng_frames.specs.Section.{SectionPlace, after_block, after_blocks, frames_of_blocks, frames_of_content}
 use Rattle.pcapng_frames.specs.Verdict.{block_verdict}

@@ -1,14 +1,15 @@
 -- Worked examples of pcapng captures, of their blocks and of first faults.
-use Rattle.std.proofs.Common.{ℕ, ◌≡◌, ◌<◌, true, false, List, [], ◌∷◌, ◌++◌, length, take, drop, Some, None, refl, sym, arith, ◌+◌, ◌^◌, inl, inr}
+use Rattle.std.proofs.Common.{ℕ, ◌≡◌, true, false, List, [], ◌∷◌, ◌++◌, take, Some, refl, sym, arith, ◌+◌, ◌^◌, inl, inr}
 use Rattle.pcap_frames.specs.declared.file_order.FileOrder.TheVariants.{Big, Little}
 use Rattle.pcap_frames.specs.declared.fault.CaptureFault.{CaptureFault}
-use Rattle.pcap_frames.specs.declared.fault.FaultKind.TheVariants.{NotCapture, Version, LongFrame, ByteOrder, BadBlock, BadTail, BadInterface, CutBlock, TooManyBlocks}
-use Rattle.pcap_frames.specs.{number_in_order, FrameValue, header_fault_at, frame_head_length}
-use Rattle.pcapng_frames.specs.declared.block.BlockKind.TheVariants.{SectionHeader, InterfaceDescription, EnhancedPacket, Other}
+use Rattle.pcap_frames.specs.declared.fault.FaultKind.TheVariants.{NotCapture, Version, LongFrame, ByteOrder, BadBlock}
+use Rattle.pcap_frames.specs.declared.fault.FaultKind.TheVariants.{BadTail, BadInterface, CutBlock, TooManyBlocks}
+use Rattle.pcap_frames.specs.{number_in_order, FrameValue, header_fault_at}
+use Rattle.pcapng_frames.specs.declared.block.BlockKind.TheVariants.{SectionHeader, EnhancedPacket, Other}
 use Rattle.pcapng_frames.specs.declared.verdict.Verdict.TheVariants.{Waits, IsWrong, IsWhole}
 use Rattle.pcapng_frames.specs.Block.{block_count_limit, packet_data_place, packet_overhead, kind_of_type, least_length, order_of_section}
-use Rattle.pcapng_frames.specs.Block.{Section, Interface, Packet, Nothing, BlockValue, packet_frame, block_at}
-use Rattle.pcapng_frames.specs.Section.{SectionPlace, before_blocks, after_block, after_blocks, is_ethernet, frames_of_blocks}
+use Rattle.pcapng_frames.specs.Block.{Section, Interface, Packet, BlockValue, block_at}
+use Rattle.pcapng_frames.specs.Section.{SectionPlace, before_blocks, after_block, after_blocks, frames_of_blocks}
 use Rattle.pcapng_frames.specs.Verdict.{tested, verdict_of, block_verdict}
 use Rattle.pcapng_frames.specs.NgCapture.{BeginsWithBlock, BeginsWithBlocks, SplitsBlocks, IsNgCapture, CompletesBlocks, ShowsNgFault, EndsInBlock}
 use Rattle.pcapng_frames.specs.NgCapture.{HasNgFaultAfter, HasNgFault}
@@ -282,14 +283,17 @@ section_type_alone = record {
 
 pub empty_file : HasNgFault [] (header_fault_at CutBlock 0)
 unfolding verdict_of
-empty_file = ([], inr (record {
-  blocks = [];
-  rest = [];
-  splits = record { begins = refl; frames_are = refl };
-  none_shown = refl;
-  is_cut = inr refl;
-  is_fault = refl;
-}))
+empty_file = (
+  [],
+  inr (record {
+    blocks = [];
+    rest = [];
+    splits = record { begins = refl; frames_are = refl };
+    none_shown = refl;
+    is_cut = inr refl;
+    is_fault = refl;
+  }),
+)
 
 -- a last length that differs
 pub shows_other_tail : ShowsNgFault

@@ -1,5 +1,5 @@
 -- The verdict on what is kept of a block is that on all of its bytes.
-use Rattle.std.proofs.Common.{ℕ, suc, ◌≡◌, ◌+◌, ◌-◌, ◌%◌, ◌≤◌, ◌<◌, Bool, false, not, ◌&&◌, ltb, eqb, is_none, List, [], ◌∷◌, ◌++◌, length, take, drop}
+use Rattle.std.proofs.Common.{ℕ, suc, ◌≡◌, ◌+◌, ◌-◌, ◌%◌, ◌≤◌, ◌<◌, Bool, false, not, ◌&&◌, ltb, eqb, is_none, List, ◌∷◌, ◌++◌, length, take, drop}
 use Rattle.std.proofs.Common.{refl, sym, ap, ◌∙◌, arith, length-append, length-take, inl, inr}
 use Rattle.std.proofs.lemmas.Bool.{ltb-false, eqb-false, lt-ltb, le-ltb, cases_Bool, cases_lt}
 use Rattle.std.proofs.lemmas.List.{drop-append-le, take_all, take-take, take-append-le}
@@ -11,8 +11,8 @@ use Rattle.pcap_frames.specs.declared.fault.FaultKind.TheVariants.{NotCapture, V
 use Rattle.pcapng_frames.specs.declared.block.BlockKind.{BlockKind}
 use Rattle.pcapng_frames.specs.declared.block.BlockKind.TheVariants.{SectionHeader, InterfaceDescription, EnhancedPacket, Other}
 use Rattle.pcapng_frames.specs.declared.verdict.Verdict.{Verdict}
-use Rattle.pcapng_frames.specs.declared.verdict.Verdict.TheVariants.{Waits, IsWrong, IsWhole}
-use Rattle.pcapng_frames.specs.Block.{least_length, order_of_section, kind_of_type, block_kind, block_order, block_length}
+use Rattle.pcapng_frames.specs.declared.verdict.Verdict.TheVariants.{Waits, IsWhole}
+use Rattle.pcapng_frames.specs.Block.{order_of_section, kind_of_type, block_kind, block_order, block_length}
 use Rattle.pcapng_frames.specs.Section.{SectionPlace}
 use Rattle.pcapng_frames.specs.Verdict.{tested, length_tested, tail_tested, section_verdict, packet_verdict, kind_verdict}
 use Rattle.pcapng_frames.specs.Verdict.{verdict_of, block_verdict, is_no_section}
@@ -205,14 +205,14 @@ kept_verdict_waits_kind EnhancedPacket order size interfaces came bytes last wai
     (captured_kept_verdict came order size bytes last) long.1) [
       | inl short ↦ absurd (omega arith)
       | inr named ↦ elim (verdict_waited came 24 (ltb 262144 (number_in_order order 4 20 bytes)) LongFrame
-      (room_kept_verdict came order size bytes last) named.2) [
-        | inl short ↦ omega (arith, long.0)
-        | inr captured ↦ elim (verdict_waited came 24 (ltb size (number_in_order order 4 20 bytes + 32)) BadBlock
-        (tail_tested came order size last) captured.2) [
-          | inl short ↦ omega (arith, long.0)
-          | inr room ↦ kept_verdict_waits_tail came order size last room.2
-        ]
-      ]
+          (room_kept_verdict came order size bytes last) named.2) [
+            | inl short ↦ omega (arith, long.0)
+            | inr captured ↦ elim (verdict_waited came 24 (ltb size (number_in_order order 4 20 bytes + 32)) BadBlock
+                (tail_tested came order size last) captured.2) [
+                  | inl short ↦ omega (arith, long.0)
+                  | inr room ↦ kept_verdict_waits_tail came order size last room.2
+                ]
+          ]
     ]
 kept_verdict_waits_kind Other order size interfaces came bytes last waits there =
     let long = kept_verdict_waits_length came 8 12 size (tail_tested came order size last) waits (omega arith) in

@@ -5,15 +5,14 @@ use Rattle.std.proofs.lemmas.List.{append_cancel_left}
 use Rattle.pcap_frames.specs.{FrameValue, AreFrames, VisitorSees, RepresentSame, IfHadMemory}
 use Rattle.pcap_frames.specs.declared.fault.CaptureFault.{CaptureFault}
 use Rattle.pcap_frames.specs.declared.fault.FeedFault.{FeedFault}
-use Rattle.pcap_frames.specs.declared.fault.FeedFault.TheVariants.{Refused, OutOfMemory}
 use Rattle.pcapng_frames.specs.declared.reader.part.BlockPart.{BlockPart}
 use Rattle.pcapng_frames.specs.declared.reader.part.Stage.{Stage}
 use Rattle.pcapng_frames.specs.declared.reader.part.Stage.TheVariants as stage
-use Rattle.pcapng_frames.specs.declared.verdict.Verdict.TheVariants.{Waits, IsWhole}
+use Rattle.pcapng_frames.specs.declared.verdict.Verdict.TheVariants.{Waits}
 use Rattle.pcapng_frames.specs.Section.{before_blocks, after_blocks}
 use Rattle.pcapng_frames.specs.Verdict.{block_verdict}
-use Rattle.pcapng_frames.specs.NgCapture.{CompletesBlocks, ShowsNgFault}
-use Rattle.pcapng_frames.specs.NgReader.{BlockPlace, IsInBlock, NgReaderState, InBlocks, AtFault, LacksMemory, HasNgStopped, NgRepresents, NgAdvances}
+use Rattle.pcapng_frames.specs.NgCapture.{CompletesBlocks}
+use Rattle.pcapng_frames.specs.NgReader.{BlockPlace, IsInBlock, NgReaderState, InBlocks, AtFault, LacksMemory, HasNgStopped, NgRepresents}
 use Rattle.pcapng_frames.specs.NgPart.{state_of_part, IsPartInStage, NgStepTakes, NgStepShows}
 use Rattle.pcapng_frames.specs.NgFeeding.{FeedsNgReader, ShowsNgBeginning, IsNgResultInState, IsNgResultOf}
 use Rattle.pcapng_frames.proofs.VerdictLemmas.{verdict_waits_or_is_whole}

@@ -1,22 +1,22 @@
 -- The laws of pcapng captures and first faults.
-use Rattle.std.proofs.Common.{ℕ, ◌≡◌, ◌<◌, ◌≤◌, Bool, List, [], ◌∷◌, ◌++◌, length, drop, refl, sym, ap, ◌∙◌, arith, subst, inl, inr, ◌⊎◌, append-nil, true, false}
+use Rattle.std.proofs.Common.{ℕ, ◌≡◌, ◌≤◌, Bool, List, [], ◌∷◌, ◌++◌, length, drop, refl, sym, ap, ◌∙◌, arith, subst, inl, inr, ◌⊎◌}
 use Rattle.std.proofs.lemmas.Bool.{cases_Bool, cases_lt}
 use Rattle.std.proofs.lemmas.List.{nil_from_length}
 use Rattle.outside_io.specs.{IsBeginning}
-use Rattle.pcap_frames.specs.{number_in_order, FrameValue, IsFrame, AreFrames, header_fault_at}
+use Rattle.pcap_frames.specs.{number_in_order, FrameValue, AreFrames, header_fault_at}
 use Rattle.pcap_frames.specs.declared.fault.CaptureFault.{CaptureFault}
 use Rattle.pcap_frames.specs.declared.fault.FaultKind.TheVariants.{CutBlock}
 use Rattle.pcapng_frames.specs.declared.block.BlockKind.{BlockKind}
 use Rattle.pcapng_frames.specs.declared.block.BlockKind.TheVariants.{SectionHeader, InterfaceDescription, EnhancedPacket, Other}
 use Rattle.pcapng_frames.specs.declared.verdict.Verdict.TheVariants.{Waits, IsWrong, IsWhole}
 use Rattle.pcap_frames.specs.declared.file_order.FileOrder.{FileOrder}
-use Rattle.pcapng_frames.specs.Block.{BlockValue, block_kind, block_order, block_length, block_at, block_content}
+use Rattle.pcapng_frames.specs.Block.{BlockValue, block_kind, block_order, block_length, block_content}
 use Rattle.pcapng_frames.specs.Section.{SectionPlace, before_blocks, after_block, after_blocks, frames_of_blocks, frames_of_content, is_ethernet}
 use Rattle.pcapng_frames.specs.Verdict.{block_verdict}
-use Rattle.pcapng_frames.specs.NgCapture.{BeginsWithBlock, BeginsWithBlocks, SplitsBlocks, IsNgCapture, CompletesBlocks, ShowsNgFault, EndsInBlock}
-use Rattle.pcapng_frames.specs.NgCapture.{HasNgFaultAfter, HasNgFault}
+use Rattle.pcapng_frames.specs.NgCapture.{BeginsWithBlocks, SplitsBlocks, IsNgCapture, CompletesBlocks, ShowsNgFault, EndsInBlock}
+use Rattle.pcapng_frames.specs.NgCapture.{HasNgFaultAfter}
 use Rattle.pcapng_frames.specs.Decided.{NgFilesDecided, NgFrontsDecided}
-use Rattle.pcapng_frames.proofs.VerdictLemmas.{VerdictTells, PacketVerdictTells, verdict_stays, verdict_fits, verdict_tells, verdict_on_nothing}
+use Rattle.pcapng_frames.proofs.VerdictLemmas.{VerdictTells, verdict_stays, verdict_fits, verdict_tells, verdict_on_nothing}
 use Rattle.pcapng_frames.proofs.VerdictLemmas.{verdict_waits_or_is_whole, verdict_is_wrong_or_whole, verdict_is_wrong_or_waits, verdict_is_one_kind}
 use Rattle.pcapng_frames.proofs.VerdictLemmas.{verdict_is_one}
 use Rattle.pcapng_frames.proofs.WholeBlockLemmas.{AreWholeBlockBytes, AreWholeBlockBytes-drop, IsFrame-in_whole_block}
@@ -199,23 +199,29 @@ ng_file_ends : (file : List ℕ) (frames : List FrameValue) (blocks : List Block
     → SplitsBlocks file blocks rest frames → block_verdict (after_blocks before_blocks blocks) rest ≡ Waits
     → IsNgCapture file frames ⊎ ((fault : CaptureFault) × HasNgFaultAfter file frames fault)
 ng_file_ends file frames [] rest splits waits =
-    inr (header_fault_at CutBlock 0, inr (record {
-      blocks = [];
+    inr (
+      header_fault_at CutBlock 0,
+      inr (record {
+        blocks = [];
+        rest = rest;
+        splits = splits;
+        none_shown = waits;
+        is_cut = inr refl;
+        is_fault = refl;
+      }),
+    )
+ng_file_ends file frames (block ∷ blocks) rest splits waits = elim (cases_lt 0 (length rest)) [
+  | inl left ↦ inr (
+    header_fault_at CutBlock (SectionPlace.place (after_blocks before_blocks (block ∷ blocks))),
+    inr (record {
+      blocks = block ∷ blocks;
       rest = rest;
       splits = splits;
       none_shown = waits;
-      is_cut = inr refl;
+      is_cut = inl left;
       is_fault = refl;
-    }))
-ng_file_ends file frames (block ∷ blocks) rest splits waits = elim (cases_lt 0 (length rest)) [
-  | inl left ↦ inr (header_fault_at CutBlock (SectionPlace.place (after_blocks before_blocks (block ∷ blocks))), inr (record {
-    blocks = block ∷ blocks;
-    rest = rest;
-    splits = splits;
-    none_shown = waits;
-    is_cut = inl left;
-    is_fault = refl;
-  }))
+    }),
+  )
   | inr none ↦
       let empty : rest ≡ [] = nil_from_length rest (omega arith) in inl (record {
         blocks = block ∷ blocks;
@@ -230,13 +236,16 @@ ng_file_is_decided file frames here =
     let at = after_blocks before_blocks here.blocks in
     elim (verdict_is_one (block_verdict at here.rest)) [
       | inl waits ↦ ng_file_ends file frames here.blocks here.rest here.splits waits
-      | inr (inl wrong) ↦ inr (header_fault_at wrong.0 (SectionPlace.place at), inl (record {
-        blocks = here.blocks;
-        rest = here.rest;
-        splits = here.splits;
-        shown = wrong.1;
-        place_is = refl;
-      }))
+      | inr (inl wrong) ↦ inr (
+        header_fault_at wrong.0 (SectionPlace.place at),
+        inl (record {
+          blocks = here.blocks;
+          rest = here.rest;
+          splits = here.splits;
+          shown = wrong.1;
+          place_is = refl;
+        }),
+      )
       | inr (inr whole) ↦ absurd (here.no_more whole)
     ]
 

@@ -1,7 +1,7 @@
 -- What each step of a reader of a pcapng capture leaves.
-use Rattle.std.proofs.Common.{ℕ, ◌≡◌, ◌+◌, ◌-◌, ◌*◌, ◌^◌, ◌≤◌, ◌<◌, Bool, true, false, ltb, min, List, [], ◌∷◌, ◌++◌, length, take, drop}
-use Rattle.std.proofs.Common.{refl, sym, ap, ◌∙◌, arith, length-append, length-take, subst, inl, inr, ◌⊎◌, append-nil, append_assoc}
-use Rattle.std.proofs.lemmas.Bool.{lt-ltb, le-ltb, cases_Bool, cases_lt}
+use Rattle.std.proofs.Common.{ℕ, ◌≡◌, ◌+◌, ◌≤◌, ◌<◌, Bool, true, false, min, List, [], ◌∷◌, ◌++◌, length, take, drop}
+use Rattle.std.proofs.Common.{refl, sym, ap, ◌∙◌, arith, length-append, subst, inl, inr, ◌⊎◌, append-nil, append_assoc}
+use Rattle.std.proofs.lemmas.Bool.{lt-ltb, le-ltb, cases_lt}
 use Rattle.std.proofs.lemmas.List.{drop_all, nil_from_length}
 use Rattle.pcap_frames.specs.{FrameValue, number_in_order, header_fault_at}
 use Rattle.pcap_frames.specs.declared.file_order.FileOrder.{FileOrder}

@@ -15,7 +15,7 @@ use Rattle.pcapng_frames.specs.declared.verdict.Verdict.TheVariants.{Waits, IsWr
 use Rattle.pcapng_frames.specs.Block.{least_length, order_of_section, block_kind, block_order, block_length}
 use Rattle.pcapng_frames.specs.Section.{SectionPlace}
 use Rattle.pcapng_frames.specs.Verdict.{tested, length_tested, tail_tested, section_verdict, packet_verdict, kind_verdict}
-use Rattle.pcapng_frames.specs.Verdict.{is_no_section, verdict_of, block_verdict}
+use Rattle.pcapng_frames.specs.Verdict.{verdict_of, block_verdict}
 use Rattle.pcapng_frames.proofs.BlockNumberLemmas.{number_in_order-of_longer_block, order_of_section-of_longer_block}
 
 -- ---- one test

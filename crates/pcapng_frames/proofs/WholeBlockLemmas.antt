@@ -1,6 +1,6 @@
 -- What a whole block says, in the bytes at its front and when more bytes follow.
-use Rattle.std.proofs.Common.{ℕ, ◌≡◌, ◌+◌, ◌≤◌, ◌<◌, ◌^◌, Bool, List, ◌++◌, length, take, drop, min, refl, sym, ap, ◌∙◌, arith}
-use Rattle.std.proofs.Common.{length-append, length-take, length-drop, get_or, inl, inr}
+use Rattle.std.proofs.Common.{ℕ, ◌≡◌, ◌+◌, ◌≤◌, ◌<◌, ◌^◌, List, ◌++◌, length, take, drop, refl, sym, ap, ◌∙◌, arith}
+use Rattle.std.proofs.Common.{length-take, length-drop, get_or, inl, inr}
 use Rattle.std.proofs.lemmas.Bool.{cases_lt}
 use Rattle.std.proofs.lemmas.List.{take_all, take-take, take-append-le, drop-append-le, drop-take, get_or-take, get_or-drop, get_or_past}
 use Rattle.byteorder.specs.Numbers.{big_from-lt, little_from-lt}
@@ -9,8 +9,8 @@ use Rattle.pcap_frames.specs.declared.file_order.FileOrder.{FileOrder}
 use Rattle.pcap_frames.specs.declared.file_order.FileOrder.TheVariants.{Big, Little}
 use Rattle.pcapng_frames.specs.declared.block.BlockKind.{BlockKind}
 use Rattle.pcapng_frames.specs.declared.block.BlockKind.TheVariants.{SectionHeader, InterfaceDescription, EnhancedPacket, Other}
-use Rattle.pcapng_frames.specs.declared.verdict.Verdict.TheVariants.{Waits, IsWhole}
-use Rattle.pcapng_frames.specs.Block.{least_length, order_of_section, block_kind, block_order, block_length, packet_frame}
+use Rattle.pcapng_frames.specs.declared.verdict.Verdict.TheVariants.{IsWhole}
+use Rattle.pcapng_frames.specs.Block.{least_length, block_kind, block_order, packet_frame}
 use Rattle.pcapng_frames.specs.Block.{block_content, block_at}
 use Rattle.pcapng_frames.specs.Section.{SectionPlace}
 use Rattle.pcapng_frames.specs.Verdict.{block_verdict}

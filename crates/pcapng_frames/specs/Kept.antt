@@ -1,5 +1,5 @@
 -- The bytes that a reader keeps of a block that is split between pieces.
-use Rattle.std.specs.Prelude.{ℕ, ◌+◌, List, [], ◌∷◌, ◌++◌, length, take, drop}
+use Rattle.std.specs.Prelude.{ℕ, ◌+◌, List, ◌∷◌, ◌++◌, length, take, drop}
 use Rattle.pcap_frames.specs.{frame_head_length}
 use Rattle.pcapng_frames.specs.declared.verdict.Verdict.{Verdict}
 use Rattle.pcapng_frames.specs.Block.{packet_data_place}

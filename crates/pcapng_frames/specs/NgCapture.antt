@@ -1,8 +1,7 @@
 -- A pcapng capture, its frames and its first fault.
-use Rattle.std.specs.Prelude.{⊤, ℕ, ◌≡◌, ◌<◌, ◌⊎◌, List, [], ◌∷◌, length, drop}
+use Rattle.std.specs.Prelude.{ℕ, ◌≡◌, ◌<◌, ◌⊎◌, List, [], ◌∷◌, length, drop}
 use Rattle.pcap_frames.specs.{FrameValue, header_fault_at}
 use Rattle.pcap_frames.specs.declared.fault.CaptureFault.{CaptureFault}
-use Rattle.pcap_frames.specs.declared.fault.FaultKind.{FaultKind}
 use Rattle.pcap_frames.specs.declared.fault.FaultKind.TheVariants.{CutBlock}
 use Rattle.pcapng_frames.specs.declared.verdict.Verdict.TheVariants.{Waits, IsWrong, IsWhole}
 use Rattle.pcapng_frames.specs.Block.{BlockValue, block_at}

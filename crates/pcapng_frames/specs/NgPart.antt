@@ -1,6 +1,6 @@
 -- The state of a reader, made from its parts, and what one step of it does, which no public contract cites.
-use Rattle.std.specs.Prelude.{⊤, ℕ, ◌≡◌, ◌+◌, ◌*◌, ◌^◌, ◌<◌, ◌≤◌, nat_lt, if◌then◌else◌, Bool, false, Option, None, Some, List, [], ◌∷◌, ◌++◌, length}
-use Rattle.pcap_frames.specs.{FrameValue, AreFrames, VisitorSees, RepresentSame}
+use Rattle.std.specs.Prelude.{⊤, ℕ, ◌≡◌, ◌*◌, ◌^◌, ◌<◌, ◌≤◌, nat_lt, if◌then◌else◌, Bool, false, Option, None, Some, List, [], ◌∷◌, ◌++◌, length}
+use Rattle.pcap_frames.specs.{FrameValue, AreFrames, VisitorSees}
 use Rattle.pcap_frames.specs.declared.file_order.FileOrder.{FileOrder}
 use Rattle.pcapng_frames.specs.declared.reader.section.SectionState.{SectionState}
 use Rattle.pcapng_frames.specs.declared.reader.packet.HeldPacket.{HeldPacket}

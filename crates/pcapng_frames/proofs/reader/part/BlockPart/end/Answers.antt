@@ -1,4 +1,4 @@
-use Rattle.std.proofs.Common.{◌≡◌, sym, subst, arith, inr, Err}
+use Rattle.std.proofs.Common.{sym, subst, arith, inr, Err}
 use Rattle.pcapng_frames.specs.NgPart.{place_of_part}
 use Rattle.pcapng_frames.specs.NgFeeding.{IsNgFinalResult}
 use Rattle.pcapng_frames.proofs.NgStepLemmas.{ng_step_ends_capture, ng_step_ends_in_block}

@@ -1,6 +1,4 @@
-use Rattle.std.proofs.Common.{◌≡◌, ap, sym, ◌∙◌, arith}
-use Rattle.pcapng_frames.specs.Kept.{KeptValue}
-use Rattle.pcapng_frames.specs.NgReader.{BlockPlace}
+use Rattle.std.proofs.Common.{sym, ◌∙◌}
 use Rattle.pcapng_frames.specs.NgPart.{section_place}
 use Rattle.pcapng_frames.proofs.NgStepLemmas.{ng_step_verdict, ng_step_still_waits, ng_step_shows_fault, ng_step_is_whole}
 use Rattle.pcapng_frames.proofs.reader.part.BlockPart.leave_block.Goals as goal

@@ -1,8 +1,5 @@
-use Rattle.std.proofs.Common.{◌≡◌, sym, ap, refl, ◌∙◌, arith}
-use Rattle.std.proofs.lemmas.Bool.{lt-ltb, le-ltb}
-use Rattle.pcap_frames.specs.{number_in_order}
-use Rattle.pcapng_frames.specs.NgPart.{block_needs, section_place}
-use Rattle.pcapng_frames.specs.Block.{block_length, block_order, block_kind, kind_of_type}
+use Rattle.std.proofs.Common.{sym, arith}
+use Rattle.pcapng_frames.specs.NgPart.{section_place}
 use Rattle.pcapng_frames.proofs.KeptVerdictLemmas.{kept_verdict_needs_more, block_needs-of_kept_verdict, block_needs-of_short_kept_verdict}
 use Rattle.pcapng_frames.proofs.reader.part.BlockPart.needed.Goals as goal
 

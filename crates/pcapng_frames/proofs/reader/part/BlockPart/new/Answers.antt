@@ -1,4 +1,4 @@
-use Rattle.std.proofs.Common.{◌≡◌, ap, sym, ◌∙◌, arith}
+use Rattle.std.proofs.Common.{ap, arith}
 use Rattle.pcapng_frames.specs.Section.{SectionPlace}
 use Rattle.pcapng_frames.specs.NgPart.{section_place}
 use Rattle.pcapng_frames.proofs.NgStepLemmas.{ng_step_starts_block}
