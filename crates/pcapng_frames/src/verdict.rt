@@ -47,7 +47,14 @@ pub(crate) fn verdict_of(section: &SectionState, came: u64, bytes: &[u8], last: 
     if section.count == 0 && kind.is_no_section() {
         return Verdict::IsWrong(FaultKind::NotCapture);
     }
-    kind_verdict(kind, section.order, section.interfaces.len(), came, bytes, last)
+    kind_verdict(
+        kind,
+        section.order,
+        section.interfaces.len(),
+        came,
+        bytes,
+        last,
+    )
 }
 
 /// What the bytes of a block of this kind show, in a section of this byte order and so many interfaces.
@@ -102,7 +109,13 @@ fn section_verdict(order: FileOrder, came: u64, bytes: &[u8], last: &[u8]) -> Ve
 }
 
 /// What the bytes of an enhanced packet show.
-fn packet_verdict(order: FileOrder, interfaces: usize, came: u64, bytes: &[u8], last: &[u8]) -> Verdict
+fn packet_verdict(
+    order: FileOrder,
+    interfaces: usize,
+    came: u64,
+    bytes: &[u8],
+    last: &[u8],
+) -> Verdict
     requires first { min 28 came ≤ length bytes.now }
     requires last { 4 ≤ length last.now }
     ensures { result ≡ tests.packet_verdict order (number_in_order order 4 4 bytes.now) interfaces came bytes.now last.now }

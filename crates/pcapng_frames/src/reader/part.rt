@@ -70,7 +70,11 @@ impl BlockPart {
     }
 
     /// Takes the next bytes that this stage waits for. The only error is that memory runs out.
-    pub(crate) fn take<'a>(&mut self, stage: Stage, piece: &'a [u8]) -> Result<Taken<'a>, AllocError>
+    pub(crate) fn take<'a>(
+        &mut self,
+        stage: Stage,
+        piece: &'a [u8],
+    ) -> Result<Taken<'a>, AllocError>
         requires has_bytes { 0 < length piece.now }
         requires sound { IsPartInStage stage self.old }
         ensures sound { IfOk result (λ taken. IsPartInStage taken.left.stage self.new) }
@@ -183,9 +187,9 @@ impl BlockPart {
         requires whole { kept_verdict (section_place self.old.section) self.old.kept ≡ verdicts.IsWhole }
         ensures within { IfOk result (λ _. IsPartWithin self.new) }
         ensures place { IfOk result (λ held. place_of_part self.new ≡ record {
-            section = after_block (section_place self.old.section) (block_at self.old.section.order self.old.kept.first);
-            frames = self.old.frames + length (frames_held held);
-            kept = kept_of [];
+          section = after_block (section_place self.old.section) (block_at self.old.section.order self.old.kept.first);
+          frames = self.old.frames + length (frames_held held);
+          kept = kept_of [];
         }) }
         ensures gives { IfOk result (λ held. frames_held held
             ≡ frames_of_content self.old.section.interfaces.items (block_at self.old.section.order self.old.kept.first).content) }
