@@ -119,6 +119,7 @@ def test_session(settings, session, callers, rounds, floor, opens_there, has_sto
     saved = [*range(rounds), len(session.reports) - 1] if has_store else []
     test(session.saved == {number: session.reports[number].positions for number in saved}, "other lines saved")
     test(session.frames == settings.capture.frames and session.skipped == settings.capture.skipped, "other counts of frames")
+    test(session.cut is None, "a whole capture is cut")
 
 
 def independent(settings, session, text):

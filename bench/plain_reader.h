@@ -254,7 +254,7 @@ static void put_positions(struct bytes *text, const char *word, const uint64_t *
 
 // The text of a session.
 
-enum stage { NOTHING, OPENED, BEGUN, PLACED, WEIGHED, LISTING, DONE, SAVED, COUNTED, SKIPPED, ENDED };
+enum stage { NOTHING, OPENED, BEGUN, PLACED, WEIGHED, LISTING, DONE, SAVED, COUNTED, SKIPPED, CUT, ENDED };
 
 // The positions of a line `saved`, if there is one after a report.
 struct saved {
@@ -265,7 +265,8 @@ struct saved {
 struct session {
     enum stage stage;
     unsigned shards;
-    uint64_t opened[MOST_SHARDS], frames, skipped[3];
+    uint64_t opened[MOST_SHARDS], frames, skipped[3], cut;
+    int has_cut;
     struct report *reports;
     struct saved *saved;
     struct line *lines;
@@ -390,6 +391,13 @@ static int take_skipped(struct rest *rest, struct session *session) {
     return 1;
 }
 
+static int after_skipped(struct rest *rest, struct session *session) {
+    if (take(rest, "end"))
+        return ENDED;
+    session->has_cut = 1;
+    return take(rest, "cut ") && take_number(rest, UINT64_MAX, &session->cut) ? CUT : 0;
+}
+
 // The stage to which a line leads, or 0 where it may not come here.
 static int next_stage(struct rest *rest, struct session *session) {
     uint64_t *threshold = 0;
@@ -414,6 +422,8 @@ static int next_stage(struct rest *rest, struct session *session) {
     case COUNTED:
         return take_skipped(rest, session) ? SKIPPED : 0;
     case SKIPPED:
+        return after_skipped(rest, session);
+    case CUT:
         return take(rest, "end") ? ENDED : 0;
     default:
         return 0;
@@ -473,6 +483,8 @@ static void put_session(struct bytes *text, const struct session *session) {
     }
     put(text, "frames %llu\n", (unsigned long long)session->frames);
     put_positions(text, "skipped", session->skipped, 3);
+    if (session->has_cut)
+        put(text, "cut %llu\n", (unsigned long long)session->cut);
     put(text, "end\n");
 }
 
