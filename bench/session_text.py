@@ -34,9 +34,12 @@ class Capture:
 
 
 def read_capture(path):
+    return decode_capture(Path(path).read_bytes())
+
+
+def decode_capture(data):
     """The records and counts of a capture that is not refused."""
-    data = Path(path).read_bytes()
-    order = "<" if data[3] == 0xA1 else ">"
+    order = "<" if data[3:4] == b"\xa1" else ">"
     capture, at = Capture([], 0, [0, 0, 0]), 24
     while at < len(data):
         captured, wire = struct.unpack_from(order + "II", data, at + 8)
