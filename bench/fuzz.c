@@ -48,7 +48,9 @@ struct counts {
 static const struct kind {
     const char *name, *rules[MOST_RULES];
 } kinds[KINDS] = {
-    {"captures", {"taken", "not a capture", "version", "link", "short header", "long frame", "cut frame"}},
+    {"captures",
+        {"taken", "taken up to a cut frame", "not a capture", "version", "link", "short header", "long frame",
+            "cut frame"}},
     {"texts",
         {"good", "bad positions", "bad total", "bad threshold", "bad interval", "too wide", "below threshold",
             "not justified", "left out", "bad line", "no end", "not a capture", "version", "link", "short header",
@@ -65,7 +67,7 @@ static const struct kind {
 
 // What a run is given.
 struct input {
-    int kind;
+    int kind, with_front;
     uint64_t number;
     struct settings settings;
     struct bytes capture, text, store;
@@ -188,6 +190,15 @@ static void add_store_settings(const struct settings *settings) {
     add_number("capacity", settings->capacity);
     add_option("weigh", weighings[settings->by_packets]);
     add_option("deal", dealings[settings->deal]);
+    if (settings->bits != 8)
+        add_number("bits", settings->bits);
+}
+
+static void add_front(void) {
+    if (input.with_front)
+        add_option("front", "yes");
+    else if (one_in(4))
+        add_option("front", "no");
 }
 
 static void add_settings(const struct settings *settings) {
@@ -392,13 +403,16 @@ static void try_capture(uint64_t number) {
     uint64_t key;
     unsigned node;
     begin_input(CAPTURES, number);
+    set_grain(8);
     copy_bytes(&input.capture, &captures[draw_below(capture_count)]);
     MUTATE(&input.capture, mutations_of_captures);
     draw_prefix(&key, &node);
     int by_packets = one_in(8);
-    predict_weigh(&input.capture, by_packets, key, node, &ending);
+    input.with_front = one_in(3);
+    predict_weigh(&input.capture, input.with_front, by_packets, key, node, &ending);
     begin_words("weigh");
     add_prefix(key, node);
+    add_front();
     if (by_packets)
         add_option("weigh", "packets");
     write_file(input_file, &input.capture);
@@ -409,7 +423,7 @@ static void try_capture(uint64_t number) {
 // Settings.
 
 static void change_settings(struct settings *settings) {
-    switch (draw_below(5)) {
+    switch (draw_below(6)) {
     case 0:
         settings->shards = 1 + draw_below(one_in(4) ? MOST_SHARDS : 4);
         break;
@@ -422,7 +436,12 @@ static void change_settings(struct settings *settings) {
     case 3:
         settings->deal = draw_below(3);
         break;
+    case 4:
+        settings->bits = 12 - settings->bits;
+        break;
     }
+    if (settings->capacity > most_capacity(settings->bits))
+        settings->capacity = most_capacity(settings->bits);
     if ((uint64_t)settings->share * settings->capacity < 2000000 || one_in(4))
         settings->share = draw_share(settings->capacity);
 }
@@ -434,19 +453,23 @@ static void take_seed(const struct seed *from, struct bytes *bytes) {
         fail("the file of seeds");
 }
 
-// Takes the capture of a seed, or now and then another one, or one that is changed.
+// Takes the capture of a seed, or now and then another one, or one that is changed or cut.
 static void draw_capture(size_t number) {
     copy_bytes(&input.capture, &captures[one_in(30) ? draw_below(capture_count) : number]);
     if (one_in(30))
         MUTATE(&input.capture, mutations_of_captures);
+    input.with_front = one_in(4);
+    if (input.with_front && one_in(4))
+        (one_in(2) ? cut : add_bytes)(&input.capture);
 }
 
-// Reads and deals the records of the capture. Answers whether it is one.
+// Reads and deals the records of the capture, and lets the bits of the settings count. Answers whether it is taken.
 static int deal_capture(const struct settings *settings) {
     size_t offset;
-    int is_capture = !read_file(input.capture.at, input.capture.length, &offset);
+    set_grain(settings->bits);
+    int is_taken = !read_capture(&input.capture, input.with_front, &offset);
     deal_records(settings);
-    return is_capture;
+    return is_taken;
 }
 
 // Texts.
@@ -465,9 +488,10 @@ static void try_text(uint64_t number) {
     if (deal_capture(&input.settings))
         predict_audit(&input.text, &input.settings, &ending);
     else
-        is_read(&input.capture, &ending);
+        is_read(&input.capture, input.with_front, &ending);
     begin_words("audit");
     add_settings(&input.settings);
+    add_front();
     add_option("report", "text");
     write_file(capture_file, &input.capture);
     write_file(text_file, &input.text);
@@ -492,14 +516,15 @@ static void strip_output(struct bytes *output) {
     output->length = length;
 }
 
-// Tests what a run left of its store: as it was where it was refused, and else one that opens at the ends of the lists,
-// after one save more. Where the sequence then has no room for another run, it doesn't open.
+// Tests what a run left of its store: as it was where it was refused, and else one with the same header that opens at
+// the ends of the lists, after one save more. Where the sequence then has no room for another run, it doesn't open.
 static void test_store(const struct opening *before) {
     read_whole(store_file, &run.store);
     if (ending.status) {
         test(is_same(&run.store, &input.store), "a store that was refused is another one");
         return;
     }
+    test(!memcmp(run.store.at + 2, input.store.at + 2, FRONT - 2), "the store has another header");
     struct opening after = open_store(&run.store, &input.settings);
     int is_at_ends = !memcmp(after.positions, dealt.ends, sizeof dealt.ends);
     if (before->sequence == LAST_SEQUENCE - 64)
@@ -526,6 +551,7 @@ static void try_store(uint64_t number) {
     take_seed(from, &input.store);
     input.settings = changed_settings = from->settings;
     draw_capture(from->capture);
+    set_grain(changed_settings.bits);
     MUTATE(&input.store, mutations_of_stores);
     if (one_in(20))
         change_settings(&input.settings);
@@ -533,9 +559,10 @@ static void try_store(uint64_t number) {
         opening = open_store(&input.store, &input.settings);
         predict_report(&opening, &input.settings, &ending);
     } else
-        is_read(&input.capture, &ending);
+        is_read(&input.capture, input.with_front, &ending);
     begin_words("report");
     add_settings(&input.settings);
+    add_front();
     add_option("store", "store");
     add_option("workers", "1");
     write_file(capture_file, &input.capture);
@@ -647,10 +674,22 @@ static void make_report(
     must_end_well();
 }
 
-static void format_store(const struct settings *settings) {
+// Writes the first bytes of a store without a save.
+static void write_front(const struct header *header) {
+    unsigned char front[FRONT] = {0};
+    spell_header(header, front + 2);
+    write_file(store_file, &(struct bytes){.at = front, .length = sizeof front});
+}
+
+// Makes a store. `format` writes version 2 alone.
+static void format_store(const struct header *header) {
     empty_file(store_file);
+    if (header->version == 1) {
+        write_front(header);
+        return;
+    }
     begin_words("format");
-    add_store_settings(settings);
+    add_store_settings(&header->settings);
     add_option("store", "store");
     must_end_well();
 }
@@ -703,9 +742,10 @@ static void put_round(struct bytes *text, const struct bytes *capture, const str
 
 // The sessions of runs are the same each time: rounds are made where a store has all records counted, and otherwise put
 // together from reports on parts of the capture.
-static void make_texts(size_t number, const struct settings *settings) {
+static void make_texts(size_t number, const struct header *header) {
     static struct bytes text;
     const struct bytes *capture = &captures[number];
+    const struct settings *settings = &header->settings;
     make_report(capture, settings, 0, 0, 0);
     add_text(&run.output, settings, number);
     copy_bytes(&text, &run.output);
@@ -713,7 +753,7 @@ static void make_texts(size_t number, const struct settings *settings) {
     put_round(&text, capture, settings, first);
     put_round(&text, capture, settings, first + draw_below(frames_in(capture) + 1 - first));
     add_text(&text, settings, number);
-    format_store(settings);
+    format_store(header);
     make_report(capture, settings, 1, 0, 0);
     add_text(&run.output, settings, number);
     make_report(capture, settings, 1, 1 + draw_below(2), draw_below(3));
@@ -721,47 +761,57 @@ static void make_texts(size_t number, const struct settings *settings) {
 }
 
 // Gives a store with one save the digest of a capture, as if it had the counts of this one.
-static void graft_store(const struct settings *settings, size_t number) {
+static void graft_store(const struct header *header, size_t number) {
     copy_bytes(&input.capture, &captures[number]);
-    deal_capture(settings);
+    deal_capture(&header->settings);
     read_whole(store_file, &run.store);
-    digest_records(settings, run.store.at + FRONT + 16);
+    digest_records(header, run.store.at + FRONT + 16);
     write_file(store_file, &run.store);
-    add_store(settings, number);
+    add_store(&header->settings, number);
 }
 
-static void make_stores(size_t number, const struct settings *settings) {
+static void make_stores(size_t number, const struct header *header) {
     static struct bytes beginning;
     const struct bytes *capture = &captures[number];
-    format_store(settings);
+    const struct settings *settings = &header->settings;
+    format_store(header);
     add_store(settings, number);
     for (int saves = 0; saves < 3; saves++) {
         make_report(capture, settings, 1, 0, 0);
         add_store(settings, number);
     }
     take_frames(capture, draw_below(frames_in(capture)), &beginning);
-    format_store(settings);
+    format_store(header);
     make_report(&beginning, settings, 1, 0, 0);
-    graft_store(settings, number);
+    graft_store(header, number);
     make_report(capture, settings, 1, 0, 0);
     add_store(settings, number);
-    format_store(settings);
+    format_store(header);
     make_report(&captures[draw_below(capture_count)], settings, 1, 0, 0);
-    graft_store(settings, number);
+    graft_store(header, number);
 }
+
+// The versions of stores, and the bits that go with them.
+static const struct {
+    unsigned version, bits;
+} kinds_of_stores[] = {{1, 8}, {2, 8}, {2, 4}};
 
 static void make_seeds(void) {
     static const unsigned capacities[] = {2, 3, 4, 8, 16, 64, 64, 512, 512};
     state = seed;
     for (size_t number = 0; number < capture_count; number++)
         for (int turn = 0; turn < 4; turn++) {
-            struct settings settings = {1 + draw_below(4), PICK(capacities), 0, one_in(4), draw_below(3)};
-            settings.share = draw_share(settings.capacity);
-            make_texts(number, &settings);
-            settings.shards = 1 + draw_below(3);
-            settings.capacity = 2 + draw_below(5);
-            settings.share = draw_share(settings.capacity);
-            make_stores(number, &settings);
+            size_t kind = draw_below(LENGTH_OF(kinds_of_stores));
+            struct header header = {.version = kinds_of_stores[kind].version};
+            struct settings *settings = &header.settings;
+            *settings = (struct settings){
+                1 + draw_below(4), PICK(capacities), 0, one_in(4), draw_below(3), kinds_of_stores[kind].bits};
+            settings->share = draw_share(settings->capacity);
+            make_texts(number, &header);
+            settings->shards = 1 + draw_below(3);
+            settings->capacity = 2 + draw_below(5);
+            settings->share = draw_share(settings->capacity);
+            make_stores(number, &header);
         }
 }
 

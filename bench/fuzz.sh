@@ -6,12 +6,16 @@
 # - `audit` of a changed session text over its capture;
 # - `report` over a changed store and its capture.
 #
+# Texts are by 8 and by 4 bits, stores of both versions and by both. Some captures are cut, and some of the runs have
+# `--front yes`, so that they take what is before the cut.
+#
 # Status, standard output and standard error must be those that the plain reader (`plain_reader.h`) predicts by
 # docs/FORMATS.md. Of a report over a store that opens, the lines of prefixes depend on the changed tables: of these
-# only grammar and order are tested, and the store must then open at the ends of the lists. A refused store must be as
-# it was. No run may end by a signal, take more than a second of a processor, or more memory than 10 MB (of 1,000,000
-# bytes), 30 bytes for each frame, five times the bytes of the text and three times those of the store. Besides, the
-# longest capture and the longest text are tried, and both with one byte more: these four may take five seconds.
+# only grammar and order are tested, and the store must then have the same header and open at the ends of the lists. A
+# refused store must be as it was. No run may end by a signal, take more than a second of a processor, or more memory
+# than 10 MB (of 1,000,000 bytes), 30 bytes for each frame, five times the bytes of the text and three times those of
+# the store. Besides, the longest capture and the longest text are tried, and both with one byte more: these four may
+# take five seconds.
 #
 # One process for each processor; the inputs depend on the seed alone. Prints how many runs ended by each rule, the
 # greatest time and memory, and each difference with its command line, whose files are kept in a folder. Ends with 1 if

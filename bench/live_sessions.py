@@ -14,8 +14,8 @@ was killed after some of its saves. Of each session is tested
 - that its store, if it isn't large, then opens at the ends of the lists, by `store_bytes.py`;
 - for one in ten of the shorter ones that `bench/audit.c` finds it good, or `plain_audit.py` where that can't deal as it was.
 
-Prints each session that fails, and at the end the counts. With 4 for BITS in the environment prefixes go by four bits, and
-no session uses a store. Needs cc.
+A store by 8 bits is of version 1 or 2. Prints each session that fails, and at the end the counts. With 4 for BITS in
+the environment prefixes go by four bits. Needs cc.
 """
 
 import os
@@ -40,7 +40,7 @@ MOST_STORED = 500_000  # bytes of a store that `store_bytes.py` reads
 program, sessions, seed, captures = sys.argv[1], int(sys.argv[2]), int(sys.argv[3]), sys.argv[4:]
 source = random.Random(seed)
 BITS = int(os.environ.get("BITS") or "8")
-MOST_CAPACITY = {8: 4096, 4: 1024}[BITS]
+MOST_CAPACITY = store_bytes.MOST_CAPACITY[BITS]
 counts = dict.fromkeys(("sessions", "reports", "with a store", "gone on with", "past position 0", "by audit.c",
     "by plain_audit.py", "wrong"), 0)
 
@@ -58,7 +58,8 @@ class Settings(StoredCapture):
         self.phi = up_to(least_share(self.capacity), 1_000_000)
         self.weigh = source.choice(store_bytes.WEIGHINGS)
         self.deal = source.choice(store_bytes.DEALINGS)
-        super().__init__(program, capture, (self.shards, self.capacity, self.weigh, self.deal), self.phi, BITS)
+        super().__init__(program, capture,
+            store_bytes.Settings(self.shards, self.capacity, self.weigh, self.deal, BITS), self.phi)
 
     def draw_words(self):
         """Workers, callers, rounds and block of a session that isn't too long to audit, and the number of its reports."""
@@ -69,9 +70,13 @@ class Settings(StoredCapture):
         return [str(word) for word in words], callers, rounds
 
 
+def format_anew(settings, store):
+    settings.format_store(store, source.choice(store_bytes.versions_of(BITS)))
+
+
 def stop_after_saves(settings, store):
     """Kills a run after some of its saves. Answers the positions of the last line `saved` that it wrote."""
-    settings.format_store(store)
+    format_anew(settings, store)
     command = settings.report("--store", store, "--rounds", "4", "--block", str(up_to(1, 4096)), "--workers", "2")
     saves, text = source.randint(1, 4), ""
     with subprocess.Popen(command, stdout=subprocess.PIPE, text=True) as run:
@@ -97,7 +102,7 @@ def prepare(settings, store):
         return stop_after_saves(settings, store), False
     if kind == "fresh":
         Path(store).unlink(missing_ok=True)
-    settings.format_store(store)
+    format_anew(settings, store)
     return [0] * settings.shards, True
 
 
@@ -119,6 +124,7 @@ def test_session(settings, session, callers, rounds, floor, opens_there, has_sto
     saved = [*range(rounds), len(session.reports) - 1] if has_store else []
     test(session.saved == {number: session.reports[number].positions for number in saved}, "other lines saved")
     test(session.frames == settings.capture.frames and session.skipped == settings.capture.skipped, "other counts of frames")
+    test(session.cut is None, "a whole capture is cut")
 
 
 def independent(settings, session, text):
@@ -140,7 +146,7 @@ def independent(settings, session, text):
 def run_session(settings, folder):
     store, text = f"{folder}/store", f"{folder}/session"
     words, callers, rounds = settings.draw_words()
-    has_store = source.random() < 0.5 and BITS == 8
+    has_store = source.random() < 0.5
     floor, opens_there = prepare(settings, store) if has_store else ([0] * settings.shards, True)
     command = settings.report(*words, *(["--store", store] if has_store else []))
     try:

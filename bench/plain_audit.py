@@ -52,20 +52,28 @@ def meet(one, other):
     return lowest if is_under(lowest, one) and is_under(lowest, other) else None
 
 
+def closest_under(prefix, prefixes):
+    """Those of the prefixes strictly under this one that are under no other of them."""
+    below = [line for line in prefixes if line != prefix and is_under(line, prefix)]
+    return [line for line in below if not any(line != other and is_under(line, other) for other in below)]
+
+
+def kept_meets(closest):
+    """The meets of two of these prefixes that are under no third."""
+    for one, other in combinations(closest, 2):
+        lowest = meet(one, other)
+        if lowest and not any(is_under(lowest, third) for third in closest if third not in (one, other)):
+            yield lowest
+
+
 def is_justified(missing, total, prefix, prefixes):
     """Whether what a line misses to the threshold, times the capacity, is within the widths of the intervals that count."""
     if missing <= total:
         return True
-    below = [line for line in prefixes if line != prefix and is_under(line, prefix)]
-    closest = [line for line in below if not any(line != other and is_under(line, other) for other in below)]
+    closest = closest_under(prefix, prefixes)
     if missing <= (1 + len(closest)) * total:
         return True
-    pairs = 0
-    for one, other in combinations(closest, 2):
-        lowest = meet(one, other)
-        if lowest and not any(is_under(lowest, third) for third in closest if third not in (one, other)):
-            pairs += 1
-    return missing <= (1 + len(closest) + pairs) * total
+    return missing <= (1 + len(closest) + sum(1 for _ in kept_meets(closest))) * total
 
 
 def side_text(address, bits):
@@ -89,6 +97,10 @@ def sums_of(weights, prefixes, grain):
     return whole, left
 
 
+def threshold_of(total, phi):
+    return max(1, -(-phi * total // 1_000_000))
+
+
 def verdict_on(report, lists, capacity, phi, grain):
     """What is wrong with a report, or none."""
     if len(report.positions) != len(lists) or any(p > len(l) for p, l in zip(report.positions, lists)):
@@ -100,7 +112,7 @@ def verdict_on(report, lists, capacity, phi, grain):
     total = sum(weights.values())
     if report.total != total:
         return "bad total"
-    if report.threshold != max(1, -(-phi * total // 1_000_000)):
+    if report.threshold != threshold_of(total, phi):
         return "bad threshold"
     prefixes = [prefix for prefix, _, _ in report.lines]
     whole, left = sums_of(weights, prefixes, grain)

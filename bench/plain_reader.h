@@ -30,6 +30,7 @@ struct ending {
 struct settings {
     unsigned shards, capacity, share;
     int by_packets, deal;
+    unsigned bits;
 };
 
 enum { ROUND, SOURCE, FREE };
@@ -72,13 +73,13 @@ static void put_number(struct bytes *text, uint64_t number) {
     put(text, " %llu", (unsigned long long)number);
 }
 
-static void put_side(struct bytes *text, uint32_t address, unsigned bytes) {
-    put(text, " %u.%u.%u.%u/%u", address >> 24, address >> 16 & 255, address >> 8 & 255, address & 255, 8 * bytes);
+static void put_side(struct bytes *text, uint32_t address, unsigned units) {
+    put(text, " %u.%u.%u.%u/%u", address >> 24, address >> 16 & 255, address >> 8 & 255, address & 255, grain * units);
 }
 
 static void put_prefix(struct bytes *text, uint64_t key, unsigned node) {
-    put_side(text, key >> 32, node / 5);
-    put_side(text, key, node % 5);
+    put_side(text, key >> 32, source_units(node));
+    put_side(text, key, destination_units(node));
 }
 
 static void end_with(struct ending *ending, int status, const char *rule) {
@@ -140,10 +141,21 @@ static const char *read_file(const unsigned char *file, size_t length, size_t *o
     return 0;
 }
 
-// Reads a capture. Answers whether it is one; if not, the run ends with that.
-static int is_read(const struct bytes *capture, struct ending *ending) {
+// Where the capture that is read is cut, or 0.
+static size_t cut_place;
+
+// The same, but with the front a capture is taken up to a frame that is cut.
+static const char *read_capture(const struct bytes *capture, int with_front, size_t *offset) {
+    const char *fault = read_file(capture->at, capture->length, offset);
+    int is_cut = with_front && fault && !strcmp(fault, "cut frame");
+    cut_place = is_cut ? *offset : 0;
+    return is_cut ? 0 : fault;
+}
+
+// Reads a capture. Answers whether it is taken; if not, the run ends with that.
+static int is_read(const struct bytes *capture, int with_front, struct ending *ending) {
     size_t offset;
-    const char *fault = read_file(capture->at, capture->length, &offset);
+    const char *fault = read_capture(capture, with_front, &offset);
     if (!fault)
         return 1;
     put(&ending->line, "hhh: bad capture: %s at %zu\n", fault, offset);
@@ -193,11 +205,11 @@ static void add_weight(struct entry *table, size_t *length, uint64_t key, uint64
     insert_entry(table, length, entry);
 }
 
-static void predict_weigh(
-    const struct bytes *capture, int by_packets, uint64_t key, unsigned node, struct ending *ending) {
+static void predict_weigh(const struct bytes *capture, int with_front, int by_packets, uint64_t key, unsigned node,
+    struct ending *ending) {
     struct entry table[TABLE_OF_WEIGH];
     size_t length = 0;
-    if (!is_read(capture, ending))
+    if (!is_read(capture, with_front, ending))
         return;
     if (by_packets)
         count_packets();
@@ -209,7 +221,7 @@ static void predict_weigh(
     uint64_t low = has_entry ? high - table[place].error : 0;
     put(&ending->output, "low %llu\nhigh %llu\ntotal %llu\n", (unsigned long long)low, (unsigned long long)high,
         (unsigned long long)total_weight());
-    end_with(ending, 0, "taken");
+    end_with(ending, 0, cut_place ? "taken up to a cut frame" : "taken");
 }
 
 // Dealing: for each record its shard and its place in that shard's list.
@@ -254,7 +266,7 @@ static void put_positions(struct bytes *text, const char *word, const uint64_t *
 
 // The text of a session.
 
-enum stage { NOTHING, OPENED, BEGUN, PLACED, WEIGHED, LISTING, DONE, SAVED, COUNTED, SKIPPED, ENDED };
+enum stage { NOTHING, OPENED, BEGUN, PLACED, WEIGHED, LISTING, DONE, SAVED, COUNTED, SKIPPED, CUT, ENDED };
 
 // The positions of a line `saved`, if there is one after a report.
 struct saved {
@@ -265,7 +277,8 @@ struct saved {
 struct session {
     enum stage stage;
     unsigned shards;
-    uint64_t opened[MOST_SHARDS], frames, skipped[3];
+    uint64_t opened[MOST_SHARDS], frames, skipped[3], cut;
+    int has_cut;
     struct report *reports;
     struct saved *saved;
     struct line *lines;
@@ -302,7 +315,7 @@ static int take_number(struct rest *rest, uint64_t most, uint64_t *number) {
     return rest->at > begin && value <= most && (*begin != '0' || rest->at == begin + 1);
 }
 
-static int take_side(struct rest *rest, uint32_t *address, unsigned *bytes) {
+static int take_side(struct rest *rest, uint32_t *address, unsigned *units) {
     uint64_t number;
     *address = 0;
     for (int part = 0; part < 4; part++) {
@@ -310,10 +323,10 @@ static int take_side(struct rest *rest, uint32_t *address, unsigned *bytes) {
             return 0;
         *address = *address << 8 | number;
     }
-    if (!take(rest, "/") || !take_number(rest, 32, &number) || number % 8)
+    if (!take(rest, "/") || !take_number(rest, 32, &number) || number % grain)
         return 0;
-    *bytes = number / 8;
-    return kept(*address, *bytes) == *address;
+    *units = number / grain;
+    return kept(*address, *units) == *address;
 }
 
 static int take_positions(struct rest *rest, uint64_t *positions, unsigned *shards) {
@@ -340,17 +353,17 @@ static int is_earlier(const struct line *one, const struct line *other) {
 static int take_line(struct rest *rest, struct session *session) {
     struct line line = {0};
     uint32_t source, destination;
-    unsigned source_bytes, destination_bytes;
-    if (!take_side(rest, &source, &source_bytes) || !take(rest, " "))
+    unsigned units, further_units;
+    if (!take_side(rest, &source, &units) || !take(rest, " "))
         return 0;
-    if (!take_side(rest, &destination, &destination_bytes))
+    if (!take_side(rest, &destination, &further_units))
         return 0;
     if (!take(rest, " ") || !take_number(rest, UINT64_MAX, &line.low))
         return 0;
     if (!take(rest, " ") || !take_number(rest, UINT64_MAX, &line.high) || line.low > line.high)
         return 0;
     line.key = (uint64_t)source << 32 | destination;
-    line.node = sides * source_bytes + destination_bytes;
+    line.node = sides * units + further_units;
     struct report *report = last_report(session);
     if (report->count && !is_earlier(&report->lines[report->count - 1], &line))
         return 0;
@@ -390,6 +403,13 @@ static int take_skipped(struct rest *rest, struct session *session) {
     return 1;
 }
 
+static int after_skipped(struct rest *rest, struct session *session) {
+    if (take(rest, "end"))
+        return ENDED;
+    session->has_cut = 1;
+    return take(rest, "cut ") && take_number(rest, UINT64_MAX, &session->cut) ? CUT : 0;
+}
+
 // The stage to which a line leads, or 0 where it may not come here.
 static int next_stage(struct rest *rest, struct session *session) {
     uint64_t *threshold = 0;
@@ -414,6 +434,8 @@ static int next_stage(struct rest *rest, struct session *session) {
     case COUNTED:
         return take_skipped(rest, session) ? SKIPPED : 0;
     case SKIPPED:
+        return after_skipped(rest, session);
+    case CUT:
         return take(rest, "end") ? ENDED : 0;
     default:
         return 0;
@@ -473,6 +495,8 @@ static void put_session(struct bytes *text, const struct session *session) {
     }
     put(text, "frames %llu\n", (unsigned long long)session->frames);
     put_positions(text, "skipped", session->skipped, 3);
+    if (session->has_cut)
+        put(text, "cut %llu\n", (unsigned long long)session->cut);
     put(text, "end\n");
 }
 
@@ -700,28 +724,50 @@ static uint64_t big_number(const unsigned char *p) {
     return (uint64_t)big(p) << 32 | big(p + 4);
 }
 
-// The bytes 2 to 63 of a store.
-static void spell_header(const struct settings *settings, unsigned char *header) {
-    memset(header, 0, FRONT - 2);
-    memcpy(header, "HHHS", 4);
-    header[4] = 1;
-    header[5] = settings->shards;
-    put_big(header + 6, settings->capacity, 2);
-    header[8] = settings->by_packets;
-    header[9] = settings->deal;
+// What the header of a store spells.
+struct header {
+    unsigned version;
+    struct settings settings;
+};
+
+// The bytes 2 to 63 of a store. Version 1 says nothing of the bits, which are 8.
+static void spell_header(const struct header *header, unsigned char *spelled) {
+    const struct settings *settings = &header->settings;
+    memset(spelled, 0, FRONT - 2);
+    memcpy(spelled, "HHHS", 4);
+    spelled[4] = header->version;
+    spelled[5] = settings->shards;
+    put_big(spelled + 6, settings->capacity, 2);
+    spelled[8] = settings->by_packets;
+    spelled[9] = settings->deal;
+    spelled[10] = header->version == 1 ? 0 : settings->bits;
 }
 
-// The settings that a header spells. Answers whether it is one.
-static int read_store_header(const unsigned char *header, struct settings *settings) {
-    unsigned char spelled[FRONT - 2];
-    *settings = (struct settings){header[5], header[6] << 8 | header[7], 0, header[8], header[9]};
-    if (settings->shards < 1 || settings->shards > MOST_SHARDS || settings->capacity < 2 || settings->capacity > 4096
-        || settings->by_packets > 1 || settings->deal > FREE)
+static unsigned most_capacity(unsigned bits) {
+    return bits == 4 ? 1024 : 4096;
+}
+
+// The header that these bytes spell. Answers whether they are one.
+static int read_store_header(const unsigned char *spelled, struct header *header) {
+    unsigned char again[FRONT - 2];
+    unsigned version = spelled[4], bits = version == 1 ? 8 : spelled[10];
+    struct settings *settings = &header->settings;
+    *header = (struct header){version, {spelled[5], spelled[6] << 8 | spelled[7], 0, spelled[8], spelled[9], bits}};
+    if ((version != 1 && version != 2) || (bits != 8 && bits != 4))
         return 0;
-    spell_header(settings, spelled);
-    return !memcmp(header, spelled, sizeof spelled);
+    if (settings->shards < 1 || settings->shards > MOST_SHARDS || settings->capacity < 2
+        || settings->capacity > most_capacity(bits) || settings->by_packets > 1 || settings->deal > FREE)
+        return 0;
+    spell_header(header, again);
+    return !memcmp(spelled, again, sizeof again);
 }
 
+static int have_same_store(const struct settings *one, const struct settings *other) {
+    return one->shards == other->shards && one->capacity == other->capacity && one->by_packets == other->by_packets
+        && one->deal == other->deal && one->bits == other->bits;
+}
+
+// The bits of the settings have to count.
 static uint64_t span_of(const struct settings *settings) {
     return BODY_FRONT + (uint64_t)settings->shards * (8 + node_count * (12 + 24 * (uint64_t)settings->capacity));
 }
@@ -730,14 +776,14 @@ static size_t place_of_body(const struct settings *settings, unsigned slot) {
     return FRONT + slot * span_of(settings);
 }
 
-// The digest of the records as they are dealt.
-static void digest_records(const struct settings *settings, unsigned char *digest) {
+// The digest of the records as they are dealt, in a store with this header.
+static void digest_records(const struct header *header, unsigned char *digest) {
     static struct bytes hashed;
     unsigned char piece[FRONT];
-    spell_header(settings, piece);
+    spell_header(header, piece);
     hashed.length = 0;
     append(&hashed, piece, FRONT - 2);
-    for (unsigned shard = 0; shard < settings->shards; shard++) {
+    for (unsigned shard = 0; shard < header->settings.shards; shard++) {
         put_big(piece, dealt.ends[shard], 4);
         append(&hashed, piece, 4);
         for (size_t i = 0; i < count; i++)
@@ -880,13 +926,12 @@ static struct opening refused(int status, const char *rule, unsigned slot) {
 
 // The records of the capture have to be read and dealt.
 static struct opening open_store(const struct bytes *image, const struct settings *settings) {
-    struct settings stored;
+    struct header stored;
     struct body bodies[2] = {{0}}, *newest = 0;
     unsigned char digest[32];
     if (image->length < FRONT || !read_store_header(image->at + 2, &stored))
         return refused(7, "not formatted", 0);
-    if (stored.shards != settings->shards || stored.capacity != settings->capacity || stored.deal != settings->deal
-        || stored.by_packets != settings->by_packets)
+    if (!have_same_store(&stored.settings, settings))
         return refused(9, "other settings", 0);
     for (unsigned slot = 0; slot < 2; slot++) {
         if (image->at[slot] != 1)
@@ -899,7 +944,7 @@ static struct opening open_store(const struct bytes *image, const struct setting
     }
     if (!newest)
         return (struct opening){.rule = "opened, no gate open"};
-    digest_records(settings, digest);
+    digest_records(&stored, digest);
     if (memcmp(newest->digest, digest, sizeof digest))
         return refused(10, "another capture", 0);
     const char *fault = fault_of_newest(newest, settings);
@@ -923,6 +968,8 @@ static void put_bare_session(struct bytes *text, const uint64_t *positions, cons
     put_positions(text, "saved", dealt.ends, settings->shards);
     put(text, "frames %zu\n", frames);
     put_positions(text, "skipped", skipped, 3);
+    if (cut_place)
+        put(text, "cut %zu\n", cut_place);
     put(text, "end\n");
 }
 

@@ -23,6 +23,7 @@ class Session:
     saved: dict  # the positions of the lines `saved`, by the number of the report before them
     frames: int
     skipped: list
+    cut: int | None  # the place of the frame inside which the capture ended
 
 
 @dataclass
@@ -33,9 +34,12 @@ class Capture:
 
 
 def read_capture(path):
+    return decode_capture(Path(path).read_bytes())
+
+
+def decode_capture(data):
     """The records and counts of a capture that is not refused."""
-    data = Path(path).read_bytes()
-    order = "<" if data[3] == 0xA1 else ">"
+    order = "<" if data[3:4] == b"\xa1" else ">"
     capture, at = Capture([], 0, [0, 0, 0]), 24
     while at < len(data):
         captured, wire = struct.unpack_from(order + "II", data, at + 8)
@@ -91,7 +95,7 @@ def read_session(text):
     """A session that isn't refused. Its frame is tested strictly, its lines are not."""
     lines = text.split("\n")
     assert lines[-1] == "" and lines[-2] == "end" and lines[0].startswith("opened "), "no whole session"
-    session = Session(numbers(lines[0]), [], {}, 0, [])
+    session = Session(numbers(lines[0]), [], {}, 0, [], None)
     for line in lines[1:-2]:
         word = line.split(" ")[0]
         if word == "at":
@@ -110,6 +114,8 @@ def read_session(text):
             session.frames = numbers(line)[0]
         elif word == "skipped":
             session.skipped = numbers(line)
+        elif word == "cut":
+            session.cut = numbers(line)[0]
         else:
             assert line in ("report", "done"), line
     return session
@@ -148,7 +154,8 @@ NEXT_WORDS = {
     "done": ["saved", "report", "frames"],
     "saved": ["report", "frames"],
     "frames": ["skipped"],
-    "skipped": ["end"],
+    "skipped": ["cut", "end"],
+    "cut": ["end"],
     "end": [],
 }
 

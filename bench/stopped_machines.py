@@ -2,11 +2,12 @@
 """Makes what a stop of the machine leaves of stores, and runs over it: stopped_machines.py PROGRAM [--runs N] [--images N]
 [--failing N] [--seed N] [--wrong FOLDER]
 
-Each run is a `format` or a `report --store` over a made capture, with random settings, rounds, callers, workers and block.
-strace records what it wrote to its store and to standard output, and when it synced. It begins on no file, on bytes that are
-no store, on a store that was formatted only, on what an earlier run left at its end or when it was killed, or on an image of
-a stop of an earlier run. From the record are made images of stops (`stop_images.py`): after any of the run's steps, with
-what wasn't synced kept, dropped, torn or replaced by other bytes. Of each image is tested
+Each run is a `format` or a `report --store` over a made capture, with random settings, rounds, callers, workers and
+block. Stores are of both versions; `format` writes version 2, so the script writes the first bytes of one of version
+1. strace records what a run wrote to its store and to standard output, and when it synced. It begins on no file, on
+bytes that are no store, on a store that was formatted only, on what an earlier run left at its end or when it was
+killed, or on an image of a stop of an earlier run. From the record are made images of stops (`stop_images.py`): after
+any of the run's steps, with what wasn't synced kept, dropped, torn or replaced by other bytes. Of each image is tested
 
 - that its bytes open, by `store_bytes.py`, to the cut of the last whole line `saved`, or where there is none to the one at
   which the run opened, or else to the next cut that the run saves; each under its sequence, which counts the saves. Before
@@ -64,9 +65,10 @@ def up_to(source, least, most):
 
 
 def draw_settings(source):
+    bits = source.choice((8, 8, 4))
     while True:
-        settings = (up_to(source, 1, 16), up_to(source, 2, 512), source.choice(store_bytes.WEIGHINGS),
-            source.choice(store_bytes.DEALINGS))
+        settings = store_bytes.Settings(up_to(source, 1, 16), up_to(source, 2, 512),
+            source.choice(store_bytes.WEIGHINGS), source.choice(store_bytes.DEALINGS), bits)
         if store_bytes.span_of(settings) <= MOST_SPAN:
             return settings
 
@@ -145,7 +147,7 @@ class Case(StoredCapture):
         with open(path, "wb") as capture:
             made = [str(source.randrange(1 << 64)), str(up_to(source, 1, 4000))]
             subprocess.run([program, "make", *made], stdout=capture, check=True)
-        super().__init__(program, path, settings, up_to(source, least_share(settings[1]), 1_000_000))
+        super().__init__(program, path, settings, up_to(source, least_share(settings.capacity), 1_000_000))
         self.store, self.part, self.records = f"{folder}/disk/store", f"{folder}/part", []
         Path(self.store).parent.mkdir()
 
@@ -176,7 +178,7 @@ class Case(StoredCapture):
             return kind, *self.at_rest(source.choice((None, None, b"", source.randbytes(source.randint(1, 4000)))))
         if kind == "formatted" or not self.records:
             self.put(self.records[-1].last_stop().kept() if self.records else source.randbytes(5000))
-            self.format_store(self.store)
+            self.format_store(self.store, source.choice(store_bytes.versions_of(self.settings.bits)))
             return "formatted", *self.at_rest(self.taken())
         record = source.choice(self.records)
         if kind == "left":
@@ -217,6 +219,8 @@ class Case(StoredCapture):
         test(session.opened == record.opened[2], "opened elsewhere")
         test(session_text.last_report(traced.text) == self.last_report, "another last report")
         test(list(session.saved.values())[-1] == self.ends, "the last cut isn't at the ends")
+        headers = [store_bytes.header_in(image) for image in (record.start.kept(), self.taken())]
+        test(headers[0] == headers[1], "another header")
 
     def test_opening(self, record, stop, image):
         found, openings = self.opening_of(image), record.openings_at(stop)
@@ -322,7 +326,11 @@ class Trial:
         stop = record.draw_stop(source)
         image, words = stop_images.image_of(stop, source), case.draw_words(source)
         self.counts[counted] += 1
-        self.counts["of second stops"] += counted == "images" and record.kind in ("image", "killed")
+        if counted == "images":
+            self.counts["of second stops"] += record.kind in ("image", "killed")
+            header = store_bytes.header_in(image or b"")
+            self.counts["of version 1"] += header is not None and header.version == 1
+            self.counts["by 4 bits"] += header is not None and header.settings.bits == 4
         self.guard(case, case.report("--store", case.store, *words), image, lambda: case.test_image(record, stop, image, words))
 
     def failing(self, case, record, source):
@@ -375,7 +383,8 @@ def main():
             case = Case(words.program, folder, random.Random(f"{words.seed} {first}"))
             for number in range(first, min(first + PER_CASE, words.runs)):
                 trial.run(case, random.Random(f"{words.seed} {number} run"), number)
-    names = ("runs", "images", "of second stops", "failing calls", "images after them", "wrong")
+    names = ("runs", "images", "of second stops", "of version 1", "by 4 bits", "failing calls", "images after them",
+        "wrong")
     print(*(f"{trial.counts[name]} {name}" for name in names), sep=", ")
     sys.exit(trial.counts["wrong"] > 0)
 

@@ -1,15 +1,31 @@
-"""What the bytes of a store open to, by the rules of docs/FORMATS.md: a plain reader beside the program's own.
-
-Settings are the numbers of shards and entries of a table, the way of weighing and the way of dealing.
-"""
+"""What the bytes of a store open to, by the rules of docs/FORMATS.md: a plain reader beside the program's own."""
 
 import hashlib
 import struct
+from typing import NamedTuple
 
 FRONT = 64
 MOST_POSITION = 1 << 24
 LAST_SEQUENCE = 1 << 62
 WEIGHINGS, DEALINGS = ["bytes", "packets"], ["round", "source", "free"]
+MOST_CAPACITY = {8: 4096, 4: 1024}
+# What a version and byte 12 of a store tell of the bits. Version 1 means 8, and has nothing there.
+TOLD_BITS = {(1, 0): 8, (2, 8): 8, (2, 4): 4}
+# The kinds of stores: version and bits.
+KINDS = [(version, bits) for (version, _), bits in TOLD_BITS.items()]
+
+
+class Settings(NamedTuple):
+    shards: int
+    capacity: int
+    weighing: str
+    dealing: str
+    bits: int = 8
+
+
+class Header(NamedTuple):
+    version: int
+    settings: Settings
 
 
 class Damaged(Exception):
@@ -20,32 +36,58 @@ class DamagedSlot(Exception):
     """Under the open gate of this slot is no body."""
 
 
-def header_of(settings):
-    shards, capacity, weighing, dealing = settings
-    front = struct.pack(">4sBBHBB", b"HHHS", 1, shards, capacity, WEIGHINGS.index(weighing), DEALINGS.index(dealing))
+def versions_of(bits):
+    """The versions that a store by so many bits may have."""
+    return [version for version, own in KINDS if own == bits]
+
+
+def header_of(header):
+    """The bytes that spell a header."""
+    version, (shards, capacity, weighing, dealing, bits) = header
+    choices = WEIGHINGS.index(weighing), DEALINGS.index(dealing), 0 if version == 1 else bits
+    front = struct.pack(">4sBBHBBB", b"HHHS", version, shards, capacity, *choices)
     return front + bytes(FRONT - 2 - len(front))
 
 
-def read_header(header):
-    """The settings that a header spells, or none."""
-    letters, version, shards, capacity, weighing, dealing = struct.unpack_from(">4sBBHBB", header)
-    if weighing > 1 or dealing > 2 or not 1 <= shards <= 16 or not 2 <= capacity <= 4096:
+def read_header(spelled):
+    """The header that these bytes spell, or none."""
+    _, version, shards, capacity, weighing, dealing, byte = struct.unpack_from(">4sBBHBBB", spelled)
+    bits = TOLD_BITS.get((version, byte))
+    if bits is None or weighing > 1 or dealing > 2 or not 1 <= shards <= 16 or not 2 <= capacity <= MOST_CAPACITY[bits]:
         return None
-    settings = shards, capacity, WEIGHINGS[weighing], DEALINGS[dealing]
-    return settings if header == header_of(settings) else None
+    header = Header(version, Settings(shards, capacity, WEIGHINGS[weighing], DEALINGS[dealing], bits))
+    return header if spelled == header_of(header) else None
+
+
+def formatted(header):
+    """The first bytes of a store without a save: its gates and its header."""
+    return bytes(2) + header_of(header)
+
+
+def lengths_of(bits):
+    """How many lengths an address may have."""
+    return 32 // bits + 1
+
+
+def nodes_of(bits):
+    return lengths_of(bits) ** 2
 
 
 def span_of(settings):
-    shards, capacity = settings[:2]
-    return 48 + shards * (8 + 25 * (12 + 24 * capacity))
+    return 48 + settings.shards * (8 + nodes_of(settings.bits) * (12 + 24 * settings.capacity))
 
 
-def digest_of(settings, lists):
-    digest = hashlib.sha256(header_of(settings))
+def spell_lists(lists):
+    """The lists of the shards as a digest has them, after the header."""
+    pieces = []
     for records in lists:
-        digest.update(struct.pack(">I", len(records)))
-        digest.update(b"".join(struct.pack(">III", *record) for record in records))
-    return digest.digest()
+        pieces.append(struct.pack(">I", len(records)))
+        pieces.extend(struct.pack(">III", *record) for record in records)
+    return b"".join(pieces)
+
+
+def digest_of(header, spelled_lists):
+    return hashlib.sha256(header_of(header) + spelled_lists).digest()
 
 
 def need(holds):
@@ -58,23 +100,28 @@ def take(body, at, form):
     return struct.unpack_from(form, body, at), at + struct.calcsize(form)
 
 
-def read_table(body, at, capacity, node):
+def kept_bits(node, bits):
+    """The bits of a key that a node keeps."""
+    source, destination = (bits * units for units in divmod(node, lengths_of(bits)))
+    return (1 << 32) - (1 << 32 - source) << 32 | (1 << 32) - (1 << 32 - destination)
+
+
+def read_table(body, at, settings, node):
     """The total of a table, and where it ends."""
     (total, count), at = take(body, at, ">QI")
-    need(count <= capacity)
+    need(count <= settings.capacity)
     numbers, at = take(body, at, f">{3 * count}Q")
     keys, counts, errors = numbers[::3], numbers[1::3], numbers[2::3]
-    beyond = (1 << 32 - 8 * (node // 5)) - 1 << 32 | (1 << 32 - 8 * (node % 5)) - 1
+    kept = kept_bits(node, settings.bits)
     need(sum(counts) == total < 1 << 56)
     need(all(one <= other for one, other in zip(counts, counts[1:])))
-    need(len(set(keys)) == count and not any(key & beyond for key in keys))
-    need(all(error < weight and error * capacity <= total for weight, error in zip(counts, errors)))
+    need(len(set(keys)) == count and not any(key & ~kept for key in keys))
+    need(all(error < weight and error * settings.capacity <= total for weight, error in zip(counts, errors)))
     return total, at
 
 
 def read_body(image, slot, settings):
     """The sequence, the digest, the positions and the totals that the body of a slot spells."""
-    shards, capacity = settings[:2]
     span = span_of(settings)
     place = FRONT + slot * span
     (length,), _ = take(image, place, ">Q")
@@ -83,12 +130,12 @@ def read_body(image, slot, settings):
     (_, sequence, digest), at = take(body, 0, ">QQ32s")
     need(1 <= sequence <= LAST_SEQUENCE)
     positions, totals = [], []
-    for _ in range(shards):
+    for _ in range(settings.shards):
         (position,), at = take(body, at, ">Q")
         need(position <= MOST_POSITION)
         found = set()
-        for node in range(25):
-            total, at = read_table(body, at, capacity, node)
+        for node in range(nodes_of(settings.bits)):
+            total, at = read_table(body, at, settings, node)
             found.add(total)
         need(len(found) == 1)
         positions.append(position)
@@ -120,22 +167,27 @@ def newest_sequence(image, settings):
     return bodies[newest_of(bodies)][0] if bodies else 0
 
 
-def opening(image, settings, lists, digest):
+def header_in(image):
+    """The header of a store, or none."""
+    return read_header(image[2:FRONT]) if len(image) >= FRONT else None
+
+
+def opening(image, settings, lists, spelled_lists):
     """The status with which a run over these lists ends, and the positions at which it opens or the damaged slot."""
-    stored = read_header(image[2:FRONT]) if len(image) >= FRONT else None
+    stored = header_in(image)
     if stored is None:
         return 7, None
-    if stored != settings:
+    if stored.settings != settings:
         return 9, None
     try:
         bodies = open_bodies(image, settings)
     except DamagedSlot as damaged:
         return 8, damaged.args[0]
     if not bodies:
-        return 0, [0] * settings[0]
+        return 0, [0] * settings.shards
     slot = newest_of(bodies)
     sequence, found, positions, totals = bodies[slot]
-    if found != digest:
+    if found != digest_of(stored, spelled_lists):
         return 10, None
     for position, total, records in zip(positions, totals, lists):
         if position > len(records) or total != sum(weight for _, _, weight in records[:position]):
@@ -152,10 +204,10 @@ def structure_of(image, settings):
             continue
         places.update(range(at, at + 48))
         at += 48
-        for _ in range(settings[0]):
+        for _ in range(settings.shards):
             places.update(range(at, at + 8))
             at += 8
-            for _ in range(25):
+            for _ in range(nodes_of(settings.bits)):
                 if at + 12 > len(image):
                     break
                 places.update(range(at, at + 12))

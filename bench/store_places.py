@@ -23,6 +23,7 @@ from collections import Counter
 from pathlib import Path
 
 import session_text
+import store_bytes
 from stored_capture import StoredCapture
 
 program, capture = sys.argv[1:3]
@@ -141,7 +142,7 @@ def two_at_once(store):
             test(opens_to(store) == (0, counted.ends), "the store doesn't open to the ends")
 
 
-counted = StoredCapture(program, capture, (2, 64, "bytes", "round"), 50_000)
+counted = StoredCapture(program, capture, store_bytes.Settings(2, 64, "bytes", "round"), 50_000)
 with tempfile.TemporaryDirectory() as folder:
     part, mounted = f"{folder}/part", f"{folder}/mounted"
     os.mkdir(mounted)

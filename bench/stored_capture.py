@@ -29,19 +29,25 @@ def least_share(capacity):
     return -(-2_000_000 // capacity)
 
 
-class StoredCapture:
-    """A capture and settings: shards, capacity, the way of weighing and that of dealing; a store goes with 8 bits alone."""
+def write_front(store, front):
+    """Writes the first bytes of a file and leaves the others, as `format` does."""
+    behind = Path(store).read_bytes()[len(front):] if Path(store).exists() else b""
+    Path(store).write_bytes(front + behind)
 
-    def __init__(self, program, path, settings, phi=None, bits=8):
+
+class StoredCapture:
+    """A capture, and the settings of its stores."""
+
+    def __init__(self, program, path, settings, phi=None):
         self.program, self.path, self.settings = program, path, settings
-        shards, capacity, weigh, deal = settings
+        shards, capacity, weigh, deal, bits = settings
         self.capture = session_text.read_capture(path)
         self.lists = session_text.deal(self.capture, shards, deal, weigh)
         self.ends = [len(records) for records in self.lists]
-        self.digest = store_bytes.digest_of(settings, self.lists)
+        self.spelled_lists = store_bytes.spell_lists(self.lists)
         self.store_words = ["--shards", str(shards), "--capacity", str(capacity), "--weigh", weigh, "--deal", deal]
+        self.store_words += ["--bits", str(bits)] if bits != 8 else []
         self.words = ["--capture", path, *self.store_words, "--phi", str(phi or least_share(capacity))]
-        self.words += ["--bits", str(bits)] if bits != 8 else []
         self.last_report = session_text.last_report(self.run(self.report("--workers", "1")).stdout)
 
     def report(self, *words):
@@ -53,11 +59,17 @@ class StoredCapture:
     def run(self, command):
         return subprocess.run(command, capture_output=True, text=True, timeout=SECONDS)
 
-    def format_store(self, store):
-        test(self.run(self.format(store)).stdout == "formatted\n", "format failed")
+    def format_store(self, store, version=2):
+        """Makes a store; one of version 1 as programs of that time did, since `format` writes version 2."""
+        front = store_bytes.formatted(store_bytes.Header(version, self.settings))
+        if version == 1:
+            write_front(store, front)
+        else:
+            test(self.run(self.format(store)).stdout == "formatted\n", "format failed")
+            test(Path(store).read_bytes()[:store_bytes.FRONT] == front, "another header")
 
     def opening(self, image):
-        return store_bytes.opening(image, self.settings, self.lists, self.digest)
+        return store_bytes.opening(image, self.settings, self.lists, self.spelled_lists)
 
     def go_on(self, store, *words):
         """Runs a report over a store, and tests that it opens as docs/FORMATS.md says of its bytes. Answers how it ended."""
@@ -73,6 +85,7 @@ class StoredCapture:
         test(session_text.numbers(ended.stdout.split("\n")[0]) == where, "opened elsewhere")
         opened = self.opening(after)
         test(opened == (0, self.ends), f"the store then opens to {opened}")
+        test(store_bytes.header_in(after) == store_bytes.header_in(image), "another header")
         return ended
 
     def audit(self, text, part):

@@ -218,6 +218,16 @@ class Export(unittest.TestCase):
         text = run("hhh-export", "prometheus", text=SESSION.encode()).decode()
         self.assertEqual(text, PROMETHEUS)
 
+    def test_cut_captures(self):
+        cut = SESSION.replace("end", "cut 136\nend")
+        report = json.loads(run("hhh-export", "json", text=cut.encode()))
+        self.assertEqual(report.pop("cut"), 136)
+        self.assertEqual(report, json.loads(run("hhh-export", "json", text=SESSION.encode())))
+        text = run("hhh-export", "prometheus", text=cut.encode()).decode()
+        self.assertEqual(text, PROMETHEUS.replace("# TYPE hhh_low", "# TYPE hhh_cut gauge\nhhh_cut 136\n# TYPE hhh_low"))
+        for other in ("cut", "cut x"):
+            run("hhh-export", "csv", text=SESSION.replace("end", other + "\nend").encode(), status=1, said=b"no session")
+
     def test_lengths_of_four_bits(self):
         rows = run("hhh-export", "csv", text=SESSION.replace("10.0.0.0/8", "10.16.0.0/12").encode()).decode().split("\n")
         self.assertEqual(rows[2], "10.16.0.0/12,20.1.0.0/16,290,300")

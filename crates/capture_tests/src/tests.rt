@@ -1,4 +1,5 @@
 mod fakes;
 mod frames;
+mod fronts;
 mod made;
 mod records;

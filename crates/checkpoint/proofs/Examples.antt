@@ -2,13 +2,17 @@
 use Rattle.std.proofs.Common.{◌≡◌, ℕ, ◌+◌, List, [], ◌∷◌, ◌++◌, length, take, drop, refl, ap, arith}
 use Rattle.std.proofs.lemmas.List.{length-append}
 use Rattle.prefix_lattice.specs.{RecordValue}
+use Rattle.prefix_lattice.specs.declared.grain.Grain.{Grain}
+use Rattle.prefix_lattice.specs.declared.grain.Grain.TheVariants.{Byte, Nibble}
 use Rattle.frame_records.specs.declared.weigh.Weigh.TheVariants.{Bytes, Packets}
 use Rattle.deal_rules.specs.declared.deal_kind.DealKind.TheVariants.{RoundRobin, Free}
 use Rattle.space_saving.specs.declared.entry.Entry.{Entry}
 use Rattle.shard_state.specs.{TableShape, empty_snapshot, no_entries}
 use Rattle.checkpoint.specs.declared.settings.StoreSettings.{StoreSettings}
+use Rattle.checkpoint.specs.declared.version.Version.TheVariants.{First, Second}
 use Rattle.checkpoint.specs.Numbers.{number_bytes}
-use Rattle.checkpoint.specs.Header.{AreSettings, settings_header, settings_shape}
+use Rattle.checkpoint.specs.Version.{VersionTakes, grain_byte, version_number, version_of_number}
+use Rattle.checkpoint.specs.Header.{AreSettings, IsHeader, header_bytes, settings_shape, stored_header, written_header}
 use Rattle.checkpoint.specs.Lengths.{span_of, table_span}
 use Rattle.checkpoint.specs.Saved.{SavedValue}
 use Rattle.checkpoint.specs.Body.{IsSaved, IsBody, KeysFit, HasShortKeys, entry_bytes}
@@ -21,33 +25,72 @@ use Rattle.checkpoint.proofs.PartLengthLemmas.{part_length_of_entry}
 
 -- one shard with tables of 512 entries, by bytes, dealt in turn
 abbrev one_shard : StoreSettings
-one_shard = record { shards = 1; capacity = 512; weigh = Bytes; deal = RoundRobin }
+one_shard = record { shards = 1; capacity = 512; weigh = Bytes; deal = RoundRobin; grain = Byte }
+
+abbrev settings_by : Grain → ℕ → ℕ → StoreSettings
+settings_by grain shards capacity = record { shards = shards; capacity = capacity; weigh = Packets; deal = Free; grain = grain }
 
 abbrev settings : ℕ → ℕ → StoreSettings
-settings shards capacity = record { shards = shards; capacity = capacity; weigh = Packets; deal = Free }
+settings shards capacity = settings_by Byte shards capacity
 
 pub high_byte_comes_first : number_bytes 4 258 ≡ 0 ∷ 0 ∷ 1 ∷ 2 ∷ []
 unfolding number_bytes
 high_byte_comes_first = refl
 
-pub letters_are_HHHS : take 4 (settings_header (settings 16 4096)) ≡ 0x48 ∷ 0x48 ∷ 0x48 ∷ 0x53 ∷ []
+pub written_version_is_2 : version_number (written_header (settings 1 2)).version ≡ 2
+written_version_is_2 = refl
+
+pub number_1_is_the_first_version : version_of_number 1 ≡ First
+number_1_is_the_first_version = refl
+
+pub first_version_has_no_grain : grain_byte First Byte ≡ 0
+first_version_has_no_grain = refl
+
+pub half_bytes_have_4_bits : grain_byte Second Nibble ≡ 4
+half_bytes_have_4_bits = refl
+
+pub first_version_takes_no_half_bytes : VersionTakes First Nibble → ⊥
+first_version_takes_no_half_bytes taken = cc taken
+
+pub first_version_spells_no_half_bytes : IsHeader (record { version = First; settings = settings_by Nibble 1 512 }) → ⊥
+first_version_spells_no_half_bytes is = cc is.taken
+
+pub letters_are_HHHS : take 4 (header_bytes (written_header (settings 16 4096))) ≡ 0x48 ∷ 0x48 ∷ 0x48 ∷ 0x53 ∷ []
 letters_are_HHHS = refl
 
--- the version, the shards, the capacity, the weighing and the dealing
-pub header_names_the_settings : take 6 (drop 4 (settings_header (settings 16 4096))) ≡ 1 ∷ 16 ∷ 0x10 ∷ 0 ∷ 1 ∷ 2 ∷ []
+-- the version, the shards, the capacity, the weighing, the dealing and the grain
+pub header_names_the_settings : take 7 (drop 4 (header_bytes (written_header (settings 16 4096)))) ≡ 2 ∷ 16 ∷ 0x10 ∷ 0 ∷ 1 ∷ 2 ∷ 8 ∷ []
 header_names_the_settings = refl
 
-pub header_has_62_bytes : length (settings_header (settings 16 4096)) ≡ 62
+-- in the first version a zero follows the dealing
+pub first_header_names_the_settings : take 7 (drop 4 (header_bytes (record { version = First; settings = settings 16 4096 })))
+    ≡ 1 ∷ 16 ∷ 0x10 ∷ 0 ∷ 1 ∷ 2 ∷ 0 ∷ []
+first_header_names_the_settings = refl
+
+pub header_has_62_bytes : length (header_bytes (written_header (settings 16 4096))) ≡ 62
 header_has_62_bytes = refl
+
+-- a store of the first version, and one whose byte 6 is 2
+pub byte_6_shows_the_first_version : (stored_header one_shard (0 ∷ 0 ∷ 0x48 ∷ 0x48 ∷ 0x48 ∷ 0x53 ∷ 1 ∷ [])).version ≡ First
+byte_6_shows_the_first_version = refl
+
+pub byte_6_shows_the_second_version : stored_header one_shard (0 ∷ 0 ∷ 0x48 ∷ 0x48 ∷ 0x48 ∷ 0x53 ∷ 2 ∷ []) ≡ written_header one_shard
+byte_6_shows_the_second_version = refl
 
 pub settings_have_at_most_16_shards : AreSettings (settings 17 512) → ⊥
 settings_have_at_most_16_shards are = omega (arith, are.few)
+
+pub half_bytes_have_at_most_1024_entries : AreSettings (settings_by Nibble 1 1025) → ⊥
+half_bytes_have_at_most_1024_entries are = omega (arith, are.most)
 
 pub span_of_the_smallest_store : span_of (settings 1 2) ≡ 1556
 span_of_the_smallest_store = refl
 
 pub span_of_the_greatest_store : span_of (settings 16 4096) ≡ 39326576
 span_of_the_greatest_store = refl
+
+pub span_by_half_bytes : span_of (settings_by Nibble 1 512) ≡ 996356
+span_by_half_bytes = refl
 
 -- an entry of key 5, count 7 and error 3
 abbrev entry : Entry
@@ -109,12 +152,13 @@ pub list_begins_with_its_length : list_bytes (packet ∷ [])
 unfolding number_bytes
 list_begins_with_its_length = refl
 
-pub digest_is_of_the_header_and_the_lists : drop 62 (digested one_shard ((packet ∷ []) ∷ [])) ≡ list_bytes (packet ∷ [])
+pub digest_is_of_the_header_and_the_lists : drop 62 (digested (header_bytes (written_header one_shard)) ((packet ∷ []) ∷ [])) ≡ list_bytes (packet ∷ [])
 unfolding number_bytes
 digest_is_of_the_header_and_the_lists = refl
 
 -- lists of other shards are another text
-pub lists_are_not_joined : take 4 (drop 62 (digested (settings 2 4) ([] ∷ (packet ∷ []) ∷ []))) ≡ 0 ∷ 0 ∷ 0 ∷ 0 ∷ []
+pub lists_are_not_joined : take 4 (drop 62 (digested (header_bytes (written_header (settings 2 4))) ([] ∷ (packet ∷ []) ∷ [])))
+    ≡ 0 ∷ 0 ∷ 0 ∷ 0 ∷ []
 unfolding number_bytes
 lists_are_not_joined = refl
 

@@ -2,12 +2,15 @@
 use Rattle.std.proofs.Common.{◌≡◌, ℕ, List, [], ◌∷◌, Some, None, refl, ap, subst, ◌∙◌, inl, inr, arith}
 use Rattle.std.specs.Prelude.{slice_index}
 use Rattle.prefix_lattice.specs.{RecordValue}
+use Rattle.prefix_lattice.specs.declared.grain.Grain.TheVariants.{Byte}
 use Rattle.frame_records.specs.declared.weigh.Weigh.TheVariants.{Bytes}
 use Rattle.deal_rules.specs.declared.deal_kind.DealKind.TheVariants.{RoundRobin}
 use Rattle.shard_state.specs.{CutValue, TableShape, empty_snapshot, no_entries}
 use Rattle.slot_disk.specs.{known_slots_of}
+use Rattle.checkpoint.specs.declared.header.StoreHeader.{StoreHeader}
 use Rattle.checkpoint.specs.declared.settings.StoreSettings.{StoreSettings}
-use Rattle.checkpoint.specs.Header.{settings_header, settings_shape}
+use Rattle.checkpoint.specs.declared.version.Version.TheVariants.{First}
+use Rattle.checkpoint.specs.Header.{header_bytes, settings_shape, written_header}
 use Rattle.checkpoint.specs.Saved.{SavedValue}
 use Rattle.checkpoint.specs.Store.{SlotHolds, StoreHolds, IsSoundStore, newest_in, newest_slot_in}
 use Rattle.checkpoint.specs.Store.{IsNotNewest, StoreOpensTo}
@@ -16,13 +19,20 @@ use Rattle.checkpoint.specs.Store.{OpensOldOrNew}
 use Rattle.checkpoint.specs.Saver.{SaverState, IsNewestSave, saver_of, IsKnownSaver, DiskMatches}
 use Rattle.checkpoint.specs.Saver.{saver_after, next_saved}
 
--- this many shards with tables of two entries
+-- this many shards with tables of two entries, by whole bytes
 abbrev settings : ℕ → StoreSettings
-settings shards = record { shards = shards; capacity = 2; weigh = Bytes; deal = RoundRobin }
+settings shards = record { shards = shards; capacity = 2; weigh = Bytes; deal = RoundRobin; grain = Byte }
+
+abbrev header : ℕ → StoreHeader
+header shards = written_header (settings shards)
+
+-- the header that a store of one shard has in the first version
+abbrev old_header : StoreHeader
+old_header = record { version = First; settings = settings 1 }
 
 -- a store of one shard with these gates and no body
 abbrev store : ℕ → ℕ → List ℕ
-store first second = first ∷ second ∷ settings_header (settings 1)
+store first second = first ∷ second ∷ header_bytes (header 1)
 
 -- the shape of its tables
 abbrev shape : TableShape
@@ -41,14 +51,23 @@ saved sequence = record { sequence = sequence; digest = []; cut = cut }
 pub closed_slot_holds_nothing : SlotHolds (settings 1) 1 (store 0 0) None
 closed_slot_holds_nothing = refl
 
-pub formatted_store_holds_nothing : StoreHolds (settings 1) (store 0 0) None None
-formatted_store_holds_nothing = record { long = omega arith; header = refl; first_slot = refl; second_slot = refl }
+pub formatted_store_holds_nothing : StoreHolds (header 1) (store 0 0) None None
+formatted_store_holds_nothing = record { long = omega arith; header = refl; taken = tt; first_slot = refl; second_slot = refl }
 
-pub formatted_store_is_sound : IsSoundStore (settings 1) (store 0 0)
+pub formatted_store_is_sound : IsSoundStore (header 1) (store 0 0)
 formatted_store_is_sound = (None, None, formatted_store_holds_nothing)
 
+-- a store of the first version is sound under its own header
+pub old_store_is_sound : IsSoundStore old_header (0 ∷ 0 ∷ header_bytes old_header)
+old_store_is_sound =
+    (None, None, record { long = omega arith; header = refl; taken = refl; first_slot = refl; second_slot = refl })
+
+pub old_store_is_none_of_the_new : IsSoundStore (header 1) (0 ∷ 0 ∷ header_bytes old_header) → ⊥
+old_store_is_none_of_the_new sound =
+    let version : 1 ≡ 2 = ap (λ (l : List ℕ). slice_index l 4) sound.2.header in omega (arith, version)
+
 -- its header has other settings
-pub store_of_one_shard_is_none_of_two : IsSoundStore (settings 2) (store 0 0) → ⊥
+pub store_of_one_shard_is_none_of_two : IsSoundStore (header 2) (store 0 0) → ⊥
 store_of_one_shard_is_none_of_two sound =
     let shards : 1 ≡ 2 = ap (λ (l : List ℕ). slice_index l 5) sound.2.header in omega (arith, shards)
 
@@ -75,7 +94,7 @@ pub newest_may_not_be_written : IsNotNewest 0 (Some (saved 1)) None → ⊥
 newest_may_not_be_written (inl same) = cc same
 newest_may_not_be_written (inr none) = cc none
 
-pub formatted_store_opens_to_nothing : StoreOpensTo (settings 1) (store 0 0) None
+pub formatted_store_opens_to_nothing : StoreOpensTo (header 1) (store 0 0) None
 formatted_store_opens_to_nothing = (None, None, formatted_store_holds_nothing, refl)
 
 pub nothing_opens_at_0 : store_positions (settings 2) None ≡ 0 ∷ 0 ∷ []
@@ -87,21 +106,21 @@ cut_opens_at_its_positions = refl
 pub no_sequence_is_0 : store_sequence None ≡ 0
 no_sequence_is_0 = refl
 
-pub nothing_is_of_any_lists : (lists : List (List RecordValue)) → IsStoreOf (settings 1) lists None
+pub nothing_is_of_any_lists : (lists : List (List RecordValue)) → IsStoreOf (header 1) lists None
 nothing_is_of_any_lists lists = tt
 
-pub formatted_store_belongs : (lists : List (List RecordValue)) → StoreBelongs (settings 1) lists (store 0 0)
+pub formatted_store_belongs : (lists : List (List RecordValue)) → StoreBelongs (header 1) lists (store 0 0)
 formatted_store_belongs lists = (None, formatted_store_opens_to_nothing, tt)
 
 -- a gate that a crash left as 255 is closed
-pub torn_gate_opens_alike : OpenToSame (settings 1) (store 0 0) (store 255 0)
+pub torn_gate_opens_alike : OpenToSame (header 1) (store 0 0) (store 255 0)
 torn_gate_opens_alike = (
   None,
   formatted_store_opens_to_nothing,
-  (None, None, record { long = omega arith; header = refl; first_slot = refl; second_slot = refl }, refl),
+  (None, None, record { long = omega arith; header = refl; taken = tt; first_slot = refl; second_slot = refl }, refl),
 )
 
-pub torn_gate_leaves_the_old : OpensOldOrNew (settings 1) (store 0 0) (saved 1) (store 255 0)
+pub torn_gate_leaves_the_old : OpensOldOrNew (header 1) (store 0 0) (saved 1) (store 255 0)
 torn_gate_leaves_the_old = inl torn_gate_opens_alike
 
 -- the saver of that store, before its first save and after it
@@ -109,7 +128,7 @@ pub no_gate_is_open : IsNewestSave (settings 1) (known_slots_of (store 0 0)) Non
 no_gate_is_open = (refl, refl)
 
 abbrev saver : SaverState
-saver = saver_of (known_slots_of (store 0 0)) (settings 1) [] None
+saver = saver_of (known_slots_of (store 0 0)) (header 1) [] None
 
 pub saver_begins_at_0 : saver.positions ≡ 0 ∷ []
 saver_begins_at_0 = refl

@@ -8,6 +8,7 @@ pub mod PrefixFreeLemmas
 pub mod SavedTableLemmas
 pub mod SnapshotLemmas
 pub mod BodyPartLemmas
+pub mod SettingsLemmas
 pub mod OneBodyLemmas
 pub mod HeaderLemmas
 pub mod OptionLemmas

@@ -8,8 +8,9 @@ use Rattle.slot_disk.specs.{number_at, KnownSlotsState, IsWhole}
 use Rattle.byteorder.specs.Endian.{big_from}
 use Rattle.byteorder.specs.Numbers.{big_number-reads_back}
 use Rattle.slot_disk.specs.{IsReadyForPut, PutMayLeave, IsPut}
+use Rattle.checkpoint.specs.declared.header.StoreHeader.{StoreHeader}
 use Rattle.checkpoint.specs.declared.settings.StoreSettings.{StoreSettings}
-use Rattle.checkpoint.specs.Header.{AreSettings, settings_header}
+use Rattle.checkpoint.specs.Header.{AreSettings, header_bytes, written_header}
 use Rattle.checkpoint.specs.Lengths.{span_of}
 use Rattle.checkpoint.specs.Saved.{SavedValue}
 use Rattle.checkpoint.specs.Body.{IsBody, content_bytes}
@@ -104,96 +105,112 @@ store_replaces_second (Some one) (Some two) saved free lt = by_test (nat_lt one.
         record { closed_is = refl; written_is = store_takes_later_second one saved lt; slot_is = store_takes_second_slot one saved lt }
 
 -- slot 0 of a sound store is written: the image is as the old store, or the slot is closed, or holds the new body
-store_with_first_written : (settings : StoreSettings) (saved : SavedValue) (body old image : List ℕ) (first second : Option SavedValue)
-    → StoreHolds settings old first second → IsNotNewest 0 first second → IsBody settings.shards (settings_shape settings) saved body
-    → store_sequence (newest_in first second) < saved.sequence → PutMayLeave (span_of settings) 0 body old image
-    → OpensOldOrNew settings old saved image
-store_with_first_written settings saved body old image first second holds free is lt may =
+store_with_first_written : (header : StoreHeader) (saved : SavedValue) (body old image : List ℕ) (first second : Option SavedValue)
+    → StoreHolds header old first second → IsNotNewest 0 first second → IsBody header.settings.shards (settings_shape header.settings) saved body
+    → store_sequence (newest_in first second) < saved.sequence → PutMayLeave (span_of header.settings) 0 body old image
+    → OpensOldOrNew header old saved image
+store_with_first_written header saved body old image first second holds free is lt may =
     let replaced = store_replaces_first first second saved free lt in
-    let beside = store_slot_holds_same settings 1 old image second may.beside.other_slot holds.second_slot in
-    let store_of : (held : Option SavedValue) → SlotHolds settings 0 image held → StoreHolds settings image held second =
-    λ held here. record { long = may.beside.long; header = may.beside.header ∙ holds.header; first_slot = here; second_slot = beside } in
+    let beside = store_slot_holds_same header.settings 1 old image second may.beside.other_slot holds.second_slot in
+    let store_of : (held : Option SavedValue) → SlotHolds header.settings 0 image held → StoreHolds header image held second =
+    λ held here. record {
+      long = may.beside.long;
+      header = may.beside.header ∙ holds.header;
+      taken = holds.taken;
+      first_slot = here;
+      second_slot = beside;
+    } in
     ⊎_elim (λ same. inl (newest_in first second, (first, second, holds, refl), (first, second, store_of first same, refl)))
     (λ changed. ⊎_elim
     (λ shut. inl (newest_in first second, (first, second, holds, refl), (None, second, store_of None shut, replaced.closed_is)))
     (λ whole. inr (Some saved, second, store_of (Some saved) whole, replaced.written_is)) changed)
-    (store_slot_may_hold_new settings 0 saved body old image first is holds.first_slot may)
+    (store_slot_may_hold_new header.settings 0 saved body old image first is holds.first_slot may)
 
-store_with_second_written : (settings : StoreSettings) (saved : SavedValue) (body old image : List ℕ) (first second : Option SavedValue)
-    → StoreHolds settings old first second → IsNotNewest 1 first second → IsBody settings.shards (settings_shape settings) saved body
-    → store_sequence (newest_in first second) < saved.sequence → PutMayLeave (span_of settings) 1 body old image
-    → OpensOldOrNew settings old saved image
-store_with_second_written settings saved body old image first second holds free is lt may =
+store_with_second_written : (header : StoreHeader) (saved : SavedValue) (body old image : List ℕ) (first second : Option SavedValue)
+    → StoreHolds header old first second → IsNotNewest 1 first second → IsBody header.settings.shards (settings_shape header.settings) saved body
+    → store_sequence (newest_in first second) < saved.sequence → PutMayLeave (span_of header.settings) 1 body old image
+    → OpensOldOrNew header old saved image
+store_with_second_written header saved body old image first second holds free is lt may =
     let replaced = store_replaces_second first second saved free lt in
-    let beside = store_slot_holds_same settings 0 old image first may.beside.other_slot holds.first_slot in
-    let store_of : (held : Option SavedValue) → SlotHolds settings 1 image held → StoreHolds settings image first held =
-    λ held here. record { long = may.beside.long; header = may.beside.header ∙ holds.header; first_slot = beside; second_slot = here } in
+    let beside = store_slot_holds_same header.settings 0 old image first may.beside.other_slot holds.first_slot in
+    let store_of : (held : Option SavedValue) → SlotHolds header.settings 1 image held → StoreHolds header image first held =
+    λ held here. record {
+      long = may.beside.long;
+      header = may.beside.header ∙ holds.header;
+      taken = holds.taken;
+      first_slot = beside;
+      second_slot = here;
+    } in
     ⊎_elim (λ same. inl (newest_in first second, (first, second, holds, refl), (first, second, store_of second same, refl)))
     (λ changed. ⊎_elim
     (λ shut. inl (newest_in first second, (first, second, holds, refl), (first, None, store_of None shut, replaced.closed_is)))
     (λ whole. inr (first, Some saved, store_of (Some saved) whole, replaced.written_is)) changed)
-    (store_slot_may_hold_new settings 1 saved body old image second is holds.second_slot may)
+    (store_slot_may_hold_new header.settings 1 saved body old image second is holds.second_slot may)
 
 pub stores_open_old_or_new : PutsOpenEither
-stores_open_old_or_new settings zero saved body old image first second within holds free is lt may =
-    store_with_first_written settings saved body old image first second holds free is lt may
-stores_open_old_or_new settings (suc zero) saved body old image first second within holds free is lt may =
-    store_with_second_written settings saved body old image first second holds free is lt may
-stores_open_old_or_new settings (suc (suc slot)) saved body old image first second within holds free is lt may =
+stores_open_old_or_new header zero saved body old image first second within holds free is lt may =
+    store_with_first_written header saved body old image first second holds free is lt may
+stores_open_old_or_new header (suc zero) saved body old image first second within holds free is lt may =
+    store_with_second_written header saved body old image first second holds free is lt may
+stores_open_old_or_new header (suc (suc slot)) saved body old image first second within holds free is lt may =
     absurd (omega (arith, within))
 
 -- once a put is done, the slot is the newest, and holds the new body
-pub store_holds_new_body : (settings : StoreSettings) (slot : ℕ) (saved : SavedValue) (body old image : List ℕ)
-    (first second : Option SavedValue) → slot < 2 → StoreHolds settings old first second → IsNotNewest slot first second
-    → IsBody settings.shards (settings_shape settings) saved body → store_sequence (newest_in first second) < saved.sequence
-    → IsPut (span_of settings) slot body old image → HasNewest settings slot saved image
-store_holds_new_body settings zero saved body old image first second within holds free is lt put =
+pub store_holds_new_body : (header : StoreHeader) (slot : ℕ) (saved : SavedValue) (body old image : List ℕ)
+    (first second : Option SavedValue) → slot < 2 → StoreHolds header old first second → IsNotNewest slot first second
+    → IsBody header.settings.shards (settings_shape header.settings) saved body → store_sequence (newest_in first second) < saved.sequence
+    → IsPut (span_of header.settings) slot body old image → HasNewest header slot saved image
+store_holds_new_body header zero saved body old image first second within holds free is lt put =
     let replaced = store_replaces_first first second saved free lt in
-    let beside = store_slot_holds_same settings 1 old image second put.beside.other_slot holds.second_slot in
+    let beside = store_slot_holds_same header.settings 1 old image second put.beside.other_slot holds.second_slot in
     record {
       first = Some saved;
       second = second;
       holds = record {
         long = put.beside.long;
         header = put.beside.header ∙ holds.header;
+        taken = holds.taken;
         first_slot = (body, put.slot_holds, is);
         second_slot = beside;
       };
       newest_is = replaced.written_is;
       slot_is = replaced.slot_is;
     }
-store_holds_new_body settings (suc zero) saved body old image first second within holds free is lt put =
+store_holds_new_body header (suc zero) saved body old image first second within holds free is lt put =
     let replaced = store_replaces_second first second saved free lt in
-    let beside = store_slot_holds_same settings 0 old image first put.beside.other_slot holds.first_slot in
+    let beside = store_slot_holds_same header.settings 0 old image first put.beside.other_slot holds.first_slot in
     record {
       first = first;
       second = Some saved;
       holds = record {
         long = put.beside.long;
         header = put.beside.header ∙ holds.header;
+        taken = holds.taken;
         first_slot = beside;
         second_slot = (body, put.slot_holds, is);
       };
       newest_is = replaced.written_is;
       slot_is = replaced.slot_is;
     }
-store_holds_new_body settings (suc (suc slot)) saved body old image first second within holds free is lt put =
+store_holds_new_body header (suc (suc slot)) saved body old image first second within holds free is lt put =
     absurd (omega (arith, within))
 
 pub stores_open_the_new : PutsOpenNew
-stores_open_the_new settings slot saved body old image first second within holds free is lt put =
-    let new = store_holds_new_body settings slot saved body old image first second within holds free is lt put in
+stores_open_the_new header slot saved body old image first second within holds free is lt put =
+    let new = store_holds_new_body header slot saved body old image first second within holds free is lt put in
     (new.first, new.second, new.holds, new.newest_is)
 
 -- a store whose gates are closed
 pub closed_store_holds : (settings : StoreSettings) (image : List ℕ) → front_bytes ≤ length image
-    → known_slots_of image ≡ closed_known_slots (settings_header settings) → StoreHolds settings image None None
+    → known_slots_of image ≡ closed_known_slots (header_bytes (written_header settings))
+    → StoreHolds (written_header settings) image None None
 closed_store_holds settings image long slots =
     let shut_first : is_gate_open 0 image ≡ false = ap (λ (s : KnownSlotsState). s.first_open) slots in
     let shut_second : is_gate_open 1 image ≡ false = ap (λ (s : KnownSlotsState). s.second_open) slots in
     record {
       long = long;
       header = ap (λ (s : KnownSlotsState). s.header) slots;
+      taken = tt;
       first_slot = ap (λ (b : Bool). if b then shown_in (slot_body (span_of settings) 0 image) else Closed) shut_first;
       second_slot = ap (λ (b : Bool). if b then shown_in (slot_body (span_of settings) 1 image) else Closed) shut_second;
     }
@@ -209,31 +226,31 @@ store_slot_is_sound settings slot image None shut = inr shut
 store_slot_is_sound settings slot image (Some saved) whole = inl (whole.0, whole.1)
 
 -- of two slots, the one that isn't written is whole, or both are closed
-store_is_ready_for_first : (settings : StoreSettings) (image : List ℕ) (first second : Option SavedValue)
-    → StoreHolds settings image first second → IsNotNewest 0 first second → IsReadyForPut (span_of settings) 0 image
-store_is_ready_for_first settings image None None holds free =
+store_is_ready_for_first : (header : StoreHeader) (image : List ℕ) (first second : Option SavedValue)
+    → StoreHolds header image first second → IsNotNewest 0 first second → IsReadyForPut (span_of header.settings) 0 image
+store_is_ready_for_first header image None None holds free =
     record { other_holds = inr (holds.second_slot, holds.first_slot); slot_holds = inr holds.first_slot }
-store_is_ready_for_first settings image first (Some two) holds free = record {
+store_is_ready_for_first header image first (Some two) holds free = record {
   other_holds = inl (holds.second_slot.0, holds.second_slot.1);
-  slot_holds = store_slot_is_sound settings 0 image first holds.first_slot;
+  slot_holds = store_slot_is_sound header.settings 0 image first holds.first_slot;
 }
-store_is_ready_for_first settings image (Some one) None holds free = absurd (⊎_elim (λ same. cc same) (λ none. cc none) free)
+store_is_ready_for_first header image (Some one) None holds free = absurd (⊎_elim (λ same. cc same) (λ none. cc none) free)
 
-store_is_ready_for_second : (settings : StoreSettings) (image : List ℕ) (first second : Option SavedValue)
-    → StoreHolds settings image first second → IsNotNewest 1 first second → IsReadyForPut (span_of settings) 1 image
-store_is_ready_for_second settings image None None holds free =
+store_is_ready_for_second : (header : StoreHeader) (image : List ℕ) (first second : Option SavedValue)
+    → StoreHolds header image first second → IsNotNewest 1 first second → IsReadyForPut (span_of header.settings) 1 image
+store_is_ready_for_second header image None None holds free =
     record { other_holds = inr (holds.first_slot, holds.second_slot); slot_holds = inr holds.second_slot }
-store_is_ready_for_second settings image (Some one) second holds free = record {
+store_is_ready_for_second header image (Some one) second holds free = record {
   other_holds = inl (holds.first_slot.0, holds.first_slot.1);
-  slot_holds = store_slot_is_sound settings 1 image second holds.second_slot;
+  slot_holds = store_slot_is_sound header.settings 1 image second holds.second_slot;
 }
-store_is_ready_for_second settings image None (Some two) holds free = absurd (⊎_elim (λ same. cc same) (λ none. cc none) free)
+store_is_ready_for_second header image None (Some two) holds free = absurd (⊎_elim (λ same. cc same) (λ none. cc none) free)
 
 pub stores_are_ready : AreReady
-stores_are_ready settings zero image first second within holds free = store_is_ready_for_first settings image first second holds free
-stores_are_ready settings (suc zero) image first second within holds free =
-    store_is_ready_for_second settings image first second holds free
-stores_are_ready settings (suc (suc slot)) image first second within holds free = absurd (omega (arith, within))
+stores_are_ready header zero image first second within holds free = store_is_ready_for_first header image first second holds free
+stores_are_ready header (suc zero) image first second within holds free =
+    store_is_ready_for_second header image first second holds free
+stores_are_ready header (suc (suc slot)) image first second within holds free = absurd (omega (arith, within))
 
 -- under the settings a slot holds one thing
 store_slot_holds_one : (settings : StoreSettings) (slot : ℕ) (image : List ℕ) (held again : Option SavedValue) → AreSettings settings
@@ -250,14 +267,14 @@ store_slot_holds_one settings slot image (Some saved) (Some other_one) are holds
     (subst (IsBody settings.shards (settings_shape settings) other_one) (sym same) holds_again.2))
 
 pub stores_hold_one : SlotsHoldOne
-stores_hold_one settings image first second again other_one are holds holds_again = (
-  store_slot_holds_one settings 0 image first again are holds.first_slot holds_again.first_slot,
-  store_slot_holds_one settings 1 image second other_one are holds.second_slot holds_again.second_slot,
+stores_hold_one header image first second again other_one are holds holds_again = (
+  store_slot_holds_one header.settings 0 image first again are holds.first_slot holds_again.first_slot,
+  store_slot_holds_one header.settings 1 image second other_one are holds.second_slot holds_again.second_slot,
 )
 
 pub stores_open_to_one : OpenToOne
-stores_open_to_one settings image opened again are opens opens_again =
-    let same = stores_hold_one settings image opens.0 opens.1 opens_again.0 opens_again.1 are opens.2 opens_again.2 in
+stores_open_to_one header image opened again are opens opens_again =
+    let same = stores_hold_one header image opens.0 opens.1 opens_again.0 opens_again.1 are opens.2 opens_again.2 in
     sym opens.3 ∙ ap (λ (held : Option SavedValue). newest_in held opens.1) same.0
     ∙ ap (λ (held : Option SavedValue). newest_in opens_again.0 held) same.1 ∙ opens_again.3
 

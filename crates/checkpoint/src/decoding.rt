@@ -88,10 +88,10 @@ fn read_snapshots<'a>(
     ensures damaged { IsErrOf result DecodeFault.Damaged →
         BeginsWithNone (flat_map snapshot_bytes) (ListFits (SnapshotFits (settings_shape settings.now)) settings.now.shards) bytes.now }
 {
-    let mut cut = Cut::with_room(alloc, Grain::Byte, settings.shards, settings.capacity)?;
+    let mut cut = Cut::with_room(alloc, settings.grain, settings.shards, settings.capacity)?;
     let mut rest = bytes;
     for shard in 0..settings.shards {
-        let (snapshot, after) = read_snapshot(alloc, Grain::Byte, settings.capacity, rest)?;
+        let (snapshot, after) = read_snapshot(alloc, settings.grain, settings.capacity, rest)?;
         cut.put_shard(shard, snapshot);
         rest = after;
     }

@@ -4,26 +4,21 @@ ghost use Rattle.std.specs.Prelude.{◌≡◌, ◌≤◌, ℕ, List, ◌++◌, l
 ghost use Rattle.std.specs.List.{flat_map};
 ghost use Rattle.sha2.specs.Hashers.{Holds256};
 ghost use Rattle.checkpoint.specs.Numbers.{number_bytes};
-ghost use Rattle.checkpoint.specs.Header.{AreSettings};
-ghost use Rattle.checkpoint.specs.Digest.{lists_digest, list_bytes, record_bytes};
+ghost use Rattle.checkpoint.specs.Digest.{header_digest, list_bytes, record_bytes};
 ghost use Rattle.prefix_lattice.specs.{record_limit};
 
-use crate::{StoreSettings, header_of};
 use byteorder::{BigEndian, ByteOrder};
 use deal_rules::Dealt;
 use prefix_lattice::{Record, RecordList};
 use sha2::{Digest, Sha256};
 
-/// The digest of dealt records under the settings of a store, which has as many shards: SHA-256 of the header, and for
-/// each shard in order the number of its records in 4 bytes and its records, each as source, destination and weight in
-/// 4 bytes. Each record is hashed once where it is. It allocates no memory.
-pub fn digest_of(dealt: &Dealt, settings: &StoreSettings) -> [u8; 32]
-    requires settings { AreSettings settings.now }
-    requires shards { length dealt.now ≡ settings.now.shards }
-    ensures { result ≡ lists_digest settings.now dealt.now }
+/// The digest of dealt records under the header of their store: SHA-256 of the header's 62 bytes as they are in the
+/// store, and for each shard in order the number of its records in 4 bytes and its records, each as source, destination
+/// and weight in 4 bytes. Each record is hashed once where it is. It allocates no memory.
+pub fn digest_of(dealt: &Dealt, header: &[u8; 62]) -> [u8; 32]
+    ensures { result ≡ header_digest header.now dealt.now }
 {
     let mut hasher = Sha256::new();
-    let header = header_of(settings);
     hasher.update(header.as_slice());
     hash_lists(&mut hasher, dealt);
     hasher.finalize()

@@ -1,25 +1,68 @@
-//! The header of a store, which spells its settings.
+//! The header of a store, which spells its version and its settings.
 
 ghost use Rattle.std.specs.Prelude.{◌≡◌, ◌≤◌, ◌↔◌, None, Some, IfSome, IsTrue};
 ghost use Rattle.deal_rules.specs.declared.deal_kind.DealKind.{DealKind};
 ghost use Rattle.frame_records.specs.declared.weigh.Weigh.{Weigh};
-ghost use Rattle.checkpoint.specs.declared.settings.StoreSettings.{StoreSettings};
-ghost use Rattle.checkpoint.specs.Header.{AreSettings, settings_header, weighing_byte};
+ghost use Rattle.checkpoint.specs.declared.header.StoreHeader.{StoreHeader};
+ghost use Rattle.checkpoint.specs.Header.{AreSettings, IsHeader, header_bytes, weighing_byte, written_header};
 ghost use Rattle.checkpoint.specs.Header.{dealing_byte};
 
-use crate::StoreSettings;
+use crate::{StoreSettings, Version};
 use byteorder::{BigEndian, ByteOrder};
 use deal_rules::DealKind;
 use frame_records::Weigh;
 
-/// The version of the format.
-const VERSION: u8 = 1;
+/// What the header of a store spells.
+#[derive(Clone, Copy, Debug, PartialEq, Eq)]
+pub struct StoreHeader {
+    /// Its version, by which its bytes are read.
+    pub version: Version,
+    /// The settings of the store.
+    pub settings: StoreSettings,
+}
 
-/// The header that spells these settings: the 62 bytes after the gates of a store.
+/// The header of the second version that spells these settings, with which a store is formatted: the 62 bytes after the
+/// gates of a store.
 pub fn header_of(settings: &StoreSettings) -> [u8; 62]
     requires { AreSettings settings.now }
-    ensures { result ≡ settings_header settings.now }
+    ensures { result ≡ header_bytes (written_header settings.now) }
 {
+    let header = StoreHeader {
+        version: Version::Second,
+        settings: *settings,
+    };
+    bytes_of(&header)
+}
+
+/// What a header of either version spells. `None` exactly if it spells nothing: other letters, another version, shards,
+/// capacity, weighing, dealing or grain outside their ranges, or a byte that isn't zero in the rest.
+pub fn read_header(bytes: &[u8; 62]) -> Option<StoreHeader>
+    ensures { (header : StoreHeader) → (result ≡ Some header) ↔ (IsHeader header × (bytes.now ≡ header_bytes header)) }
+{
+    let version = Version::numbered(bytes[4])?;
+    let settings = StoreSettings {
+        shards: u32::from(bytes[5]),
+        capacity: u32::from(BigEndian::read_u16(&bytes[6..])),
+        weigh: weigh_of(bytes[8])?,
+        deal: deal_of(bytes[9])?,
+        grain: version.grain_of(bytes[10])?,
+    };
+    if !are_allowed(&settings) {
+        return None;
+    }
+    let header = StoreHeader { version, settings };
+    if !is_same(&bytes_of(&header), bytes) {
+        return None;
+    }
+    Some(header)
+}
+
+// The bytes of a header.
+fn bytes_of(header: &StoreHeader) -> [u8; 62]
+    requires { AreSettings header.now.settings }
+    ensures { result ≡ header_bytes header.now }
+{
+    let settings = header.settings;
     let mut capacity = [0; 2];
     BigEndian::write_u16(&mut capacity, settings.capacity as u16);
     let front = [
@@ -27,36 +70,17 @@ pub fn header_of(settings: &StoreSettings) -> [u8; 62]
         b'H',
         b'H',
         b'S',
-        VERSION,
+        header.version.number(),
         settings.shards as u8,
         capacity[0],
         capacity[1],
         weigh_byte(settings.weigh),
         deal_byte(settings.deal),
+        header.version.byte_of(settings.grain),
     ];
-    let mut header = [0; 62];
-    header[..10].copy_from_slice(&front);
-    header
-}
-
-/// The settings that a header spells. `None` exactly if it spells none: other letters, another version, shards,
-/// capacity, weighing or dealing outside their ranges, or a byte that isn't zero in the rest.
-pub fn read_header(bytes: &[u8; 62]) -> Option<StoreSettings>
-    ensures { (settings : StoreSettings) → (result ≡ Some settings) ↔ (AreSettings settings × (bytes.now ≡ settings_header settings)) }
-{
-    let settings = StoreSettings {
-        shards: u32::from(bytes[5]),
-        capacity: u32::from(BigEndian::read_u16(&bytes[6..])),
-        weigh: weigh_of(bytes[8])?,
-        deal: deal_of(bytes[9])?,
-    };
-    if !are_allowed(&settings) {
-        return None;
-    }
-    if !is_same(&header_of(&settings), bytes) {
-        return None;
-    }
-    Some(settings)
+    let mut bytes = [0; 62];
+    bytes[..11].copy_from_slice(&front);
+    bytes
 }
 
 // The byte of a way of weighing.
@@ -107,7 +131,8 @@ fn deal_of(byte: u8) -> Option<DealKind>
 fn are_allowed(settings: &StoreSettings) -> bool
     ensures { IsTrue result ↔ AreSettings settings.now }
 {
-    (1..=16).contains(&settings.shards) && (2..=4096).contains(&settings.capacity)
+    (1..=16).contains(&settings.shards)
+        && (2..=settings.grain.greatest_capacity()).contains(&settings.capacity)
 }
 
 fn is_same(bytes: &[u8; 62], others: &[u8; 62]) -> bool

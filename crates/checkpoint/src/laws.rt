@@ -4,7 +4,7 @@ ghost use Rattle.checkpoint.specs.Body.{AreApart, SpellOneThing};
 ghost use Rattle.checkpoint.specs.Store.{BodiesFit, FormatIsEmpty, HeadersAreOne};
 ghost use Rattle.checkpoint.specs.Store.{PutsOpenEither};
 ghost use Rattle.checkpoint.specs.Store.{PutsOpenNew, AreReady, SlotsHoldOne};
-ghost use Rattle.checkpoint.specs.Store.{OpenToOne};
+ghost use Rattle.checkpoint.specs.Store.{OpenToOne, ShowsItsHeader};
 
 /// No body begins another one, whatever the settings. So bytes that follow a body don't change what is read.
 pub fn bodies_are_apart()
@@ -17,22 +17,27 @@ pub fn bodies_spell_one()
     ensures { SpellOneThing }
 {}
 
-/// A header spells one set of settings.
+/// The bytes of a header spell one version and one set of settings.
 pub fn headers_spell_one()
     ensures { HeadersAreOne }
 {}
 
-/// Under its settings each slot of a store holds one thing at most.
+/// A store shows the version of its header: with its settings they are the header.
+pub fn stores_show_their_header()
+    ensures { ShowsItsHeader }
+{}
+
+/// Under its header each slot of a store holds one thing at most.
 pub fn stores_hold_one()
     ensures { SlotsHoldOne }
 {}
 
-/// Under its settings a store opens to one thing at most.
+/// Under its header a store opens to one thing at most.
 pub fn stores_open_to_one()
     ensures { OpenToOne }
 {}
 
-/// What `format` of `slot_disk` leaves, where its header is that of the settings, is a sound store with no gate open.
+/// What `format` of `slot_disk` leaves, where its header is that of `header_of`, is a sound store with no gate open.
 pub fn formatted_stores_are_empty()
     ensures { FormatIsEmpty }
 {}

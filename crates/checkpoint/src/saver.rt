@@ -6,24 +6,24 @@ ghost use Rattle.hhh_report.specs.{AreNotPast};
 ghost use Rattle.shard_state.specs.{HasCoreShape, cut_positions};
 ghost use Rattle.slot_disk.specs.{IfImageKnown, CrashLeaves, other_slot_of};
 ghost use Rattle.checkpoint.specs.Header.{settings_shape};
-ghost use Rattle.checkpoint.specs.Header.{AreSettings, settings_header};
+ghost use Rattle.checkpoint.specs.Header.{IsHeader, header_bytes};
 ghost use Rattle.checkpoint.specs.Body.{greatest_sequence};
 ghost use Rattle.checkpoint.specs.Store.{OpensOldOrNew, StoreOpensTo};
 ghost use Rattle.checkpoint.specs.Saver.{SaverState, DiskMatches, IsNewestSave, saver_after, next_saved};
 ghost use Rattle.checkpoint.specs.Saver.{saver_of};
 
-use crate::{Newest, SaveFault, StoreSettings, encode, span};
+use crate::{Newest, SaveFault, StoreHeader, encode, span};
 use hhh_report::Positions;
 use shard_state::Cut;
 use slot_disk::{Disk, Slots};
 use std::alloc::{AllocError, Global};
 use std::marker::Model;
 
-/// What is known of a sound store: its settings, its gates, and the sequence and the positions of its newest slot. It
+/// What is known of a sound store: its header, its gates, and the sequence and the positions of its newest slot. It
 /// saves cuts into the slot that isn't the newest.
 #[derive(Debug, Drop)]
 pub struct Saver {
-    settings: StoreSettings,
+    header: StoreHeader,
     slots: Slots,
     digest: [u8; 32],
     newest_slot: u8,
@@ -33,13 +33,13 @@ pub struct Saver {
 
 impl Model for Saver {
     ghost use Rattle.std.specs.Prelude.{◌<◌};
-    ghost use Rattle.checkpoint.specs.Header.{AreSettings};
+    ghost use Rattle.checkpoint.specs.Header.{IsHeader};
     ghost use Rattle.checkpoint.specs.Saver.{SaverState};
 
     ghost Value = { SaverState };
 
     ghost view = { λ s. record {
-      settings = s.settings;
+      header = s.header;
       slots = s.slots;
       digest = s.digest;
       newest_slot = s.newest_slot;
@@ -47,35 +47,35 @@ impl Model for Saver {
       positions = s.positions;
     } };
 
-    ghost invariant = { λ s. AreSettings s.settings × (s.newest_slot < 2) };
+    ghost invariant = { λ s. IsHeader s.header × (s.newest_slot < 2) };
 }
 
 impl Saver {
-    /// A saver of the store whose gates and header these slots are, with the digest that its saves write and the newest
+    /// A saver of the store whose gates and header these slots are, and what that header spells, with the digest that its saves write and the newest
     /// of its open slots, `None` where no gate is open. The only error is that memory runs out.
     pub fn new(
         alloc: Global,
         slots: Slots,
-        settings: StoreSettings,
+        header: StoreHeader,
         digest: [u8; 32],
         newest: &Option<Newest>,
     ) -> Result<Saver, AllocError>
-        requires settings { AreSettings settings }
-        requires header { slots.header ≡ settings_header settings }
-        requires newest { IsNewestSave settings slots newest.now }
-        ensures { IfOk result (λ saver. saver ≡ saver_of slots settings digest newest.now) }
+        requires header { IsHeader header }
+        requires spelled { slots.header ≡ header_bytes header }
+        requires newest { IsNewestSave header.settings slots newest.now }
+        ensures { IfOk result (λ saver. saver ≡ saver_of slots header digest newest.now) }
     {
         match newest {
             None => Ok(Saver {
-                settings,
+                header,
                 slots,
                 digest,
                 newest_slot: 1,
                 sequence: 0,
-                positions: zero_positions(alloc, settings.shards)?,
+                positions: zero_positions(alloc, header.settings.shards)?,
             }),
             Some(newest) => Ok(Saver {
-                settings,
+                header,
                 slots,
                 digest,
                 newest_slot: newest.slot,
@@ -94,15 +94,15 @@ impl Saver {
     pub fn save<D: Disk>(self, alloc: Global, disk: &mut D, cut: &Cut) -> Result<Saver, SaveFault>
         requires early { self.sequence < greatest_sequence }
         requires stands { DiskMatches (D.reads disk.old) (D.image_now disk.old) self }
-        requires shape { HasCoreShape self.settings.shards (settings_shape self.settings) cut.now }
+        requires shape { HasCoreShape self.header.settings.shards (settings_shape self.header.settings) cut.now }
         requires no_earlier { AreNotPast self.positions (cut_positions cut.now) }
         ensures known { is_some (D.reads disk.new) ≡ is_some (D.reads disk.old) }
         ensures saved { IfOk result (λ saver. saver ≡ saver_after self cut.now) }
         ensures stands { IfOk result (λ saver. DiskMatches (D.reads disk.new) (D.image_now disk.new) saver) }
         ensures opens { OnOk result (IfImageKnown (D.reads disk.new) (λ _. (image : List ℕ) → D.image_now disk.new image
-            → StoreOpensTo self.settings image (Some (next_saved self cut.now)))) }
+            → StoreOpensTo self.header image (Some (next_saved self cut.now)))) }
         ensures any_moment { IfImageKnown (D.reads disk.old)
-            (λ old. CrashLeaves D.moment D.image_since disk.old disk.new (OpensOldOrNew self.settings old (next_saved self cut.now))) }
+            (λ old. CrashLeaves D.moment D.image_since disk.old disk.new (OpensOldOrNew self.header old (next_saved self cut.now))) }
         ensures handed_back { (saver : SaverState) → result ≡ Err (SaveFault.OutOfMemory saver) → saver ≡ self }
         ensures untouched { (saver : SaverState) → result ≡ Err (SaveFault.OutOfMemory saver) → disk.new ≡ disk.old }
         ensures later { D.faults disk.old ≤ D.faults disk.new }
@@ -116,7 +116,9 @@ impl Saver {
             return Err(SaveFault::OutOfMemory(self));
         };
         let slot = other_slot(self.newest_slot);
-        let slots = self.slots.put(disk, slot, span(&self.settings), &body)?;
+        let slots = self
+            .slots
+            .put(disk, slot, span(&self.header.settings), &body)?;
         Ok(Saver {
             slots,
             newest_slot: slot,

@@ -33,7 +33,7 @@ options_behind_what_stands = refl
 pub parser_of_weigh
     : (parser_for (codes "weigh") (form_of Weigh)).top.rules
     ≡ new_rule (codes "SRC") ∷ new_rule (codes "DST") ∷ rule_for (codes "capture")
-    ∷ rule_for (codes "weigh") ∷ []
+    ∷ rule_for (codes "weigh") ∷ rule_for (codes "front") ∷ []
 parser_of_weigh = refl
 
 -- what is found among `--weigh=packets 10.0.0.0/8 --capture a.pcap 20.0.0.0/8`

@@ -1,11 +1,10 @@
 -- Worked examples of the values of options, and of what they set.
 use Rattle.std.proofs.Common.{◌≡◌, ◌⊎◌, ◌<◌, ◌^◌, ℕ, zero, suc, List, [], ◌∷◌, get_or, true, false, Some, None, inl}
-use Rattle.std.proofs.Common.{inr, refl, sym, ap, subst, codes}
+use Rattle.std.proofs.Common.{inr, refl, sym, subst, codes}
 use Rattle.std.proofs.Common.{false, arith}
 use Rattle.std.specs.Fmt.{digits}
 use Rattle.std.proofs.lemmas.Fmt.{first_decimal, decimal_injective}
 use Rattle.prefix_lattice.specs.declared.grain.Grain.TheVariants.{Byte, Nibble}
-use Rattle.prefix_lattice.specs.{grain_bits}
 use Rattle.frame_records.specs.declared.weigh.Weigh.TheVariants.{Bytes, Packets}
 use Rattle.deal_rules.specs.declared.deal_kind.DealKind.TheVariants.{RoundRobin, Free}
 use Rattle.command_words.specs.Arguments.{ArgumentText, Argument, positional, option}
@@ -15,18 +14,19 @@ use Rattle.command_words.specs.Options.{IsGoodText, IsGood, IsNoNumber, IsOutsid
 use Rattle.command_words.specs.Options.{IsNoChoice}
 use Rattle.command_words.specs.Options.{capacity_limit, phi_limit, seed_limit, frames_limit}
 use Rattle.command_words.specs.Settings.{SettingValues, settings_in, store_setting, SetsNumber}
-use Rattle.command_words.specs.Settings.{SetsWeigh, SetsDeal, SetsStore, SetsGrain, GrainFits}
-use Rattle.command_words.specs.Settings.{weigh_word, deal_word}
+use Rattle.command_words.specs.Settings.{SetsWeigh, SetsDeal, SetsStore, SetsGrain, SetsFront, GrainFits}
+use Rattle.command_words.specs.Settings.{weigh_word, deal_word, front_word}
 use Rattle.command_words.specs.Settings.{SetsAll, HaveWideShare, AreLimited, GivesNumber}
 use Rattle.command_words.specs.Settings.{GivesTraffic, AreForTraffic}
 use Rattle.command_words.specs.Options.{block_limit, workers_limit, callers_limit}
 use Rattle.command_words.specs.Options.{rounds_limit}
-use Rattle.command_words.specs.Values.{AreGood, HaveUnfitGrain, IsFirstBad, HasValueFault}
+use Rattle.command_words.specs.Values.{AreGood, AreGoodBefore, HaveFitGrain, HaveUnfitGrain, IsFirstBad}
+use Rattle.command_words.specs.Values.{HasValueFault}
 use Rattle.command_words.specs.Given.{IsBadNumber, IsBadChoice, SetsGiven}
 use Rattle.command_words.specs.declared.command_word.CommandWord.TheVariants as command
 use Rattle.command_words.specs.declared.opt.Opt.{Opt}
 use Rattle.command_words.specs.declared.opt.Opt.TheVariants.{Seed, Frames, Weigh, Shards, Capacity, Phi, Deal}
-use Rattle.command_words.specs.declared.opt.Opt.TheVariants.{Block, Workers, Callers, Rounds, Bits}
+use Rattle.command_words.specs.declared.opt.Opt.TheVariants.{Block, Workers, Callers, Rounds, Bits, Front}
 use Rattle.command_words.specs.declared.settings.Settings.{Settings}
 use Rattle.command_words.specs.declared.words_kind.WordsKind.TheVariants.{BadNumber, OutOfLimits, BadChoice}
 use Rattle.command_words.proofs.TextSearchLemmas.{text_search_finds_contained, text_search_finds_none}
@@ -116,22 +116,23 @@ good_before_shards Workers before = absurd (omega (arith, before))
 good_before_shards Callers before = absurd (omega (arith, before))
 good_before_shards Rounds before = absurd (omega (arith, before))
 good_before_shards Bits before = absurd (omega (arith, before))
+good_before_shards Front before = absurd (omega (arith, before))
 
 pub shards_are_the_first_bad : IsFirstBad IsOutside two_bad_values Shards
 shards_are_the_first_bad = record {
-  before = good_before_shards;
+  before = record { good = good_before_shards; fits = λ behind. absurd (omega (arith, behind)) };
   text = codes "17";
   value = refl;
   is_bad = seventeen_shards;
 }
 
-pub shards_are_the_fault : HasValueFault two_bad_values None (OutOfLimits Shards)
+pub shards_are_the_fault : HasValueFault two_bad_values (OutOfLimits Shards)
 shards_are_the_fault = inl shards_are_the_first_bad
 
-pub dealing_is_not_the_fault : HasValueFault two_bad_values None (BadChoice Deal) → ⊥
+pub dealing_is_not_the_fault : HasValueFault two_bad_values (BadChoice Deal) → ⊥
 unfolding digits
 dealing_is_not_the_fault fault =
-    let good : IsGoodText (kind_of Shards) (codes "17") = fault.before Shards (omega arith) in
+    let good : IsGoodText (kind_of Shards) (codes "17") = fault.before.good Shards (omega arith) in
     let same : good.0 ≡ 17 = decimal_injective good.0 17 good.1.bounded (omega arith) (sym good.1.spelled) in
     omega (arith, same, good.2.1)
 
@@ -148,6 +149,7 @@ defaults = record {
   weigh = Bytes;
   deal = RoundRobin;
   grain = Byte;
+  front = false;
   store = false;
 }
 
@@ -163,8 +165,9 @@ nothing_sets_the_defaults = record {
   callers = refl;
   rounds = refl;
   grain = refl;
+  front = refl;
   store = refl;
-  fits = record { few_entries = omega arith; saved_by_bytes = λ saved. refl };
+  fits = omega arith;
 }
 
 pub defaults_are_within_their_limits : AreLimited defaults
@@ -181,7 +184,7 @@ defaults_are_within_their_limits = record {
   few_workers = omega arith;
   few_callers = omega arith;
   few_rounds = omega arith;
-  fits = record { few_entries = omega arith; saved_by_bytes = λ saved. refl };
+  fits = omega arith;
 }
 
 pub too_many_shards : AreLimited (record defaults { shards = 17 }) → ⊥
@@ -247,7 +250,7 @@ greatest_settings = record {
   few_workers = omega arith;
   few_callers = omega arith;
   few_rounds = omega arith;
-  fits = record { few_entries = omega arith; saved_by_bytes = λ saved. refl };
+  fits = omega arith;
 }
 
 -- ---- made traffic
@@ -325,6 +328,7 @@ traffic_is_good Workers = tt
 traffic_is_good Callers = tt
 traffic_is_good Rounds = tt
 traffic_is_good Bits = tt
+traffic_is_good Front = tt
 
 pub nothing_gives_the_defaults : SetsGiven (settings_in command.Report []) (store_setting [])
     (record { seed = 0; frames = 1; settings = defaults })
@@ -336,19 +340,8 @@ nothing_gives_the_defaults =
 pub bits_of_the_grains : kind_of Bits ≡ few_numbers 8 (4 ∷ [])
 bits_of_the_grains = refl
 
-pub grain_is_looked_at_last : (other : Opt) → place_of Bits < place_of other → ⊥
-grain_is_looked_at_last Seed behind = omega (arith, behind)
-grain_is_looked_at_last Frames behind = omega (arith, behind)
-grain_is_looked_at_last Weigh behind = omega (arith, behind)
-grain_is_looked_at_last Shards behind = omega (arith, behind)
-grain_is_looked_at_last Capacity behind = omega (arith, behind)
-grain_is_looked_at_last Phi behind = omega (arith, behind)
-grain_is_looked_at_last Deal behind = omega (arith, behind)
-grain_is_looked_at_last Block behind = omega (arith, behind)
-grain_is_looked_at_last Workers behind = omega (arith, behind)
-grain_is_looked_at_last Callers behind = omega (arith, behind)
-grain_is_looked_at_last Rounds behind = omega (arith, behind)
-grain_is_looked_at_last Bits behind = omega (arith, behind)
+pub grain_is_looked_at_behind_the_capacity : place_of Capacity < place_of Bits
+grain_is_looked_at_behind_the_capacity = omega arith
 
 pub whole_bytes_by_default : SetsGrain None Byte
 whole_bytes_by_default = refl
@@ -367,18 +360,15 @@ pub five_bits_are_outside : IsOutside (kind_of Bits) (codes "5")
 unfolding digits
 five_bits_are_outside = (5, record { spelled = refl; bounded = omega arith }, no_five_bits)
 
--- tables by half bytes have at most 1,024 entries, and are in no store
-pub tables_of_1024_by_half_bytes : GrainFits Nibble 1024 false
-tables_of_1024_by_half_bytes = record { few_entries = omega arith; saved_by_bytes = λ saved. cc }
+-- tables by half bytes have at most 1,024 entries
+pub tables_of_1024_by_half_bytes : GrainFits Nibble 1024
+tables_of_1024_by_half_bytes = omega arith
 
-pub no_tables_of_1025_by_half_bytes : GrainFits Nibble 1025 false → ⊥
-no_tables_of_1025_by_half_bytes fits = omega (arith, fits.few_entries)
+pub no_tables_of_1025_by_half_bytes : GrainFits Nibble 1025 → ⊥
+no_tables_of_1025_by_half_bytes fits = omega (arith, fits)
 
-pub greatest_tables_in_a_store_by_whole_bytes : GrainFits Byte capacity_limit true
-greatest_tables_in_a_store_by_whole_bytes = record { few_entries = omega arith; saved_by_bytes = λ saved. refl }
-
-pub no_store_by_half_bytes : GrainFits Nibble 512 true → ⊥
-no_store_by_half_bytes fits = omega (arith, ap grain_bits (fits.saved_by_bytes refl))
+pub greatest_tables_by_whole_bytes : GrainFits Byte capacity_limit
+greatest_tables_by_whole_bytes = omega arith
 
 pub half_bytes_within_their_limits : AreLimited (record defaults { grain = Nibble })
 half_bytes_within_their_limits = record {
@@ -394,72 +384,105 @@ half_bytes_within_their_limits = record {
   few_workers = omega arith;
   few_callers = omega arith;
   few_rounds = omega arith;
-  fits = record { few_entries = omega arith; saved_by_bytes = λ saved. cc };
+  fits = omega arith;
 }
 
 -- `--bits 4` and one more option
 abbrev pub half_bytes_beside : ArgumentText → ArgumentText → List Argument
 half_bytes_beside name value = option (codes "bits") (codes "4") ∷ option name value ∷ []
 
--- `--bits 4 --capacity 1025`: each value is good by itself
-pub values_of_1025_by_half_bytes : AreGood (settings_in command.Report (half_bytes_beside (codes "capacity") (codes "1025")))
-unfolding digits
-values_of_1025_by_half_bytes Seed = tt
-values_of_1025_by_half_bytes Frames = tt
-values_of_1025_by_half_bytes Weigh = tt
-values_of_1025_by_half_bytes Shards = tt
-values_of_1025_by_half_bytes Capacity =
-    (1025, record { spelled = refl; bounded = omega arith }, (omega arith, omega arith))
-values_of_1025_by_half_bytes Phi = tt
-values_of_1025_by_half_bytes Deal = tt
-values_of_1025_by_half_bytes Block = tt
-values_of_1025_by_half_bytes Workers = tt
-values_of_1025_by_half_bytes Callers = tt
-values_of_1025_by_half_bytes Rounds = tt
-values_of_1025_by_half_bytes Bits = (4, record { spelled = refl; bounded = omega arith }, (1, omega arith, refl))
+-- `--bits 4 --store s`: a store may be by half bytes
+pub half_bytes_beside_a_store : SetsAll (settings_in command.Report (half_bytes_beside (codes "store") (codes "s")))
+    (store_setting (half_bytes_beside (codes "store") (codes "s"))) (record defaults { grain = Nibble; store = true })
+half_bytes_beside_a_store = record {
+  weigh = refl;
+  shards = refl;
+  capacity = refl;
+  phi = refl;
+  deal = refl;
+  block = refl;
+  workers = refl;
+  callers = refl;
+  rounds = refl;
+  grain = half_bytes_by_four_bits;
+  front = refl;
+  store = refl;
+  fits = omega arith;
+}
 
-pub tables_of_1025_do_not_fit : HaveUnfitGrain (settings_in command.Report (half_bytes_beside (codes "capacity") (codes "1025")))
-    None
+-- `--bits 4 --capacity 1025 --front maybe`: each value before `--front` is good by itself
+abbrev pub large_tables_by_half_bytes : SettingValues
+large_tables_by_half_bytes =
+    settings_in command.Report
+    (option (codes "bits") (codes "4") ∷ option (codes "capacity") (codes "1025") ∷ option (codes "front") (codes "maybe") ∷ [])
+
+capacity_of_1025 : SetsNumber Capacity (large_tables_by_half_bytes Capacity) 1025
 unfolding digits
+capacity_of_1025 = (record { spelled = refl; bounded = omega arith }, (omega arith, omega arith))
+
+good_before_the_grain : (other : Opt) → place_of other < place_of Bits → IsGood other (large_tables_by_half_bytes other)
+good_before_the_grain Seed before = tt
+good_before_the_grain Frames before = tt
+good_before_the_grain Weigh before = tt
+good_before_the_grain Shards before = tt
+good_before_the_grain Capacity before = (1025, capacity_of_1025.0, capacity_of_1025.1)
+good_before_the_grain Phi before = tt
+good_before_the_grain Deal before = tt
+good_before_the_grain Block before = tt
+good_before_the_grain Workers before = tt
+good_before_the_grain Callers before = tt
+good_before_the_grain Rounds before = tt
+good_before_the_grain Bits before = absurd (omega (arith, before))
+good_before_the_grain Front before = absurd (omega (arith, before))
+
+pub values_before_the_grain_are_good : AreGoodBefore large_tables_by_half_bytes (place_of Bits)
+values_before_the_grain_are_good = record { good = good_before_the_grain; fits = λ behind. absurd (omega (arith, behind)) }
+
+pub tables_of_1025_do_not_fit : HaveUnfitGrain large_tables_by_half_bytes
 tables_of_1025_do_not_fit = record {
-  good = values_of_1025_by_half_bytes;
+  before = values_before_the_grain_are_good;
   grain = Nibble;
   capacity = 1025;
-  store = false;
   grain_set = half_bytes_by_four_bits;
-  capacity_set = (record { spelled = refl; bounded = omega arith }, (omega arith, omega arith));
-  store_set = refl;
+  capacity_set = capacity_of_1025;
   unfit = no_tables_of_1025_by_half_bytes;
 }
 
--- `--bits 4 --store s`
-pub values_of_a_store_by_half_bytes : AreGood (settings_in command.Report (half_bytes_beside (codes "store") (codes "s")))
-unfolding digits
-values_of_a_store_by_half_bytes Seed = tt
-values_of_a_store_by_half_bytes Frames = tt
-values_of_a_store_by_half_bytes Weigh = tt
-values_of_a_store_by_half_bytes Shards = tt
-values_of_a_store_by_half_bytes Capacity = tt
-values_of_a_store_by_half_bytes Phi = tt
-values_of_a_store_by_half_bytes Deal = tt
-values_of_a_store_by_half_bytes Block = tt
-values_of_a_store_by_half_bytes Workers = tt
-values_of_a_store_by_half_bytes Callers = tt
-values_of_a_store_by_half_bytes Rounds = tt
-values_of_a_store_by_half_bytes Bits = (4, record { spelled = refl; bounded = omega arith }, (1, omega arith, refl))
+pub no_fit_grain_for_tables_of_1025 : HaveFitGrain large_tables_by_half_bytes → ⊥
+no_fit_grain_for_tables_of_1025 fit = omega (arith, fit Nibble 1025 half_bytes_by_four_bits capacity_of_1025)
 
-pub grain_is_the_fault_beside_a_store : HasValueFault (settings_in command.Report (half_bytes_beside (codes "store") (codes "s")))
-    (store_setting (half_bytes_beside (codes "store") (codes "s"))) (OutOfLimits Bits)
-grain_is_the_fault_beside_a_store = inr (
-  refl,
-  record {
-    good = values_of_a_store_by_half_bytes;
-    grain = Nibble;
-    capacity = 512;
-    store = true;
-    grain_set = half_bytes_by_four_bits;
-    capacity_set = refl;
-    store_set = refl;
-    unfit = no_store_by_half_bytes;
-  },
-)
+-- so the grain is the fault, and not what is behind it
+pub grain_is_the_fault_before_the_front : HasValueFault large_tables_by_half_bytes (OutOfLimits Bits)
+grain_is_the_fault_before_the_front = inr (refl, tables_of_1025_do_not_fit)
+
+pub front_is_not_the_fault_behind_the_grain : HasValueFault large_tables_by_half_bytes (BadChoice Front) → ⊥
+front_is_not_the_fault_behind_the_grain fault = no_fit_grain_for_tables_of_1025 (fault.before.fits (omega arith))
+
+-- ---- captures that end inside a frame
+
+pub front_is_looked_at_last : (other : Opt) → place_of Front < place_of other → ⊥
+front_is_looked_at_last Seed behind = omega (arith, behind)
+front_is_looked_at_last Frames behind = omega (arith, behind)
+front_is_looked_at_last Weigh behind = omega (arith, behind)
+front_is_looked_at_last Shards behind = omega (arith, behind)
+front_is_looked_at_last Capacity behind = omega (arith, behind)
+front_is_looked_at_last Phi behind = omega (arith, behind)
+front_is_looked_at_last Deal behind = omega (arith, behind)
+front_is_looked_at_last Block behind = omega (arith, behind)
+front_is_looked_at_last Workers behind = omega (arith, behind)
+front_is_looked_at_last Callers behind = omega (arith, behind)
+front_is_looked_at_last Rounds behind = omega (arith, behind)
+front_is_looked_at_last Bits behind = omega (arith, behind)
+front_is_looked_at_last Front behind = omega (arith, behind)
+
+pub words_for_the_front : kind_of Front ≡ choice (front_word false) (front_word true ∷ [])
+words_for_the_front = refl
+
+pub whole_captures_by_default : SetsFront None false
+whole_captures_by_default = refl
+
+pub front_by_its_word : SetsFront (Some (codes "yes")) true
+front_by_its_word = refl
+
+pub no_front_by_maybe : IsNoChoice (kind_of Front) (codes "maybe")
+no_front_by_maybe = text_search_finds_none (codes "no" ∷ codes "yes" ∷ []) (codes "maybe") refl

@@ -35,15 +35,16 @@ use Rattle.command_words.specs.declared.opt.Opt.{Opt}
 use Rattle.command_words.specs.declared.opt.Opt.TheVariants as opt
 use Rattle.command_words.specs.declared.settings.Settings.{Settings}
 use Rattle.command_words.specs.declared.words_kind.WordsKind.TheVariants.{NoCommand, UnknownCommand, Refused}
-use Rattle.command_words.specs.declared.words_kind.WordsKind.TheVariants.{BadPrefix, OutOfLimits, Bound}
+use Rattle.command_words.specs.declared.words_kind.WordsKind.TheVariants.{BadPrefix, OutOfLimits, BadChoice, Bound}
 use Rattle.command_words.proofs.TextSearchLemmas.{text_search_finds_contained, text_search_finds_none}
 use Rattle.command_words.proofs.TextSearchLemmas.{text_search_tells_apart, text_search_shows_name}
 use Rattle.command_words.proofs.OneReadingLemmas.{one_reading}
+use Rattle.command_words.proofs.OneValueFaultLemmas.{grain_of_one_value_fits}
 use Rattle.command_words.proofs.Examples.{words, arguments, words_of_weigh}
 use Rattle.command_words.proofs.ExamplesOfValues.{defaults, nothing_sets_the_defaults}
 use Rattle.command_words.proofs.ExamplesOfValues.{defaults_are_within_their_limits, defaults_are_wide}
 use Rattle.command_words.proofs.ExamplesOfValues.{half_bytes_by_four_bits, five_bits_are_outside}
-use Rattle.command_words.proofs.ExamplesOfValues.{seventeen_shards, tables_too_small_for_a_share}
+use Rattle.command_words.proofs.ExamplesOfValues.{seventeen_shards, tables_too_small_for_a_share, no_front_by_maybe}
 use Rattle.command_words.proofs.ExamplesOfValues.{traffic_arguments, three_frames_of_seed_seven, no_frame_is_outside}
 
 pub word_of_a_command : word_of Report ≡ codes "report"
@@ -96,8 +97,9 @@ asks_for_a_weight = record {
     callers = refl;
     rounds = refl;
     grain = refl;
+    front = refl;
     store = refl;
-    fits = record { few_entries = omega arith; saved_by_bytes = λ saved. refl };
+    fits = omega arith;
   };
 }
 
@@ -233,8 +235,9 @@ asks_for_a_store = record {
     callers = refl;
     rounds = refl;
     grain = refl;
+    front = refl;
     store = refl;
-    fits = record { few_entries = omega arith; saved_by_bytes = λ saved. refl };
+    fits = omega arith;
   };
 }
 
@@ -320,8 +323,9 @@ asks_for_an_audit = record {
     callers = refl;
     rounds = refl;
     grain = refl;
+    front = refl;
     store = refl;
-    fits = record { few_entries = omega arith; saved_by_bytes = λ saved. refl };
+    fits = omega arith;
   };
   wide = defaults_are_wide;
 }
@@ -476,8 +480,9 @@ asks_for_half_bytes = record {
     callers = refl;
     rounds = refl;
     grain = half_bytes_by_four_bits;
+    front = refl;
     store = refl;
-    fits = record { few_entries = omega arith; saved_by_bytes = λ saved. cc };
+    fits = omega arith;
   };
   wide = defaults_are_wide;
 }
@@ -497,6 +502,7 @@ good_before_bits opt.Workers before = tt
 good_before_bits opt.Callers before = tt
 good_before_bits opt.Rounds before = tt
 good_before_bits opt.Bits before = absurd (omega (arith, before))
+good_before_bits opt.Front before = absurd (omega (arith, before))
 
 pub five_bits_are_the_fault : HasWordsFault (codes "report" ∷ codes "--bits=5" ∷ []) (OutOfLimits opt.Bits)
 five_bits_are_the_fault = record {
@@ -506,8 +512,84 @@ five_bits_are_the_fault = record {
       one_option_of_report (codes "bits") (codes "5") (text_search_shows_name (codes "bits") refl)
       (λ same. omega (arith, same)) (option_of Report (codes "bits") refl);
   positionals = tt;
-  has_fault = inl (record { before = good_before_bits; text = codes "5"; value = refl; is_bad = five_bits_are_outside });
+  has_fault =
+      inl (record {
+        before = record { good = good_before_bits; fits = λ behind. absurd (omega (arith, behind)) };
+        text = codes "5";
+        value = refl;
+        is_bad = five_bits_are_outside;
+      });
 }
+
+-- `report --front=yes`
+pub asks_for_the_front : AskToReport (codes "report" ∷ codes "--front=yes" ∷ []) (record defaults { front = true })
+asks_for_the_front = record {
+  arguments = option (codes "front") (codes "yes") ∷ [];
+  are_words =
+      one_option_of_report (codes "front") (codes "yes") (text_search_shows_name (codes "front") refl)
+      (λ same. omega (arith, same)) (option_of Report (codes "front") refl);
+  set = record {
+    weigh = refl;
+    shards = refl;
+    capacity = refl;
+    phi = refl;
+    deal = refl;
+    block = refl;
+    workers = refl;
+    callers = refl;
+    rounds = refl;
+    grain = refl;
+    front = refl;
+    store = refl;
+    fits = omega arith;
+  };
+  wide = defaults_are_wide;
+}
+
+-- `report --front=maybe`: nothing else is set
+good_before_front : (other : Opt) → place_of other < place_of opt.Front
+    → IsGood other (settings_in Report (option (codes "front") (codes "maybe") ∷ []) other)
+good_before_front opt.Seed before = tt
+good_before_front opt.Frames before = tt
+good_before_front opt.Weigh before = tt
+good_before_front opt.Shards before = tt
+good_before_front opt.Capacity before = tt
+good_before_front opt.Phi before = tt
+good_before_front opt.Deal before = tt
+good_before_front opt.Block before = tt
+good_before_front opt.Workers before = tt
+good_before_front opt.Callers before = tt
+good_before_front opt.Rounds before = tt
+good_before_front opt.Bits before = tt
+good_before_front opt.Front before = absurd (omega (arith, before))
+
+pub maybe_is_the_fault : HasWordsFault (codes "report" ∷ codes "--front=maybe" ∷ []) (BadChoice opt.Front)
+maybe_is_the_fault = record {
+  command = Report;
+  arguments = option (codes "front") (codes "maybe") ∷ [];
+  are_words =
+      one_option_of_report (codes "front") (codes "maybe") (text_search_shows_name (codes "front") refl)
+      (λ same. omega (arith, same)) (option_of Report (codes "front") refl);
+  positionals = tt;
+  has_fault = record {
+    before = record {
+      good = good_before_front;
+      fits = λ behind.
+          grain_of_one_value_fits (settings_in Report (option (codes "front") (codes "maybe") ∷ [])) Byte 512 refl refl
+          (omega arith);
+    };
+    text = codes "maybe";
+    value = refl;
+    is_bad = no_front_by_maybe;
+  };
+}
+
+-- `format` has a grain, and reads no capture that may be cut
+pub store_has_a_grain : Contains (form_of Format).options (codes "bits")
+store_has_a_grain = option_of Format (codes "bits") refl
+
+pub no_front_of_a_store : Contains (form_of Format).options (codes "front") → ⊥
+no_front_of_a_store = text_search_finds_none (form_of Format).options (codes "front") refl
 
 -- `report --shards=17`
 abbrev many_shards : List Argument
@@ -532,6 +614,7 @@ good_before_shards opt.Workers before = tt
 good_before_shards opt.Callers before = tt
 good_before_shards opt.Rounds before = tt
 good_before_shards opt.Bits before = tt
+good_before_shards opt.Front before = tt
 
 pub more_shards_than_there_may_be : HasBadValue (codes "report" ∷ codes "--shards=17" ∷ []) (OutOfLimits opt.Shards)
 more_shards_than_there_may_be = record {
@@ -539,7 +622,13 @@ more_shards_than_there_may_be = record {
   arguments = many_shards;
   are_words = words_for_many_shards;
   positionals = tt;
-  has_fault = inl (record { before = good_before_shards; text = codes "17"; value = refl; is_bad = seventeen_shards });
+  has_fault =
+      inl (record {
+        before = record { good = good_before_shards; fits = λ behind. absurd (omega (arith, behind)) };
+        text = codes "17";
+        value = refl;
+        is_bad = seventeen_shards;
+      });
 }
 
 -- `report --phi 117647 --capacity 17`
@@ -601,6 +690,7 @@ narrow_values_are_good opt.Workers = tt
 narrow_values_are_good opt.Callers = tt
 narrow_values_are_good opt.Rounds = tt
 narrow_values_are_good opt.Bits = tt
+narrow_values_are_good opt.Front = tt
 
 pub tables_are_too_narrow : HasNarrowTables (codes "report" ∷ narrow_words)
 unfolding digits
@@ -622,8 +712,9 @@ tables_are_too_narrow = record {
     callers = refl;
     rounds = refl;
     grain = refl;
+    front = refl;
     store = refl;
-    fits = record { few_entries = omega arith; saved_by_bytes = λ saved. refl };
+    fits = omega arith;
   };
   narrow = tables_too_small_for_a_share;
 }
@@ -699,8 +790,9 @@ asks_for_a_demo = record {
     callers = refl;
     rounds = refl;
     grain = refl;
+    front = refl;
     store = refl;
-    fits = record { few_entries = omega arith; saved_by_bytes = λ saved. refl };
+    fits = omega arith;
   };
   wide = defaults_are_wide;
 }
@@ -727,6 +819,7 @@ good_before_frames opt.Workers before = tt
 good_before_frames opt.Callers before = tt
 good_before_frames opt.Rounds before = tt
 good_before_frames opt.Bits before = tt
+good_before_frames opt.Front before = tt
 
 pub no_frame_is_the_fault : HasWordsFault (codes "make" ∷ codes "7" ∷ codes "0" ∷ []) (OutOfLimits opt.Frames)
 no_frame_is_the_fault = record {
@@ -734,5 +827,11 @@ no_frame_is_the_fault = record {
   arguments = no_frame;
   are_words = two_numbers Make (codes "0") (λ same. omega (arith, same)) refl refl;
   positionals = tt;
-  has_fault = inl (record { before = good_before_frames; text = codes "0"; value = refl; is_bad = no_frame_is_outside });
+  has_fault =
+      inl (record {
+        before = record { good = good_before_frames; fits = λ behind. absurd (omega (arith, behind)) };
+        text = codes "0";
+        value = refl;
+        is_bad = no_frame_is_outside;
+      });
 }

@@ -15,7 +15,7 @@ use Rattle.command_words.specs.Options.{OptionKind, number, name_of, kind_of, Is
 use Rattle.command_words.specs.Options.{IsDefault, IsGood, IsGoodText}
 use Rattle.command_words.specs.Options.{seed_limit, frames_limit}
 use Rattle.command_words.specs.Settings.{SettingValues, SetsNumber, SetsWeigh, SetsDeal}
-use Rattle.command_words.specs.Settings.{SetsStore, SetsAll}
+use Rattle.command_words.specs.Settings.{SetsFront, SetsStore, SetsAll}
 use Rattle.command_words.specs.Settings.{GivesNumber, GivesTraffic, settings_in, store_setting}
 use Rattle.command_words.specs.Values.{AreGood}
 use Rattle.command_words.specs.declared.command_word.CommandWord.{CommandWord}
@@ -113,6 +113,7 @@ default_given_settings = record {
   weigh = Bytes;
   deal = RoundRobin;
   grain = Byte;
+  front = false;
   store = false;
 }
 
@@ -130,8 +131,9 @@ make_is_given_no_settings arguments of_form = record {
   callers = not_given_sets_default opt.Callers 0 _ refl (no opt.Callers refl);
   rounds = not_given_sets_default opt.Rounds 0 _ refl (no opt.Rounds refl);
   grain = not_given_sets_default opt.Bits (grain_bits Byte) _ refl (no opt.Bits refl);
+  front = subst (λ told. SetsFront told false) (sym (no opt.Front refl)) refl;
   store = subst (λ path. SetsStore path false) (sym no_store) refl;
-  fits = record { few_entries = omega arith; saved_by_bytes = λ saved. refl };
+  fits = omega arith;
 }
   where
     no : (at : Opt) → list_any (λ other. bytes_eq other (name_of at)) (form_of Make).positionals ≡ false

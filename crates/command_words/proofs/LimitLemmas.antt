@@ -18,7 +18,7 @@ use Rattle.command_words.specs.declared.opt.Opt.TheVariants.{Seed, Frames, Shard
 use Rattle.command_words.specs.declared.opt.Opt.TheVariants.{Callers, Rounds, Bits}
 use Rattle.command_words.specs.declared.settings.Settings.{Settings}
 use Rattle.command_words.specs.declared.command_word.CommandWord.{CommandWord}
-use Rattle.command_words.specs.declared.command_word.CommandWord.TheVariants.{Weigh as WeighWord, Format as FormatWord}
+use Rattle.command_words.specs.declared.command_word.CommandWord.TheVariants.{Weigh as WeighWord}
 use Rattle.command_words.proofs.GivenLemmas.{not_given_outside_form}
 use Rattle.command_words.proofs.OneValueFaultLemmas.{one_value_sets_one_grain}
 
@@ -107,10 +107,7 @@ asked_command_is_in_limits words (Weigh prefix settings) asked = (
   },
 )
 asked_command_is_in_limits words (Report settings) asked = (set_settings_are_in_limits _ _ settings asked.set, asked.wide)
-asked_command_is_in_limits words (Format settings) asked = (
-  set_settings_are_in_limits _ _ settings asked.set,
-  settings_without_bits_are_in_limits FormatWord asked.arguments settings asked.are_words.well_formed.of_form refl refl asked.set,
-)
+asked_command_is_in_limits words (Format settings) asked = set_settings_are_in_limits _ _ settings asked.set
 asked_command_is_in_limits words (Audit settings) asked = (set_settings_are_in_limits _ _ settings asked.set, asked.wide)
 asked_command_is_in_limits words (Make seed frames) asked = given_traffic_is_in_limits _ seed frames asked.made
 asked_command_is_in_limits words (Demo seed frames settings) asked =

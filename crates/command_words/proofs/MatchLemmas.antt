@@ -97,16 +97,12 @@ matches_tell_settings word arguments matches settings told set =
 -- the first fault of the values that matches hold is the fault of the words, if their positionals are good
 pub matches_tell_fault : (words : List ArgumentText) (word : CommandWord) (matches : ArgMatches)
     (tells : MatchWords words word matches) (kind : WordsKind) → HasPositionals word tells.arguments
-    → HasValueFault (values_in matches) (store_in matches) kind → HasWordsFault words kind
+    → HasValueFault (values_in matches) kind → HasWordsFault words kind
 matches_tell_fault words word matches tells kind good has =
     go kind
-    (subst (λ path. HasValueFault (settings_in word tells.arguments) path kind)
-    (matches_tell_path word tells.arguments matches (codes "store") tells.told (omega arith))
-    (subst (λ values. HasValueFault values (store_in matches) kind)
-    (matches_tell_values word tells.arguments matches tells.told) has))
+    (subst (λ values. HasValueFault values kind) (matches_tell_values word tells.arguments matches tells.told) has)
   where
-    go : (kind : WordsKind) → HasValueFault (settings_in word tells.arguments) (store_setting tells.arguments) kind
-        → HasWordsFault words kind
+    go : (kind : WordsKind) → HasValueFault (settings_in word tells.arguments) kind → HasWordsFault words kind
     go (BadNumber at) fault = record {
       command = word;
       arguments = tells.arguments;

@@ -82,7 +82,7 @@ command_line_has_one_meaning words word other arguments more one two =
 -- what values and the path of a store mean: what they give, or the first fault of the values
 abbrev IsOneMeaningOfValues : SettingValues → Option ArgumentText → Result Given WordsKind → Type 0
 IsOneMeaningOfValues values path (Ok given) = SetsGiven values path given
-IsOneMeaningOfValues values path (Err kind) = HasValueFault values path kind
+IsOneMeaningOfValues values path (Err kind) = HasValueFault values kind
 
 -- values have one meaning
 values_have_one_meaning : (values : SettingValues) (path : Option ArgumentText) (read other : Result Given WordsKind)
@@ -92,7 +92,7 @@ values_have_one_meaning values path (Ok given) (Err kind) one two =
     absurd (no_value_fault values path given kind one two)
 values_have_one_meaning values path (Err kind) (Ok given) one two =
     absurd (no_value_fault values path given kind two one)
-values_have_one_meaning values path (Err kind) (Err other) one two = ap Err (one_value_fault values path kind other one two)
+values_have_one_meaning values path (Err kind) (Err other) one two = ap Err (one_value_fault values kind other one two)
 
 -- what the values of a command's arguments mean
 abbrev IsMeaningOfCommandValues : CommandWord → List Argument → Result Given WordsKind → Type 0
@@ -369,7 +369,7 @@ asked_command_is_meaning words (command.Demo seed frames settings) asks =
 
 -- the first fault of the values is what arguments mean
 bad_value_is_argument_meaning : (word : CommandWord) (arguments : List Argument) (kind : WordsKind)
-    → HasPositionals word arguments → HasValueFault (settings_in word arguments) (store_setting arguments) kind
+    → HasPositionals word arguments → HasValueFault (settings_in word arguments) kind
     → ArgumentsHaveMeaning word arguments (Err kind)
 bad_value_is_argument_meaning Weigh arguments kind good has = well good.0 good.1 good.3.0 (Err kind) good.2 good.3.1 has refl
 bad_value_is_argument_meaning Report arguments kind good has = record { read = Err kind; told = has; comes_to = refl }

@@ -1,5 +1,5 @@
 -- Values set at most one thing, or have at most one first fault, and never both.
-use Rattle.std.proofs.Common.{◌≡◌, ◌<◌, ◌≤◌, ◌⊎◌, inl, inr, ℕ, Bool, Option, Some, None, refl, sym, ap, ◌∙◌, subst}
+use Rattle.std.proofs.Common.{◌≡◌, ◌<◌, ◌≤◌, ◌⊎◌, inl, inr, ℕ, Bool, true, false, Option, Some, None, refl, sym, ap, ◌∙◌, subst}
 use Rattle.std.proofs.Common.{arith}
 use Rattle.std.specs.Prelude.{◌∷◌, Contains}
 use Rattle.std.proofs.lemmas.Bool.{cases_lt}
@@ -14,9 +14,9 @@ use Rattle.command_words.specs.Options.{OptionKind, number, few_numbers, choice,
 use Rattle.command_words.specs.Options.{IsDefault, IsGoodText, IsGood}
 use Rattle.command_words.specs.Options.{IsNoNumber, IsNoChoice, IsOutside}
 use Rattle.command_words.specs.Settings.{SettingValues, SetsNumber, SetsWeigh, SetsDeal}
-use Rattle.command_words.specs.Settings.{SetsStore, SetsAll, SetsGrain, GrainFits}
-use Rattle.command_words.specs.Settings.{weigh_word, deal_word}
-use Rattle.command_words.specs.Values.{AreGood, HaveUnfitGrain, IsFirstBad, HasValueFault}
+use Rattle.command_words.specs.Settings.{SetsStore, SetsAll, SetsGrain, SetsFront, GrainFits}
+use Rattle.command_words.specs.Settings.{weigh_word, deal_word, front_word}
+use Rattle.command_words.specs.Values.{AreGood, HaveFitGrain, HaveUnfitGrain, IsFirstBad, HasValueFault}
 use Rattle.command_words.specs.Given.{SetsGiven}
 use Rattle.command_words.specs.declared.opt.Opt.{Opt}
 use Rattle.command_words.specs.declared.settings.Settings.{Settings}
@@ -24,7 +24,7 @@ use Rattle.command_words.specs.declared.values.Given.{Given}
 use Rattle.command_words.specs.declared.words_kind.WordsKind.{WordsKind}
 use Rattle.command_words.specs.declared.words_kind.WordsKind.TheVariants.{BadNumber, OutOfLimits, BadChoice}
 use Rattle.command_words.proofs.ValueLemmas.{value_check_tells_option, numeric_value_is_good, weigh_value_is_good}
-use Rattle.command_words.proofs.ValueLemmas.{deal_value_is_good}
+use Rattle.command_words.proofs.ValueLemmas.{deal_value_is_good, front_value_is_good}
 use Rattle.frame_records.specs.declared.weigh.Weigh.TheVariants as weighing
 use Rattle.deal_rules.specs.declared.deal_kind.DealKind.TheVariants as dealing
 use Rattle.command_words.specs.declared.opt.Opt.TheVariants as opt
@@ -97,9 +97,9 @@ value_faults_at_one_place IsBad IsWorse values opt other bad_no_good worse_no_go
   where
     go : (place_of opt < place_of other) ⊎ (place_of other ≤ place_of opt)
         → (place_of other < place_of opt) ⊎ (place_of opt ≤ place_of other) → opt ≡ other
-    go (inl before) behind = absurd (value_fault_is_not_good IsBad values opt bad_no_good bad (worse.before opt before))
+    go (inl before) behind = absurd (value_fault_is_not_good IsBad values opt bad_no_good bad (worse.before.good opt before))
     go (inr after) (inl before) =
-        absurd (value_fault_is_not_good IsWorse values other worse_no_good worse (bad.before other before))
+        absurd (value_fault_is_not_good IsWorse values other worse_no_good worse (bad.before.good other before))
     go (inr after) (inr before) = value_check_tells_option opt other (omega arith)
 
 -- an option's value is not bad in two ways that exclude each other
@@ -122,6 +122,22 @@ value_faults_in_one_way IsBad IsWorse values opt other bad_no_good worse_no_good
     (subst (λ o. IsFirstBad IsWorse values o)
     (sym (value_faults_at_one_place IsBad IsWorse values opt other bad_no_good worse_no_good bad worse)) worse)
 
+-- where a value is the first bad one, the grain fits or is not looked at
+value_fault_or_unfit_grain : (IsBad : OptionKind → ArgumentText → Type 0) (values : SettingValues) (at : Opt) → IsValueFault IsBad
+    → IsFirstBad IsBad values at → HaveUnfitGrain values → ⊥
+value_fault_or_unfit_grain IsBad values at is_no_good bad wrong =
+    go (cases_lt (place_of at) (place_of opt.Bits)) (cases_lt (place_of opt.Bits) (place_of at))
+  where
+    go : (place_of at < place_of opt.Bits) ⊎ (place_of opt.Bits ≤ place_of at)
+        → (place_of opt.Bits < place_of at) ⊎ (place_of at ≤ place_of opt.Bits) → ⊥
+    go (inl before) behind = value_fault_is_not_good IsBad values at is_no_good bad (wrong.before.good at before)
+    go (inr after) (inl behind) =
+        wrong.unfit (bad.before.fits behind wrong.grain wrong.capacity wrong.grain_set wrong.capacity_set)
+    go (inr after) (inr before) =
+        value_fault_is_not_good IsBad values opt.Bits is_no_good
+        (subst (λ o. IsFirstBad IsBad values o) (value_check_tells_option at opt.Bits (omega (arith, after, before))) bad)
+        (numeric_value_is_good opt.Bits (values opt.Bits) (grain_bits wrong.grain) wrong.grain_set)
+
 -- values that are all good have no fault but a grain that doesn't fit
 good_values_have_no_first_bad : (IsBad : OptionKind → ArgumentText → Type 0) (values : SettingValues) (at : Opt) → IsValueFault IsBad
     → AreGood values → IsFirstBad IsBad values at → ⊥
@@ -129,60 +145,60 @@ good_values_have_no_first_bad IsBad values at is_no_good good bad =
     value_fault_is_not_good IsBad values at is_no_good bad (good at)
 
 -- what values say of a number outside the limits, or of a grain that doesn't fit
-abbrev IsFaultOutsideLimits : SettingValues → Option ArgumentText → Opt → Type 0
-IsFaultOutsideLimits values path at = HasValueFault values path (OutOfLimits at)
+abbrev IsFaultOutsideLimits : SettingValues → Opt → Type 0
+IsFaultOutsideLimits values at = HasValueFault values (OutOfLimits at)
 
 -- such a fault comes beside no text that is no number
-value_fault_number_or_limits : (values : SettingValues) (path : Option ArgumentText) (at place : Opt) → IsFirstBad IsNoNumber values at
-    → IsFaultOutsideLimits values path place → ⊥
-value_fault_number_or_limits values path at place bad (inl worse) =
+value_fault_number_or_limits : (values : SettingValues) (at place : Opt) → IsFirstBad IsNoNumber values at
+    → IsFaultOutsideLimits values place → ⊥
+value_fault_number_or_limits values at place bad (inl worse) =
     value_faults_in_one_way IsNoNumber IsOutside values at place no_number_is_value_fault outside_is_value_fault
     value_fault_number_or_outside bad worse
-value_fault_number_or_limits values path at place bad (inr unfit) =
-    good_values_have_no_first_bad IsNoNumber values at no_number_is_value_fault unfit.1.good bad
+value_fault_number_or_limits values at place bad (inr unfit) =
+    value_fault_or_unfit_grain IsNoNumber values at no_number_is_value_fault bad unfit.1
 
 -- and beside no text that is no choice
-value_fault_choice_or_limits : (values : SettingValues) (path : Option ArgumentText) (at place : Opt) → IsFirstBad IsNoChoice values at
-    → IsFaultOutsideLimits values path place → ⊥
-value_fault_choice_or_limits values path at place bad (inl worse) =
+value_fault_choice_or_limits : (values : SettingValues) (at place : Opt) → IsFirstBad IsNoChoice values at
+    → IsFaultOutsideLimits values place → ⊥
+value_fault_choice_or_limits values at place bad (inl worse) =
     value_faults_in_one_way IsOutside IsNoChoice values place at outside_is_value_fault no_choice_is_value_fault
     value_fault_outside_or_choice worse bad
-value_fault_choice_or_limits values path at place bad (inr unfit) =
-    good_values_have_no_first_bad IsNoChoice values at no_choice_is_value_fault unfit.1.good bad
+value_fault_choice_or_limits values at place bad (inr unfit) =
+    value_fault_or_unfit_grain IsNoChoice values at no_choice_is_value_fault bad unfit.1
 
 -- two such faults are those of the same option
-one_fault_outside_limits : (values : SettingValues) (path : Option ArgumentText) (at place : Opt) → IsFaultOutsideLimits values path at
-    → IsFaultOutsideLimits values path place → at ≡ place
-one_fault_outside_limits values path at place (inl one) (inl two) =
+one_fault_outside_limits : (values : SettingValues) (at place : Opt) → IsFaultOutsideLimits values at
+    → IsFaultOutsideLimits values place → at ≡ place
+one_fault_outside_limits values at place (inl one) (inl two) =
     value_faults_at_one_place IsOutside IsOutside values at place outside_is_value_fault outside_is_value_fault one two
-one_fault_outside_limits values path at place (inl one) (inr two) =
-    absurd (good_values_have_no_first_bad IsOutside values at outside_is_value_fault two.1.good one)
-one_fault_outside_limits values path at place (inr one) (inl two) =
-    absurd (good_values_have_no_first_bad IsOutside values place outside_is_value_fault one.1.good two)
-one_fault_outside_limits values path at place (inr one) (inr two) = one.0 ∙ sym two.0
+one_fault_outside_limits values at place (inl one) (inr two) =
+    absurd (value_fault_or_unfit_grain IsOutside values at outside_is_value_fault one two.1)
+one_fault_outside_limits values at place (inr one) (inl two) =
+    absurd (value_fault_or_unfit_grain IsOutside values place outside_is_value_fault two one.1)
+one_fault_outside_limits values at place (inr one) (inr two) = one.0 ∙ sym two.0
 
 -- values have at most one first fault
-pub one_value_fault : (values : SettingValues) (path : Option ArgumentText) (kind other : WordsKind) → HasValueFault values path kind
-    → HasValueFault values path other → kind ≡ other
-one_value_fault values path (BadNumber at) (BadNumber place) one two =
+pub one_value_fault : (values : SettingValues) (kind other : WordsKind) → HasValueFault values kind
+    → HasValueFault values other → kind ≡ other
+one_value_fault values (BadNumber at) (BadNumber place) one two =
     ap BadNumber (value_faults_at_one_place IsNoNumber IsNoNumber values at place no_number_is_value_fault no_number_is_value_fault one two)
-one_value_fault values path (BadNumber at) (OutOfLimits place) one two = absurd (value_fault_number_or_limits values path at place one two)
-one_value_fault values path (BadNumber at) (BadChoice place) one two =
+one_value_fault values (BadNumber at) (OutOfLimits place) one two = absurd (value_fault_number_or_limits values at place one two)
+one_value_fault values (BadNumber at) (BadChoice place) one two =
     absurd (value_faults_in_one_way IsNoNumber IsNoChoice values at place no_number_is_value_fault no_choice_is_value_fault
     value_fault_number_or_choice one two)
-one_value_fault values path (BadNumber at) _ one two = absurd two
-one_value_fault values path (OutOfLimits at) (BadNumber place) one two = absurd (value_fault_number_or_limits values path place at two one)
-one_value_fault values path (OutOfLimits at) (OutOfLimits place) one two = ap OutOfLimits (one_fault_outside_limits values path at place one two)
-one_value_fault values path (OutOfLimits at) (BadChoice place) one two = absurd (value_fault_choice_or_limits values path place at two one)
-one_value_fault values path (OutOfLimits at) _ one two = absurd two
-one_value_fault values path (BadChoice at) (BadNumber place) one two =
+one_value_fault values (BadNumber at) _ one two = absurd two
+one_value_fault values (OutOfLimits at) (BadNumber place) one two = absurd (value_fault_number_or_limits values place at two one)
+one_value_fault values (OutOfLimits at) (OutOfLimits place) one two = ap OutOfLimits (one_fault_outside_limits values at place one two)
+one_value_fault values (OutOfLimits at) (BadChoice place) one two = absurd (value_fault_choice_or_limits values place at two one)
+one_value_fault values (OutOfLimits at) _ one two = absurd two
+one_value_fault values (BadChoice at) (BadNumber place) one two =
     absurd (value_faults_in_one_way IsNoNumber IsNoChoice values place at no_number_is_value_fault no_choice_is_value_fault
     value_fault_number_or_choice two one)
-one_value_fault values path (BadChoice at) (OutOfLimits place) one two = absurd (value_fault_choice_or_limits values path at place one two)
-one_value_fault values path (BadChoice at) (BadChoice place) one two =
+one_value_fault values (BadChoice at) (OutOfLimits place) one two = absurd (value_fault_choice_or_limits values at place one two)
+one_value_fault values (BadChoice at) (BadChoice place) one two =
     ap BadChoice (value_faults_at_one_place IsNoChoice IsNoChoice values at place no_choice_is_value_fault no_choice_is_value_fault one two)
-one_value_fault values path (BadChoice at) _ one two = absurd two
-one_value_fault values path _ other one two = absurd one
+one_value_fault values (BadChoice at) _ one two = absurd two
+one_value_fault values _ other one two = absurd one
 
 -- values that give something are all good
 pub given_values_have_no_fault : (values : SettingValues) (path : Option ArgumentText) (given : Given) → SetsGiven values path given
@@ -205,6 +221,7 @@ given_values_have_no_fault values path given gives = go gives.settings_set
     go set opt.Callers = numeric_value_is_good opt.Callers (values opt.Callers) settings.callers set.callers
     go set opt.Rounds = numeric_value_is_good opt.Rounds (values opt.Rounds) settings.rounds set.rounds
     go set opt.Bits = numeric_value_is_good opt.Bits (values opt.Bits) (grain_bits settings.grain) set.grain
+    go set opt.Front = front_value_is_good (values opt.Front) settings.front set.front
 
 -- a missing value sets one number at most
 one_value_by_default : (kind : OptionKind) (value other : ℕ) → IsDefault kind value → IsDefault kind other → value ≡ other
@@ -238,6 +255,15 @@ one_value_sets_one_deal : (told : Option ArgumentText) (deal other : DealKind) �
 one_value_sets_one_deal None deal other one two = one_value_per_deal_word deal other (one ∙ sym two)
 one_value_sets_one_deal (Some text) deal other one two = one_value_per_deal_word deal other (sym one ∙ two)
 
+one_value_per_front_word : (front other : Bool) → front_word front ≡ front_word other → front ≡ other
+one_value_per_front_word false false same = refl
+one_value_per_front_word true true same = refl
+one_value_per_front_word _ _ same = cc
+
+one_value_sets_one_front : (told : Option ArgumentText) (front other : Bool) → SetsFront told front → SetsFront told other → front ≡ other
+one_value_sets_one_front None front other one two = one_value_per_front_word front other (one ∙ sym two)
+one_value_sets_one_front (Some text) front other one two = one_value_per_front_word front other (sym one ∙ two)
+
 one_value_sets_one_store : (path : Option ArgumentText) (store other : Bool) → SetsStore path store → SetsStore path other → store ≡ other
 one_value_sets_one_store None store other one two = one ∙ sym two
 one_value_sets_one_store (Some path) store other one two = one ∙ sym two
@@ -254,27 +280,26 @@ one_value_sets_one_grain told grain other one two =
     one_value_per_grain_bits grain other
     (one_value_sets_one_number opt.Bits told (grain_bits grain) (grain_bits other) one two)
 
--- settings that are set have a grain that fits
-grain_of_one_value_fits : (values : SettingValues) (path : Option ArgumentText) (settings : Settings) → SetsAll values path settings
-    → HaveUnfitGrain values path → ⊥
-grain_of_one_value_fits values path settings set wrong =
-    wrong.unfit
-    (subst (λ g. GrainFits g wrong.capacity wrong.store)
-    (one_value_sets_one_grain (values opt.Bits) settings.grain wrong.grain set.grain wrong.grain_set)
-    (subst (λ n. GrainFits settings.grain n wrong.store)
-    (one_value_sets_one_number opt.Capacity (values opt.Capacity) settings.capacity wrong.capacity set.capacity wrong.capacity_set)
-    (subst (λ s. GrainFits settings.grain settings.capacity s)
-    (one_value_sets_one_store path settings.store wrong.store set.store wrong.store_set) set.fits)))
+-- if one grain and one capacity that values set fit, the grain that they set fits
+pub grain_of_one_value_fits : (values : SettingValues) (grain : Grain) (capacity : ℕ) → SetsGrain (values opt.Bits) grain
+    → SetsNumber opt.Capacity (values opt.Capacity) capacity → GrainFits grain capacity → HaveFitGrain values
+grain_of_one_value_fits values grain capacity grain_set capacity_set fits other more other_set more_set =
+    subst (λ g. GrainFits g more) (one_value_sets_one_grain (values opt.Bits) grain other grain_set other_set)
+    (subst (λ n. GrainFits grain n)
+    (one_value_sets_one_number opt.Capacity (values opt.Capacity) capacity more capacity_set more_set) fits)
 
 -- values that give something have no fault
 pub no_value_fault : (values : SettingValues) (path : Option ArgumentText) (given : Given) (kind : WordsKind) → SetsGiven values path given
-    → HasValueFault values path kind → ⊥
+    → HasValueFault values kind → ⊥
 no_value_fault values path given kind gives has = go kind (given_values_have_no_fault values path given gives) has
   where
-    go : (kind : WordsKind) → AreGood values → HasValueFault values path kind → ⊥
+    go : (kind : WordsKind) → AreGood values → HasValueFault values kind → ⊥
     go (BadNumber at) good has = good_values_have_no_first_bad IsNoNumber values at no_number_is_value_fault good has
     go (OutOfLimits at) good (inl has) = good_values_have_no_first_bad IsOutside values at outside_is_value_fault good has
-    go (OutOfLimits at) good (inr unfit) = grain_of_one_value_fits values path given.settings gives.settings_set unfit.1
+    go (OutOfLimits at) good (inr unfit) =
+        unfit.1.unfit
+        (grain_of_one_value_fits values given.settings.grain given.settings.capacity gives.settings_set.grain
+        gives.settings_set.capacity gives.settings_set.fits unfit.1.grain unfit.1.capacity unfit.1.grain_set unfit.1.capacity_set)
     go (BadChoice at) good has = good_values_have_no_first_bad IsNoChoice values at no_choice_is_value_fault good has
     go _ good has = has
 
@@ -297,6 +322,7 @@ values_set_one_settings values path settings other one two =
       weigh = one_value_sets_one_weigh (values opt.Weigh) settings.weigh other.weigh one.weigh two.weigh i;
       deal = one_value_sets_one_deal (values opt.Deal) settings.deal other.deal one.deal two.deal i;
       grain = one_value_sets_one_grain (values opt.Bits) settings.grain other.grain one.grain two.grain i;
+      front = one_value_sets_one_front (values opt.Front) settings.front other.front one.front two.front i;
       store = one_value_sets_one_store path settings.store other.store one.store two.store i;
     }
 

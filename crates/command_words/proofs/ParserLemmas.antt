@@ -106,7 +106,8 @@ parser_knows_found_option s byte name met known = record { met = met; known = kn
 parser_knows_each_option : (command : CommandWord) → All (WalkKnowsOption (parser_shape command)) (form_of command).options
 parser_knows_each_option Weigh =
     let k = parser_knows_found_option (parser_shape Weigh) in
-    All-from_recursion (WalkKnowsOption (parser_shape Weigh)) (form_of Weigh).options (k _ _ refl refl, (k _ _ refl refl, tt))
+    All-from_recursion (WalkKnowsOption (parser_shape Weigh)) (form_of Weigh).options
+    (k _ _ refl refl, (k _ _ refl refl, (k _ _ refl refl, tt)))
 parser_knows_each_option Report =
     let k = parser_knows_found_option (parser_shape Report) in
     All-from_recursion (WalkKnowsOption (parser_shape Report)) (form_of Report).options (
@@ -121,7 +122,10 @@ parser_knows_each_option Report =
               k _ _ refl refl,
               (
                 k _ _ refl refl,
-                (k _ _ refl refl, (k _ _ refl refl, (k _ _ refl refl, (k _ _ refl refl, (k _ _ refl refl, (k _ _ refl refl, tt)))))),
+                (
+                  k _ _ refl refl,
+                  (k _ _ refl refl, (k _ _ refl refl, (k _ _ refl refl, (k _ _ refl refl, (k _ _ refl refl, (k _ _ refl refl, tt)))))),
+                ),
               ),
             ),
           ),
@@ -131,14 +135,17 @@ parser_knows_each_option Report =
 parser_knows_each_option Format =
     let k = parser_knows_found_option (parser_shape Format) in
     All-from_recursion (WalkKnowsOption (parser_shape Format)) (form_of Format).options
-    (k _ _ refl refl, (k _ _ refl refl, (k _ _ refl refl, (k _ _ refl refl, (k _ _ refl refl, tt)))))
+    (k _ _ refl refl, (k _ _ refl refl, (k _ _ refl refl, (k _ _ refl refl, (k _ _ refl refl, (k _ _ refl refl, tt))))))
 parser_knows_each_option Audit =
     let k = parser_knows_found_option (parser_shape Audit) in
     All-from_recursion (WalkKnowsOption (parser_shape Audit)) (form_of Audit).options (
       k _ _ refl refl,
       (
         k _ _ refl refl,
-        (k _ _ refl refl, (k _ _ refl refl, (k _ _ refl refl, (k _ _ refl refl, (k _ _ refl refl, (k _ _ refl refl, tt)))))),
+        (
+          k _ _ refl refl,
+          (k _ _ refl refl, (k _ _ refl refl, (k _ _ refl refl, (k _ _ refl refl, (k _ _ refl refl, (k _ _ refl refl, tt)))))),
+        ),
       ),
     )
 parser_knows_each_option Make = All-nil (WalkKnowsOption (parser_shape Make))
@@ -157,13 +164,13 @@ parser_has_positional_places Audit = tt
 parser_has_positional_places Make = (record { placed = refl; known = refl }, (record { placed = refl; known = refl }, tt))
 parser_has_positional_places Demo = (record { placed = refl; known = refl }, (record { placed = refl; known = refl }, tt))
 
--- a name that differs from both options of `weigh` is not that of an option
+-- a name that differs from all options of `weigh` is not that of an option
 no_option_of_weigh_parser : (id : ArgumentText) → bytes_eq id (codes "capture") ≡ false → bytes_eq id (codes "weigh") ≡ false
-    → IsNoParserOptionName (form_of Weigh).options id
-no_option_of_weigh_parser id capture weigh name within =
+    → bytes_eq id (codes "front") ≡ false → IsNoParserOptionName (form_of Weigh).options id
+no_option_of_weigh_parser id capture weigh front name within =
     parser_all_holds_of_each (λ other. id ≢ other) (form_of Weigh).options name
     (All-from_recursion (λ other. id ≢ other) (form_of Weigh).options
-    (parser_texts_are_apart id _ capture, (parser_texts_are_apart id _ weigh, tt))) within
+    (parser_texts_are_apart id _ capture, (parser_texts_are_apart id _ weigh, (parser_texts_are_apart id _ front, tt)))) within
 
 -- nor is one that differs from all options of `demo`
 no_option_of_demo_parser : (id : ArgumentText) → bytes_eq id (codes "shards") ≡ false → bytes_eq id (codes "capacity") ≡ false
@@ -189,7 +196,7 @@ no_option_of_demo_parser id shards capacity phi deal block workers bits name wit
 no_options_of_parser : (command : CommandWord) → AreNoParserOptionNames (form_of command).options (form_of command).positionals
 no_options_of_parser Weigh =
     All-from_recursion (IsNoParserOptionName (form_of Weigh).options) (form_of Weigh).positionals
-    (no_option_of_weigh_parser _ refl refl, (no_option_of_weigh_parser _ refl refl, tt))
+    (no_option_of_weigh_parser _ refl refl refl, (no_option_of_weigh_parser _ refl refl refl, tt))
 no_options_of_parser Report = All-nil (IsNoParserOptionName (form_of Report).options)
 no_options_of_parser Format = All-nil (IsNoParserOptionName (form_of Format).options)
 no_options_of_parser Audit = All-nil (IsNoParserOptionName (form_of Audit).options)

@@ -70,11 +70,11 @@ AskForCommand words (command.Make seed frames) = AskToMake words seed frames
 AskForCommand words (command.Demo seed frames settings) = AskToDemo words seed frames settings
 
 -- the numbers of the command are within their limits, and the tables of a report, an audit or a demo are large enough
--- for their share. A prefix is weighed, and a store is made, by whole bytes
+-- for their share. A prefix is weighed by whole bytes
 abbrev pub IsLimitedCommand : Command → Type 0
 IsLimitedCommand (command.Weigh prefix settings) = AreLimited settings × (settings.grain ≡ Byte) × IsPrefix Byte prefix
 IsLimitedCommand (command.Report settings) = AreLimited settings × HaveWideShare settings
-IsLimitedCommand (command.Format settings) = AreLimited settings × (settings.grain ≡ Byte)
+IsLimitedCommand (command.Format settings) = AreLimited settings
 IsLimitedCommand (command.Audit settings) = AreLimited settings × HaveWideShare settings
 IsLimitedCommand (command.Make seed frames) = AreForTraffic seed frames
 IsLimitedCommand (command.Demo seed frames settings) = AreForTraffic seed frames × AreLimited settings × HaveWideShare settings

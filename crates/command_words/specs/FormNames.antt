@@ -17,26 +17,26 @@ word_of Demo = codes "demo"
 abbrev pub form_of : CommandWord → ArgumentForm
 form_of Weigh = record {
   positionals = codes "SRC" ∷ codes "DST" ∷ [];
-  options = codes "capture" ∷ codes "weigh" ∷ [];
+  options = codes "capture" ∷ codes "weigh" ∷ codes "front" ∷ [];
   required = [];
 }
 form_of Report = record {
   positionals = [];
   options =
       codes "capture" ∷ codes "weigh" ∷ codes "shards" ∷ codes "capacity" ∷ codes "phi" ∷ codes "deal" ∷ codes "block"
-      ∷ codes "workers" ∷ codes "callers" ∷ codes "rounds" ∷ codes "bits" ∷ codes "store" ∷ [];
+      ∷ codes "workers" ∷ codes "callers" ∷ codes "rounds" ∷ codes "bits" ∷ codes "front" ∷ codes "store" ∷ [];
   required = [];
 }
 form_of Format = record {
   positionals = [];
-  options = codes "weigh" ∷ codes "shards" ∷ codes "capacity" ∷ codes "deal" ∷ codes "store" ∷ [];
+  options = codes "weigh" ∷ codes "shards" ∷ codes "capacity" ∷ codes "deal" ∷ codes "bits" ∷ codes "store" ∷ [];
   required = codes "store" ∷ [];
 }
 form_of Audit = record {
   positionals = [];
   options =
       codes "capture" ∷ codes "weigh" ∷ codes "shards" ∷ codes "capacity" ∷ codes "phi" ∷ codes "deal"
-      ∷ codes "bits" ∷ codes "report" ∷ [];
+      ∷ codes "bits" ∷ codes "front" ∷ codes "report" ∷ [];
   required = codes "report" ∷ [];
 }
 form_of Make = record { positionals = codes "SEED" ∷ codes "FRAMES" ∷ []; options = []; required = [] }

@@ -1,7 +1,7 @@
 -- What some of the values give, and what is wrong with one, which no public contract cites.
-use Rattle.std.specs.Prelude.{ℕ, ◌≡◌, ◌<◌, Option, Some, None}
+use Rattle.std.specs.Prelude.{◌≡◌, Option, Some, None}
 use Rattle.command_words.specs.Arguments.{ArgumentText}
-use Rattle.command_words.specs.Options.{kind_of, place_of, IsGood, IsNoNumber}
+use Rattle.command_words.specs.Options.{kind_of, IsNoNumber}
 use Rattle.command_words.specs.Options.{IsOutside, IsNoChoice}
 use Rattle.command_words.specs.Settings.{SettingValues, SetsNumber, SetsAll}
 use Rattle.command_words.specs.declared.opt.Opt.{Opt}
@@ -23,10 +23,6 @@ abbrev pub IsBadChoice : Opt → Option ArgumentText → WordsKind → Type 0
 IsBadChoice opt None kind = ⊥
 IsBadChoice opt (Some text) (BadChoice at) = (at ≡ opt) × IsNoChoice (kind_of opt) text
 IsBadChoice opt (Some text) _ = ⊥
-
--- each option before an index has a good value, or is missing
-abbrev pub AreGoodBefore : SettingValues → ℕ → Type 0
-AreGoodBefore values place = (other : Opt) → place_of other < place → IsGood other (values other)
 
 -- what threads do while records are folded, as the values of options give it, with defaults filled in
 pub record SetsRunning (values : SettingValues) (running : Running) : Type 0 where

@@ -4,7 +4,7 @@ use Rattle.std.specs.Prelude.{None}
 use Rattle.command_words.specs.Arguments.{ArgumentText}
 use Rattle.command_words.specs.declared.opt.Opt.{Opt}
 use Rattle.command_words.specs.declared.opt.Opt.TheVariants.{Seed, Frames, Weigh, Shards, Capacity, Phi, Deal}
-use Rattle.command_words.specs.declared.opt.Opt.TheVariants.{Block, Workers, Callers, Rounds, Bits}
+use Rattle.command_words.specs.declared.opt.Opt.TheVariants.{Block, Workers, Callers, Rounds, Bits, Front}
 use Rattle.prefix_lattice.specs.{shard_limit, grain_bits}
 use Rattle.prefix_lattice.specs.declared.grain.Grain.TheVariants.{Byte, Nibble}
 
@@ -68,6 +68,7 @@ row_of Workers = record { name = codes "workers"; place = 8; kind = number 1 wor
 row_of Callers = record { name = codes "callers"; place = 9; kind = number 0 callers_limit 0 }
 row_of Rounds = record { name = codes "rounds"; place = 10; kind = number 0 rounds_limit 0 }
 row_of Bits = record { name = codes "bits"; place = 11; kind = few_numbers (grain_bits Byte) (grain_bits Nibble ∷ []) }
+row_of Front = record { name = codes "front"; place = 12; kind = choice (codes "no") (codes "yes" ∷ []) }
 
 -- the name of an option or a positional
 abbrev pub name_of : Opt → ArgumentText

@@ -16,11 +16,10 @@ use Rattle.command_words.specs.declared.command_word.CommandWord.{CommandWord}
 use Rattle.command_words.specs.declared.opt.Opt.{Opt}
 use Rattle.command_words.specs.declared.opt.Opt.TheVariants.{Seed, Frames, Weigh as ByWeigh, Shards, Capacity, Phi}
 use Rattle.command_words.specs.declared.opt.Opt.TheVariants.{Deal}
-use Rattle.command_words.specs.declared.opt.Opt.TheVariants.{Block, Workers, Callers, Rounds, Bits}
+use Rattle.command_words.specs.declared.opt.Opt.TheVariants.{Block, Workers, Callers, Rounds, Bits, Front}
 use Rattle.command_words.specs.declared.settings.Settings.{Settings}
 use Rattle.prefix_lattice.specs.{shard_limit, grain_bits}
 use Rattle.prefix_lattice.specs.declared.grain.Grain.{Grain}
-use Rattle.prefix_lattice.specs.declared.grain.Grain.TheVariants.{Byte}
 use Rattle.prefix_lattice.specs.{most_grain_capacity}
 
 -- the value of each option or positional that is present
@@ -51,6 +50,11 @@ deal_word dealing.RoundRobin = codes "round"
 deal_word dealing.BySource = codes "source"
 deal_word dealing.Free = codes "free"
 
+-- the value of `--front` where a capture is taken up to a cut frame, and where it is not
+abbrev pub front_word : Bool → ArgumentText
+front_word false = codes "no"
+front_word true = codes "yes"
+
 -- how traffic is weighed: by the default if the option is missing
 abbrev pub SetsWeigh : Option ArgumentText → Weigh → Type 0
 SetsWeigh None weigh = IsDefaultChoice (kind_of ByWeigh) (weigh_word weigh)
@@ -61,6 +65,11 @@ abbrev pub SetsDeal : Option ArgumentText → DealKind → Type 0
 SetsDeal None deal = IsDefaultChoice (kind_of Deal) (deal_word deal)
 SetsDeal (Some text) deal = text ≡ deal_word deal
 
+-- whether a capture is taken up to a cut frame: by the default if the option is missing
+abbrev pub SetsFront : Option ArgumentText → Bool → Type 0
+SetsFront None front = IsDefaultChoice (kind_of Front) (front_word front)
+SetsFront (Some text) front = text ≡ front_word front
+
 -- whether cuts are saved: exactly if a store is named
 abbrev pub SetsStore : Option ArgumentText → Bool → Type 0
 SetsStore None store = store ≡ false
@@ -70,11 +79,9 @@ SetsStore (Some path) store = store ≡ true
 abbrev pub SetsGrain : Option ArgumentText → Grain → Type 0
 SetsGrain told grain = SetsNumber Bits told (grain_bits grain)
 
--- the grain fits the tables and the store: tables of this capacity can be kept by it, and only those by whole bytes can be
--- saved
-pub record GrainFits (grain : Grain) (capacity : ℕ) (store : Bool) : Type 0 where
-  pub few_entries : capacity ≤ most_grain_capacity grain
-  pub saved_by_bytes : store ≡ true → grain ≡ Byte
+-- tables of this capacity can be kept by this grain
+abbrev pub GrainFits : Grain → ℕ → Type 0
+GrainFits grain capacity = capacity ≤ most_grain_capacity grain
 
 -- the settings that the values of options and the path of a store give, with defaults filled in
 pub record SetsAll (values : SettingValues) (path : Option ArgumentText) (settings : Settings) : Type 0 where
@@ -88,8 +95,9 @@ pub record SetsAll (values : SettingValues) (path : Option ArgumentText) (settin
   pub callers : SetsNumber Callers (values Callers) settings.callers
   pub rounds : SetsNumber Rounds (values Rounds) settings.rounds
   pub grain : SetsGrain (values Bits) settings.grain
+  pub front : SetsFront (values Front) settings.front
   pub store : SetsStore path settings.store
-  pub fits : GrainFits settings.grain settings.capacity settings.store
+  pub fits : GrainFits settings.grain settings.capacity
 
 -- the number that a positional gives: its value, within its limits
 abbrev pub GivesNumber : Opt → Option ArgumentText → ℕ → Type 0
@@ -112,7 +120,7 @@ pub record AreForTraffic (seed frames : ℕ) : Type 0 where
 abbrev pub HaveWideShare : Settings → Type 0
 HaveWideShare settings = 2 * phi_limit ≤ settings.phi * settings.capacity
 
--- each number of the settings is within its limits, and the grain fits the tables and the store
+-- each number of the settings is within its limits, and the grain fits the tables
 pub record AreLimited (settings : Settings) : Type 0 where
   pub some_shards : 1 ≤ settings.shards
   pub few_shards : settings.shards ≤ shard_limit
@@ -126,4 +134,4 @@ pub record AreLimited (settings : Settings) : Type 0 where
   pub few_workers : settings.workers ≤ workers_limit
   pub few_callers : settings.callers ≤ callers_limit
   pub few_rounds : settings.rounds ≤ rounds_limit
-  pub fits : GrainFits settings.grain settings.capacity settings.store
+  pub fits : GrainFits settings.grain settings.capacity

@@ -30,7 +30,7 @@ pub record HasBadValue (words : List ArgumentText) (kind : WordsKind) : Type 0 w
   pub arguments : List Argument
   pub are_words : AreWords words command arguments
   pub positionals : HasPositionals command arguments
-  pub has_fault : HasValueFault (settings_in command arguments) (store_setting arguments) kind
+  pub has_fault : HasValueFault (settings_in command arguments) kind
 
 -- each value is good, the grain fits, and the tables are too small for the share, though the command needs them to be
 -- large enough
@@ -45,7 +45,7 @@ pub record HasNarrowTables (words : List ArgumentText) : Type 0 where
   pub narrow : HaveWideShare settings → ⊥
 
 -- the first fault of the arguments: the command, then their form, then the prefix, then the values in the order
--- of the options, then a grain that doesn't fit, then the bound on phi times the capacity
+-- of the options, then the bound on phi times the capacity
 abbrev pub HasWordsFault : List ArgumentText → WordsKind → Type 0
 HasWordsFault words NoCommand = words ≡ []
 HasWordsFault words UnknownCommand =

@@ -22,19 +22,19 @@ static NONE: [&str; 0] = [];
 
 static WEIGH_POSITIONALS: [&str; 2] = ["SRC", "DST"];
 
-static WEIGH_OPTIONS: [&str; 2] = ["capture", "weigh"];
+static WEIGH_OPTIONS: [&str; 3] = ["capture", "weigh", "front"];
 
-static REPORT_OPTIONS: [&str; 12] = [
+static REPORT_OPTIONS: [&str; 13] = [
     "capture", "weigh", "shards", "capacity", "phi", "deal", "block", "workers", "callers",
-    "rounds", "bits", "store",
+    "rounds", "bits", "front", "store",
 ];
 
-static FORMAT_OPTIONS: [&str; 5] = ["weigh", "shards", "capacity", "deal", "store"];
+static FORMAT_OPTIONS: [&str; 6] = ["weigh", "shards", "capacity", "deal", "bits", "store"];
 
 static FORMAT_REQUIRED: [&str; 1] = ["store"];
 
-static AUDIT_OPTIONS: [&str; 8] = [
-    "capture", "weigh", "shards", "capacity", "phi", "deal", "bits", "report",
+static AUDIT_OPTIONS: [&str; 9] = [
+    "capture", "weigh", "shards", "capacity", "phi", "deal", "bits", "front", "report",
 ];
 
 static AUDIT_REQUIRED: [&str; 1] = ["report"];

@@ -30,9 +30,10 @@ pub enum Opt {
     Callers,
     /// How many reports each of them makes while records are folded, 0 to 32.
     Rounds,
-    /// By how many bits prefixes may keep more of an address, 8 or 4. With 4 the capacity is at most 1024, and no store
-    /// is named.
+    /// By how many bits prefixes may keep more of an address, 8 or 4. With 4 the capacity is at most 1024.
     Bits,
+    /// Whether a capture that ends inside a frame is taken up to that frame: `no` or `yes`.
+    Front,
 }
 
 impl Opt {
@@ -53,6 +54,7 @@ impl Opt {
             Opt::Callers => "callers",
             Opt::Rounds => "rounds",
             Opt::Bits => "bits",
+            Opt::Front => "front",
         }
     }
 }

@@ -39,8 +39,8 @@ pub(crate) struct CommandLine<'a> {
 ///
 /// Arguments that ask for no command are refused for their first fault: the command, then the form of the
 /// arguments, then the prefix, then the values in the order of `Opt`, each as a number before its limits, then
-/// for `report`, `audit` and `demo` a grain that doesn't fit the capacity or the store, and the bound on `phi` times
-/// the capacity.
+/// for `report`, `audit` and `demo` the bound on `phi` times the capacity. Half bytes that don't fit the capacity are
+/// outside the limits of `Opt::Bits`.
 pub fn read_words(alloc: Global, words: &[&str]) -> Result<Command, WordsRefusal>
     ensures ok { IfOk result (AskForCommand (argument_texts words.now)) }
     ensures limited { IfOk result IsLimitedCommand }

@@ -27,6 +27,8 @@ pub struct Settings {
     pub deal: DealKind,
     /// By how many bits prefixes may keep more of an address.
     pub grain: Grain,
-    /// Whether cuts are saved in a store, which are then by whole bytes.
+    /// Whether a capture that ends inside a frame is taken up to that frame.
+    pub front: bool,
+    /// Whether cuts are saved in a store.
     pub store: bool,
 }

@@ -3,14 +3,13 @@
 ghost use Rattle.std.specs.Prelude.{◌≡◌, ◌↔◌, IfOk, IfErr, IsTrue};
 ghost use Rattle.command_words.specs.Scanning.{text_at};
 ghost use Rattle.command_words.specs.Options.{kind_of, number, place_of};
-ghost use Rattle.command_words.specs.Settings.{GrainFits, SetsDeal, SetsGrain, SetsNumber, SetsAll, SetsStore};
-ghost use Rattle.command_words.specs.Settings.{SetsWeigh, HaveWideShare};
+ghost use Rattle.command_words.specs.Settings.{GrainFits, SetsDeal, SetsFront, SetsGrain, SetsNumber, SetsAll};
+ghost use Rattle.command_words.specs.Settings.{SetsStore, SetsWeigh, HaveWideShare};
 ghost use Rattle.command_words.specs.Matches.{store_in, values_in};
-ghost use Rattle.command_words.specs.Values.{AreGood, HasValueFault};
-ghost use Rattle.command_words.specs.Given.{AreGoodBefore, IsBadChoice, IsBadNumber};
-ghost use Rattle.command_words.specs.Given.{SetsGiven, SetsRunning};
+ghost use Rattle.command_words.specs.Values.{AreGood, AreGoodBefore, HasValueFault};
+ghost use Rattle.command_words.specs.Given.{IsBadChoice, IsBadNumber, SetsGiven, SetsRunning};
 ghost use Rattle.command_words.specs.declared.words_kind.WordsKind.TheVariants.{BadChoice, Bound, OutOfLimits};
-ghost use Rattle.command_words.specs.declared.opt.Opt.TheVariants.{Seed, Weigh as ByWeigh, Deal, Block, Bits};
+ghost use Rattle.command_words.specs.declared.opt.Opt.TheVariants.{Seed, Weigh as ByWeigh, Deal, Block, Bits, Front};
 
 use crate::{Opt, Settings, WordsKind};
 use clap::ArgMatches;
@@ -113,7 +112,7 @@ const LEAST_WIDTH: u64 = 2_000_000;
 pub(crate) fn settings_of(matches: &ArgMatches<'_>) -> Result<Settings, WordsKind>
     ensures ok { IfOk result (SetsAll (values_in matches.now) (store_in matches.now)) }
     ensures good { IfOk result (λ _. AreGood (values_in matches.now)) }
-    ensures err { IfErr result (HasValueFault (values_in matches.now) (store_in matches.now)) }
+    ensures err { IfErr result (HasValueFault (values_in matches.now)) }
 {
     Ok(given_of(matches)?.settings)
 }
@@ -121,7 +120,7 @@ pub(crate) fn settings_of(matches: &ArgMatches<'_>) -> Result<Settings, WordsKin
 /// What options and positionals give, or the fault of the first wrong value.
 pub(crate) fn given_of(matches: &ArgMatches<'_>) -> Result<Given, WordsKind>
     ensures ok { IfOk result (SetsGiven (values_in matches.now) (store_in matches.now)) }
-    ensures err { IfErr result (HasValueFault (values_in matches.now) (store_in matches.now)) }
+    ensures err { IfErr result (HasValueFault (values_in matches.now)) }
 {
     let seed = seed_of(text_of(matches, Opt::Seed))?;
     let frames = FRAMES.read(text_of(matches, Opt::Frames))?;
@@ -133,12 +132,11 @@ pub(crate) fn given_of(matches: &ArgMatches<'_>) -> Result<Given, WordsKind>
     })
 }
 
-// The settings that the options give, or the fault of the first wrong value or of a grain that doesn't fit. The values
-// before them are good.
+// The settings that the options give, or the fault of the first wrong value. The values before them are good.
 fn options_of(matches: &ArgMatches<'_>) -> Result<Settings, WordsKind>
     requires { AreGoodBefore (values_in matches.now) (place_of ByWeigh) }
     ensures ok { IfOk result (SetsAll (values_in matches.now) (store_in matches.now)) }
-    ensures err { IfErr result (HasValueFault (values_in matches.now) (store_in matches.now)) }
+    ensures err { IfErr result (HasValueFault (values_in matches.now)) }
 {
     let weigh = weigh_of(text_of(matches, Opt::Weigh))?;
     let shards = SHARDS.read(text_of(matches, Opt::Shards))?;
@@ -147,7 +145,9 @@ fn options_of(matches: &ArgMatches<'_>) -> Result<Settings, WordsKind>
     let deal = deal_of(text_of(matches, Opt::Deal))?;
     let running = running_of(matches)?;
     let grain = grain_of(text_of(matches, Opt::Bits))?;
-    fitting(Settings {
+    check_grain(grain, capacity)?;
+    let front = front_of(text_of(matches, Opt::Front))?;
+    Ok(Settings {
         shards,
         capacity,
         phi,
@@ -158,6 +158,7 @@ fn options_of(matches: &ArgMatches<'_>) -> Result<Settings, WordsKind>
         weigh,
         deal,
         grain,
+        front,
         store: names_store(matches),
     })
 }
@@ -167,7 +168,7 @@ fn running_of(matches: &ArgMatches<'_>) -> Result<Running, WordsKind>
     requires { AreGoodBefore (values_in matches.now) (place_of Block) }
     ensures ok { IfOk result (SetsRunning (values_in matches.now)) }
     ensures good { IfOk result (λ _. AreGoodBefore (values_in matches.now) (place_of Bits)) }
-    ensures err { IfErr result (HasValueFault (values_in matches.now) (store_in matches.now)) }
+    ensures err { IfErr result (HasValueFault (values_in matches.now)) }
 {
     let block = BLOCK.read(text_of(matches, Opt::Block))?;
     let workers = WORKERS.read(text_of(matches, Opt::Workers))?;
@@ -181,26 +182,15 @@ fn running_of(matches: &ArgMatches<'_>) -> Result<Running, WordsKind>
     })
 }
 
-// The settings themselves, if their grain fits the tables and the store.
-fn fitting(settings: Settings) -> Result<Settings, WordsKind>
-    ensures ok { IfOk result (λ same. (same ≡ settings) × GrainFits settings.grain settings.capacity settings.store) }
-    ensures err { IfErr result (λ kind. (kind ≡ OutOfLimits Bits) × (GrainFits settings.grain settings.capacity settings.store → ⊥)) }
+// Whether tables of this capacity can be kept by this grain: nothing, or the fault of the grain.
+fn check_grain(grain: Grain, capacity: u32) -> Result<(), WordsKind>
+    ensures ok { IfOk result (λ _. GrainFits grain capacity) }
+    ensures err { IfErr result (λ kind. (kind ≡ OutOfLimits Bits) × (GrainFits grain capacity → ⊥)) }
 {
-    if !is_fit(&settings) {
+    if capacity > grain.greatest_capacity() {
         return Err(WordsKind::OutOfLimits(Opt::Bits));
     }
-    Ok(settings)
-}
-
-// Whether tables of this capacity can be kept by this grain, and saved if a store is named.
-fn is_fit(settings: &Settings) -> bool
-    ensures { IsTrue result ↔ GrainFits settings.now.grain settings.now.capacity settings.now.store }
-{
-    let is_small = settings.capacity <= settings.grain.greatest_capacity();
-    match settings.grain {
-        Grain::Byte => is_small,
-        Grain::Nibble => is_small && !settings.store,
-    }
+    Ok(())
 }
 
 /// The settings themselves, if their tables are large enough for their share.
@@ -305,5 +295,16 @@ fn deal_of(text: Option<&str>) -> Result<DealKind, WordsKind>
         Some("source") => Ok(DealKind::BySource),
         Some("free") => Ok(DealKind::Free),
         Some(_) => Err(WordsKind::BadChoice(Opt::Deal)),
+    }
+}
+
+fn front_of(text: Option<&str>) -> Result<bool, WordsKind>
+    ensures ok { IfOk result (SetsFront (text_at text.entry)) }
+    ensures err { IfErr result (λ kind. IsBadChoice Front (text_at text.entry) kind) }
+{
+    match text {
+        None | Some("no") => Ok(false),
+        Some("yes") => Ok(true),
+        Some(_) => Err(WordsKind::BadChoice(Opt::Front)),
     }
 }

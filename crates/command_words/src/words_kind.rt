@@ -27,7 +27,7 @@ pub enum WordsKind {
     #[error("{0}: no number")]
     BadNumber(Opt),
     /// The value of the option or positional is a number outside its limits. For `Opt::Bits` it may also be that tables
-    /// of the capacity are not kept by half bytes, or that a store is named beside them.
+    /// of the capacity are not kept by half bytes.
     #[error("{0}: outside its limits")]
     OutOfLimits(Opt),
     /// The value of the option is none of its choices.

@@ -1,9 +1,10 @@
 -- Worked examples of what is kept of the frames of a capture: an IPv4 packet, an ARP frame, and the packet once more.
-use Rattle.std.proofs.Common.{ℕ, ◌≡◌, ◌-◌, ◌^◌, true, false, List, [], ◌∷◌, Some, None, Err, inl, inr, refl, arith}
-use Rattle.pcap_frames.specs.declared.fault.FaultKind.TheVariants.{ShortHeader}
+use Rattle.std.proofs.Common.{ℕ, Bool, ◌≡◌, ◌-◌, ◌^◌, true, false, List, [], ◌∷◌, Some, None, Err, inl, inr, refl}
+use Rattle.std.proofs.Common.{arith}
+use Rattle.pcap_frames.specs.declared.fault.FaultKind.TheVariants.{ShortHeader, CutFrame}
 use Rattle.pcap_frames.specs.declared.fault.ReadRefusal.TheVariants.{Capture, ReadFault, OutOfMemory}
 use Rattle.pcap_frames.specs.{FrameValue, header_fault, header_fault_at}
-use Rattle.frame_records.specs.CaptureFile.{FileHasFrames, IsRefusedFile}
+use Rattle.frame_records.specs.CaptureFile.{FileHasFrames, FileGives, IsRefusedFile}
 use Rattle.frame_records.specs.declared.records.Records.{Records}
 use Rattle.frame_records.specs.declared.skip.Skip.TheVariants.{Short, BadHeader}
 use Rattle.frame_records.specs.declared.weigh.Weigh.TheVariants.{Bytes, Packets}
@@ -13,13 +14,14 @@ use Rattle.frame_records.specs.RecordVisitor.{with_skip, after_frame}
 use Rattle.outside_io.specs.{ReadsFront}
 use Rattle.frame_records.specs.Records.{AreRecordsOf, HasRecords, HasRefused}
 use Rattle.frame_records.proofs.Examples.{plain, arp, weighing}
+use Rattle.pcap_frames.proofs.Examples.{cut_file, fault_of_a_cut_file, cut_file_is_no_capture}
 
 abbrev frames : List FrameValue
 frames = plain ∷ arp ∷ plain ∷ []
 
 -- what is kept of them, weighed by packets
 abbrev records : Records
-records = record { list = weighing 1 ∷ weighing 1 ∷ []; frames = 3; not_ipv4 = 1; short = 0; bad_header = 0 }
+records = record { list = weighing 1 ∷ weighing 1 ∷ []; frames = 3; not_ipv4 = 1; short = 0; bad_header = 0; cut = None }
 
 pub records_and_counts : AreRecordsOf Packets frames records
 records_and_counts = record { list = refl; frames = refl; not_ipv4 = refl; short = refl; bad_header = refl }
@@ -28,29 +30,43 @@ records_and_counts = record { list = refl; frames = refl; not_ipv4 = refl; short
 pub skipped_frame_is_a_frame : AreRecordsOf Packets frames (record records { frames = 2 }) → ⊥
 skipped_frame_is_a_frame are = omega (arith, are.frames)
 
-pub records_of_a_capture : (file : List ℕ) → FileHasFrames file frames → HasRecords Packets (Some file) records
-records_of_a_capture file is = record { frames = frames; few = omega arith; told = is; are = records_and_counts }
+pub records_of_a_capture : (file : List ℕ) → FileHasFrames file frames → HasRecords Packets false (Some file) records
+records_of_a_capture file is = record {
+  frames = frames;
+  few = omega arith;
+  told = is;
+  whole = λ asked. refl;
+  are = records_and_counts;
+}
 
 -- a source whose bytes are unknown had some frames
-pub records_of_an_untold_capture : HasRecords Packets None records
-records_of_an_untold_capture = record { frames = frames; few = omega arith; told = tt; are = records_and_counts }
+pub records_of_an_untold_capture : HasRecords Packets false None records
+records_of_an_untold_capture = record {
+  frames = frames;
+  few = omega arith;
+  told = tt;
+  whole = λ asked. refl;
+  are = records_and_counts;
+}
 
 -- an empty file is refused for its missing header, at its first byte
-pub empty_file_has_no_header : IsRefusedFile [] (header_fault_at ShortHeader 0)
+pub empty_file_has_no_header : IsRefusedFile true [] (header_fault_at ShortHeader 0)
 unfolding header_fault
-empty_file_has_no_header =
-    ([], inr (inl (record { none_shown = refl; short = omega arith; none_before = refl; is_fault = refl })))
+empty_file_has_no_header = record {
+  first = ([], inr (inl (record { none_shown = refl; short = omega arith; none_before = refl; is_fault = refl })));
+  no_front = λ asked (cut : ShortHeader ≡ CutFrame). cc;
+}
 
-pub empty_file_is_refused : HasRefused (Some []) 3 3 (Capture (header_fault_at ShortHeader 0))
+pub empty_file_is_refused : HasRefused true (Some []) 3 3 (Capture (header_fault_at ShortHeader 0))
 empty_file_is_refused = empty_file_has_no_header
 
-pub fault_of_the_source_was_counted : HasRefused None 3 4 ReadFault
+pub fault_of_the_source_was_counted : HasRefused false None 3 4 ReadFault
 fault_of_the_source_was_counted = omega arith
 
-pub fault_without_a_count_is_none : HasRefused None 3 3 ReadFault → ⊥
+pub fault_without_a_count_is_none : HasRefused false None 3 3 ReadFault → ⊥
 fault_without_a_count_is_none rose = omega (arith, rose)
 
-pub want_of_memory_has_no_other_cause : HasRefused None 3 3 OutOfMemory
+pub want_of_memory_has_no_other_cause : HasRefused false None 3 3 OutOfMemory
 want_of_memory_has_no_other_cause = tt
 
 pub two_bytes_were_read : ReadsFront (Some (1 ∷ 2 ∷ 3 ∷ [])) (Some (3 ∷ []))
@@ -69,7 +85,7 @@ pub count_past_the_greatest_is_capped : capped (2 ^ 64) ≡ 2 ^ 64 - 1
 count_past_the_greatest_is_capped = refl
 
 pub visitor_keeps_them : KeepsRecordsOf Packets frames records
-visitor_keeps_them = record { list = refl; frames = refl; not_ipv4 = refl; short = refl; bad_header = refl }
+visitor_keeps_them = record { list = refl; frames = refl; not_ipv4 = refl; short = refl; bad_header = refl; cut = refl }
 
 pub short_frame_is_counted : with_skip Short records ≡ record records { short = 1 }
 short_frame_is_counted = refl
@@ -84,3 +100,32 @@ after_a_bad_header = refl
 -- no frames are taken from an empty file
 pub empty_file_has_no_frames : (frames : List FrameValue) → FileHasFrames [] frames → ⊥
 empty_file_has_no_frames frames (order, splits) = let header = splits.header in omega (arith, header.whole)
+
+-- ---- a capture of one frame that is cut before the frame's last byte
+
+-- its front has no frame, and the frame that is cut is the one at the end of the file header
+pub front_of_a_cut_capture : FileGives true cut_file [] (Some 24)
+front_of_a_cut_capture = (refl, fault_of_a_cut_file)
+
+pub no_front_unless_asked_for : FileGives false cut_file [] (Some 24) → ⊥
+no_front_unless_asked_for gives = let asked : false ≡ true = gives.0 in cc
+
+-- the front isn't taken for a whole capture
+pub cut_capture_is_not_whole : (front : Bool) (frames : List FrameValue) → FileGives front cut_file frames None → ⊥
+cut_capture_is_not_whole front frames = cut_file_is_no_capture frames
+
+pub cut_is_refused_unless_asked_for : IsRefusedFile false cut_file (header_fault_at CutFrame 24)
+cut_is_refused_unless_asked_for = record { first = ([], fault_of_a_cut_file); no_front = λ (asked : false ≡ true) cut. cc }
+
+pub cut_is_not_refused_where_asked_for : IsRefusedFile true cut_file (header_fault_at CutFrame 24) → ⊥
+cut_is_not_refused_where_asked_for refused = refused.no_front refl refl
+
+pub records_of_a_front : HasRecords Packets true (Some cut_file)
+    (record { list = []; frames = 0; not_ipv4 = 0; short = 0; bad_header = 0; cut = Some 24 })
+records_of_a_front = record {
+  frames = [];
+  few = omega arith;
+  told = front_of_a_cut_capture;
+  whole = λ (asked : true ≡ false). cc;
+  are = record { list = refl; frames = refl; not_ipv4 = refl; short = refl; bad_header = refl };
+}

@@ -1,3 +1,4 @@
 pub mod RecordVisitorLemmas
+pub mod FrontLemmas
 pub mod Examples
 pub mod ExamplesOfReading

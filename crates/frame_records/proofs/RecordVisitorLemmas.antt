@@ -83,6 +83,7 @@ visitor_keeps_by_skip weigh all frame old None is_why kept = record {
   not_ipv4 = kept.not_ipv4 ∙ record_visitor_count_stays NotIpv4 all frame None is_why refl;
   short = kept.short ∙ record_visitor_count_stays Short all frame None is_why refl;
   bad_header = kept.bad_header ∙ record_visitor_count_stays BadHeader all frame None is_why refl;
+  cut = kept.cut;
 }
 visitor_keeps_by_skip weigh all frame old (Some NotIpv4) is_why kept = record {
   list = kept.list ∙ visitor_record_list_stays weigh all frame NotIpv4 is_why;
@@ -90,6 +91,7 @@ visitor_keeps_by_skip weigh all frame old (Some NotIpv4) is_why kept = record {
   not_ipv4 = ap (λ n. capped (n + 1)) kept.not_ipv4 ∙ record_visitor_count_grows NotIpv4 all frame (Some NotIpv4) is_why refl;
   short = kept.short ∙ record_visitor_count_stays Short all frame (Some NotIpv4) is_why refl;
   bad_header = kept.bad_header ∙ record_visitor_count_stays BadHeader all frame (Some NotIpv4) is_why refl;
+  cut = kept.cut;
 }
 visitor_keeps_by_skip weigh all frame old (Some Short) is_why kept = record {
   list = kept.list ∙ visitor_record_list_stays weigh all frame Short is_why;
@@ -97,6 +99,7 @@ visitor_keeps_by_skip weigh all frame old (Some Short) is_why kept = record {
   not_ipv4 = kept.not_ipv4 ∙ record_visitor_count_stays NotIpv4 all frame (Some Short) is_why refl;
   short = ap (λ n. capped (n + 1)) kept.short ∙ record_visitor_count_grows Short all frame (Some Short) is_why refl;
   bad_header = kept.bad_header ∙ record_visitor_count_stays BadHeader all frame (Some Short) is_why refl;
+  cut = kept.cut;
 }
 visitor_keeps_by_skip weigh all frame old (Some BadHeader) is_why kept = record {
   list = kept.list ∙ visitor_record_list_stays weigh all frame BadHeader is_why;
@@ -104,6 +107,7 @@ visitor_keeps_by_skip weigh all frame old (Some BadHeader) is_why kept = record 
   not_ipv4 = kept.not_ipv4 ∙ record_visitor_count_stays NotIpv4 all frame (Some BadHeader) is_why refl;
   short = kept.short ∙ record_visitor_count_stays Short all frame (Some BadHeader) is_why refl;
   bad_header = ap (λ n. capped (n + 1)) kept.bad_header ∙ record_visitor_count_grows BadHeader all frame (Some BadHeader) is_why refl;
+  cut = kept.cut;
 }
 
 -- what is kept after the record of one more frame was taken

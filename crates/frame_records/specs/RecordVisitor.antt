@@ -1,6 +1,6 @@
 -- What a visitor keeps of the frames that it is shown, which no public contract cites: their records and capped counts.
 use Rattle.std.specs.Prelude.{ℕ, ◌≡◌, ◌+◌, ◌-◌, ◌^◌, min, Bool, true, false, List, [], ◌∷◌, ◌++◌, length, Result}
-use Rattle.std.specs.Prelude.{Ok, Err}
+use Rattle.std.specs.Prelude.{None, Ok, Err}
 use Rattle.prefix_lattice.specs.{RecordValue}
 use Rattle.pcap_frames.specs.{FrameValue}
 use Rattle.frame_records.specs.FrameRecord.{records_of, skipped_count}
@@ -19,13 +19,14 @@ visitor_weighing false = Bytes
 abbrev pub capped : ℕ → ℕ
 capped count = min count (2 ^ 64 - 1)
 
--- the records and the capped counts of some frames
+-- the records and the capped counts of some frames, of which none was cut so far
 pub record KeepsRecordsOf (weigh : Weigh) (all : List FrameValue) (records : Records) : Type 0 where
   pub list : records.list ≡ records_of weigh all
   pub frames : records.frames ≡ capped (length all)
   pub not_ipv4 : records.not_ipv4 ≡ capped (skipped_count NotIpv4 all)
   pub short : records.short ≡ capped (skipped_count Short all)
   pub bad_header : records.bad_header ≡ capped (skipped_count BadHeader all)
+  pub cut : records.cut ≡ None
 
 -- the counts after one more skipped frame
 abbrev pub with_skip : Skip → Records → Records

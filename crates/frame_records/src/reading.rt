@@ -1,8 +1,9 @@
 //! Reading the records of a capture.
 
-ghost use Rattle.std.specs.Prelude.{◌≡◌, ◌≤◌, ◌<◌, vec_len, length, IfOk, IfErr, OnOk, IsErrOf};
+ghost use Rattle.std.specs.Prelude.{◌≡◌, ◌≤◌, ◌<◌, true, Some, vec_len, length, IfOk, IfErr, OnOk, OnErr, IsErrOf};
 ghost use Rattle.std.specs.Io.KnownBytes.{IsAtEnd};
 ghost use Rattle.outside_io.specs.{ReadsFront};
+ghost use Rattle.pcap_frames.specs.declared.fault.FaultKind.TheVariants.{CutFrame};
 ghost use Rattle.frame_records.specs.Records.{HasRecords, HasRefused};
 ghost use Rattle.frame_records.specs.RecordVisitor.{visitor_weighing};
 ghost use Rattle.prefix_lattice.specs.{record_limit};
@@ -10,11 +11,14 @@ ghost use Rattle.prefix_lattice.specs.{record_limit};
 use crate::record_visitor::RecordVisitor;
 use crate::{Records, Weigh};
 use outside_io::Source;
-use pcap_frames::{ReadRefusal, read_frames};
+use pcap_frames::{CaptureFault, FaultKind, ReadRefusal, read_frames};
 use std::alloc::{AllocError, Global};
 
 /// Reads a capture to its end through a buffer of 65,536 bytes. Returns the records of its frames in their order,
 /// weighed as `weigh` says, with the numbers of all frames and of those skipped. The frames themselves are not kept.
+///
+/// Under `front` a capture that is cut inside a frame, and has no other fault before, is taken up to that frame, whose
+/// offset is `cut`. Without `front`, and for a whole capture, `cut` is `None`.
 ///
 /// The refusals are those of reading the frames; `OutOfMemory` may also come from the buffer or a record. After a
 /// refusal the source has been read in part, or to its end, and nothing is kept.
@@ -22,11 +26,12 @@ pub fn read_records<S: Source>(
     alloc: Global,
     source: &mut S,
     weigh: Weigh,
+    front: bool,
 ) -> Result<Records, ReadRefusal>
-    ensures records { IfOk result (HasRecords weigh (S.left source.old)) }
+    ensures records { IfOk result (HasRecords weigh front (S.left source.old)) }
     ensures few { IfOk result (λ records. length records.list ≤ record_limit) }
     ensures at_end { OnOk result (IsAtEnd (S.left source.new)) }
-    ensures refused { IfErr result (HasRefused (S.left source.old) (S.faults source.old) (S.faults source.new)) }
+    ensures refused { IfErr result (HasRefused front (S.left source.old) (S.faults source.old) (S.faults source.new)) }
     ensures front { ReadsFront (S.left source.old) (S.left source.new) }
     ensures later { S.faults source.old ≤ S.faults source.new }
     ensures told { (IsErrOf result ReadRefusal.ReadFault → ⊥) → S.faults source.new ≡ S.faults source.old }
@@ -35,8 +40,8 @@ pub fn read_records<S: Source>(
         return Err(ReadRefusal::OutOfMemory);
     };
     match weigh {
-        Weigh::Bytes => read_weighed::<S, false>(alloc, source, &mut buffer),
-        Weigh::Packets => read_weighed::<S, true>(alloc, source, &mut buffer),
+        Weigh::Bytes => read_weighed::<S, false>(alloc, source, &mut buffer, front),
+        Weigh::Packets => read_weighed::<S, true>(alloc, source, &mut buffer, front),
     }
 }
 
@@ -44,12 +49,13 @@ fn read_weighed<S: Source, const PACKETS: bool>(
     alloc: Global,
     source: &mut S,
     buffer: &mut [u8],
+    front: bool,
 ) -> Result<Records, ReadRefusal>
     requires { 0 < length buffer.old }
-    ensures records { IfOk result (HasRecords (visitor_weighing PACKETS) (S.left source.old)) }
+    ensures records { IfOk result (HasRecords (visitor_weighing PACKETS) front (S.left source.old)) }
     ensures few { IfOk result (λ records. length records.list ≤ record_limit) }
     ensures at_end { OnOk result (IsAtEnd (S.left source.new)) }
-    ensures refused { IfErr result (HasRefused (S.left source.old) (S.faults source.old) (S.faults source.new)) }
+    ensures refused { IfErr result (HasRefused front (S.left source.old) (S.faults source.old) (S.faults source.new)) }
     ensures front { ReadsFront (S.left source.old) (S.left source.new) }
     ensures later { S.faults source.old ≤ S.faults source.new }
     ensures told { (IsErrOf result ReadRefusal.ReadFault → ⊥) → S.faults source.new ≡ S.faults source.old }
@@ -57,7 +63,28 @@ fn read_weighed<S: Source, const PACKETS: bool>(
     let mut visitor = RecordVisitor::<PACKETS>::new(alloc);
     match read_frames(source, &mut visitor, buffer) {
         Ok(_) => Ok(visitor.records),
+        Err(ReadRefusal::Capture(fault)) => up_to_cut(visitor.records, fault, front),
         Err(refusal) => Err(refusal),
+    }
+}
+
+// The records before this fault, where it is a cut frame and the front of a cut capture is asked for.
+fn up_to_cut(mut records: Records, fault: CaptureFault, front: bool) -> Result<Records, ReadRefusal>
+    ensures taken { IfOk result (λ taken. taken ≡ record records { cut = Some fault.place }) }
+    ensures asked { OnOk result (front ≡ true) }
+    ensures cut { OnOk result (fault.kind ≡ CutFrame) }
+    ensures refused { IfErr result (λ refusal. refusal ≡ ReadRefusal.Capture fault) }
+    ensures other { OnErr result (front ≡ true → fault.kind ≡ CutFrame → ⊥) }
+{
+    if !front {
+        return Err(ReadRefusal::Capture(fault));
+    }
+    match fault.kind {
+        FaultKind::CutFrame => {
+            records.cut = Some(fault.place);
+            Ok(records)
+        }
+        _ => Err(ReadRefusal::Capture(fault)),
     }
 }
 

@@ -27,6 +27,7 @@ impl<const PACKETS: bool> RecordVisitor<PACKETS> {
                 not_ipv4: 0,
                 short: 0,
                 bad_header: 0,
+                cut: None,
             },
         }
     }

@@ -4,7 +4,7 @@ use crate::Skip;
 use prefix_lattice::{Record, RecordList};
 use std::alloc::AllocError;
 
-/// The records of a capture in their order, and the numbers of all frames and of those skipped.
+/// The records of a capture in their order, the numbers of all frames and of those skipped, and where it was cut.
 #[derive(Drop)]
 pub struct Records {
     /// The records of the frames that were not skipped.
@@ -17,6 +17,9 @@ pub struct Records {
     pub short: u64,
     /// How many were skipped as `Skip::BadHeader`.
     pub bad_header: u64,
+    /// The offset of the first byte of the frame inside which the capture was cut, and before which all frames are
+    /// counted. `None` for a whole capture.
+    pub cut: Option<u64>,
 }
 
 impl Records {

@@ -38,11 +38,11 @@ use Rattle.hhh_engine.proofs.StatusLemmas.{status_beside_disk}
 use Rattle.prefix_lattice.specs.declared.grain.Grain.{Grain}
 
 -- what follows of the inputs of an audit that may be known
-pub audit_end_inputs_imply_more : (read : InputBytes) (P Q : List ℕ → List ℕ → Type 0)
-    → ((file text : List ℕ) → P file text → Q file text) → HoldsOfAudit read P → HoldsOfAudit read Q
-audit_end_inputs_imply_more read P Q follows has =
-    capture_report_if_known read.capture (λ file. IsCaptureFile file × IfSome read.text (P file))
-    (λ file. IsCaptureFile file × IfSome read.text (Q file))
+pub audit_end_inputs_imply_more : (settings : Settings) (read : InputBytes) (P Q : List ℕ → List ℕ → Type 0)
+    → ((file text : List ℕ) → P file text → Q file text) → HoldsOfAudit settings read P → HoldsOfAudit settings read Q
+audit_end_inputs_imply_more settings read P Q follows has =
+    capture_report_if_known read.capture (λ file. IsCaptureFile settings.front file × IfSome read.text (P file))
+    (λ file. IsCaptureFile settings.front file × IfSome read.text (Q file))
     (λ file holds. (holds.0, capture_report_if_known read.text (P file) (Q file) (follows file) holds.1)) has
 
 -- the fault of the bytes that were read is one of the text itself
@@ -63,34 +63,34 @@ audit_end_text_is_faulty grain (Some whole) (Some rest) bytes fault consumed at_
     (cases_lt longest_session (length bytes))
 
 -- why the inputs of an audit were not accepted: the text of a session was refused
-pub audit_ends_at_refused_text : (grain : Grain) (capture capture_left text text_left store : Option (List ℕ)) (before now : SourceFaults)
-    (bytes : List ℕ) (fault : SessionFault) → IsAtEnd capture_left → IfSome capture IsCaptureFile
+pub audit_ends_at_refused_text : (settings : Settings) (capture capture_left text text_left store : Option (List ℕ)) (before now : SourceFaults)
+    (bytes : List ℕ) (fault : SessionFault) → IsAtEnd capture_left → IfSome capture (IsCaptureFile settings.front)
     → Consumes text text_left bytes → length bytes ≤ longest_session + 1
-    → (length bytes ≤ longest_session → IsAtEnd text_left) → HasReadFault grain bytes fault
+    → (length bytes ≤ longest_session → IsAtEnd text_left) → HasReadFault settings.grain bytes fault
     → (longest_session < length bytes → fault ≡ session.Text TooLong)
-    → HasNoAudit grain (inputs capture capture_left text text_left store) before now (status_of_session fault)
-audit_ends_at_refused_text grain capture capture_left text text_left store before now bytes (session.Text TooLong) read is_capture consumed
+    → HasNoAudit settings (inputs capture capture_left text text_left store) before now (status_of_session fault)
+audit_ends_at_refused_text settings capture capture_left text text_left store before now bytes (session.Text TooLong) read is_capture consumed
     limit at_end has too_long = record {
       read_to_end = read;
       accepted = is_capture;
-      first_fault = audit_end_text_is_faulty grain text text_left bytes (session.Text TooLong) consumed at_end has too_long;
+      first_fault = audit_end_text_is_faulty settings.grain text text_left bytes (session.Text TooLong) consumed at_end has too_long;
       read_to_limit = record { front = bytes; consumed = consumed; limit = omega (arith, limit, has) };
     }
-audit_ends_at_refused_text grain capture capture_left text text_left store before now bytes (session.Text (BadLine line)) read is_capture
+audit_ends_at_refused_text settings capture capture_left text text_left store before now bytes (session.Text (BadLine line)) read is_capture
     consumed limit at_end has too_long = record {
       read_to_end = read;
       accepted = is_capture;
-      first_fault = audit_end_text_is_faulty grain text text_left bytes (session.Text (BadLine line)) consumed at_end has too_long;
+      first_fault = audit_end_text_is_faulty settings.grain text text_left bytes (session.Text (BadLine line)) consumed at_end has too_long;
       read_to_limit = at_end has.0;
     }
-audit_ends_at_refused_text grain capture capture_left text text_left store before now bytes (session.Text (MissingEnd line)) read is_capture
+audit_ends_at_refused_text settings capture capture_left text text_left store before now bytes (session.Text (MissingEnd line)) read is_capture
     consumed limit at_end has too_long = record {
       read_to_end = read;
       accepted = is_capture;
-      first_fault = audit_end_text_is_faulty grain text text_left bytes (session.Text (MissingEnd line)) consumed at_end has too_long;
+      first_fault = audit_end_text_is_faulty settings.grain text text_left bytes (session.Text (MissingEnd line)) consumed at_end has too_long;
       read_to_limit = at_end has.0;
     }
-audit_ends_at_refused_text grain capture capture_left text text_left store before now bytes session.OutOfMemory read is_capture consumed
+audit_ends_at_refused_text settings capture capture_left text text_left store before now bytes session.OutOfMemory read is_capture consumed
     limit at_end has too_long = tt
 
 -- how an audit ended
@@ -112,7 +112,7 @@ EndsAudit settings rules given read_before read_now sink written old new write_b
 -- an audit whose inputs were not accepted
 pub audit_ends_without_inputs : {K : Type 0} (settings : Settings) (rules : DealingRules) (given : InputBytes)
     (read_before read_now : SourceFaults) (sink : K) (old : Option (List ℕ)) (faults : ℕ) (status : Status)
-    → HasNoAudit settings.grain given read_before read_now status → ((status ≡ ReadFault → ⊥) → read_now ≡ read_before)
+    → HasNoAudit settings given read_before read_now status → ((status ≡ ReadFault → ⊥) → read_now ≡ read_before)
     → EndsAudit settings rules given read_before read_now sink sink old old faults faults status
 audit_ends_without_inputs settings rules given read_before read_now sink old faults Done none told =
     absurd none
@@ -185,7 +185,7 @@ audit_ends_broken_off settings rules given read_before read_now sink written old
       (capture_read, text_read),
       record {
         text = begun.front;
-        is_text = audit_end_inputs_imply_more given (λ file bytes. AreAudited settings rules file bytes audited.dealt audited.session)
+        is_text = audit_end_inputs_imply_more settings given (λ file bytes. AreAudited settings rules file bytes audited.dealt audited.session)
             (λ file bytes. IsUnfinished (IsAuditText settings rules file bytes) begun.front)
             (λ file bytes is. record {
               text = answer.text.items;
@@ -204,7 +204,7 @@ audit_ends_broken_off settings rules given read_before read_now sink written old
 audit_ends_in_written_text : {K : Type 0} (settings : Settings) (rules : DealingRules) (given : InputBytes)
     (read_before read_now : SourceFaults) (sink written : K) (old new : Option (List ℕ)) (write_before write_now : ℕ)
     (lists : List (List RecordValue)) (said : Session) (text : List ℕ) (status : Status)
-    → HoldsOfAudit given (λ file bytes. AreAudited settings rules file bytes lists said)
+    → HoldsOfAudit settings given (λ file bytes. AreAudited settings rules file bytes lists said)
     → Says settings lists said.reports text status → IsAtEnd given.capture_left → IsAtEnd given.text_left
     → read_now ≡ read_before → Appends old new text → write_now ≡ write_before
     → EndsAudit settings rules given read_before read_now sink written old new write_before write_now status
@@ -213,7 +213,7 @@ audit_ends_in_written_text settings rules given read_before read_now sink writte
       (capture_read, text_read),
       record {
         text = text;
-        is_text = audit_end_inputs_imply_more given (λ file bytes. AreAudited settings rules file bytes lists said)
+        is_text = audit_end_inputs_imply_more settings given (λ file bytes. AreAudited settings rules file bytes lists said)
             (λ file bytes. IsSoundAudit settings rules file bytes text)
             (λ file bytes is. record {
               lists = lists;
@@ -258,7 +258,7 @@ audit_ends_in_written_text settings rules given read_before read_now sink writte
     (AuditNo report verdict) are says capture_read text_read same appended same_sink = (
       (capture_read, text_read),
       (
-        audit_end_inputs_imply_more given (λ file bytes. AreAudited settings rules file bytes lists said)
+        audit_end_inputs_imply_more settings given (λ file bytes. AreAudited settings rules file bytes lists said)
             (λ file bytes. IsUnsoundAudit settings rules file bytes report verdict)
             (λ file bytes is. record { lists = lists; session = said; audited = is; first = says.0 }) are,
         subst (Appends old new) says.1 appended,

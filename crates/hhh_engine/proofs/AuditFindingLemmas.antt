@@ -2,8 +2,7 @@
 use Rattle.std.proofs.Common.{◌≡◌, ◌⊎◌, ◌≤◌, ℕ, List, length, All, Some, IfSome}
 use Rattle.std.proofs.Common.{inl, inr, refl, ap, ap₂, subst, ⊎_elim}
 use Rattle.prefix_lattice.specs.{RecordValue}
-use Rattle.pcap_frames.specs.{FrameValue}
-use Rattle.frame_records.specs.{FileHasFrames, IsRefusedFile}
+use Rattle.frame_records.specs.{IsRefusedFile}
 use Rattle.hhh_report.specs.declared.reports.Reported.{Reported}
 use Rattle.report_text.specs.{HasSessionFault, IsSessionText, longest_session}
 use Rattle.report_text.specs.declared.session.Session.{Session}
@@ -46,11 +45,11 @@ pub record AuditFindingIsUnique : Type 0 where
       → IsFirstUnsound settings lists reports report verdict → All (IsAuditedSound settings lists) reports → ⊥
 
 -- what holds of known inputs
-pub audit_finding_of_known_inputs : (given : InputBytes) (file bytes : List ℕ) (Holds : List ℕ → List ℕ → Type 0)
-    → given.capture ≡ Some file → given.text ≡ Some bytes → HoldsOfAudit given Holds → Holds file bytes
-audit_finding_of_known_inputs given file bytes Holds is_file is_text holds =
+pub audit_finding_of_known_inputs : (settings : Settings) (given : InputBytes) (file bytes : List ℕ) (Holds : List ℕ → List ℕ → Type 0)
+    → given.capture ≡ Some file → given.text ≡ Some bytes → HoldsOfAudit settings given Holds → Holds file bytes
+audit_finding_of_known_inputs settings given file bytes Holds is_file is_text holds =
     status_of_known_file given.text bytes (Holds file) is_text
-    (status_of_known_file given.capture file (λ f. IsCaptureFile f × IfSome given.text (Holds f)) is_file holds).1
+    (status_of_known_file given.capture file (λ f. IsCaptureFile settings.front f × IfSome given.text (Holds f)) is_file holds).1
 
 -- the audit of a text with a fault says nothing
 audit_finding_excludes_bad_text : SessionStatusIsFaultless → (settings : Settings) (rules : DealingRules) (file bytes answer : List ℕ) (fault : TextFault)
@@ -72,100 +71,102 @@ module _ {S T K D : Type 0} (s : SourceOf S) (t : SourceOf T) (k : SinkOf K) (d 
 
   -- an audit of a text with a fault is refused for it, unless a source fails or memory runs out
   pub audit_finding_is_text_fault : CaptureStatusIsFaultless → AuditFindingHasOneFault → SessionStatusIsFaultless
-      → (settings : Settings) (status : Status) (file bytes : List ℕ) (frames : List FrameValue) (fault : TextFault)
-      → given.capture ≡ Some file → FileHasFrames file frames → given.text ≡ Some bytes → HasSessionFault settings.grain bytes fault
+      → (settings : Settings) (status : Status) (file bytes : List ℕ) (fault : TextFault)
+      → given.capture ≡ Some file → IsCaptureFile settings.front file → given.text ≡ Some bytes → HasSessionFault settings.grain bytes fault
       → Ended (Audit settings) status
       → (status ≡ BadReport fault) ⊎ ((status ≡ ReadFault) ⊎ (status ≡ OutOfMemory))
-  audit_finding_is_text_fault never_both one_fault no_fault settings Done file bytes frames fault is_file capture is_text has ends =
+  audit_finding_is_text_fault never_both one_fault no_fault settings Done file bytes fault is_file capture is_text has ends =
       let is =
-      audit_finding_of_known_inputs given file bytes (λ f t. IsSoundAudit settings rules f t ends.1.text) is_file is_text ends.1.is_text in
+      audit_finding_of_known_inputs settings given file bytes (λ f t. IsSoundAudit settings rules f t ends.1.text) is_file is_text ends.1.is_text in
       absurd (no_fault settings.grain bytes is.session fault is.audited.is_session is.audited.not_long has)
-  audit_finding_is_text_fault never_both one_fault no_fault settings (BadWords kind) file bytes frames fault is_file capture is_text has ends =
+  audit_finding_is_text_fault never_both one_fault no_fault settings (BadWords kind) file bytes fault is_file capture is_text has ends =
       absurd ends
-  audit_finding_is_text_fault never_both one_fault no_fault settings (BadCapture other) file bytes frames fault is_file capture is_text has ends =
-      absurd (never_both file frames other capture (status_of_known_file given.capture file (λ f. IsRefusedFile f other) is_file ends.0))
-  audit_finding_is_text_fault never_both one_fault no_fault settings ReadFault file bytes frames fault is_file capture is_text has ends =
+  audit_finding_is_text_fault never_both one_fault no_fault settings (BadCapture other) file bytes fault is_file capture is_text has ends =
+      absurd (never_both settings.front file capture other
+      (status_of_known_file given.capture file (λ f. IsRefusedFile settings.front f other) is_file ends.0))
+  audit_finding_is_text_fault never_both one_fault no_fault settings ReadFault file bytes fault is_file capture is_text has ends =
       inr (inl refl)
-  audit_finding_is_text_fault never_both one_fault no_fault settings WriteFault file bytes frames fault is_file capture is_text has ends =
+  audit_finding_is_text_fault never_both one_fault no_fault settings WriteFault file bytes fault is_file capture is_text has ends =
       let is =
-      audit_finding_of_known_inputs given file bytes (λ f t. IsUnfinished (IsAuditText settings rules f t) ends.1.text) is_file is_text
+      audit_finding_of_known_inputs settings given file bytes (λ f t. IsUnfinished (IsAuditText settings rules f t) ends.1.text) is_file is_text
       ends.1.is_text in
       absurd (audit_finding_excludes_bad_text no_fault settings rules file bytes is.text fault has is.is_text)
-  audit_finding_is_text_fault never_both one_fault no_fault settings DiskFault file bytes frames fault is_file capture is_text has ends =
+  audit_finding_is_text_fault never_both one_fault no_fault settings DiskFault file bytes fault is_file capture is_text has ends =
       absurd ends.3
-  audit_finding_is_text_fault never_both one_fault no_fault settings NotFormatted file bytes frames fault is_file capture is_text has ends =
+  audit_finding_is_text_fault never_both one_fault no_fault settings NotFormatted file bytes fault is_file capture is_text has ends =
       absurd ends.0
-  audit_finding_is_text_fault never_both one_fault no_fault settings (Damaged slot) file bytes frames fault is_file capture is_text has ends =
+  audit_finding_is_text_fault never_both one_fault no_fault settings (Damaged slot) file bytes fault is_file capture is_text has ends =
       absurd ends.0
-  audit_finding_is_text_fault never_both one_fault no_fault settings (OtherSettings stored asked) file bytes frames fault is_file capture is_text has ends =
+  audit_finding_is_text_fault never_both one_fault no_fault settings (OtherSettings stored asked) file bytes fault is_file capture is_text has ends =
       absurd ends.0
-  audit_finding_is_text_fault never_both one_fault no_fault settings (OtherCapture stored asked) file bytes frames fault is_file capture is_text has ends =
+  audit_finding_is_text_fault never_both one_fault no_fault settings (OtherCapture stored asked) file bytes fault is_file capture is_text has ends =
       absurd ends.0
-  audit_finding_is_text_fault never_both one_fault no_fault settings (AuditNo report verdict) file bytes frames fault is_file capture is_text has ends =
+  audit_finding_is_text_fault never_both one_fault no_fault settings (AuditNo report verdict) file bytes fault is_file capture is_text has ends =
       let is =
-      audit_finding_of_known_inputs given file bytes (λ f t. IsUnsoundAudit settings rules f t report verdict) is_file is_text ends.1.0 in
+      audit_finding_of_known_inputs settings given file bytes (λ f t. IsUnsoundAudit settings rules f t report verdict) is_file is_text ends.1.0 in
       absurd (no_fault settings.grain bytes is.session fault is.audited.is_session is.audited.not_long has)
-  audit_finding_is_text_fault never_both one_fault no_fault settings (BadReport wrong) file bytes frames fault is_file capture is_text has ends =
+  audit_finding_is_text_fault never_both one_fault no_fault settings (BadReport wrong) file bytes fault is_file capture is_text has ends =
       inl (ap BadReport (one_fault settings.grain bytes wrong fault
       (status_of_known_file given.text bytes (λ t. HasSessionFault settings.grain t wrong) is_text ends.0.first_fault) has))
-  audit_finding_is_text_fault never_both one_fault no_fault settings OutOfMemory file bytes frames fault is_file capture is_text has ends =
+  audit_finding_is_text_fault never_both one_fault no_fault settings OutOfMemory file bytes fault is_file capture is_text has ends =
       inr (inr refl)
 
   -- a session whose first report that is not sound is known, however the records are dealt, is found so, unless a source or
   -- the sink fails or memory runs out
   pub audit_finding_is_first_unsound : CaptureStatusIsFaultless → SessionStatusIsFaultless → AuditFindingIsUnique
-      → (settings : Settings) (status : Status) (file bytes : List ℕ) (frames : List FrameValue) (known : Session)
+      → (settings : Settings) (status : Status) (file bytes : List ℕ) (known : Session)
       (report : ℕ) (verdict : Verdict)
-      → given.capture ≡ Some file → FileHasFrames file frames → given.text ≡ Some bytes → IsSessionText settings.grain bytes known
+      → given.capture ≡ Some file → IsCaptureFile settings.front file → given.text ≡ Some bytes → IsSessionText settings.grain bytes known
       → length bytes ≤ longest_session
       → ((lists : List (List RecordValue)) (session : Session) → AreAudited settings rules file bytes lists session
       → IsFirstUnsound settings lists session.reports report verdict)
       → Ended (Audit settings) status
       → (status ≡ AuditNo report verdict) ⊎ ((status ≡ ReadFault) ⊎ ((status ≡ WriteFault) ⊎ (status ≡ OutOfMemory)))
-  audit_finding_is_first_unsound never_both no_fault one settings Done file bytes frames known report verdict is_file capture is_text is_session
+  audit_finding_is_first_unsound never_both no_fault one settings Done file bytes known report verdict is_file capture is_text is_session
       not_long first ends =
       let is =
-      audit_finding_of_known_inputs given file bytes (λ f t. IsSoundAudit settings rules f t ends.1.text) is_file is_text ends.1.is_text in
+      audit_finding_of_known_inputs settings given file bytes (λ f t. IsSoundAudit settings rules f t ends.1.text) is_file is_text ends.1.is_text in
       absurd (one.never_both settings is.lists is.session.reports report verdict (first is.lists is.session is.audited) is.sound)
-  audit_finding_is_first_unsound never_both no_fault one settings (BadWords kind) file bytes frames known report verdict is_file capture is_text is_session
+  audit_finding_is_first_unsound never_both no_fault one settings (BadWords kind) file bytes known report verdict is_file capture is_text is_session
       not_long first ends =
       absurd ends
-  audit_finding_is_first_unsound never_both no_fault one settings (BadCapture other) file bytes frames known report verdict is_file capture is_text is_session
+  audit_finding_is_first_unsound never_both no_fault one settings (BadCapture other) file bytes known report verdict is_file capture is_text is_session
       not_long first ends =
-      absurd (never_both file frames other capture (status_of_known_file given.capture file (λ f. IsRefusedFile f other) is_file ends.0))
-  audit_finding_is_first_unsound never_both no_fault one settings ReadFault file bytes frames known report verdict is_file capture is_text is_session
+      absurd (never_both settings.front file capture other
+      (status_of_known_file given.capture file (λ f. IsRefusedFile settings.front f other) is_file ends.0))
+  audit_finding_is_first_unsound never_both no_fault one settings ReadFault file bytes known report verdict is_file capture is_text is_session
       not_long first ends =
       inr (inl refl)
-  audit_finding_is_first_unsound never_both no_fault one settings WriteFault file bytes frames known report verdict is_file capture is_text is_session
+  audit_finding_is_first_unsound never_both no_fault one settings WriteFault file bytes known report verdict is_file capture is_text is_session
       not_long first ends =
       inr (inr (inl refl))
-  audit_finding_is_first_unsound never_both no_fault one settings DiskFault file bytes frames known report verdict is_file capture is_text is_session
+  audit_finding_is_first_unsound never_both no_fault one settings DiskFault file bytes known report verdict is_file capture is_text is_session
       not_long first ends =
       absurd ends.3
-  audit_finding_is_first_unsound never_both no_fault one settings NotFormatted file bytes frames known report verdict is_file capture is_text is_session
+  audit_finding_is_first_unsound never_both no_fault one settings NotFormatted file bytes known report verdict is_file capture is_text is_session
       not_long first ends =
       absurd ends.0
-  audit_finding_is_first_unsound never_both no_fault one settings (Damaged slot) file bytes frames known report verdict is_file capture is_text is_session
+  audit_finding_is_first_unsound never_both no_fault one settings (Damaged slot) file bytes known report verdict is_file capture is_text is_session
       not_long first ends =
       absurd ends.0
   audit_finding_is_first_unsound never_both no_fault one settings (OtherSettings stored asked)
-      file bytes frames known report verdict is_file capture is_text is_session not_long first ends =
+      file bytes known report verdict is_file capture is_text is_session not_long first ends =
       absurd ends.0
   audit_finding_is_first_unsound never_both no_fault one settings (OtherCapture stored asked)
-      file bytes frames known report verdict is_file capture is_text is_session not_long first ends =
+      file bytes known report verdict is_file capture is_text is_session not_long first ends =
       absurd ends.0
   audit_finding_is_first_unsound never_both no_fault one settings (AuditNo other_report other)
-      file bytes frames known report verdict is_file capture is_text is_session not_long first ends =
+      file bytes known report verdict is_file capture is_text is_session not_long first ends =
       let is =
-      audit_finding_of_known_inputs given file bytes (λ f t. IsUnsoundAudit settings rules f t other_report other) is_file is_text ends.1.0 in
+      audit_finding_of_known_inputs settings given file bytes (λ f t. IsUnsoundAudit settings rules f t other_report other) is_file is_text ends.1.0 in
       let same = one.one_first settings is.lists is.session.reports report other_report verdict other
       (first is.lists is.session is.audited) is.first in
       inl (ap₂ AuditNo same.0 same.1)
-  audit_finding_is_first_unsound never_both no_fault one settings (BadReport wrong) file bytes frames known report verdict is_file capture is_text is_session
+  audit_finding_is_first_unsound never_both no_fault one settings (BadReport wrong) file bytes known report verdict is_file capture is_text is_session
       not_long first ends =
       absurd (no_fault settings.grain bytes known wrong is_session not_long
       (status_of_known_file given.text bytes (λ t. HasSessionFault settings.grain t wrong) is_text ends.0.first_fault))
-  audit_finding_is_first_unsound never_both no_fault one settings OutOfMemory file bytes frames known report verdict is_file capture is_text is_session
+  audit_finding_is_first_unsound never_both no_fault one settings OutOfMemory file bytes known report verdict is_file capture is_text is_session
       not_long first ends =
       inr (inr (inr refl))
 

@@ -127,8 +127,8 @@ capture_report_ends k d settings rules left left_now before now sink written old
 )
 capture_report_ends k d settings rules left left_now before now sink written old new lists tail DiskFault dealt read same ends = (
   read,
-  capture_report_if_known left (λ file. AreDealtRecords settings rules file dealt.records lists) IsCaptureFile
-      (λ file are. (are.frames, are.capture)) dealt.dealt,
+  capture_report_if_known left (λ file. AreDealtRecords settings rules file dealt.records lists) (IsCaptureFile settings.front)
+      (λ file are. (are.frames, dealt.records.cut, are.capture)) dealt.dealt,
   ⊎_elim (λ none. inl none)
       (λ part. inr (capture_report_writes_in_part settings rules (AreKeptOnDisk d old new) left (d.reads old) lists tail
       (k.taken sink) (k.taken written) dealt part)) ends.0,

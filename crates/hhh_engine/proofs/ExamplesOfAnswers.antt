@@ -1,11 +1,10 @@
 -- Worked examples of what commands write and read, of what may happen instead, and of what each status says.
 use Rattle.std.proofs.Common.{◌≡◌, ◌≤◌, ℕ, List, [], ◌∷◌, ◌++◌, Some, None, inl, inr, ⊎_elim, refl, ap}
-use Rattle.std.proofs.Common.{codes, arith, get_or, length, replicate, true}
+use Rattle.std.proofs.Common.{codes, arith, get_or, length, replicate, true, false}
 use Rattle.std.specs.Prelude.{⊤}
 use Rattle.std.proofs.lemmas.List.Elements.{All-nil}
 use Rattle.pcap_frames.specs.declared.fault.FaultKind.TheVariants.{ShortHeader}
 use Rattle.pcap_frames.specs.{header_fault, header_fault_at}
-use Rattle.frame_records.specs.declared.weigh.Weigh.TheVariants.{Bytes}
 use Rattle.command_words.specs.{AskForCommand}
 use Rattle.command_words.specs.declared.command.Command.{Command}
 use Rattle.command_words.specs.declared.command.Command.TheVariants.{Weigh, Report as report_command, Format, Audit}
@@ -39,7 +38,7 @@ use Rattle.report_session.proofs.Examples.{header}
 use Rattle.report_session.proofs.ExamplesOfSessions.{header_is_a_capture, in_turn, keeps_nothing, session_in_part}
 use Rattle.report_session.proofs.ExamplesOfSessions.{session_over_the_header, settings, text}
 use Rattle.report_session.proofs.ExamplesOfSaves.{formatted, formatted_opens_to_nothing, one}
-use Rattle.checkpoint.specs.{StoreOpensTo}
+use Rattle.checkpoint.specs.{StoreOpensTo, written_header}
 use Rattle.hhh_engine.specs.Ending.{EndsEmpty}
 use Rattle.prefix_lattice.specs.{RecordValue}
 use Rattle.std.proofs.Common.{subst, sym}
@@ -52,7 +51,7 @@ pub session_is_the_answer :
     IsAnswer in_turn keeps_nothing (report_command settings) (inputs (Some header) (Some []) None None None) text
 session_is_the_answer = session_over_the_header
 
-asks_for_a_report : AskForCommand words (report_command settings)
+pub asks_for_a_report : AskForCommand words (report_command settings)
 asks_for_a_report = record {
   arguments = [];
   are_words = record {
@@ -79,13 +78,14 @@ asks_for_a_report = record {
     callers = refl;
     rounds = refl;
     grain = refl;
+    front = refl;
     store = refl;
-    fits = record { few_entries = omega arith; saved_by_bytes = λ saved. refl };
+    fits = omega arith;
   };
   wide = omega arith;
 }
 
-pub report_asks_to_read : CommandUses UsesCapture words
+abbrev pub report_asks_to_read : CommandUses UsesCapture words
 report_asks_to_read = record { command = report_command settings; asked = asks_for_a_report; uses = tt }
 
 no_words_ask : (command : Command) → AskForCommand [] command → ⊥
@@ -126,10 +126,10 @@ report_asks_for_no_store = record {
   unused = report_without_a_store;
 }
 
-pub source_of_a_header : HasCapture (Some header)
-source_of_a_header = record { file = header; told = refl; frames = []; capture = header_is_a_capture }
+pub source_of_a_header : HasCapture false (Some header)
+source_of_a_header = record { file = header; told = refl; capture = ([], None, header_is_a_capture) }
 
-pub silent_source_tells_no_capture : HasCapture None → ⊥
+pub silent_source_tells_no_capture : HasCapture false None → ⊥
 silent_source_tells_no_capture tells = let told = tells.told in cc
 
 -- nothing needs to be known of the disk
@@ -143,7 +143,7 @@ pub report_over_an_unknown_store :
 report_over_an_unknown_store can = let store = can.1 refl in cc store.told
 
 pub header_was_accepted : WereAccepted (report_command settings) (inputs (Some header) (Some []) None None None)
-header_was_accepted = ([], header_is_a_capture)
+header_was_accepted = ([], None, header_is_a_capture)
 
 -- a source with a remaining byte was not read to its end
 pub one_byte_left : WereRead (report_command settings) (inputs (Some header) (Some (1 ∷ [])) None None None) → ⊥
@@ -178,7 +178,7 @@ pub nothing_is_not_written : WritesAnswer (λ text. text ≡ codes "no") (Some [
 nothing_is_not_written writes = cc (writes.written, writes.is_text)
 
 -- a sink with room for 6 bytes took the least weight, but not the end of its line
-pub weight_in_part : IsWeighInPart prefix Bytes file (codes "low 10")
+pub weight_in_part : IsWeighInPart prefix settings file (codes "low 10")
 weight_in_part = record {
   text = codes "low 100\nhigh 100\ntotal 100\n";
   is_text = weight_of_the_file;
@@ -213,21 +213,23 @@ whole_text_is_not_cut_short short =
     let same : length short.text ≡ 3 = ap length short.is_text in omega (arith, same, short.cut)
 
 -- no text comes of an empty file, nor where the source failed
-pub empty_file_has_no_text : HasNoText (Some []) 0 0 (BadCapture (header_fault_at ShortHeader 0))
+pub empty_file_has_no_text : HasNoText false (Some []) 0 0 (BadCapture (header_fault_at ShortHeader 0))
 unfolding header_fault
-empty_file_has_no_text =
-    ([], inr (inl (record { none_shown = refl; short = omega arith; none_before = refl; is_fault = refl })))
+empty_file_has_no_text = record {
+  first = ([], inr (inl (record { none_shown = refl; short = omega arith; none_before = refl; is_fault = refl })));
+  no_front = λ asked. cc asked;
+}
 
-pub failed_source_has_no_text : HasNoText (Some header) 3 4 ReadFault
+pub failed_source_has_no_text : HasNoText false (Some header) 3 4 ReadFault
 failed_source_has_no_text = omega arith
 
-pub no_read_fault_without_a_count : HasNoText (Some header) 3 3 ReadFault → ⊥
+pub no_read_fault_without_a_count : HasNoText false (Some header) 3 3 ReadFault → ⊥
 no_read_fault_without_a_count fault = omega (arith, fault)
 
-pub memory_may_want_at_any_time : HasNoText (Some header) 3 3 OutOfMemory
+pub memory_may_want_at_any_time : HasNoText false (Some header) 3 3 OutOfMemory
 memory_may_want_at_any_time = tt
 
-pub success_has_a_text : HasNoText (Some header) 3 3 Done → ⊥
+pub success_has_a_text : HasNoText false (Some header) 3 3 Done → ⊥
 success_has_a_text no_text = no_text
 
 -- ---- what a status says, of streams of which all is known: their bytes, and how many calls failed
@@ -442,6 +444,7 @@ abbrev ends_with : (read_before read_now : ℕ) → List ℕ → (write_before w
 ends_with read_before read_now written write_before write_now status =
     Ends
     (record {
+      front = false;
       is_text = yes;
       is_part = part;
       read = ⊤;
@@ -542,7 +545,7 @@ format_may_have_begun_a_store = tt
 -- what `format` leaves
 pub formatted_store_is_empty : EndsEmpty (Some formatted) (λ image. image ≡ formatted) one
 formatted_store_is_empty bytes told image is =
-    subst (λ bytes. StoreOpensTo one bytes None) (sym is) formatted_opens_to_nothing
+    subst (λ bytes. StoreOpensTo (written_header one) bytes None) (sym is) formatted_opens_to_nothing
 
 -- a formatted store is one of any lists, and a run goes on from nothing
 pub formatted_store_is_of_any_lists : (lists : List (List RecordValue)) → IsInputStore one lists formatted

@@ -86,11 +86,11 @@ bytes_of_a_failed_source = omega arith
 pub bytes_are_there_at_success : HasNoBytes 3 3 Done → ⊥
 bytes_are_there_at_success none = none
 
-pub audit_of_an_empty_capture : HasNoAudit Byte (inputs (Some []) (Some []) None None None) (faults_of_source 0 0)
+pub audit_of_an_empty_capture : HasNoAudit settings (inputs (Some []) (Some []) None None None) (faults_of_source 0 0)
     (faults_of_source 0 0) (BadCapture (header_fault_at ShortHeader 0))
 audit_of_an_empty_capture = empty_file_has_no_text
 
-pub audit_whose_text_failed : HasNoAudit Byte (inputs None None None None None) (faults_of_source 3 0) (faults_of_source 3 1) ReadFault
+pub audit_whose_text_failed : HasNoAudit settings (inputs None None None None None) (faults_of_source 3 0) (faults_of_source 3 1) ReadFault
 audit_whose_text_failed = inr (omega arith)
 
 pub audit_of_one_report : Says settings lists (last ∷ []) (sound_audit 1) Done

@@ -1,13 +1,14 @@
 -- Worked examples of what `weigh` writes for a capture of one packet.
-use Rattle.std.proofs.Common.{◌≡◌, ℕ, List, [], ◌∷◌, ◌++◌, refl, codes, take, arith}
+use Rattle.std.proofs.Common.{◌≡◌, ℕ, None, List, [], ◌∷◌, ◌++◌, refl, codes, take, arith}
 use Rattle.std.specs.Fmt.{digits}
 use Rattle.prefix_lattice.specs.{PrefixValue, address_bits}
 use Rattle.pcap_frames.specs.declared.file_order.FileOrder.TheVariants.{Little}
 use Rattle.pcap_frames.specs.{number_in_order, FrameValue, order_of_magic}
 use Rattle.frame_records.specs.{FileHasFrames}
-use Rattle.frame_records.specs.declared.weigh.Weigh.TheVariants.{Bytes, Packets}
+use Rattle.frame_records.specs.declared.weigh.Weigh.TheVariants.{Packets}
 use Rattle.hhh_engine.specs.Weigh.{text_shape, weight_text, text_for, IsWeightText}
 use Rattle.report_session.proofs.Examples.{header}
+use Rattle.report_session.proofs.ExamplesOfSessions.{settings}
 use Rattle.dealt_capture.proofs.Examples.{packet}
 
 -- 10.0.0.0/8 20.0.0.0/8, and 11.0.0.0/8 20.0.0.0/8
@@ -58,20 +59,22 @@ file_is_a_capture = (
 )
 
 -- `weigh 10.0.0.0/8 20.0.0.0/8` over the file
-pub weight_of_the_file : IsWeightText prefix Bytes file (codes "low 100\nhigh 100\ntotal 100\n")
+pub weight_of_the_file : IsWeightText prefix settings file (codes "low 100\nhigh 100\ntotal 100\n")
 unfolding digits
 weight_of_the_file = record {
   frames = frame ∷ [];
+  cut = None;
   capture = file_is_a_capture;
   spelled = refl;
   holds = record { holds = record { low = omega arith; high = omega arith }; narrow = omega arith };
 }
 
 -- and with `--weigh packets`
-pub packets_of_the_file : IsWeightText prefix Packets file (codes "low 1\nhigh 1\ntotal 1\n")
+pub packets_of_the_file : IsWeightText prefix (record settings { weigh = Packets }) file (codes "low 1\nhigh 1\ntotal 1\n")
 unfolding digits
 packets_of_the_file = record {
   frames = frame ∷ [];
+  cut = None;
   capture = file_is_a_capture;
   spelled = refl;
   holds = record { holds = record { low = omega arith; high = omega arith }; narrow = omega arith };

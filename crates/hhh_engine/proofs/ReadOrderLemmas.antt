@@ -16,8 +16,8 @@ use Rattle.session_audit.specs.{HasNoBytes, Says}
 use Rattle.hhh_engine.specs.Ending.{Task, course, Ends, DiskHappened, FailsAtSource, SourceFaults, EndsInOrder}
 use Rattle.hhh_engine.specs.Ending.{EndsAsBefore, faults_of_source}
 use Rattle.hhh_engine.specs.Inputs.{CommandUses, InputBytes, MayUseStore, UsesCapture}
-use Rattle.hhh_engine.specs.Inputs.{UsesSession}
-use Rattle.dealt_capture.specs.{IsCaptureFile, DealingRules}
+use Rattle.hhh_engine.specs.Inputs.{ReadsSession}
+use Rattle.dealt_capture.specs.{DealingRules}
 use Rattle.run_status.specs.{status_of_session}
 use Rattle.run_status.specs.declared.status.Status.{Status}
 use Rattle.run_status.specs.declared.status.Status.TheVariants.{Done, BadWords, BadCapture, ReadFault, WriteFault}
@@ -34,49 +34,49 @@ use Rattle.report_session.specs.{IsAsBefore}
 -- ---- the steps of an audit
 
 -- its text was not read
-pub read_order_without_text : {T : Type 0} (read : InputBytes) (before now : SourceFaults) (text text_read : T) (status : Status)
-    → IsAtEnd read.capture_left → IfSome read.capture IsCaptureFile → now.capture ≡ before.capture
-    → HasNoBytes before.text now.text status → EndsInOrder ⊤ ⊤ read before now text text_read status
-read_order_without_text read before now text text_read Done at_end is_capture same none = absurd none
-read_order_without_text read before now text text_read (BadWords kind) at_end is_capture same none = absurd none
-read_order_without_text read before now text text_read (BadCapture fault) at_end is_capture same none = absurd none
-read_order_without_text read before now text text_read ReadFault at_end is_capture same none =
-    inr (record { reads = tt; rose = none; capture_kept = same; read_to_end = at_end; accepted = is_capture })
-read_order_without_text read before now text text_read WriteFault at_end is_capture same none = absurd none
-read_order_without_text read before now text text_read DiskFault at_end is_capture same none = absurd none
-read_order_without_text read before now text text_read NotFormatted at_end is_capture same none = absurd none
-read_order_without_text read before now text text_read (Damaged slot) at_end is_capture same none = absurd none
-read_order_without_text read before now text text_read (OtherSettings stored asked) at_end is_capture same none = absurd none
-read_order_without_text read before now text text_read (OtherCapture stored asked) at_end is_capture same none = absurd none
-read_order_without_text read before now text text_read (AuditNo report verdict) at_end is_capture same none = absurd none
-read_order_without_text read before now text text_read (BadReport fault) at_end is_capture same none = absurd none
-read_order_without_text read before now text text_read OutOfMemory at_end is_capture same none = tt
+pub read_order_without_text : {T : Type 0} (Accepted : Type 0) (read : InputBytes) (before now : SourceFaults) (text text_read : T) (status : Status)
+    → IsAtEnd read.capture_left → Accepted → now.capture ≡ before.capture
+    → HasNoBytes before.text now.text status → EndsInOrder ⊤ Accepted read before now text text_read status
+read_order_without_text Accepted read before now text text_read Done at_end is_capture same none = absurd none
+read_order_without_text Accepted read before now text text_read (BadWords kind) at_end is_capture same none = absurd none
+read_order_without_text Accepted read before now text text_read (BadCapture fault) at_end is_capture same none = absurd none
+read_order_without_text Accepted read before now text text_read ReadFault at_end is_capture same none =
+    inr (record { reads = is_capture; rose = none; capture_kept = same; read_to_end = at_end })
+read_order_without_text Accepted read before now text text_read WriteFault at_end is_capture same none = absurd none
+read_order_without_text Accepted read before now text text_read DiskFault at_end is_capture same none = absurd none
+read_order_without_text Accepted read before now text text_read NotFormatted at_end is_capture same none = absurd none
+read_order_without_text Accepted read before now text text_read (Damaged slot) at_end is_capture same none = absurd none
+read_order_without_text Accepted read before now text text_read (OtherSettings stored asked) at_end is_capture same none = absurd none
+read_order_without_text Accepted read before now text text_read (OtherCapture stored asked) at_end is_capture same none = absurd none
+read_order_without_text Accepted read before now text text_read (AuditNo report verdict) at_end is_capture same none = absurd none
+read_order_without_text Accepted read before now text text_read (BadReport fault) at_end is_capture same none = absurd none
+read_order_without_text Accepted read before now text text_read OutOfMemory at_end is_capture same none = tt
 
 -- its text is not that of a session
-pub read_order_at_bad_text : {T : Type 0} (read : InputBytes) (before now : SourceFaults) (text text_read : T) (fault : SessionFault)
-    → EndsInOrder ⊤ ⊤ read before now text text_read (status_of_session fault)
-read_order_at_bad_text read before now text text_read (session.Text fault) = tt
-read_order_at_bad_text read before now text text_read session.OutOfMemory = tt
+pub read_order_at_bad_text : {T : Type 0} (Accepted : Type 0) (read : InputBytes) (before now : SourceFaults) (text text_read : T) (fault : SessionFault)
+    → EndsInOrder ⊤ Accepted read before now text text_read (status_of_session fault)
+read_order_at_bad_text Accepted read before now text text_read (session.Text fault) = tt
+read_order_at_bad_text Accepted read before now text text_read session.OutOfMemory = tt
 
 -- the audit was made
-pub read_order_of_made_audit : {T : Type 0} (read : InputBytes) (before now : SourceFaults) (text text_read : T)
+pub read_order_of_made_audit : {T : Type 0} (Accepted : Type 0) (read : InputBytes) (before now : SourceFaults) (text text_read : T)
     (settings : Settings) (lists : List (List RecordValue)) (reports : List Reported) (written : List ℕ) (status : Status)
-    → Says settings lists reports written status → EndsInOrder ⊤ ⊤ read before now text text_read status
-read_order_of_made_audit read before now text text_read settings lists reports written Done says = tt
-read_order_of_made_audit read before now text text_read settings lists reports written (BadWords kind) says = absurd says
-read_order_of_made_audit read before now text text_read settings lists reports written (BadCapture fault) says = absurd says
-read_order_of_made_audit read before now text text_read settings lists reports written ReadFault says = absurd says
-read_order_of_made_audit read before now text text_read settings lists reports written WriteFault says = absurd says
-read_order_of_made_audit read before now text text_read settings lists reports written DiskFault says = absurd says
-read_order_of_made_audit read before now text text_read settings lists reports written NotFormatted says = absurd says
-read_order_of_made_audit read before now text text_read settings lists reports written (Damaged slot) says = absurd says
-read_order_of_made_audit read before now text text_read settings lists reports written (OtherSettings stored asked) says =
+    → Says settings lists reports written status → EndsInOrder ⊤ Accepted read before now text text_read status
+read_order_of_made_audit Accepted read before now text text_read settings lists reports written Done says = tt
+read_order_of_made_audit Accepted read before now text text_read settings lists reports written (BadWords kind) says = absurd says
+read_order_of_made_audit Accepted read before now text text_read settings lists reports written (BadCapture fault) says = absurd says
+read_order_of_made_audit Accepted read before now text text_read settings lists reports written ReadFault says = absurd says
+read_order_of_made_audit Accepted read before now text text_read settings lists reports written WriteFault says = absurd says
+read_order_of_made_audit Accepted read before now text text_read settings lists reports written DiskFault says = absurd says
+read_order_of_made_audit Accepted read before now text text_read settings lists reports written NotFormatted says = absurd says
+read_order_of_made_audit Accepted read before now text text_read settings lists reports written (Damaged slot) says = absurd says
+read_order_of_made_audit Accepted read before now text text_read settings lists reports written (OtherSettings stored asked) says =
     absurd says
-read_order_of_made_audit read before now text text_read settings lists reports written (OtherCapture stored asked) says =
+read_order_of_made_audit Accepted read before now text text_read settings lists reports written (OtherCapture stored asked) says =
     absurd says
-read_order_of_made_audit read before now text text_read settings lists reports written (AuditNo report verdict) says = tt
-read_order_of_made_audit read before now text text_read settings lists reports written (BadReport fault) says = absurd says
-read_order_of_made_audit read before now text text_read settings lists reports written OutOfMemory says = absurd says
+read_order_of_made_audit Accepted read before now text text_read settings lists reports written (AuditNo report verdict) says = tt
+read_order_of_made_audit Accepted read before now text text_read settings lists reports written (BadReport fault) says = absurd says
+read_order_of_made_audit Accepted read before now text text_read settings lists reports written OutOfMemory says = absurd says
 
 -- ---- the commands
 
@@ -93,7 +93,6 @@ read_order_in_other_terms Reads ReadsText Other OtherText read before now text t
       rose = is.rose;
       capture_kept = is.capture_kept;
       read_to_end = is.read_to_end;
-      accepted = is.accepted;
     })) failed
 
 -- how a command that reads a capture and no text ended: whatever the faults of a text's source are, its own rose
@@ -139,15 +138,15 @@ read_order_of_neither Reads ReadsText read before now text OutOfMemory no_captur
 -- the command that a variant is reads what the variant reads
 pub read_order_of_variant : {T : Type 0} (command other : Command) (read : InputBytes) (before now : SourceFaults)
     (text text_read : T) (status : Status) → command ≡ other
-    → EndsInOrder (UsesCapture other) (UsesSession other) read before now text text_read status
-    → EndsInOrder (UsesCapture command) (UsesSession command) read before now text text_read status
+    → EndsInOrder (UsesCapture other) (ReadsSession read other) read before now text text_read status
+    → EndsInOrder (UsesCapture command) (ReadsSession read command) read before now text text_read status
 read_order_of_variant command other read before now text text_read status is stops =
-    subst (λ c. EndsInOrder (UsesCapture c) (UsesSession c) read before now text text_read status) (sym is) stops
+    subst (λ c. EndsInOrder (UsesCapture c) (ReadsSession read c) read before now text text_read status) (sym is) stops
 
 -- ---- the top call
 
 -- the arguments ask for what their command uses
-read_order_as_asked : (Uses : Command → Type 0) (words : List (List ℕ)) (command : Command) → AskForCommand words command
+abbrev read_order_as_asked : (Uses : Command → Type 0) (words : List (List ℕ)) (command : Command) → AskForCommand words command
     → Uses command → CommandUses Uses words
 read_order_as_asked Uses words command asked uses = record { command = command; asked = asked; uses = uses }
 
@@ -194,9 +193,9 @@ module _ {S T K D : Type 0} (s : SourceOf S) (t : SourceOf T) (k : SinkOf K) (d 
       let order = subst (EndedInOrder command) is stops in
       let ended = subst (Ended command) is ends in
       record {
-        failed = read_order_in_other_terms (UsesCapture command) (UsesSession command) (CommandUses UsesCapture words)
-            (CommandUses UsesSession words) given (faults_before s t k d old new) (faults_after s t k d old new) old.text new.text
-            (read_order_as_asked UsesCapture words command asked) (read_order_as_asked UsesSession words command asked) order;
+        failed = read_order_in_other_terms (UsesCapture command) (ReadsSession given command) (CommandUses UsesCapture words)
+            (CommandUses (ReadsSession given) words) given (faults_before s t k d old new) (faults_after s t k d old new) old.text new.text
+            (read_order_as_asked UsesCapture words command asked) (read_order_as_asked (ReadsSession given) words command asked) order;
         nothing = record { unwritten = ended.1; untouched = ended.2 };
       }
 

@@ -15,7 +15,8 @@ use Rattle.command_words.specs.declared.words_kind.WordsRefusal.{WordsRefusal}
 use Rattle.command_words.specs.declared.words_kind.WordsRefusal.TheVariants as words
 use Rattle.hhh_engine.specs.Commands.{AnswersCommand, CommandEnds}
 use Rattle.hhh_engine.specs.Ending.{EndsAsBefore, FormatEnds}
-use Rattle.hhh_engine.specs.Inputs.{UsesCapture, UsesSession, UsesStore}
+use Rattle.frame_records.specs.{IsRefusedFile}
+use Rattle.hhh_engine.specs.Inputs.{UsesCapture, UsesSession, UsesStore, takes_front}
 use Rattle.hhh_engine.specs.TopCall.{RunEnds, Streams, faults_after, faults_before}
 use Rattle.report_session.specs.{IsAsBefore, saves_settings, IsAsBefore-untouched}
 use Rattle.dealt_capture.specs.{DealingRules}
@@ -67,13 +68,13 @@ module _ {S T K D : Type 0} (s : SourceOf S) (t : SourceOf T) (k : SinkOf K) (d 
     bad_capture = λ fault is. cc is;
     refuses_capture = λ file fault asks known refused. absurd (none asks.command asks.asked);
     bad_store = λ fault shown is. argument_status_is_no_refusal (words.Bad kind) (BadWords kind) fault shown refl is;
-    refuses_store = λ settings file image frames fault asks used known capture is_store shown refused. absurd (none (Report settings) asks);
+    refuses_store = λ settings file image fault asks used known capture is_store shown refused. absurd (none (Report settings) asks);
     bad_text = λ fault is. cc is;
-    refuses_text = λ settings file bytes frames fault asks is_file capture is_text refused. absurd (none (Audit settings) asks);
+    refuses_text = λ settings file bytes fault asks is_file capture is_text refused. absurd (none (Audit settings) asks);
     audit_no = λ report verdict is. cc is;
-    finds_unsound = λ settings file bytes frames known report verdict asks is_file capture is_text is_session not_long first.
+    finds_unsound = λ settings file bytes known report verdict asks is_file capture is_text is_session not_long first.
         absurd (none (Audit settings) asks);
-    finds_sound = λ settings file bytes frames known asks is_file capture is_text is_session not_long sound.
+    finds_sound = λ settings file bytes known asks is_file capture is_text is_session not_long sound.
         absurd (none (Audit settings) asks);
     read_fault = λ is. cc is;
     read_fault_reported = λ other. refl;
@@ -100,13 +101,13 @@ module _ {S T K D : Type 0} (s : SourceOf S) (t : SourceOf T) (k : SinkOf K) (d 
     bad_capture = λ fault is. cc is;
     refuses_capture = λ file fault asks known refused. inr (inr refl);
     bad_store = λ fault shown is. argument_status_is_no_refusal words.OutOfMemory OutOfMemory fault shown refl is;
-    refuses_store = λ settings file image frames fault asks used known capture is_store shown refused. inr (inr (inr refl));
+    refuses_store = λ settings file image fault asks used known capture is_store shown refused. inr (inr (inr refl));
     bad_text = λ fault is. cc is;
-    refuses_text = λ settings file bytes frames fault asks is_file capture is_text refused. inr (inr refl);
+    refuses_text = λ settings file bytes fault asks is_file capture is_text refused. inr (inr refl);
     audit_no = λ report verdict is. cc is;
-    finds_unsound = λ settings file bytes frames known report verdict asks is_file capture is_text is_session not_long first.
+    finds_unsound = λ settings file bytes known report verdict asks is_file capture is_text is_session not_long first.
         inr (inr (inr refl));
-    finds_sound = λ settings file bytes frames known asks is_file capture is_text is_session not_long sound. inr (inr (inr refl));
+    finds_sound = λ settings file bytes known asks is_file capture is_text is_session not_long sound. inr (inr (inr refl));
     read_fault = λ is. cc is;
     read_fault_reported = λ other. refl;
     write_fault = λ is. cc is;
@@ -210,26 +211,28 @@ module _ {S T K D : Type 0} (s : SourceOf S) (t : SourceOf T) (k : SinkOf K) (d 
         bad_capture = λ fault is.
             read_order_at_refused_capture s t k d old new rules arguments command status fault asked is answers.order ends;
         refuses_capture = λ file fault asks known has.
+            let one = same asks.command asks.asked in
             status_of_refused_capture s t k d old new rules laws.never_both laws.one_fault command status file fault
-            (subst UsesCapture (sym (same asks.command asks.asked)) asks.uses) known has ends;
+            (subst UsesCapture (sym one) asks.uses) known
+            (subst (λ c. IsRefusedFile (takes_front c) file fault) (sym one) has) ends;
         bad_store = λ fault shown is. status_names_refusal s t k d old new rules arguments command status fault asked shown is ends;
-        refuses_store = λ settings file image frames fault asks used known capture is_store shown refused.
-            status_is_store_refusal s t k d old new rules laws.never_both laws.decided settings status file image frames fault
+        refuses_store = λ settings file image fault asks used known capture is_store shown refused.
+            status_is_store_refusal s t k d old new rules laws.never_both laws.decided settings status file image fault
             (subst IsLimitedCommand (same (Report settings) asks) limited).0 used known capture is_store shown refused
             (subst (λ c. Ended c status) (same (Report settings) asks) ends);
         bad_text = λ fault is. audit_finding_refuses_by_status s t k d old new rules arguments command status fault asked is ends;
-        refuses_text = λ settings file bytes frames fault asks is_file capture is_text has.
+        refuses_text = λ settings file bytes fault asks is_file capture is_text has.
             audit_finding_is_text_fault s t k d old new rules laws.never_both laws.one_text_fault laws.no_text_fault settings status file
-            bytes frames fault is_file capture is_text has (subst (λ c. Ended c status) (same (Audit settings) asks) ends);
+            bytes fault is_file capture is_text has (subst (λ c. Ended c status) (same (Audit settings) asks) ends);
         audit_no = λ report verdict is.
             audit_finding_by_status s t k d old new rules arguments command status report verdict asked is ends;
-        finds_unsound = λ settings file bytes frames known report verdict asks is_file capture is_text is_session not_long first.
+        finds_unsound = λ settings file bytes known report verdict asks is_file capture is_text is_session not_long first.
             audit_finding_is_first_unsound s t k d old new rules laws.never_both laws.no_text_fault laws.one_verdict settings status file
-            bytes frames known report verdict is_file capture is_text is_session not_long first
+            bytes known report verdict is_file capture is_text is_session not_long first
             (subst (λ c. Ended c status) (same (Audit settings) asks) ends);
-        finds_sound = λ settings file bytes frames known asks is_file capture is_text is_session not_long sound.
+        finds_sound = λ settings file bytes known asks is_file capture is_text is_session not_long sound.
             sound_session_is_found s t k d old new rules laws.never_both laws.no_text_fault laws.one_verdict settings status file bytes
-            frames known is_file capture is_text is_session not_long sound
+            known is_file capture is_text is_session not_long sound
             (subst (λ c. Ended c status) (same (Audit settings) asks) ends);
         read_fault = λ is. read_order_at_read_failure s t k d old new rules arguments command status asked is answers.order ends;
         read_fault_reported = λ none. run_reports_read_fault command status none ends;

@@ -1,8 +1,7 @@
 -- How an audit of a session ends whose reports are all sound.
 use Rattle.std.proofs.Common.{◌≡◌, ◌⊎◌, ◌≤◌, ℕ, List, length, All, Some, inl, inr, refl}
 use Rattle.prefix_lattice.specs.{RecordValue}
-use Rattle.pcap_frames.specs.{FrameValue}
-use Rattle.frame_records.specs.{FileHasFrames, IsRefusedFile}
+use Rattle.frame_records.specs.{IsRefusedFile}
 use Rattle.report_text.specs.{HasSessionFault, IsSessionText, longest_session}
 use Rattle.report_text.specs.declared.session.Session.{Session}
 use Rattle.command_words.specs.declared.command.Command.{Command}
@@ -10,7 +9,7 @@ use Rattle.command_words.specs.declared.command.Command.TheVariants.{Audit}
 use Rattle.command_words.specs.declared.settings.Settings.{Settings}
 use Rattle.session_audit.specs.{AreAudited, IsAuditedSound, IsUnsoundAudit}
 use Rattle.hhh_engine.specs.Inputs.{InputBytes}
-use Rattle.dealt_capture.specs.{DealingRules}
+use Rattle.dealt_capture.specs.{DealingRules, IsCaptureFile}
 use Rattle.run_status.specs.declared.status.Status.{Status}
 use Rattle.run_status.specs.declared.status.Status.TheVariants.{Done, BadWords, BadCapture, ReadFault, WriteFault}
 use Rattle.run_status.specs.declared.status.Status.TheVariants.{DiskFault, NotFormatted, Damaged, OtherSettings}
@@ -35,54 +34,55 @@ module _ {S T K D : Type 0} (s : SourceOf S) (t : SourceOf T) (k : SinkOf K) (d 
 
   -- it is found so, however the records are dealt, unless a source or the sink fails or memory runs out
   pub sound_session_is_found : CaptureStatusIsFaultless → SessionStatusIsFaultless → AuditFindingIsUnique
-      → (settings : Settings) (status : Status) (file bytes : List ℕ) (frames : List FrameValue) (known : Session)
-      → given.capture ≡ Some file → FileHasFrames file frames → given.text ≡ Some bytes → IsSessionText settings.grain bytes known
+      → (settings : Settings) (status : Status) (file bytes : List ℕ) (known : Session)
+      → given.capture ≡ Some file → IsCaptureFile settings.front file → given.text ≡ Some bytes → IsSessionText settings.grain bytes known
       → length bytes ≤ longest_session
       → ((lists : List (List RecordValue)) (session : Session) → AreAudited settings rules file bytes lists session
       → All (IsAuditedSound settings lists) session.reports)
       → Ended (Audit settings) status
       → (status ≡ Done) ⊎ ((status ≡ ReadFault) ⊎ ((status ≡ WriteFault) ⊎ (status ≡ OutOfMemory)))
-  sound_session_is_found never_both no_fault one settings Done file bytes frames known is_file capture is_text
+  sound_session_is_found never_both no_fault one settings Done file bytes known is_file capture is_text
       is_session not_long sound ends =
       inl refl
-  sound_session_is_found never_both no_fault one settings (BadWords kind) file bytes frames known is_file capture is_text
+  sound_session_is_found never_both no_fault one settings (BadWords kind) file bytes known is_file capture is_text
       is_session not_long sound ends =
       absurd ends
-  sound_session_is_found never_both no_fault one settings (BadCapture other) file bytes frames known is_file capture is_text
+  sound_session_is_found never_both no_fault one settings (BadCapture other) file bytes known is_file capture is_text
       is_session not_long sound ends =
       absurd
-      (never_both file frames other capture (status_of_known_file given.capture file (λ f. IsRefusedFile f other) is_file ends.0))
-  sound_session_is_found never_both no_fault one settings ReadFault file bytes frames known is_file capture is_text
+      (never_both settings.front file capture other
+      (status_of_known_file given.capture file (λ f. IsRefusedFile settings.front f other) is_file ends.0))
+  sound_session_is_found never_both no_fault one settings ReadFault file bytes known is_file capture is_text
       is_session not_long sound ends =
       inr (inl refl)
-  sound_session_is_found never_both no_fault one settings WriteFault file bytes frames known is_file capture is_text
+  sound_session_is_found never_both no_fault one settings WriteFault file bytes known is_file capture is_text
       is_session not_long sound ends =
       inr (inr (inl refl))
-  sound_session_is_found never_both no_fault one settings DiskFault file bytes frames known is_file capture is_text
+  sound_session_is_found never_both no_fault one settings DiskFault file bytes known is_file capture is_text
       is_session not_long sound ends =
       absurd ends.3
-  sound_session_is_found never_both no_fault one settings NotFormatted file bytes frames known is_file capture is_text
+  sound_session_is_found never_both no_fault one settings NotFormatted file bytes known is_file capture is_text
       is_session not_long sound ends =
       absurd ends.0
-  sound_session_is_found never_both no_fault one settings (Damaged slot) file bytes frames known is_file capture is_text
+  sound_session_is_found never_both no_fault one settings (Damaged slot) file bytes known is_file capture is_text
       is_session not_long sound ends =
       absurd ends.0
-  sound_session_is_found never_both no_fault one settings (OtherSettings stored asked) file bytes frames known is_file capture
+  sound_session_is_found never_both no_fault one settings (OtherSettings stored asked) file bytes known is_file capture
       is_text is_session not_long sound ends =
       absurd ends.0
-  sound_session_is_found never_both no_fault one settings (OtherCapture stored asked) file bytes frames known is_file capture
+  sound_session_is_found never_both no_fault one settings (OtherCapture stored asked) file bytes known is_file capture
       is_text is_session not_long sound ends =
       absurd ends.0
-  sound_session_is_found never_both no_fault one settings (AuditNo report verdict) file bytes frames known is_file capture is_text
+  sound_session_is_found never_both no_fault one settings (AuditNo report verdict) file bytes known is_file capture is_text
       is_session not_long sound ends =
       let is =
-      audit_finding_of_known_inputs given file bytes (λ f t. IsUnsoundAudit settings rules f t report verdict) is_file is_text ends.1.0 in
+      audit_finding_of_known_inputs settings given file bytes (λ f t. IsUnsoundAudit settings rules f t report verdict) is_file is_text ends.1.0 in
       absurd (one.never_both settings is.lists is.session.reports report verdict is.first (sound is.lists is.session is.audited))
-  sound_session_is_found never_both no_fault one settings (BadReport wrong) file bytes frames known is_file capture is_text
+  sound_session_is_found never_both no_fault one settings (BadReport wrong) file bytes known is_file capture is_text
       is_session not_long sound ends =
       absurd
       (no_fault settings.grain bytes known wrong is_session not_long
       (status_of_known_file given.text bytes (λ t. HasSessionFault settings.grain t wrong) is_text ends.0.first_fault))
-  sound_session_is_found never_both no_fault one settings OutOfMemory file bytes frames known is_file capture is_text
+  sound_session_is_found never_both no_fault one settings OutOfMemory file bytes known is_file capture is_text
       is_session not_long sound ends =
       inr (inr (inr refl))

@@ -1,13 +1,12 @@
 -- How a command can end.
-use Rattle.std.proofs.Common.{◌≡◌, ◌⊎◌, ◌≤◌, ℕ, true, List, [], length, Option, Some, IfSome, inl, inr, ⊎_elim, refl}
+use Rattle.std.proofs.Common.{◌≡◌, ◌⊎◌, ◌≤◌, ℕ, Bool, true, List, [], length, Option, Some, IfSome, inl, inr, ⊎_elim, refl}
 use Rattle.std.proofs.Common.{sym, ap, subst}
 use Rattle.outside_io.specs.{FaultRose}
 use Rattle.outside_io.specs.declared.source.Source.{Ghosts as SourceOf}
 use Rattle.outside_io.specs.declared.sink.Sink.{Ghosts as SinkOf}
 use Rattle.slot_disk.specs.declared.disk.Disk.{Ghosts as DiskOf}
 use Rattle.prefix_lattice.specs.{RecordValue}
-use Rattle.pcap_frames.specs.{FrameValue}
-use Rattle.frame_records.specs.{FileHasFrames, IsRefusedFile}
+use Rattle.frame_records.specs.{IsRefusedFile}
 use Rattle.frame_records.specs.declared.records.Records.{Records}
 use Rattle.pcap_frames.specs.declared.fault.CaptureFault.{CaptureFault}
 use Rattle.recovery.specs.{BelongingOpen, RefusesOpening, IsShownByBytes, AreDecided}
@@ -28,7 +27,7 @@ use Rattle.hhh_engine.specs.Ending.{Course, Task, Ends, AuditFinds, IsRefusedSto
 use Rattle.hhh_engine.specs.Ending.{SourceFaultsRose, Refuses, EndsRefusing}
 use Rattle.hhh_engine.specs.Ending.{EndsAnswered}
 use Rattle.hhh_engine.specs.Inputs.{CanBeAnswered, HasCapture, HasStore, UsesCapture}
-use Rattle.hhh_engine.specs.Inputs.{InputBytes, WereAccepted, WereRead}
+use Rattle.hhh_engine.specs.Inputs.{InputBytes, WereAccepted, WereRead, takes_front}
 use Rattle.dealt_capture.specs.{IsCaptureFile, AreDealtRecords, DealingRules}
 use Rattle.hhh_engine.specs.Commands.{CommandEnds}
 use Rattle.hhh_engine.specs.TopCall.{RefusesStore, Streams, faults_after, faults_before, run_inputs, run_keeping}
@@ -47,13 +46,13 @@ use Rattle.prefix_lattice.specs.declared.grain.Grain.{Grain}
 -- no file is both a capture and a file with a fault
 abbrev pub CaptureStatusIsFaultless : Type 0
 CaptureStatusIsFaultless =
-    (file : List ℕ) (frames : List FrameValue) (fault : CaptureFault) → FileHasFrames file frames
-    → IsRefusedFile file fault → ⊥
+    (front : Bool) (file : List ℕ) → IsCaptureFile front file → (fault : CaptureFault) → IsRefusedFile front file fault → ⊥
 
 -- a file has one fault at most
 abbrev pub FaultStatusIsUnique : Type 0
 FaultStatusIsUnique =
-    (file : List ℕ) (fault other : CaptureFault) → IsRefusedFile file fault → IsRefusedFile file other → other ≡ fault
+    (front : Bool) (file : List ℕ) (fault other : CaptureFault) → IsRefusedFile front file fault → IsRefusedFile front file other
+    → other ≡ fault
 
 -- what is known of a source with this file
 pub status_of_known_file : (left : Option (List ℕ)) (file : List ℕ) (P : List ℕ → Type 0) → left ≡ Some file → IfSome left P → P file
@@ -62,16 +61,16 @@ status_of_known_file left file P known holds = subst (λ o. IfSome o P) known ho
 -- a command that reads a capture has a text over captures alone
 status_tells_capture : (rules : DealingRules) (keeping : SessionKeeping) (command : Command) (given : InputBytes)
     (file text : List ℕ) → UsesCapture command → given.capture ≡ Some file
-    → IsAnswer rules keeping command given text → IsCaptureFile file
+    → IsAnswer rules keeping command given text → IsCaptureFile (takes_front command) file
 status_tells_capture rules keeping (Weigh prefix settings) given file text reads known answer =
-    let is = status_of_known_file given.capture file (λ f. IsWeightText prefix settings.weigh f text) known answer in
-    (is.frames, is.capture)
+    let is = status_of_known_file given.capture file (λ f. IsWeightText prefix settings f text) known answer in
+    (is.frames, is.cut, is.capture)
 status_tells_capture rules keeping (Report settings) given file text reads known answer =
     let is = status_of_known_file given.capture file (λ f. AreDealtRecords settings rules f answer.records answer.lists) known answer.dealt in
-    (is.frames, is.capture)
+    (is.frames, answer.records.cut, is.capture)
 status_tells_capture rules keeping (Format settings) given file text reads known answer = absurd reads
 status_tells_capture rules keeping (Audit settings) given file text reads known answer =
-    (status_of_known_file given.capture file (λ f. IsCaptureFile f × IfSome given.text (λ session. IsSoundAudit settings rules f session text))
+    (status_of_known_file given.capture file (λ f. IsCaptureFile settings.front f × IfSome given.text (λ session. IsSoundAudit settings rules f session text))
     known answer).0
 status_tells_capture rules keeping (Make seed frames) given file text reads known answer = absurd reads
 status_tells_capture rules keeping (Demo seed frames settings) given file text reads known answer = absurd reads
@@ -79,17 +78,17 @@ status_tells_capture rules keeping (Demo seed frames settings) given file text r
 -- and a part of a text
 status_tells_capture_in_part : (rules : DealingRules) (keeping : SessionKeeping) (command : Command) (given : InputBytes) (file front : List ℕ)
     → UsesCapture command → given.capture ≡ Some file → IsAnswerInPart rules keeping command given front
-    → IsCaptureFile file
+    → IsCaptureFile (takes_front command) file
 status_tells_capture_in_part rules keeping (Weigh prefix settings) given file front reads known answer =
-    let is = status_of_known_file given.capture file (λ f. IsWeighInPart prefix settings.weigh f front) known answer in
-    (is.is_text.frames, is.is_text.capture)
+    let is = status_of_known_file given.capture file (λ f. IsWeighInPart prefix settings f front) known answer in
+    (is.is_text.frames, is.is_text.cut, is.is_text.capture)
 status_tells_capture_in_part rules keeping (Report settings) given file front reads known answer =
     let is = status_of_known_file given.capture file (λ f. AreDealtRecords settings rules f answer.records answer.lists) known answer.dealt in
-    (is.frames, is.capture)
+    (is.frames, answer.records.cut, is.capture)
 status_tells_capture_in_part rules keeping (Format settings) given file front reads known answer = absurd reads
 status_tells_capture_in_part rules keeping (Audit settings) given file front reads known answer =
     (status_of_known_file given.capture file
-    (λ f. IsCaptureFile f × IfSome given.text (λ session. IsUnfinished (IsAuditText settings rules f session) front))
+    (λ f. IsCaptureFile settings.front f × IfSome given.text (λ session. IsUnfinished (IsAuditText settings rules f session) front))
     known answer).0
 status_tells_capture_in_part rules keeping (Make seed frames) given file front reads known answer = absurd reads
 status_tells_capture_in_part rules keeping (Demo seed frames settings) given file front reads known answer = absurd reads
@@ -97,11 +96,11 @@ status_tells_capture_in_part rules keeping (Demo seed frames settings) given fil
 -- and a store is refused over captures alone
 status_tells_capture_if_refused : (rules : DealingRules) (command : Command) (given : InputBytes) (AsBefore : Type 0) (file : List ℕ)
     (fault : OpenFault) → given.capture ≡ Some file → Refuses command rules given AsBefore fault
-    → IsCaptureFile file
+    → IsCaptureFile (takes_front command) file
 status_tells_capture_if_refused rules (Weigh prefix settings) given AsBefore file fault known refuses = absurd refuses
 status_tells_capture_if_refused rules (Report settings) given AsBefore file fault known refuses =
     let is = status_of_known_file given.capture file (λ f. IsRefusedStore settings rules given.store f fault) known refuses.2 in
-    (is.dealt.frames, is.dealt.capture)
+    (is.dealt.frames, is.records.cut, is.dealt.capture)
 status_tells_capture_if_refused rules (Format settings) given AsBefore file fault known refuses = absurd refuses
 status_tells_capture_if_refused rules (Audit settings) given AsBefore file fault known refuses = absurd refuses
 status_tells_capture_if_refused rules (Make seed frames) given AsBefore file fault known refuses = absurd refuses
@@ -110,7 +109,7 @@ status_tells_capture_if_refused rules (Demo seed frames settings) given AsBefore
 -- and an audit that ends by what it found read a capture
 status_tells_capture_if_audited : (rules : DealingRules) (command : Command) (given : InputBytes) (old new : Option (List ℕ)) (file : List ℕ)
     (report : ℕ) (verdict : Verdict) → given.capture ≡ Some file
-    → AuditFinds command rules given old new (AuditNo report verdict) → IsCaptureFile file
+    → AuditFinds command rules given old new (AuditNo report verdict) → IsCaptureFile (takes_front command) file
 status_tells_capture_if_audited rules (Weigh prefix settings) given old new file report verdict known finds = absurd finds
 status_tells_capture_if_audited rules (Report settings) given old new file report verdict known finds = absurd finds
 status_tells_capture_if_audited rules (Format settings) given old new file report verdict known finds = absurd finds
@@ -118,52 +117,56 @@ status_tells_capture_if_audited rules (Make seed frames) given old new file repo
 status_tells_capture_if_audited rules (Demo seed frames settings) given old new file report verdict known finds = absurd finds
 status_tells_capture_if_audited rules (Audit settings) given old new file report verdict known finds =
     (status_of_known_file given.capture file
-    (λ f. IsCaptureFile f × IfSome given.text (λ text. IsUnsoundAudit settings rules f text report verdict))
+    (λ f. IsCaptureFile settings.front f × IfSome given.text (λ text. IsUnsoundAudit settings rules f text report verdict))
     known finds.0).0
 
 status_tells_capture_if_faulty : (rules : DealingRules) (command : Command) (given : InputBytes) (old new : Option (List ℕ)) (file : List ℕ)
     (fault : TextFault) → given.capture ≡ Some file → AuditFinds command rules given old new (BadReport fault)
-    → IsCaptureFile file
+    → IsCaptureFile (takes_front command) file
 status_tells_capture_if_faulty rules (Weigh prefix settings) given old new file fault known finds = absurd finds
 status_tells_capture_if_faulty rules (Report settings) given old new file fault known finds = absurd finds
 status_tells_capture_if_faulty rules (Format settings) given old new file fault known finds = absurd finds
 status_tells_capture_if_faulty rules (Make seed frames) given old new file fault known finds = absurd finds
 status_tells_capture_if_faulty rules (Demo seed frames settings) given old new file fault known finds = absurd finds
 status_tells_capture_if_faulty rules (Audit settings) given old new file fault known finds =
-    status_of_known_file given.capture file IsCaptureFile known finds.accepted
+    status_of_known_file given.capture file (IsCaptureFile settings.front) known finds.accepted
 
 -- an accepted capture is one
 status_tells_accepted_capture : (command : Command) (given : InputBytes) (file : List ℕ) → UsesCapture command
-    → given.capture ≡ Some file → WereAccepted command given → IsCaptureFile file
-status_tells_accepted_capture (Weigh prefix settings) given file reads known was = status_of_known_file given.capture file IsCaptureFile known was
-status_tells_accepted_capture (Report settings) given file reads known was = status_of_known_file given.capture file IsCaptureFile known was
+    → given.capture ≡ Some file → WereAccepted command given → IsCaptureFile (takes_front command) file
+status_tells_accepted_capture (Weigh prefix settings) given file reads known was =
+    status_of_known_file given.capture file (IsCaptureFile settings.front) known was
+status_tells_accepted_capture (Report settings) given file reads known was =
+    status_of_known_file given.capture file (IsCaptureFile settings.front) known was
 status_tells_accepted_capture (Format settings) given file reads known was = absurd reads
-status_tells_accepted_capture (Audit settings) given file reads known was = status_of_known_file given.capture file IsCaptureFile known was
+status_tells_accepted_capture (Audit settings) given file reads known was =
+    status_of_known_file given.capture file (IsCaptureFile settings.front) known was
 status_tells_accepted_capture (Make seed frames) given file reads known was = absurd reads
 status_tells_accepted_capture (Demo seed frames settings) given file reads known was = absurd reads
 
 -- what each command that reads a capture needs of it
 status_of_known_capture : (rules : DealingRules) (command : Command) (given : InputBytes) (file : List ℕ)
     (fault : CaptureFault) → CaptureStatusIsFaultless → UsesCapture command → CanBeAnswered rules command given
-    → IfSome given.capture (λ f. IsRefusedFile f fault) → ⊥
+    → IfSome given.capture (λ f. IsRefusedFile (takes_front command) f fault) → ⊥
 status_of_known_capture rules (Weigh prefix settings) given file fault never_both reads can has =
-    never_both can.file can.frames fault can.capture (status_of_known_file given.capture can.file (λ f. IsRefusedFile f fault) can.told has)
+    never_both settings.front can.file can.capture fault
+    (status_of_known_file given.capture can.file (λ f. IsRefusedFile settings.front f fault) can.told has)
 status_of_known_capture rules (Report settings) given file fault never_both reads can has =
     let capture = can.0 in
-    never_both capture.file capture.frames fault capture.capture
-    (status_of_known_file given.capture capture.file (λ f. IsRefusedFile f fault) capture.told has)
+    never_both settings.front capture.file capture.capture fault
+    (status_of_known_file given.capture capture.file (λ f. IsRefusedFile settings.front f fault) capture.told has)
 status_of_known_capture rules (Format settings) given file fault never_both reads can has = absurd reads
 status_of_known_capture rules (Audit settings) given file fault never_both reads can has =
     let capture = can.0 in
-    never_both capture.file capture.frames fault capture.capture
-    (status_of_known_file given.capture capture.file (λ f. IsRefusedFile f fault) capture.told has)
+    never_both settings.front capture.file capture.capture fault
+    (status_of_known_file given.capture capture.file (λ f. IsRefusedFile settings.front f fault) capture.told has)
 status_of_known_capture rules (Make seed frames) given file fault never_both reads can has = absurd reads
 status_of_known_capture rules (Demo seed frames settings) given file fault never_both reads can has = absurd reads
 
 -- a store of the records isn't refused
 status_is_never_refusal : AreDecided → BelongingOpen → (rules : DealingRules) (settings : Settings)
     (given : InputBytes) (AsBefore : Type 0) (fault : OpenFault) → AreLimited settings
-    → HasCapture given.capture → (settings.store ≡ true → HasStore settings rules given)
+    → HasCapture settings.front given.capture → (settings.store ≡ true → HasStore settings rules given)
     → IsShownByBytes fault → EndsRefusing settings rules given.capture given.store AsBefore fault → ⊥
 status_is_never_refusal decided opened rules settings given AsBefore fault limited capture can shown refuses =
     let is_store = can refuses.0 in
@@ -317,42 +320,44 @@ module _ {S T K D : Type 0} (s : SourceOf S) (t : SourceOf T) (k : SinkOf K) (d 
   -- a command that reads a capture over a file with a fault is refused for it, unless the source fails or memory runs out
   pub status_of_refused_capture : CaptureStatusIsFaultless → FaultStatusIsUnique
       → (command : Command) (status : Status) (file : List ℕ)
-      (fault : CaptureFault) → UsesCapture command → given.capture ≡ Some file → IsRefusedFile file fault
+      (fault : CaptureFault) → UsesCapture command → given.capture ≡ Some file
+      → IsRefusedFile (takes_front command) file fault
       → Ended command status
       → (status ≡ BadCapture fault) ⊎ ((status ≡ ReadFault) ⊎ (status ≡ OutOfMemory))
   status_of_refused_capture never_both one_fault command Done file fault reads known has ends =
       let capture = status_tells_capture rules keeping command given file ends.1.text reads known ends.1.is_text in
-      absurd (never_both file capture.0 fault capture.1 has)
+      absurd (never_both (takes_front command) file capture fault has)
   status_of_refused_capture never_both one_fault command (BadWords kind) file fault reads known has ends =
       absurd ends
   status_of_refused_capture never_both one_fault command (BadCapture other) file fault reads known has ends =
-      inl (ap BadCapture (one_fault file fault other has (status_of_known_file given.capture file (λ f. IsRefusedFile f other) known ends.0)))
+      inl (ap BadCapture (one_fault (takes_front command) file fault other has
+      (status_of_known_file given.capture file (λ f. IsRefusedFile (takes_front command) f other) known ends.0)))
   status_of_refused_capture never_both one_fault command ReadFault file fault reads known has ends =
       inr (inl refl)
   status_of_refused_capture never_both one_fault command WriteFault file fault reads known has ends =
       let capture = status_tells_capture_in_part rules keeping command given file ends.1.text reads known ends.1.is_text in
-      absurd (never_both file capture.0 fault capture.1 has)
+      absurd (never_both (takes_front command) file capture fault has)
   status_of_refused_capture never_both one_fault command DiskFault file fault reads known has ends =
       let capture = status_tells_accepted_capture command given file reads known ends.1 in
-      absurd (never_both file capture.0 fault capture.1 has)
+      absurd (never_both (takes_front command) file capture fault has)
   status_of_refused_capture never_both one_fault command NotFormatted file fault reads known has ends =
       let capture = status_tells_capture_if_refused rules command given AsBefore file opening.NotFormatted known ends.0 in
-      absurd (never_both file capture.0 fault capture.1 has)
+      absurd (never_both (takes_front command) file capture fault has)
   status_of_refused_capture never_both one_fault command (Damaged slot) file fault reads known has ends =
       let capture = status_tells_capture_if_refused rules command given AsBefore file (opening.Damaged slot) known ends.0 in
-      absurd (never_both file capture.0 fault capture.1 has)
+      absurd (never_both (takes_front command) file capture fault has)
   status_of_refused_capture never_both one_fault command (OtherSettings stored asked) file fault reads known has ends =
       let capture = status_tells_capture_if_refused rules command given AsBefore file (opening.OtherSettings stored asked) known ends.0 in
-      absurd (never_both file capture.0 fault capture.1 has)
+      absurd (never_both (takes_front command) file capture fault has)
   status_of_refused_capture never_both one_fault command (OtherCapture stored asked) file fault reads known has ends =
       let capture = status_tells_capture_if_refused rules command given AsBefore file (opening.OtherCapture stored asked) known ends.0 in
-      absurd (never_both file capture.0 fault capture.1 has)
+      absurd (never_both (takes_front command) file capture fault has)
   status_of_refused_capture never_both one_fault command (AuditNo report verdict) file fault reads known has ends =
       let capture = status_tells_capture_if_audited rules command given (k.taken old.sink) (k.taken new.sink) file report verdict known ends.1 in
-      absurd (never_both file capture.0 fault capture.1 has)
+      absurd (never_both (takes_front command) file capture fault has)
   status_of_refused_capture never_both one_fault command (BadReport wrong) file fault reads known has ends =
       let capture = status_tells_capture_if_faulty rules command given (k.taken old.sink) (k.taken new.sink) file wrong known ends.0 in
-      absurd (never_both file capture.0 fault capture.1 has)
+      absurd (never_both (takes_front command) file capture fault has)
   status_of_refused_capture never_both one_fault command OutOfMemory file fault reads known has ends =
       inr (inr refl)
 
@@ -436,60 +441,61 @@ module _ {S T K D : Type 0} (s : SourceOf S) (t : SourceOf T) (k : SinkOf K) (d 
   -- a report whose store is refused, however the records are dealt, ends so, unless source or disk fail or memory runs out
   pub status_is_store_refusal : CaptureStatusIsFaultless → AreDecided
       → (settings : Settings) (status : Status)
-      (file image : List ℕ) (frames : List FrameValue) (fault : OpenFault) → AreLimited settings → settings.store ≡ true
-      → given.capture ≡ Some file → FileHasFrames file frames → given.store ≡ Some image → IsShownByBytes fault
+      (file image : List ℕ) (fault : OpenFault) → AreLimited settings → settings.store ≡ true
+      → given.capture ≡ Some file → IsCaptureFile settings.front file → given.store ≡ Some image → IsShownByBytes fault
       → ((records : Records) (lists : List (List RecordValue)) → AreDealtRecords settings rules file records lists
       → RefusesOpening (saves_settings settings) lists image fault)
       → Ended (Report settings) status
       → (status ≡ status_of_opening fault)
       ⊎ ((status ≡ ReadFault) ⊎ ((status ≡ DiskFault) ⊎ (status ≡ OutOfMemory)))
-  status_is_store_refusal never_both decided settings Done file image frames fault limited used known
+  status_is_store_refusal never_both decided settings Done file image fault limited used known
       capture is_store shown refused ends =
       let is = ends.1.is_text in
       absurd (status_never_of_begun_session decided rules settings given.store file image fault is.records is.lists is.base limited used is_store
       shown refused (status_of_known_file given.capture file (λ f. AreDealtRecords settings rules f is.records is.lists) known is.dealt) is.begins)
-  status_is_store_refusal never_both decided settings (BadWords kind) file image frames fault limited used known
+  status_is_store_refusal never_both decided settings (BadWords kind) file image fault limited used known
       capture is_store shown refused ends =
       absurd ends
-  status_is_store_refusal never_both decided settings (BadCapture other) file image frames fault limited used known
+  status_is_store_refusal never_both decided settings (BadCapture other) file image fault limited used known
       capture is_store shown refused ends =
-      absurd (never_both file frames other capture (status_of_known_file given.capture file (λ f. IsRefusedFile f other) known ends.0))
-  status_is_store_refusal never_both decided settings ReadFault file image frames fault limited used known
+      absurd (never_both settings.front file capture other
+      (status_of_known_file given.capture file (λ f. IsRefusedFile settings.front f other) known ends.0))
+  status_is_store_refusal never_both decided settings ReadFault file image fault limited used known
       capture is_store shown refused ends =
       inr (inl refl)
-  status_is_store_refusal never_both decided settings WriteFault file image frames fault limited used known
+  status_is_store_refusal never_both decided settings WriteFault file image fault limited used known
       capture is_store shown refused ends =
       let is = ends.1.is_text in
       absurd (status_never_of_begun_session decided rules settings given.store file image fault is.records is.lists is.base limited used is_store
       shown refused (status_of_known_file given.capture file (λ f. AreDealtRecords settings rules f is.records is.lists) known is.dealt) is.begins)
-  status_is_store_refusal never_both decided settings DiskFault file image frames fault limited used known
+  status_is_store_refusal never_both decided settings DiskFault file image fault limited used known
       capture is_store shown refused ends =
       inr (inr (inl refl))
-  status_is_store_refusal never_both decided settings (AuditNo report verdict) file image frames fault limited used known
+  status_is_store_refusal never_both decided settings (AuditNo report verdict) file image fault limited used known
       capture is_store shown refused ends =
       absurd ends.1
-  status_is_store_refusal never_both decided settings (BadReport wrong) file image frames fault limited used known
+  status_is_store_refusal never_both decided settings (BadReport wrong) file image fault limited used known
       capture is_store shown refused ends =
       absurd ends.0
-  status_is_store_refusal never_both decided settings OutOfMemory file image frames fault limited used known
+  status_is_store_refusal never_both decided settings OutOfMemory file image fault limited used known
       capture is_store shown refused ends =
       inr (inr (inr refl))
-  status_is_store_refusal never_both decided settings NotFormatted file image frames fault limited used known
+  status_is_store_refusal never_both decided settings NotFormatted file image fault limited used known
       capture is_store shown refused ends =
       inl (ap status_of_opening (status_names_same_refusal decided rules settings given AsBefore file image fault
       opening.NotFormatted limited known is_store shown
       (record { not_of_disk = λ is. cc is; not_of_memory = λ is. cc is }) refused ends.0))
-  status_is_store_refusal never_both decided settings (Damaged slot) file image frames fault limited used known
+  status_is_store_refusal never_both decided settings (Damaged slot) file image fault limited used known
       capture is_store shown refused ends =
       inl (ap status_of_opening (status_names_same_refusal decided rules settings given AsBefore file image fault
       (opening.Damaged slot) limited known is_store shown
       (record { not_of_disk = λ is. cc is; not_of_memory = λ is. cc is }) refused ends.0))
-  status_is_store_refusal never_both decided settings (OtherSettings stored asked) file image frames fault limited used known
+  status_is_store_refusal never_both decided settings (OtherSettings stored asked) file image fault limited used known
       capture is_store shown refused ends =
       inl (ap status_of_opening (status_names_same_refusal decided rules settings given AsBefore file image fault
       (opening.OtherSettings stored asked) limited known is_store shown
       (record { not_of_disk = λ is. cc is; not_of_memory = λ is. cc is }) refused ends.0))
-  status_is_store_refusal never_both decided settings (OtherCapture stored asked) file image frames fault limited used known
+  status_is_store_refusal never_both decided settings (OtherCapture stored asked) file image fault limited used known
       capture is_store shown refused ends =
       inl (ap status_of_opening (status_names_same_refusal decided rules settings given AsBefore file image fault
       (opening.OtherCapture stored asked) limited known is_store shown

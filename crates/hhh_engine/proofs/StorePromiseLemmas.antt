@@ -10,7 +10,8 @@ use Rattle.command_words.specs.{AskForCommand, AreLimited}
 use Rattle.command_words.specs.declared.command.Command.{Command}
 use Rattle.command_words.specs.declared.command.Command.TheVariants.{Report, Audit}
 use Rattle.command_words.specs.declared.settings.Settings.{Settings}
-use Rattle.checkpoint.specs.declared.settings.StoreSettings.{StoreSettings}
+use Rattle.checkpoint.specs.{stored_header}
+use Rattle.checkpoint.specs.declared.header.StoreHeader.{StoreHeader}
 use Rattle.dealt_capture.specs.{DealingRules}
 use Rattle.report_session.specs.{AreKeptOnDisk, IsAsBefore, IsAsBefore-untouched, IsSession, IsSessionInPart, StoreIsKept}
 use Rattle.report_session.specs.{WritesAnswer, saves_settings}
@@ -33,13 +34,13 @@ pub record StorePromises {D : Type 0} (d : DiskOf D) (rules : DealingRules) : Ty
   pub whole : (old new : D) (settings : Settings) (store : List ℕ) (file : Option (List ℕ)) (text : List ℕ) → AreLimited settings
       → settings.store ≡ true → d.reads old ≡ Some store
       → IsSession settings rules (AreKeptOnDisk d old new) (d.reads old) file text
-      → StoreIsKept d (saves_settings settings) old new store text true
+      → StoreIsKept d (stored_header (saves_settings settings) store) old new store text true
   pub in_part : (old new : D) (settings : Settings) (store : List ℕ) (file : Option (List ℕ)) (front : List ℕ) → AreLimited settings
       → settings.store ≡ true → d.reads old ≡ Some store
       → IsSessionInPart settings rules (AreKeptOnDisk d old new) (d.reads old) file front
-      → StoreIsKept d (saves_settings settings) old new store front false
-  pub as_before : (old new : D) (settings : StoreSettings) (store : List ℕ) → IsAsBefore d old new
-      → StoreIsKept d settings old new store [] false
+      → StoreIsKept d (stored_header (saves_settings settings) store) old new store front false
+  pub as_before : (old new : D) (header : StoreHeader) (store : List ℕ) → IsAsBefore d old new
+      → StoreIsKept d header old new store [] false
 
 -- a run of `report` with a store whose bytes were known
 module _ {S T K D : Type 0} (s : SourceOf S) (t : SourceOf T) (k : SinkOf K) (d : DiskOf D) (old new : Streams S T K D)
@@ -49,7 +50,7 @@ module _ {S T K D : Type 0} (s : SourceOf S) (t : SourceOf T) (k : SinkOf K) (d 
     (used : settings.store ≡ true) (known : d.reads old.disk ≡ Some store) where
   -- what is said of the store where this was written
   abbrev StoreBehind : List ℕ → Status → Type 0
-  StoreBehind written status = StoreIsKept d (saves_settings settings) old.disk new.disk store written (is_done status)
+  StoreBehind written status = StoreIsKept d (stored_header (saves_settings settings) store) old.disk new.disk store written (is_done status)
 
   abbrev StorePromised : Status → Type 0
   StorePromised status = KeepsItsStore k d old new settings store status
@@ -59,8 +60,8 @@ module _ {S T K D : Type 0} (s : SourceOf S) (t : SourceOf T) (k : SinkOf K) (d 
   store_promise_of_nothing status failed nothing = record {
     written = [];
     appended = subst (λ sink. Appends (k.taken old.sink) (k.taken sink) []) (sym nothing.0) (Appends-nil (k.taken old.sink));
-    kept = subst (StoreIsKept d (saves_settings settings) old.disk new.disk store []) (sym failed)
-        (promises.as_before old.disk new.disk (saves_settings settings) store nothing.1);
+    kept = subst (StoreIsKept d (stored_header (saves_settings settings) store) old.disk new.disk store []) (sym failed)
+        (promises.as_before old.disk new.disk (stored_header (saves_settings settings) store) store nothing.1);
   }
 
   store_promise_of_untouched : (status : Status) → is_done status ≡ false → new.sink ≡ old.sink → new.disk ≡ old.disk
@@ -80,7 +81,7 @@ module _ {S T K D : Type 0} (s : SourceOf S) (t : SourceOf T) (k : SinkOf K) (d 
       record {
         written = answer.text;
         appended = answer.written;
-        kept = subst (StoreIsKept d (saves_settings settings) old.disk new.disk store answer.text) (sym failed)
+        kept = subst (StoreIsKept d (stored_header (saves_settings settings) store) old.disk new.disk store answer.text) (sym failed)
             (promises.in_part old.disk new.disk settings store (s.left old.capture) answer.text limited used known answer.is_text);
       }
 

@@ -166,7 +166,7 @@ wider_rules_allow_answer_text narrow wide keeping (Report settings) read text wi
     wider_rules_allow_session narrow wide keeping settings read.store read.capture text widen answer
 wider_rules_allow_answer_text narrow wide keeping (Format settings) read text widen answer = answer
 wider_rules_allow_answer_text narrow wide keeping (Audit settings) read text widen answer =
-    audit_end_inputs_imply_more read (λ file session. IsSoundAudit settings narrow file session text)
+    audit_end_inputs_imply_more settings read (λ file session. IsSoundAudit settings narrow file session text)
     (λ file session. IsSoundAudit settings wide file session text)
     (λ file session is. wider_rules_allow_sound_session narrow wide settings file session text widen is) answer
 wider_rules_allow_answer_text narrow wide keeping (Make seed frames) read text widen answer = answer
@@ -182,7 +182,7 @@ wider_rules_allow_answer_part narrow wide keeping (Report settings) read front w
     wider_rules_allow_partial_session narrow wide keeping settings read.store read.capture front widen answer
 wider_rules_allow_answer_part narrow wide keeping (Format settings) read front widen answer = answer
 wider_rules_allow_answer_part narrow wide keeping (Audit settings) read front widen answer =
-    audit_end_inputs_imply_more read (λ file session. IsUnfinished (IsAuditText settings narrow file session) front)
+    audit_end_inputs_imply_more settings read (λ file session. IsUnfinished (IsAuditText settings narrow file session) front)
     (λ file session. IsUnfinished (IsAuditText settings wide file session) front)
     (λ file session is. wider_rules_allow_audit_part narrow wide settings file session front widen is) answer
 wider_rules_allow_answer_part narrow wide keeping (Make seed frames) read front widen answer = answer
@@ -272,7 +272,7 @@ module _ {S T K D : Type 0} (s : SourceOf S) (t : SourceOf T) (k : SinkOf K) (d 
     settings = found.settings;
     asked = found.asked;
     read_to_end = found.read_to_end;
-    found = audit_end_inputs_imply_more (run_inputs s t k d old new) (λ file text. IsUnsoundAudit found.settings narrow file text report verdict)
+    found = audit_end_inputs_imply_more found.settings (run_inputs s t k d old new) (λ file text. IsUnsoundAudit found.settings narrow file text report verdict)
         (λ file text. IsUnsoundAudit found.settings wide file text report verdict)
         (λ file text is. wider_rules_allow_unsound_session narrow wide found.settings file text report verdict widen is) found.found;
     written = found.written;
@@ -308,18 +308,18 @@ module _ {S T K D : Type 0} (s : SourceOf S) (t : SourceOf T) (k : SinkOf K) (d 
     bad_capture = ends.bad_capture;
     refuses_capture = ends.refuses_capture;
     bad_store = λ fault shown is. wider_rules_allow_refused_store fault (ends.bad_store fault shown is);
-    refuses_store = λ settings file image frames fault asks used known capture is_store shown refused.
-        ends.refuses_store settings file image frames fault asks used known capture is_store shown
+    refuses_store = λ settings file image fault asks used known capture is_store shown refused.
+        ends.refuses_store settings file image fault asks used known capture is_store shown
         (λ records lists dealt. refused records lists (wider_rules_allow_records narrow wide settings file records lists widen dealt));
     bad_text = ends.bad_text;
     refuses_text = ends.refuses_text;
     audit_no = λ report verdict is. wider_rules_allow_finding report verdict (ends.audit_no report verdict is);
-    finds_unsound = λ settings file bytes frames known report verdict asks is_file capture is_text is_session not_long first.
-        ends.finds_unsound settings file bytes frames known report verdict asks is_file capture is_text is_session not_long
+    finds_unsound = λ settings file bytes known report verdict asks is_file capture is_text is_session not_long first.
+        ends.finds_unsound settings file bytes known report verdict asks is_file capture is_text is_session not_long
         (λ lists session audited. first lists session
         (wider_rules_allow_audit narrow wide settings file bytes lists session widen audited));
-    finds_sound = λ settings file bytes frames known asks is_file capture is_text is_session not_long sound.
-        ends.finds_sound settings file bytes frames known asks is_file capture is_text is_session not_long
+    finds_sound = λ settings file bytes known asks is_file capture is_text is_session not_long sound.
+        ends.finds_sound settings file bytes known asks is_file capture is_text is_session not_long
         (λ lists session audited. sound lists session
         (wider_rules_allow_audit narrow wide settings file bytes lists session widen audited));
     read_fault = ends.read_fault;

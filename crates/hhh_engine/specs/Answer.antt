@@ -4,7 +4,7 @@ use Rattle.command_words.specs.{AskForCommand}
 use Rattle.command_words.specs.declared.command.Command.{Command}
 use Rattle.outside_io.specs.{IsBeginning}
 use Rattle.command_words.specs.declared.command.Command.TheVariants.{Weigh, Report, Format, Audit, Make, Demo}
-use Rattle.frame_records.specs.declared.weigh.Weigh.{Weigh as Weighing}
+use Rattle.command_words.specs.declared.settings.Settings.{Settings}
 use Rattle.prefix_lattice.specs.{PrefixValue}
 use Rattle.session_audit.specs.{IsAuditText, IsSoundAudit}
 use Rattle.traffic_maker.specs.{made_capture}
@@ -22,11 +22,11 @@ formatted_answer = codes "formatted\n"
 -- the text that a command writes for its inputs, where they are known
 abbrev pub IsAnswer : DealingRules → SessionKeeping → Command → InputBytes → List ℕ → Type 0
 IsAnswer rules keeping (Weigh prefix settings) read text =
-    IfSome read.capture (λ file. IsWeightText prefix settings.weigh file text)
+    IfSome read.capture (λ file. IsWeightText prefix settings file text)
 IsAnswer rules keeping (Report settings) read text = IsSession settings rules keeping read.store read.capture text
 IsAnswer rules keeping (Format settings) read text = text ≡ formatted_answer
 IsAnswer rules keeping (Audit settings) read text =
-    HoldsOfAudit read (λ file session. IsSoundAudit settings rules file session text)
+    HoldsOfAudit settings read (λ file session. IsSoundAudit settings rules file session text)
 IsAnswer rules keeping (Make seed frames) read text = text ≡ made_capture seed frames
 IsAnswer rules keeping (Demo seed frames settings) read text = IsDemoText settings rules seed frames text
 
@@ -38,17 +38,17 @@ pub record IsUnfinished (IsText : List ℕ → Type 0) (front : List ℕ) : Type
   pub cut : length front < length text
 
 -- a strict prefix of the text with the weight of a prefix
-abbrev pub IsWeighInPart : PrefixValue → Weighing → List ℕ → List ℕ → Type 0
-IsWeighInPart prefix weigh file front = IsUnfinished (IsWeightText prefix weigh file) front
+abbrev pub IsWeighInPart : PrefixValue → Settings → List ℕ → List ℕ → Type 0
+IsWeighInPart prefix settings file front = IsUnfinished (IsWeightText prefix settings file) front
 
 -- a strict prefix of the text of a command
 abbrev pub IsAnswerInPart : DealingRules → SessionKeeping → Command → InputBytes → List ℕ → Type 0
 IsAnswerInPart rules keeping (Weigh prefix settings) read front =
-    IfSome read.capture (λ file. IsWeighInPart prefix settings.weigh file front)
+    IfSome read.capture (λ file. IsWeighInPart prefix settings file front)
 IsAnswerInPart rules keeping (Report settings) read front = IsSessionInPart settings rules keeping read.store read.capture front
 IsAnswerInPart rules keeping (Format settings) read front = IsUnfinished (λ text. text ≡ formatted_answer) front
 IsAnswerInPart rules keeping (Audit settings) read front =
-    HoldsOfAudit read (λ file session. IsUnfinished (IsAuditText settings rules file session) front)
+    HoldsOfAudit settings read (λ file session. IsUnfinished (IsAuditText settings rules file session) front)
 IsAnswerInPart rules keeping (Make seed frames) read front = IsUnfinished (λ text. text ≡ made_capture seed frames) front
 IsAnswerInPart rules keeping (Demo seed frames settings) read front = IsUnfinished (IsDemoText settings rules seed frames) front
 

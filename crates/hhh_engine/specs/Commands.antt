@@ -11,7 +11,7 @@ use Rattle.command_words.specs.declared.settings.Settings.{Settings}
 use Rattle.hhh_engine.specs.Answer.{IsAnswer, IsAnswerInPart}
 use Rattle.hhh_engine.specs.Ending.{Task, course, AuditFinds, Ends, EndsAsBefore, EndsInOrder, FormatEnds}
 use Rattle.hhh_engine.specs.Ending.{DiskHappened, Refuses}
-use Rattle.hhh_engine.specs.Inputs.{WereAccepted, WereRead, UsesCapture, UsesSession}
+use Rattle.hhh_engine.specs.Inputs.{WereAccepted, WereRead, UsesCapture, UsesSession, ReadsSession, takes_front}
 use Rattle.hhh_engine.specs.Inputs.{UsesStore}
 use Rattle.hhh_engine.specs.TopCall.{Streams, faults_after, faults_before, run_inputs, run_keeping}
 use Rattle.report_session.specs.{IsAsBefore, saves_settings}
@@ -25,6 +25,7 @@ module _ {S T K D : Type 0} (s : SourceOf S) (t : SourceOf T) (k : SinkOf K) (d 
   -- what the command owes
   abbrev pub run_task : Command → Task
   run_task command = record {
+    front = takes_front command;
     is_text = IsAnswer rules (run_keeping s t k d old new) command (run_inputs s t k d old new);
     is_part = IsAnswerInPart rules (run_keeping s t k d old new) command (run_inputs s t k d old new);
     read = WereRead command (run_inputs s t k d old new);
@@ -45,7 +46,7 @@ module _ {S T K D : Type 0} (s : SourceOf S) (t : SourceOf T) (k : SinkOf K) (d 
   -- a source that failed did so in the order in which the command reads them
   abbrev pub CommandInOrder : Command → Status → Type 0
   CommandInOrder command status =
-      EndsInOrder (UsesCapture command) (UsesSession command) (run_inputs s t k d old new) (faults_before s t k d old new)
+      EndsInOrder (UsesCapture command) (ReadsSession (run_inputs s t k d old new) command) (run_inputs s t k d old new) (faults_before s t k d old new)
       (faults_after s t k d old new) old.text new.text status
 
   -- the command was answered with this status

@@ -1,5 +1,5 @@
 -- What each status says of the arguments, of the source, of the sink and of the disk.
-use Rattle.std.specs.Prelude.{⊤, ℕ, ◌≡◌, ◌⊎◌, true, List, Option, None, IfSome}
+use Rattle.std.specs.Prelude.{⊤, ℕ, ◌≡◌, ◌⊎◌, Bool, true, List, Option, None, IfSome}
 use Rattle.std.specs.Io.KnownBytes.{Appends, IsAtEnd}
 use Rattle.outside_io.specs.{FaultRose}
 use Rattle.prefix_lattice.specs.{RecordValue}
@@ -8,7 +8,7 @@ use Rattle.frame_records.specs.declared.records.Records.{Records}
 use Rattle.slot_disk.specs.{CrashLeaves, IfBothKnown, IfImageKnown, IsTornFrom, IsTornImage}
 use Rattle.slot_disk.specs.{front_bytes}
 use Rattle.slot_disk.specs.declared.disk.Disk.{Ghosts as DiskOf}
-use Rattle.checkpoint.specs.{StoreOpensTo}
+use Rattle.checkpoint.specs.{StoreOpensTo, written_header}
 use Rattle.checkpoint.specs.declared.settings.StoreSettings.{StoreSettings}
 use Rattle.recovery.specs.{RefusesOpening}
 use Rattle.recovery.specs.declared.fault.OpenFault.{OpenFault}
@@ -28,7 +28,6 @@ use Rattle.run_status.specs.declared.status.Status.TheVariants.{Done, BadWords, 
 use Rattle.run_status.specs.declared.status.Status.TheVariants.{DiskFault, NotFormatted, Damaged, OtherSettings}
 use Rattle.run_status.specs.declared.status.Status.TheVariants.{OtherCapture, AuditNo, BadReport, OutOfMemory}
 use Rattle.outside_io.specs.declared.sink.Sink.{Ghosts as SinkOf}
-use Rattle.prefix_lattice.specs.declared.grain.Grain.{Grain}
 
 -- the counts of faults of the two sources: that of the capture, and that of the text of a session
 pub record SourceFaults : Type 0 where
@@ -49,14 +48,13 @@ pub record FailsAtCapture {T : Type 0} (Reads : Type 0) (before now : SourceFaul
   pub rose : FaultRose before.capture now.capture
   pub text_unread : text_read ≡ text
 
--- the source of the text of a session, which the command reads, failed after the capture was read to its end without a
--- fault, and is one, where its bytes are known
+-- the source of the text of a session, which the command reads after its capture was accepted, failed after the capture was
+-- read to its end without a fault
 pub record FailsAtText (ReadsText : Type 0) (read : InputBytes) (before now : SourceFaults) : Type 0 where
   pub reads : ReadsText
   pub rose : FaultRose before.text now.text
   pub capture_kept : now.capture ≡ before.capture
   pub read_to_end : IsAtEnd read.capture_left
-  pub accepted : IfSome read.capture IsCaptureFile
 
 -- one of the sources failed, the capture's first
 abbrev pub FailsAtSource : {T : Type 0} → (Reads ReadsText : Type 0) → InputBytes → (before now : SourceFaults)
@@ -83,10 +81,10 @@ pub record IsRefusedStore (settings : Settings) (rules : DealingRules) (store : 
 
 -- the text of a session by a grain was refused: the capture is one and was read to its end; this is the first fault of the text, where
 -- its bytes are known, which was read to its end, or to one byte past the longest one
-pub record TextRefused (grain : Grain) (read : InputBytes) (fault : TextFault) : Type 0 where
+pub record TextRefused (settings : Settings) (read : InputBytes) (fault : TextFault) : Type 0 where
   pub read_to_end : IsAtEnd read.capture_left
-  pub accepted : IfSome read.capture IsCaptureFile
-  pub first_fault : IfSome read.text (λ text. HasSessionFault grain text fault)
+  pub accepted : IfSome read.capture (IsCaptureFile settings.front)
+  pub first_fault : IfSome read.text (λ text. HasSessionFault settings.grain text fault)
   pub read_to_limit : ReadOnFault fault read.text read.text_left
 
 -- the command was answered: its text was written, or an audit found a report that is not sound
@@ -99,10 +97,10 @@ EndsAnswered (command.Format settings) status = status ≡ Done
 EndsAnswered (command.Make seed frames) status = status ≡ Done
 EndsAnswered (command.Demo seed frames settings) status = status ≡ Done
 
--- the disk holds a store with no gate open, whatever a crash now leaves, where its bytes are known
+-- the disk holds a store with the header that `format` writes for these settings and with no gate open, whatever a crash now leaves, where its bytes are known
 abbrev pub EndsEmpty : Option (List ℕ) → (List ℕ → Type 0) → StoreSettings → Type 0
 EndsEmpty reads possible settings =
-    IfImageKnown reads (λ bytes. (image : List ℕ) → possible image → StoreOpensTo settings image None)
+    IfImageKnown reads (λ bytes. (image : List ℕ) → possible image → StoreOpensTo (written_header settings) image None)
 
 -- of a disk no more than the 64 bytes of gates and header, and what is past its old end, has changed: in what a read gives,
 -- where that is known, and in what a crash leaves at any moment
@@ -154,9 +152,9 @@ EndsInOrder Reads ReadsText read before now text text_read _ = ⊤
 -- within the crate: what an audit found that ended so, and what it wrote of it
 abbrev pub EndsByFinding : Settings → DealingRules → InputBytes → (old new : Option (List ℕ)) → Status → Type 0
 EndsByFinding settings rules read old new (AuditNo report verdict) =
-    HoldsOfAudit read (λ file text. IsUnsoundAudit settings rules file text report verdict)
+    HoldsOfAudit settings read (λ file text. IsUnsoundAudit settings rules file text report verdict)
     × Appends old new (unsound_audit report verdict)
-EndsByFinding settings rules read old new (BadReport fault) = TextRefused settings.grain read fault
+EndsByFinding settings rules read old new (BadReport fault) = TextRefused settings read fault
 EndsByFinding settings rules read old new _ = ⊥
 
 -- within the crate: the same of any command: only `audit` audits
@@ -170,6 +168,8 @@ AuditFinds (command.Audit settings) rules read old new status = EndsByFinding se
 
 -- within the crate: what a command owes, over what it read
 pub record Task : Type 1 where
+  -- whether it takes the front of a capture that ends inside a frame
+  pub front : Bool
   -- its text, and the bytes that may begin it
   pub is_text : List ℕ → Type 0
   pub is_part : List ℕ → Type 0
@@ -238,7 +238,7 @@ module _ {K : Type 0} (task : Task) (c : Course K) where
   Ends Done = task.read × WritesAnswer task.is_text c.old c.new × NoReadFault × NoWriteFault
   Ends (BadWords kind) = ⊥
   Ends (BadCapture fault) =
-      IfSome c.capture (λ file. IsRefusedFile file fault) × Unwritten × task.disk_same × NoReadFault × NoWriteFault
+      IfSome c.capture (λ file. IsRefusedFile task.front file fault) × Unwritten × task.disk_same × NoReadFault × NoWriteFault
   Ends ReadFault = SourceFaultsRose c.read_before c.read_now × Unwritten × task.disk_same × NoWriteFault
   Ends WriteFault = task.read × WritesSome × FaultRose c.write_before c.write_now × NoReadFault
   Ends DiskFault =

@@ -1,11 +1,9 @@
 -- What a command reads.
-use Rattle.std.specs.Prelude.{⊤, ℕ, ◌≡◌, ◌≤◌, true, List, length, Option, Some, IfSome}
+use Rattle.std.specs.Prelude.{⊤, ℕ, ◌≡◌, ◌≤◌, Bool, true, false, List, length, Option, Some, IfSome}
 use Rattle.std.specs.Io.KnownBytes.{IsAtEnd}
 use Rattle.prefix_lattice.specs.{RecordValue}
-use Rattle.pcap_frames.specs.{FrameValue}
-use Rattle.frame_records.specs.{FileHasFrames}
 use Rattle.frame_records.specs.declared.records.Records.{Records}
-use Rattle.checkpoint.specs.{IsStoreOf, StoreOpensTo, SavedValue, store_sequence}
+use Rattle.checkpoint.specs.{IsStoreOf, StoreOpensTo, SavedValue, store_sequence, stored_header}
 use Rattle.checkpoint.specs.declared.settings.StoreSettings.{StoreSettings}
 use Rattle.recovery.specs.{greatest_opened}
 use Rattle.report_text.specs.{IsSessionText, longest_session}
@@ -48,6 +46,15 @@ UsesCapture (Audit settings) = ⊤
 UsesCapture (Make seed frames) = ⊥
 UsesCapture (Demo seed frames settings) = ⊥
 
+-- whether a command takes the front of a capture that ends inside a frame
+abbrev pub takes_front : Command → Bool
+takes_front (Weigh prefix settings) = settings.front
+takes_front (Report settings) = settings.front
+takes_front (Format settings) = false
+takes_front (Audit settings) = settings.front
+takes_front (Make seed frames) = false
+takes_front (Demo seed frames settings) = false
+
 -- this command reads the text of a session
 abbrev pub UsesSession : Command → Type 0
 UsesSession (Weigh prefix settings) = ⊥
@@ -85,24 +92,27 @@ WereRead (Make seed frames) read = ⊤
 WereRead (Demo seed frames settings) read = ⊤
 
 -- what holds of the capture and the text of an audit, where their bytes are known; the capture is one in any case
-abbrev pub HoldsOfAudit : InputBytes → (List ℕ → List ℕ → Type 0) → Type 0
-HoldsOfAudit read Holds = IfSome read.capture (λ file. IsCaptureFile file × IfSome read.text (Holds file))
+abbrev pub HoldsOfAudit : Settings → InputBytes → (List ℕ → List ℕ → Type 0) → Type 0
+HoldsOfAudit settings read Holds = IfSome read.capture (λ file. IsCaptureFile settings.front file × IfSome read.text (Holds file))
 
--- what a command reads was accepted: its capture is one, where its bytes are known
+-- what a command reads was accepted: its capture is one, or the front of one that may be taken, where its bytes are known
 abbrev pub WereAccepted : Command → InputBytes → Type 0
-WereAccepted (Weigh prefix settings) read = IfSome read.capture IsCaptureFile
-WereAccepted (Report settings) read = IfSome read.capture IsCaptureFile
+WereAccepted (Weigh prefix settings) read = IfSome read.capture (IsCaptureFile settings.front)
+WereAccepted (Report settings) read = IfSome read.capture (IsCaptureFile settings.front)
 WereAccepted (Format settings) read = ⊤
-WereAccepted (Audit settings) read = IfSome read.capture IsCaptureFile
+WereAccepted (Audit settings) read = IfSome read.capture (IsCaptureFile settings.front)
 WereAccepted (Make seed frames) read = ⊤
 WereAccepted (Demo seed frames settings) read = ⊤
 
--- the bytes of a source are known, and they are a capture of some frames
-pub record HasCapture (bytes : Option (List ℕ)) : Type 0 where
+-- this command reads the text of a session, after its capture was accepted
+abbrev pub ReadsSession : InputBytes → Command → Type 0
+ReadsSession read command = UsesSession command × WereAccepted command read
+
+-- the bytes of a source are known, and they are a capture, or the front of one where that is taken
+pub record HasCapture (front : Bool) (bytes : Option (List ℕ)) : Type 0 where
   pub file : List ℕ
   pub told : bytes ≡ Some file
-  pub frames : List FrameValue
-  pub capture : FileHasFrames file frames
+  pub capture : IsCaptureFile front file
 
 -- the bytes of a text are known, and they are those of a session by this grain, and not too many
 pub record HasSession (grain : Grain) (bytes : Option (List ℕ)) : Type 0 where
@@ -112,10 +122,12 @@ pub record HasSession (grain : Grain) (bytes : Option (List ℕ)) : Type 0 where
   pub is_session : IsSessionText grain text session
   pub not_long : length text ≤ longest_session
 
--- the bytes are a sound store that belongs to these dealt lists, and its sequence leaves room for the saves of a run
+-- the bytes are a sound store with these settings that belongs to these dealt lists, and its sequence leaves room for the
+-- saves of a run
 abbrev pub IsInputStore : StoreSettings → List (List RecordValue) → List ℕ → Type 0
 IsInputStore settings lists image =
-    (opened : Option SavedValue) × StoreOpensTo settings image opened × IsStoreOf settings lists opened
+    (opened : Option SavedValue) × StoreOpensTo (stored_header settings image) image opened
+    × IsStoreOf (stored_header settings image) lists opened
     × (store_sequence opened ≤ greatest_opened)
 
 -- the bytes of the disk are known, and they are a store of the records of the capture, however these may be dealt
@@ -127,11 +139,11 @@ pub record HasStore (settings : Settings) (rules : DealingRules) (read : InputBy
 
 -- what a command reads is known, and each input is in its format
 abbrev pub CanBeAnswered : DealingRules → Command → InputBytes → Type 0
-CanBeAnswered rules (Weigh prefix settings) read = HasCapture read.capture
+CanBeAnswered rules (Weigh prefix settings) read = HasCapture settings.front read.capture
 CanBeAnswered rules (Report settings) read =
-    HasCapture read.capture × (settings.store ≡ true → HasStore settings rules read)
+    HasCapture settings.front read.capture × (settings.store ≡ true → HasStore settings rules read)
 CanBeAnswered rules (Format settings) read = ⊤
-CanBeAnswered rules (Audit settings) read = HasCapture read.capture × HasSession settings.grain read.text
+CanBeAnswered rules (Audit settings) read = HasCapture settings.front read.capture × HasSession settings.grain read.text
 CanBeAnswered rules (Make seed frames) read = ⊤
 CanBeAnswered rules (Demo seed frames settings) read = ⊤
 

@@ -5,9 +5,8 @@ use Rattle.outside_io.specs.{FaultRose, ReadsFront}
 use Rattle.outside_io.specs.declared.source.Source.{Ghosts as SourceOf}
 use Rattle.outside_io.specs.declared.sink.Sink.{Ghosts as SinkOf}
 use Rattle.prefix_lattice.specs.{RecordValue}
-use Rattle.pcap_frames.specs.{FrameValue}
 use Rattle.pcap_frames.specs.declared.fault.CaptureFault.{CaptureFault}
-use Rattle.frame_records.specs.{FileHasFrames, IsRefusedFile}
+use Rattle.frame_records.specs.{IsRefusedFile}
 use Rattle.frame_records.specs.declared.records.Records.{Records}
 use Rattle.slot_disk.specs.declared.disk.Disk.{Ghosts as DiskOf}
 use Rattle.recovery.specs.{RefusesOpening, IsShownByBytes}
@@ -28,9 +27,9 @@ use Rattle.hhh_engine.specs.Ending.{SourceFaults, EndsAnswered, EndsAsBefore, Fa
 use Rattle.hhh_engine.specs.Ending.{FormatEnds, IsRefusedStore, TextRefused, faults_of_source}
 use Rattle.hhh_engine.specs.Inputs.{CommandAvoids, CommandUses, HoldsOfAudit, InputBytes}
 use Rattle.hhh_engine.specs.Inputs.{CanBeAnswered, WereRead, MayUseStore, UsesCapture}
-use Rattle.hhh_engine.specs.Inputs.{UsesSession, UsesStore, inputs}
+use Rattle.hhh_engine.specs.Inputs.{ReadsSession, UsesSession, UsesStore, inputs, takes_front}
 use Rattle.report_session.specs.{IsAsBefore, AreKeptOnDisk, saves_settings, SessionKeeping}
-use Rattle.dealt_capture.specs.{AreDealtRecords, DealingRules}
+use Rattle.dealt_capture.specs.{AreDealtRecords, DealingRules, IsCaptureFile}
 use Rattle.run_status.specs.{status_of_opening}
 use Rattle.run_status.specs.declared.status.Status.{Status}
 use Rattle.run_status.specs.declared.status.Status.TheVariants.{Done, BadWords, BadCapture, ReadFault, WriteFault}
@@ -82,11 +81,11 @@ module _ {S T K D : Type 0} (s : SourceOf S) (t : SourceOf T) (k : SinkOf K) (d 
       pub first_fault : HasWordsFault words kind
       pub nothing : new ≡ old
 
-    -- BadCapture: the command reads a capture; this is the first fault of the file, where its bytes are known; no text of a
-    -- session was read before
+    -- BadCapture: the command reads a capture; this is the first fault of the file, where its bytes are known, and no cut frame
+    -- where the command takes the front of a cut capture; no text of a session was read before
     pub record RefusesCapture (fault : CaptureFault) : Type 0 where
       pub asked : CommandUses UsesCapture words
-      pub first_fault : IfSome (s.left old.capture) (λ file. IsRefusedFile file fault)
+      pub first_fault : IfSome (s.left old.capture) (λ file. IsRefusedFile (takes_front asked.command) file fault)
       pub text_unread : new.text ≡ old.text
       pub nothing : LeavesUnwritten
 
@@ -94,12 +93,12 @@ module _ {S T K D : Type 0} (s : SourceOf S) (t : SourceOf T) (k : SinkOf K) (d 
     pub record RefusesText (fault : TextFault) : Type 0 where
       pub settings : Settings
       pub asked : AskForCommand words (command.Audit settings)
-      pub refusal : TextRefused settings.grain run_inputs fault
+      pub refusal : TextRefused settings run_inputs fault
       pub nothing : LeavesUnwritten
 
     -- ReadFault: a source failed, the capture's first; nothing was written
     pub record FailsToRead : Type 0 where
-      pub failed : FailsAtSource (CommandUses UsesCapture words) (CommandUses UsesSession words) run_inputs
+      pub failed : FailsAtSource (CommandUses UsesCapture words) (CommandUses (ReadsSession run_inputs) words) run_inputs
           faults_before faults_after old.text new.text
       pub nothing : LeavesUnwritten
 
@@ -111,15 +110,15 @@ module _ {S T K D : Type 0} (s : SourceOf S) (t : SourceOf T) (k : SinkOf K) (d 
     -- a capture with a fault is refused for it, unless the source fails or memory runs out first
     abbrev pub MustRefuseCapture : Status → Type 0
     MustRefuseCapture status =
-        (file : List ℕ) (fault : CaptureFault) → CommandUses UsesCapture words → s.left old.capture ≡ Some file
-        → IsRefusedFile file fault → (status ≡ BadCapture fault) ⊎ ((status ≡ ReadFault) ⊎ (status ≡ OutOfMemory))
+        (file : List ℕ) (fault : CaptureFault) (asked : CommandUses UsesCapture words) → s.left old.capture ≡ Some file
+        → IsRefusedFile (takes_front asked.command) file fault → (status ≡ BadCapture fault) ⊎ ((status ≡ ReadFault) ⊎ (status ≡ OutOfMemory))
 
     -- the text of a session with a fault is refused for it, once the capture was accepted, unless a source fails or memory
     -- runs out first
     abbrev pub MustRefuseText : Status → Type 0
     MustRefuseText status =
-        (settings : Settings) (file bytes : List ℕ) (frames : List FrameValue) (fault : TextFault)
-        → AskForCommand words (command.Audit settings) → s.left old.capture ≡ Some file → FileHasFrames file frames
+        (settings : Settings) (file bytes : List ℕ) (fault : TextFault)
+        → AskForCommand words (command.Audit settings) → s.left old.capture ≡ Some file → IsCaptureFile settings.front file
         → t.left old.text ≡ Some bytes → HasSessionFault settings.grain bytes fault
         → (status ≡ BadReport fault) ⊎ ((status ≡ ReadFault) ⊎ (status ≡ OutOfMemory))
 
@@ -149,7 +148,7 @@ module _ {S T K D : Type 0} (s : SourceOf S) (t : SourceOf T) (k : SinkOf K) (d 
         pub settings : Settings
         pub asked : AskForCommand words (command.Audit settings)
         pub read_to_end : WereRead (command.Audit settings) run_inputs
-        pub found : HoldsOfAudit run_inputs (λ file text. IsUnsoundAudit settings rules file text report verdict)
+        pub found : HoldsOfAudit settings run_inputs (λ file text. IsUnsoundAudit settings rules file text report verdict)
         pub written : Appends (k.taken old.sink) (k.taken new.sink) (unsound_audit report verdict)
 
       -- WriteFault: the sink failed, after bytes with which the text of the command begins
@@ -170,9 +169,9 @@ module _ {S T K D : Type 0} (s : SourceOf S) (t : SourceOf T) (k : SinkOf K) (d 
       -- fails or memory runs out first
       abbrev pub MustRefuseStore : Status → Type 0
       MustRefuseStore status =
-          (settings : Settings) (file image : List ℕ) (frames : List FrameValue) (fault : OpenFault)
+          (settings : Settings) (file image : List ℕ) (fault : OpenFault)
           → AskForCommand words (command.Report settings) → settings.store ≡ true → s.left old.capture ≡ Some file
-          → FileHasFrames file frames → d.reads old.disk ≡ Some image → IsShownByBytes fault
+          → IsCaptureFile settings.front file → d.reads old.disk ≡ Some image → IsShownByBytes fault
           → ((records : Records) (lists : List (List RecordValue)) → AreDealtRecords settings rules file records lists
           → RefusesOpening (saves_settings settings) lists image fault)
           → (status ≡ status_of_opening fault) ⊎ ((status ≡ ReadFault) ⊎ ((status ≡ DiskFault) ⊎ (status ≡ OutOfMemory)))
@@ -181,8 +180,8 @@ module _ {S T K D : Type 0} (s : SourceOf S) (t : SourceOf T) (k : SinkOf K) (d 
       -- unless a source or the sink fails or memory runs out first
       abbrev pub MustFindUnsound : Status → Type 0
       MustFindUnsound status =
-          (settings : Settings) (file bytes : List ℕ) (frames : List FrameValue) (known : Session) (report : ℕ) (verdict : Verdict)
-          → AskForCommand words (command.Audit settings) → s.left old.capture ≡ Some file → FileHasFrames file frames
+          (settings : Settings) (file bytes : List ℕ) (known : Session) (report : ℕ) (verdict : Verdict)
+          → AskForCommand words (command.Audit settings) → s.left old.capture ≡ Some file → IsCaptureFile settings.front file
           → t.left old.text ≡ Some bytes → IsSessionText settings.grain bytes known → length bytes ≤ longest_session
           → ((lists : List (List RecordValue)) (session : Session) → AreAudited settings rules file bytes lists session
           → IsFirstUnsound settings lists session.reports report verdict)
@@ -192,8 +191,8 @@ module _ {S T K D : Type 0} (s : SourceOf S) (t : SourceOf T) (k : SinkOf K) (d 
       -- memory runs out
       abbrev pub MustFindSound : Status → Type 0
       MustFindSound status =
-          (settings : Settings) (file bytes : List ℕ) (frames : List FrameValue) (known : Session)
-          → AskForCommand words (command.Audit settings) → s.left old.capture ≡ Some file → FileHasFrames file frames
+          (settings : Settings) (file bytes : List ℕ) (known : Session)
+          → AskForCommand words (command.Audit settings) → s.left old.capture ≡ Some file → IsCaptureFile settings.front file
           → t.left old.text ≡ Some bytes → IsSessionText settings.grain bytes known → length bytes ≤ longest_session
           → ((lists : List (List RecordValue)) (session : Session) → AreAudited settings rules file bytes lists session
           → All (IsAuditedSound settings lists) session.reports)

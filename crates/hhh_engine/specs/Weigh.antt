@@ -1,11 +1,11 @@
 -- The weight of a prefix as the program reports it.
-use Rattle.std.specs.Prelude.{ℕ, ◌≡◌, List, ◌++◌, codes, decimal}
+use Rattle.std.specs.Prelude.{ℕ, ◌≡◌, List, Option, ◌++◌, codes, decimal}
 use Rattle.prefix_lattice.specs.{RecordValue, PrefixValue, total_weight}
 use Rattle.prefix_lattice.specs.declared.grain.Grain.TheVariants.{Byte}
 use Rattle.shard_state.specs.{HoldsNarrowlyOver, TableShape, interval_over}
 use Rattle.pcap_frames.specs.{FrameValue}
-use Rattle.frame_records.specs.{FileHasFrames, records_of}
-use Rattle.frame_records.specs.declared.weigh.Weigh.{Weigh}
+use Rattle.frame_records.specs.{FileGives, records_of}
+use Rattle.command_words.specs.declared.settings.Settings.{Settings}
 
 -- the shape of the table that weighs a prefix, which is of whole bytes
 abbrev pub text_shape : TableShape
@@ -24,8 +24,9 @@ text_for prefix records =
     weight_text interval.low interval.high (total_weight records)
 
 -- the text that reports the weight of a prefix over the records of a capture; the interval holds the exact weight
-pub record IsWeightText (prefix : PrefixValue) (weigh : Weigh) (file text : List ℕ) : Type 0 where
+pub record IsWeightText (prefix : PrefixValue) (settings : Settings) (file text : List ℕ) : Type 0 where
   pub frames : List FrameValue
-  pub capture : FileHasFrames file frames
-  pub spelled : text ≡ text_for prefix (records_of weigh frames)
-  pub holds : HoldsNarrowlyOver text_shape prefix (records_of weigh frames)
+  pub cut : Option ℕ
+  pub capture : FileGives settings.front file frames cut
+  pub spelled : text ≡ text_for prefix (records_of settings.weigh frames)
+  pub holds : HoldsNarrowlyOver text_shape prefix (records_of settings.weigh frames)

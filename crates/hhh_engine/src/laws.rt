@@ -62,9 +62,9 @@ pub fn own_reports_are_good<D: Disk>()
 
 /// What `report` writes over a capture is the text of a session, and an audit of it over this capture finds all its
 /// reports sound: those of each round of each caller, the calling thread among them, and the last one. The audit may have
-/// settings of its own that agree on the grain, the shards, the capacity, the share, the dealing and the weighing, and the
-/// text may not be longer than the longest that is audited. If the session went on from a saved cut, then the tables of this have
-/// to be those of its records.
+/// settings of its own that agree on the grain, the shards, the capacity, the share, the dealing, the weighing and whether a
+/// cut capture is taken up to its cut, and the text may not be longer than the longest that is audited. If the session went
+/// on from a saved cut, then the tables of this have to be those of its records.
 pub fn own_sessions_are_audited_good<D: Disk>()
     ensures is_text { (formula : DealKind → ℕ → RecordValue → ℕ → ℕ) (before now : D) (settings : Settings) (store : Option (List ℕ)) (file text : List ℕ)
         (is : IsSession settings (rules_by formula) (AreKeptOnDisk D.Disk before now) store (Some file) text)
@@ -73,7 +73,7 @@ pub fn own_sessions_are_audited_good<D: Disk>()
         (is : IsSession settings (rules_by formula) (AreKeptOnDisk D.Disk before now) store (Some file) text)
         → AreLimited settings → settings.grain ≡ other.grain → settings.shards ≡ other.shards
         → settings.capacity ≡ other.capacity → settings.phi ≡ other.phi → settings.deal ≡ other.deal
-        → settings.weigh ≡ other.weigh → length text ≤ longest_session
+        → settings.weigh ≡ other.weigh → settings.front ≡ other.front → length text ≤ longest_session
         → IfSome is.base (λ cut. CutRepresents cut is.lists)
         → IsSoundAudit other (rules_by formula) file text (sound_audit ((settings.callers + 1) * settings.rounds + 1)) }
 {

@@ -1,5 +1,5 @@
 -- The laws of captures and first faults.
-use Rattle.std.proofs.Common.{ℕ, ◌≡◌, ◌+◌, ◌<◌, ◌^◌, List, [], ◌∷◌, ◌++◌, length, take, drop, get_or, ap, arith}
+use Rattle.std.proofs.Common.{ℕ, ◌≡◌, ◌+◌, ◌-◌, ◌<◌, ◌≤◌, ◌^◌, List, [], ◌∷◌, ◌++◌, length, take, drop, get_or, ap, arith}
 use Rattle.std.proofs.Common.{inl, inr, length-take, length-drop}
 use Rattle.std.proofs.lemmas.List.{get_or-take, get_or-drop, get_or_past}
 use Rattle.std.proofs.lemmas.Bool.{cases_lt}
@@ -8,9 +8,15 @@ use Rattle.pcap_frames.specs.declared.file_order.FileOrder.{FileOrder}
 use Rattle.pcap_frames.specs.declared.file_order.FileOrder.TheVariants.{Big, Little}
 use Rattle.pcap_frames.specs.FileOrder.{number_in_order}
 use Rattle.pcap_frames.specs.Frame.{FrameValue}
-use Rattle.pcap_frames.specs.Frame.{BeginsWithFrame, BeginsWithFrames, IsFrame, AreFrames}
+use Rattle.pcap_frames.specs.Frame.{BeginsWithFrame, BeginsWithFrames, IsFrame, AreFrames, frame_count_limit}
 use Rattle.pcap_frames.specs.Capture.{IsCapture}
 use Rattle.pcap_frames.specs.Decided.{FilesDecided, FrontsDecided}
+use Rattle.pcap_frames.specs.CaptureFault.{HasFaultAfter}
+use Rattle.pcap_frames.specs.Header.{header_fault_at}
+use Rattle.pcap_frames.specs.declared.fault.CaptureFault.{CaptureFault}
+use Rattle.pcap_frames.specs.declared.fault.FaultKind.TheVariants.{CutFrame, ShortHeader}
+use Rattle.pcap_frames.proofs.BeginsFrameLemmas.{BeginsWithFrames-length}
+use Rattle.pcap_frames.proofs.EndFaultLemmas.{bytes_show_no_end_fault}
 use Rattle.pcap_frames.proofs.FileSplitLemmas.{ShowsFault-longer_split_file}
 use Rattle.pcap_frames.proofs.FirstFaultLemmas.{reader_reaches_first_fault, capture_reaches_first_fault}
 use Rattle.pcap_frames.proofs.FirstFaultLemmas.{frames_reach_first_fault, frames_before_first_fault_agree}
@@ -81,6 +87,19 @@ capture_file_has_valid_frames file frames are (order, splits) =
 
 -- ---- the laws
 
+-- a cut frame comes after at most 16,777,216 frames, each of which has a greatest length
+capture_file_is_cut_within_limits : (file : List ℕ) (frames : List FrameValue) (place : ℕ)
+    → HasFaultAfter file frames (header_fault_at CutFrame place) → (length frames ≤ frame_count_limit) × (place < 2 ^ 64)
+capture_file_is_cut_within_limits file frames place (inl shown) =
+    absurd (bytes_show_no_end_fault file frames (header_fault_at CutFrame place) shown tt)
+capture_file_is_cut_within_limits file frames place (inr (inl in_header)) =
+    let kind : CutFrame ≡ ShortHeader = ap (λ (fault : CaptureFault). fault.kind) in_header.is_fault in cc kind
+capture_file_is_cut_within_limits file frames place (inr (inr in_frame)) =
+    let splits = in_frame.splits in
+    let long = BeginsWithFrames-length in_frame.order (drop 24 file) frames in_frame.rest splits.begins in
+    let at : place ≡ length file - length in_frame.rest = ap (λ (fault : CaptureFault). fault.place) in_frame.is_fault in
+    (splits.limit, omega (arith, at, long, splits.limit, length-drop 24 file))
+
 pub capture_files_are_decided : FilesDecided
 capture_files_are_decided = record {
   either = λ file. let fed = fronts_complete_to_first_fault file in
@@ -92,6 +111,7 @@ capture_files_are_decided = record {
   one_fault = file_has_one_first_fault;
   one_before = λ file frames others fault other here there.
       frames_before_first_fault_agree file frames others (frames_reach_first_fault file frames fault here) (frames_reach_first_fault file others other there);
+  cut_is_limited = capture_file_is_cut_within_limits;
   are_frames = capture_file_has_valid_frames;
 }
 

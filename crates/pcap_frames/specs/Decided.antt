@@ -1,14 +1,17 @@
 -- Laws of the definitions of a capture and of its first fault.
-use Rattle.std.specs.Prelude.{ℕ, ◌≡◌, ◌<◌, ◌⊎◌, List, ◌++◌, slice_index}
+use Rattle.std.specs.Prelude.{ℕ, ◌≡◌, ◌<◌, ◌≤◌, ◌^◌, ◌⊎◌, List, ◌++◌, length, slice_index}
 use Rattle.pcap_frames.specs.declared.fault.CaptureFault.{CaptureFault}
 use Rattle.pcap_frames.specs.Frame.{FrameValue}
-use Rattle.pcap_frames.specs.Frame.{AreFrames}
+use Rattle.pcap_frames.specs.Frame.{AreFrames, frame_count_limit}
 use Rattle.pcap_frames.specs.Capture.{IsCapture}
+use Rattle.pcap_frames.specs.Header.{header_fault_at}
+use Rattle.pcap_frames.specs.declared.fault.FaultKind.TheVariants.{CutFrame}
 use Rattle.pcap_frames.specs.CaptureFault.{ShowsFault, HasFaultAfter, HasCaptureFault}
 use Rattle.pcap_frames.specs.FrameReader.{Completes}
 use Rattle.outside_io.specs.{IsBeginning}
 
--- each file is a capture of one list of frames, or has one first fault after one list of frames, and never both
+-- each file is a capture of one list of frames, or has one first fault after one list of frames, and never both. Before a cut
+-- frame there are no more frames than in a capture, and its offset is a number of 64 bits
 pub record FilesDecided : Type 0 where
   pub either : (file : List ℕ)
       → ((frames : List FrameValue) × IsCapture file frames) ⊎ ((fault : CaptureFault) × HasCaptureFault file fault)
@@ -20,6 +23,8 @@ pub record FilesDecided : Type 0 where
       → other ≡ fault
   pub one_before : (file : List ℕ) (frames others : List FrameValue) (fault other : CaptureFault)
       → HasFaultAfter file frames fault → HasFaultAfter file others other → others ≡ frames
+  pub cut_is_limited : (file : List ℕ) (frames : List FrameValue) (place : ℕ)
+      → HasFaultAfter file frames (header_fault_at CutFrame place) → (length frames ≤ frame_count_limit) × (place < 2 ^ 64)
   pub are_frames : (file : List ℕ) (frames : List FrameValue) → ((place : ℕ) → slice_index file place < 256)
       → IsCapture file frames → AreFrames frames
 

@@ -2,7 +2,8 @@
 
 ghost use Rattle.pcap_frames.specs.Decided.{FilesDecided, FrontsDecided};
 
-/// Each file is a capture of one list of frames or has one first fault, and never both.
+/// Each file is a capture of one list of frames or has one first fault, and never both. Before a cut frame there are at most
+/// 16,777,216 frames, and its offset is below 2^64.
 pub fn files_are_decided()
     ensures { FilesDecided }
 {}

@@ -27,24 +27,13 @@ use Rattle.report_session.proofs.SessionThreadLemmas.{first_session_thread_sees_
 use Rattle.report_session.specs.Session.{asked_shape}
 use Rattle.checkpoint.specs.{settings_shape}
 use Rattle.report_session.specs.Session.{GoesOnFrom}
-use Rattle.std.proofs.Common.{Bool}
-
--- only tables by whole bytes are saved, so those of a store that is used are those asked for
-base_shape_is_asked : (settings : Settings) → AreLimited settings → settings.store ≡ true
-    → settings_shape (saves_settings settings) ≡ asked_shape settings
-base_shape_is_asked settings limited used =
-    ap (λ grain. record { grain = grain; capacity = settings.capacity }) (sym (limited.fits.saved_by_bytes used))
 
 -- shards may go on from the base
 pub base_goes_on : (settings : Settings) (lists : List (List RecordValue)) (store : Option (List ℕ)) (base : Option CutValue)
     → AreLimited settings → GoesOnFrom settings lists store base → IfSome base (FeedGoesOn (asked_shape settings) lists)
 base_goes_on settings lists store None limited begins = tt
 base_goes_on settings lists store (Some cut) limited begins =
-    record { alike = begins.fits.shape.alike ∙ base_shape_is_asked settings limited (used settings.store refl); continues = begins.fits.continues }
-  where
-    used : (store_used : Bool) → settings.store ≡ store_used → settings.store ≡ true
-    used true is = is
-    used false is = cc (begins.unused is)
+    record { alike = begins.fits.shape.alike; continues = begins.fits.continues }
 
 -- the positions of the base are those at which the shards start
 pub base_starts : (settings : Settings) (lists : List (List RecordValue)) (base : Option CutValue)
@@ -69,8 +58,7 @@ base_saver_is_ready settings lists reads possible opening positions (Some saver)
       fits = record {
         settings = subst AreSettings (sym is.settings_are) (saves_settings-allowed settings limited);
         shards = ap (λ (s : StoreSettings). s.shards) is.settings_are ∙ sym many;
-        shape =
-            ap settings_shape is.settings_are ∙ base_shape_is_asked settings limited (sym used) ∙ sym alike;
+        shape = ap settings_shape is.settings_are ∙ sym alike;
         seen = subst (λ ps. AreNotPast ps (map (λ trail. trail.seen) (first_view opening).trails))
             (first_session_thread_sees_starts opening ∙ sym starts ∙ sym is.positions_are)
             (seen_positions_not_past_self (map (λ trail. trail.seen) (first_view opening).trails));

@@ -8,15 +8,16 @@ use Rattle.shard_state.specs.{AreCoreShards, CutRepresents, CutValue, ShardValue
 use Rattle.hhh_report.specs.declared.reports.Reported.{Reported}
 use Rattle.slot_disk.specs.{CrashLeaves-weaker}
 use Rattle.slot_disk.specs.declared.disk.Disk.{Ghosts as DiskOf}
-use Rattle.checkpoint.specs.{StoreBelongs, IsStoreOf, SavedValue, OpenToOne, lists_digest}
+use Rattle.checkpoint.specs.{ShowsItsHeader, StoreBelongs, IsStoreOf, SavedValue, OpenToOne, lists_digest, stored_header}
 use Rattle.checkpoint.specs.{store_sequence}
+use Rattle.checkpoint.specs.declared.header.StoreHeader.{StoreHeader}
 use Rattle.checkpoint.specs.declared.settings.StoreSettings.{StoreSettings}
 use Rattle.recovery.specs.{OpensToBase}
 use Rattle.command_words.specs.{AreLimited}
 use Rattle.command_words.specs.declared.settings.Settings.{Settings}
 use Rattle.report_text.specs.{tail_text}
 use Rattle.report_session.specs.DealtFeed.{FeedGoesOn}
-use Rattle.report_session.specs.Saving.{BelongThroughout, AreKeptOnDisk, last_of_saves, saves_after}
+use Rattle.report_session.specs.Saving.{BelongThroughout, BelongsToLists, AreKeptOnDisk, last_of_saves, saves_after}
 use Rattle.report_session.specs.Saving.{saves_settings, saves_settings-allowed}
 use Rattle.report_session.specs.Session.{AreOfCaller, GoesOnFrom, IsSession, IsSessionInPart}
 use Rattle.report_session.specs.Session.{IsShownInSession, GoesOnSoundly, SessionSaving}
@@ -42,43 +43,50 @@ belonging_session_opens_shards shape lists (Some cut) some few goes_on represent
     resumed_opening_shards_are_shards cut lists some few goes_on.continues represents.alike
 
 -- the base that a store of the lists opened to represents them
-belonging_session_base_of_lists : (settings : StoreSettings) (lists : List (List RecordValue)) (opened : Option SavedValue)
-    → IsStoreOf settings lists opened
+belonging_session_base_of_lists : (header : StoreHeader) (lists : List (List RecordValue)) (opened : Option SavedValue)
+    → IsStoreOf header lists opened
     → IfSome (option_map (λ (saved : SavedValue). saved.cut) opened) (λ cut. CutRepresents cut lists)
-belonging_session_base_of_lists settings lists None is = tt
-belonging_session_base_of_lists settings lists (Some saved) is = is.1
+belonging_session_base_of_lists header lists None is = tt
+belonging_session_base_of_lists header lists (Some saved) is = is.1
 
 -- what a store opens to after saves of cuts that represent the lists is of them
-belonging_session_saves_of_lists : (settings : StoreSettings) (lists : List (List RecordValue)) (opened : Option SavedValue) (sequence : ℕ)
-    (cuts : List CutValue) → IsStoreOf settings lists opened → All (λ cut. CutRepresents cut lists) cuts
-    → IsStoreOf settings lists (last_of_saves opened (saves_after sequence (lists_digest settings lists) cuts))
-belonging_session_saves_of_lists settings lists opened sequence [] is all = is
-belonging_session_saves_of_lists settings lists opened sequence (cut ∷ cuts) is all =
-    belonging_session_saves_of_lists settings lists
-    (Some (record { sequence = sequence + 1; digest = lists_digest settings lists; cut = cut })) (sequence + 1) cuts
+belonging_session_saves_of_lists : (header : StoreHeader) (lists : List (List RecordValue)) (opened : Option SavedValue) (sequence : ℕ)
+    (cuts : List CutValue) → IsStoreOf header lists opened → All (λ cut. CutRepresents cut lists) cuts
+    → IsStoreOf header lists (last_of_saves opened (saves_after sequence (lists_digest header lists) cuts))
+belonging_session_saves_of_lists header lists opened sequence [] is all = is
+belonging_session_saves_of_lists header lists opened sequence (cut ∷ cuts) is all =
+    belonging_session_saves_of_lists header lists
+    (Some (record { sequence = sequence + 1; digest = lists_digest header lists; cut = cut })) (sequence + 1) cuts
     (refl, All-head (λ (c : CutValue). CutRepresents c lists) cut cuts all)
     (All-tail (λ (c : CutValue). CutRepresents c lists) cut cuts all)
 
+-- a store that belongs to the lists under a header belongs to them under the one that its bytes have
+pub belonging_session_by_its_bytes : ShowsItsHeader → (header : StoreHeader) (lists : List (List RecordValue)) (image : List ℕ)
+    → StoreBelongs header lists image → BelongsToLists header.settings lists image
+belonging_session_by_its_bytes shown header lists image belongs =
+    subst (λ h. StoreBelongs h lists image) (sym (shown header image belongs.1.2.header)) belongs
+
 -- a store that belonged to the lists still does after saves of cuts that represent them
-belonging_session_keeps_belonging : OpenToOne → {D : Type 0} (d : DiskOf D)
+belonging_session_keeps_belonging : OpenToOne → ShowsItsHeader → {D : Type 0} (d : DiskOf D)
     → ((disk : D) (bytes : List ℕ) → d.reads disk ≡ Some bytes → d.image_now disk bytes) → (settings : Settings)
     (lists : List (List RecordValue)) (base : Option CutValue) (saved unfinished : List CutValue) (old new : D)
     → AreLimited settings → settings.store ≡ true → GoesOnFrom settings lists (d.reads old) base
     → (IfSome base (λ cut. CutRepresents cut lists) → All (λ cut. CutRepresents cut lists) saved)
     → (IfSome base (λ cut. CutRepresents cut lists) → All (λ cut. CutRepresents cut lists) unfinished)
     → (store : List ℕ) → d.reads old ≡ Some store
-    → ((image : List ℕ) → d.image_now old image → StoreBelongs (saves_settings settings) lists image)
+    → ((image : List ℕ) → d.image_now old image → BelongsToLists (saves_settings settings) lists image)
     → AreKeptOnDisk d old new (saves_settings settings) lists saved unfinished
     → BelongThroughout d (saves_settings settings) lists base old new
-belonging_session_keeps_belonging one d read_is_image settings lists base saved unfinished old new limited used
+belonging_session_keeps_belonging one shown d read_is_image settings lists base saved unfinished old new limited used
     begins of_saved of_unfinished store known belonged kept =
-    let of_store : StoreSettings = saves_settings settings in
+    let asked : StoreSettings = saves_settings settings in
+    let of_store : StoreHeader = stored_header asked store in
     let digest : List ℕ = lists_digest of_store lists in
     let keeps = kept store known in
     let opened : Option SavedValue = keeps.opened in
     let sequence : ℕ = store_sequence opened in
     let held : StoreBelongs of_store lists store = belonged store (read_is_image old store known) in
-    let found : OpensToBase of_store lists store base = begins.opens used store known in
+    let found : OpensToBase asked lists store base = begins.opens used store known in
     let allowed = saves_settings-allowed settings limited in
     let is : IsStoreOf of_store lists opened =
     subst (IsStoreOf of_store lists) (one of_store store held.0 opened allowed held.1 keeps.opens) held.2 in
@@ -91,13 +99,15 @@ belonging_session_keeps_belonging one d read_is_image settings lists base saved 
     (of_unfinished represents) in
     record {
       base_represents = represents;
-      any_moment = CrashLeaves-weaker d.moment d.image_since old new _ (StoreBelongs of_store lists) keeps.any_moment
+      any_moment = CrashLeaves-weaker d.moment d.image_since old new _ (BelongsToLists asked lists) keeps.any_moment
           (λ image was. ⊎_elim (belonged image)
-          (saved_store_belongs of_store lists opened sequence (saved ++ unfinished) image is all) was);
+          (λ among. belonging_session_by_its_bytes shown of_store lists image
+          (saved_store_belongs of_store lists opened sequence (saved ++ unfinished) image is all among)) was);
       afterwards = λ image possible.
-          saved_store_belongs of_store lists (last_of_saves opened (saves_after sequence digest saved)) (sequence + length saved)
+          belonging_session_by_its_bytes shown of_store lists image
+          (saved_store_belongs of_store lists (last_of_saves opened (saves_after sequence digest saved)) (sequence + length saved)
           unfinished image (belonging_session_saves_of_lists of_store lists opened sequence saved is (of_saved represents))
-          (of_unfinished represents) (keeps.afterwards image possible);
+          (of_unfinished represents) (keeps.afterwards image possible));
     }
 
 -- the cuts of reports of a session represent the lists, if its base does
@@ -126,19 +136,19 @@ belonging_session_kept_cuts store opening lists reports used all =
     subst (λ b. All (λ (cut : CutValue). CutRepresents cut lists) (saved_cuts b opening reports)) (sym used) all
 
 -- a whole session
-pub belonging_session_completed : OpenToOne → SavedStoreCutsRepresent → {D : Type 0} (d : DiskOf D)
+pub belonging_session_completed : OpenToOne → ShowsItsHeader → SavedStoreCutsRepresent → {D : Type 0} (d : DiskOf D)
     → ((disk : D) (bytes : List ℕ) → d.reads disk ≡ Some bytes → d.image_now disk bytes) → (rules : DealingRules)
     (settings : Settings) (old new : D) (store : List ℕ) (file : Option (List ℕ)) (text : List ℕ)
     (is : IsSession settings rules (AreKeptOnDisk d old new) (d.reads old) file text)
     → AreLimited settings → settings.store ≡ true → d.reads old ≡ Some store
-    → ((image : List ℕ) → d.image_now old image → StoreBelongs (saves_settings settings) is.lists image)
+    → ((image : List ℕ) → d.image_now old image → BelongsToLists (saves_settings settings) is.lists image)
     → BelongThroughout d (saves_settings settings) is.lists is.base old new
-belonging_session_completed one represent d read_is_image rules settings old new store file text is limited
+belonging_session_completed one shown represent d read_is_image rules settings old new store file text is limited
     used known belonged =
     let opening : List ShardValue = session_opening (asked_shape settings) is.lists is.base in
     let many : length is.lists ≡ settings.shards = is.as_many in
     let reports : List Reported = caller_reports is.spelled.reports in
-    belonging_session_keeps_belonging one d read_is_image settings is.lists is.base
+    belonging_session_keeps_belonging one shown d read_is_image settings is.lists is.base
     (saved_cuts settings.store opening reports) [] old new limited used is.begins
     (λ standing. belonging_session_kept_cuts settings.store opening is.lists reports used
     (belonging_session_cuts_represent represent settings is.lists (d.reads old) is.base reports limited many is.begins is.represents
@@ -146,14 +156,14 @@ belonging_session_completed one represent d read_is_image rules settings old new
     (λ standing. All-nil (λ (cut : CutValue). CutRepresents cut is.lists)) store known belonged (is.spelled.kept used)
 
 -- a session that broke off
-pub belonging_session_broken_off : OpenToOne → SavedStoreCutsRepresent → {D : Type 0} (d : DiskOf D)
+pub belonging_session_broken_off : OpenToOne → ShowsItsHeader → SavedStoreCutsRepresent → {D : Type 0} (d : DiskOf D)
     → ((disk : D) (bytes : List ℕ) → d.reads disk ≡ Some bytes → d.image_now disk bytes) → (rules : DealingRules)
     (settings : Settings) (old new : D) (store : List ℕ) (file : Option (List ℕ)) (front : List ℕ)
     (is : IsSessionInPart settings rules (AreKeptOnDisk d old new) (d.reads old) file front)
     → AreLimited settings → settings.store ≡ true → d.reads old ≡ Some store
-    → ((image : List ℕ) → d.image_now old image → StoreBelongs (saves_settings settings) is.lists image)
+    → ((image : List ℕ) → d.image_now old image → BelongsToLists (saves_settings settings) is.lists image)
     → BelongThroughout d (saves_settings settings) is.lists is.base old new
-belonging_session_broken_off one represent d read_is_image rules settings old new store file front is limited
+belonging_session_broken_off one shown represent d read_is_image rules settings old new store file front is limited
     used known belonged =
     let lists : List (List RecordValue) = is.lists in
     let base : Option CutValue = is.base in
@@ -182,7 +192,7 @@ belonging_session_broken_off one represent d read_is_image rules settings old ne
     λ first second. All-append (λ (cut : CutValue). CutRepresents cut lists) first second in
     let belongs : (saved unfinished : List CutValue) → (Standing → Stand saved) → (Standing → Stand unfinished)
     → Kept saved unfinished → Belonging = λ saved unfinished of_saved of_unfinished kept.
-    belonging_session_keeps_belonging one d read_is_image settings lists base saved unfinished old new limited
+    belonging_session_keeps_belonging one shown d read_is_image settings lists base saved unfinished old new limited
     used is.begins of_saved of_unfinished store known belonged (kept used) in
     session_text_whatever_was_saved opening settings Belonging (tail_text is.records) front
     (session_text_begins_saying_less opening settings Kept (λ saved unfinished. Belonging) (tail_text is.records) front

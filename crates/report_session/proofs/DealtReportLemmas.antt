@@ -9,7 +9,8 @@ use Rattle.shard_state.specs.{CutValue}
 use Rattle.slot_disk.specs.{IfImageKnown, CrashLeaves, CrashLeaves-trans}
 use Rattle.slot_disk.specs.{CrashLeaves-weaker}
 use Rattle.slot_disk.specs.declared.disk.Disk.{Ghosts as DiskOf}
-use Rattle.checkpoint.specs.{SaverState, lists_digest, store_sequence}
+use Rattle.checkpoint.specs.{ShowsItsHeader, SaverState, lists_digest, store_sequence, stored_header}
+use Rattle.checkpoint.specs.declared.header.StoreHeader.{StoreHeader}
 use Rattle.recovery.specs.{RefusesOpening}
 use Rattle.recovery.specs.declared.fault.OpenFault.{OpenFault}
 use Rattle.recovery.specs.declared.fault.OpenFault.TheVariants as opening
@@ -34,24 +35,25 @@ use Rattle.report_session.specs.Saving.{IsAsBefore}
 use Rattle.report_session.specs.Session.{asked_shape}
 
 -- what a run keeps of its store, from the opening of the store and the saves after it
-pub dealt_report_keeps_saves : {D : Type 0} (d : DiskOf D) (settings : Settings) (lists : List (List RecordValue))
+pub dealt_report_keeps_saves : ShowsItsHeader → {D : Type 0} (d : DiskOf D) (settings : Settings) (lists : List (List RecordValue))
     (positions : List ℕ) (saver : Option SaverState) (saved unfinished : List CutValue) (old mid new : D)
     → is_some saver ≡ settings.store → IfSome saver (IsFeedSaver settings lists positions)
     → CrashLeaves d.moment d.image_since old mid (d.image_now old) → d.reads mid ≡ d.reads old
     → SavesInPart d saver mid new saved unfinished → settings.store ≡ true
     → AreKeptOnDisk d old new (saves_settings settings) lists saved unfinished
-dealt_report_keeps_saves d settings lists positions None saved unfinished old mid new has is leaves same saves
+dealt_report_keeps_saves shown d settings lists positions None saved unfinished old mid new has is leaves same saves
     used = absurd (false≢true (has ∙ used))
-dealt_report_keeps_saves d settings lists positions (Some saver) saved unfinished old mid new has is leaves
+dealt_report_keeps_saves shown d settings lists positions (Some saver) saved unfinished old mid new has is leaves
     same saves used = λ bytes known.
-    let kept : KeepsSaves d (saves_settings settings)
-    (lists_digest (saves_settings settings) lists) (λ image. ⊥) saved unfinished mid new bytes =
-    subst (λ s. KeepsSaves d s (lists_digest (saves_settings settings) lists) (λ image. ⊥)
-    saved unfinished mid new bytes) is.settings_are
-    (subst (λ digest. KeepsSaves d saver.settings digest (λ image. ⊥) saved unfinished mid new bytes)
-    is.digest_is (saves.kept bytes (same ∙ known))) in
-    let among : List ℕ → Type 0 = λ image. OpensToSaves (saves_settings settings) kept.opened
-    (saves_after (store_sequence kept.opened) (lists_digest (saves_settings settings) lists) (saved ++ unfinished)) image in
+    let header : StoreHeader = stored_header (saves_settings settings) bytes in
+    let found = saves.kept bytes (same ∙ known) in
+    let of_bytes : saver.header ≡ header =
+    sym (shown saver.header bytes found.opens.2.header) ∙ ap (λ s. stored_header s bytes) is.settings_are in
+    let kept : KeepsSaves d header (lists_digest header lists) (λ image. ⊥) saved unfinished mid new bytes =
+    subst (λ h. KeepsSaves d h (lists_digest h lists) (λ image. ⊥) saved unfinished mid new bytes) of_bytes
+    (subst (λ digest. KeepsSaves d saver.header digest (λ image. ⊥) saved unfinished mid new bytes) is.digest_is found) in
+    let among : List ℕ → Type 0 = λ image. OpensToSaves header kept.opened
+    (saves_after (store_sequence kept.opened) (lists_digest header lists) (saved ++ unfinished)) image in
     record {
       opened = kept.opened;
       opens = kept.opens;

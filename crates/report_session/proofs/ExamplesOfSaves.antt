@@ -18,15 +18,17 @@ use Rattle.frame_records.specs.declared.weigh.Weigh.TheVariants.{Bytes}
 use Rattle.report_text.specs.{tail_text}
 use Rattle.slot_disk.specs.{CrashLeaves-none, known_slots_of}
 use Rattle.slot_disk.specs.declared.disk.Disk.{Ghosts as DiskOf}
-use Rattle.checkpoint.specs.{StoreBelongs, StoreOpensTo, SavedValue, SaverState, StoreHolds, lists_digest}
-use Rattle.checkpoint.specs.{settings_header, saver_of}
+use Rattle.checkpoint.specs.{StoreOpensTo, SavedValue, SaverState, StoreHolds, lists_digest}
+use Rattle.checkpoint.specs.{header_bytes, saver_of, stored_header, written_header}
+use Rattle.checkpoint.specs.declared.header.StoreHeader.{StoreHeader}
 use Rattle.checkpoint.specs.declared.settings.StoreSettings.{StoreSettings}
 use Rattle.command_words.specs.declared.settings.Settings.{Settings}
 use Rattle.report_session.specs.DealtFeed.{FeedGoesOn, HasNoBase, IsFeedSaver}
-use Rattle.report_session.specs.Saving.{BelongThroughout, SavesFitBoard, IsAsBefore, IsNoEarlier}
+use Rattle.report_session.specs.Saving.{BelongThroughout, BelongsToLists, SavesFitBoard, IsAsBefore, IsNoEarlier}
+use Rattle.prefix_lattice.specs.declared.grain.Grain.TheVariants.{Byte}
 use Rattle.report_session.specs.Saving.{KeepsSaves, OpensToSaves, SavesReopen, Saves, SavesBreakOff}
 use Rattle.report_session.specs.Saving.{SavesInPart, after_saves, after_broken, AreKeptOnDisk}
-use Rattle.report_session.specs.Saving.{last_of_saves, AreReopened, saves_after, saves_settings}
+use Rattle.report_session.specs.Saving.{last_of_saves, AreReopened, ReopenFromStore, saves_after, saves_settings}
 use Rattle.report_session.specs.Session.{GoesOnFrom, SessionReports, caller_reports}
 use Rattle.report_session.specs.Session.{session_ends, last_positions, new_shards, session_opening}
 use Rattle.report_session.specs.Session.{session_part, resumed_shards, saved_cuts, saves_of}
@@ -46,13 +48,17 @@ one_shard = record settings { shards = 1; capacity = 2; store = true }
 abbrev pub one : StoreSettings
 one = saves_settings one_shard
 
+-- the header that `format` writes for it
+abbrev of_one : StoreHeader
+of_one = written_header one
+
 -- a list of one packet
 abbrev lists : List (List RecordValue)
 lists = (packet ∷ []) ∷ []
 
 -- of a command's settings a store has these
 pub settings_of_a_store : saves_settings settings
-    ≡ record { shards = 4; capacity = 512; weigh = Bytes; deal = RoundRobin }
+    ≡ record { shards = 4; capacity = 512; weigh = Bytes; deal = RoundRobin; grain = Byte }
 settings_of_a_store = refl
 
 -- ---- what is saved
@@ -99,29 +105,29 @@ no_cuts_without_a_store = refl
 
 -- a store whose gates are closed
 abbrev pub formatted : List ℕ
-formatted = 0 ∷ 0 ∷ settings_header one
+formatted = 0 ∷ 0 ∷ header_bytes of_one
 
-formatted_holds_nothing : StoreHolds one formatted None None
-formatted_holds_nothing = record { long = omega arith; header = refl; first_slot = refl; second_slot = refl }
+formatted_holds_nothing : StoreHolds of_one formatted None None
+formatted_holds_nothing = record { long = omega arith; header = refl; taken = tt; first_slot = refl; second_slot = refl }
 
-pub formatted_opens_to_nothing : StoreOpensTo one formatted None
+pub formatted_opens_to_nothing : StoreOpensTo of_one formatted None
 formatted_opens_to_nothing = (None, None, formatted_holds_nothing, refl)
 
 -- a crash in the first save may leave the store as it was
-pub first_save_was_lost : OpensToSaves one None (saves_after 0 (9 ∷ []) (none_counted ∷ [])) formatted
+pub first_save_was_lost : OpensToSaves of_one None (saves_after 0 (9 ∷ []) (none_counted ∷ [])) formatted
 first_save_was_lost = inl formatted_opens_to_nothing
 
 -- and one in the second save a store that opens to the first
-pub second_save_was_lost : (image : List ℕ) → StoreOpensTo one image (Some (saved 1 none_counted))
-    → OpensToSaves one None (saves_after 0 (9 ∷ []) (none_counted ∷ one_counted ∷ [])) image
+pub second_save_was_lost : (image : List ℕ) → StoreOpensTo of_one image (Some (saved 1 none_counted))
+    → OpensToSaves of_one None (saves_after 0 (9 ∷ []) (none_counted ∷ one_counted ∷ [])) image
 second_save_was_lost image opens = inr (inl opens)
 
-pub second_save_was_made : (image : List ℕ) → StoreOpensTo one image (Some (saved 2 one_counted))
-    → OpensToSaves one None (saves_after 0 (9 ∷ []) (none_counted ∷ one_counted ∷ [])) image
+pub second_save_was_made : (image : List ℕ) → StoreOpensTo of_one image (Some (saved 2 one_counted))
+    → OpensToSaves of_one None (saves_after 0 (9 ∷ []) (none_counted ∷ one_counted ∷ [])) image
 second_save_was_made image opens = inr (inr opens)
 
 -- but none an empty disk
-pub disk_was_emptied : OpensToSaves one None (saves_after 0 (9 ∷ []) (none_counted ∷ [])) [] → ⊥
+pub disk_was_emptied : OpensToSaves of_one None (saves_after 0 (9 ∷ []) (none_counted ∷ [])) [] → ⊥
 disk_was_emptied (inl opens) = omega (arith, opens.2.long)
 disk_was_emptied (inr opens) = omega (arith, opens.2.long)
 
@@ -149,25 +155,25 @@ abbrev formatted_since : ℕ → ℕ → List ℕ → Type 0
 formatted_since disk moment image = image ≡ formatted
 
 pub no_saves_keep_the_store :
-    KeepsSaves (disk_of formatted) one (9 ∷ []) (λ image. ⊥) [] [] 7 7 formatted
+    KeepsSaves (disk_of formatted) of_one (9 ∷ []) (λ image. ⊥) [] [] 7 7 formatted
 no_saves_keep_the_store = record {
   opened = None;
   opens = formatted_opens_to_nothing;
-  any_moment = CrashLeaves-none (λ disk. disk) formatted_since 7 (λ image. ⊥ ⊎ OpensToSaves one None [] image)
-      (λ image is. inr (subst (λ bytes. StoreOpensTo one bytes None) (sym is) formatted_opens_to_nothing));
-  afterwards = λ image is. subst (λ bytes. StoreOpensTo one bytes None) (sym is) formatted_opens_to_nothing;
+  any_moment = CrashLeaves-none (λ disk. disk) formatted_since 7 (λ image. ⊥ ⊎ OpensToSaves of_one None [] image)
+      (λ image is. inr (subst (λ bytes. StoreOpensTo of_one bytes None) (sym is) formatted_opens_to_nothing));
+  afterwards = λ image is. subst (λ bytes. StoreOpensTo of_one bytes None) (sym is) formatted_opens_to_nothing;
 }
 
 -- an unfinished save may have left the store as it was
 pub unfinished_save_left_nothing :
-    KeepsSaves (disk_of formatted) one (9 ∷ []) (λ image. ⊥) [] (none_counted ∷ []) 7 7 formatted
+    KeepsSaves (disk_of formatted) of_one (9 ∷ []) (λ image. ⊥) [] (none_counted ∷ []) 7 7 formatted
 unfinished_save_left_nothing = record {
   opened = None;
   opens = formatted_opens_to_nothing;
   any_moment = CrashLeaves-none (λ disk. disk) formatted_since 7
-      (λ image. ⊥ ⊎ OpensToSaves one None (saves_after 0 (9 ∷ []) (none_counted ∷ [])) image)
-      (λ image is. inr (inl (subst (λ bytes. StoreOpensTo one bytes None) (sym is) formatted_opens_to_nothing)));
-  afterwards = λ image is. inl (subst (λ bytes. StoreOpensTo one bytes None) (sym is) formatted_opens_to_nothing);
+      (λ image. ⊥ ⊎ OpensToSaves of_one None (saves_after 0 (9 ∷ []) (none_counted ∷ [])) image)
+      (λ image is. inr (inl (subst (λ bytes. StoreOpensTo of_one bytes None) (sym is) formatted_opens_to_nothing)));
+  afterwards = λ image is. inl (subst (λ bytes. StoreOpensTo of_one bytes None) (sym is) formatted_opens_to_nothing);
 }
 
 -- a later save is no earlier one, in its sequence and in its positions
@@ -181,7 +187,7 @@ pub sequence_before_is_earlier : IsNoEarlier one (Some (saved 2 none_counted)) (
 sequence_before_is_earlier is = let later : 2 ≤ 1 = is.sequence in omega (arith, later)
 
 -- the formatted store opens again as nothing was saved, also where the first save is unfinished
-pub formatted_reopens : (unfinished : List CutValue) → SavesReopen one None unfinished formatted
+pub formatted_reopens : (unfinished : List CutValue) → SavesReopen of_one None unfinished formatted
 formatted_reopens unfinished = record {
   found = None;
   opens = formatted_opens_to_nothing;
@@ -190,15 +196,18 @@ formatted_reopens unfinished = record {
 }
 
 -- an empty disk doesn't
-pub empty_disk_reopens : SavesReopen one None [] [] → ⊥
+pub empty_disk_reopens : SavesReopen of_one None [] [] → ⊥
 empty_disk_reopens reopens = omega (arith, reopens.opens.2.long)
 
 pub first_save_may_be_unfinished : AreReopened (disk_of formatted) 7 7 one [] [] (none_counted ∷ [])
-first_save_may_be_unfinished store known = record {
-  opened = None;
-  opens = subst (λ bytes. StoreOpensTo one bytes None) (cc known) formatted_opens_to_nothing;
-  again = λ image is. subst (SavesReopen one None (none_counted ∷ [])) (sym is) (formatted_reopens (none_counted ∷ []));
-}
+first_save_may_be_unfinished store known =
+    subst (λ bytes. ReopenFromStore (λ image. image ≡ formatted) (stored_header one bytes)
+    (lists_digest (stored_header one bytes) []) [] (none_counted ∷ []) bytes) (cc known)
+    (record {
+      opened = None;
+      opens = formatted_opens_to_nothing;
+      again = λ image is. subst (SavesReopen of_one None (none_counted ∷ [])) (sym is) (formatted_reopens (none_counted ∷ []));
+    })
 
 -- where nothing is known of a disk, nothing is said of how it opens again
 pub unknown_disk_reopens : AreReopened unknown_disk 7 8 one [] (none_counted ∷ []) []
@@ -207,11 +216,11 @@ unknown_disk_reopens store told = absurd (cc told)
 -- a formatted store belongs to any lists, and does so throughout a session that saves nothing; an empty disk is no store
 pub formatted_store_belongs_throughout : BelongThroughout (disk_of formatted) one lists None 7 7
 formatted_store_belongs_throughout =
-    let belongs : (image : List ℕ) → image ≡ formatted → StoreBelongs one lists image = λ image is.
-    subst (StoreBelongs one lists) (sym is) (None, formatted_opens_to_nothing, tt) in
+    let belongs : (image : List ℕ) → image ≡ formatted → BelongsToLists one lists image = λ image is.
+    subst (BelongsToLists one lists) (sym is) (None, formatted_opens_to_nothing, tt) in
     record {
       base_represents = tt;
-      any_moment = CrashLeaves-none (λ disk. disk) formatted_since 7 (StoreBelongs one lists) belongs;
+      any_moment = CrashLeaves-none (λ disk. disk) formatted_since 7 (BelongsToLists one lists) belongs;
       afterwards = belongs;
     }
 
@@ -227,7 +236,7 @@ disk_is_as_before = record {
 
 -- the saver of the formatted store, after two saves
 abbrev saver : SaverState
-saver = saver_of (known_slots_of formatted) one (9 ∷ []) None
+saver = saver_of (known_slots_of formatted) of_one (9 ∷ []) None
 
 -- after a save that was made the saver goes on from it, and an unfinished one leaves none
 pub saver_goes_on_after_a_whole_save : after_broken (Some saver) (one_counted ∷ []) [] ≡ Some (after_saves saver (one_counted ∷ []))
@@ -284,7 +293,7 @@ formatted_store_has_no_base = record {
   fits = tt;
   opens = λ used bytes told.
       let same : formatted ≡ bytes = cc told in
-      (None, subst (λ bytes. StoreOpensTo one bytes None) same formatted_opens_to_nothing, tt, refl);
+      (None, subst (λ bytes. StoreOpensTo (stored_header one bytes) bytes None) same formatted_opens_to_nothing, tt, refl);
 }
 
 -- without a store no saved cut is gone on from
@@ -301,7 +310,7 @@ cut_of_another_capacity goes_on = omega (arith, ap (λ (s : TableShape). s.capac
 
 -- a saver for the packet, from the start on
 pub saver_for_the_packet : IsFeedSaver one_shard lists (0 ∷ [])
-    (saver_of (known_slots_of formatted) one (lists_digest one lists) None)
+    (saver_of (known_slots_of formatted) of_one (lists_digest of_one lists) None)
 saver_for_the_packet = record { settings_are = refl; digest_is = refl; early = omega arith; positions_are = refl }
 
 -- it may save what any pass reads of new shards
@@ -346,7 +355,7 @@ abbrev reports : SessionReports
 reports = record { rounds = []; callers = []; last = of_the_packet }
 
 abbrev records : Records
-records = record { list = packet ∷ []; frames = 1; not_ipv4 = 0; short = 0; bad_header = 0 }
+records = record { list = packet ∷ []; frames = 1; not_ipv4 = 0; short = 0; bad_header = 0; cut = None }
 
 -- its positions are those of the last save, and before it those at the start
 pub positions_of_the_last_report : last_positions (0 ∷ []) (of_the_packet ∷ []) ≡ 1 ∷ []
@@ -356,8 +365,8 @@ pub positions_before_a_report : last_positions (0 ∷ []) [] ≡ 0 ∷ []
 positions_before_a_report = refl
 
 -- its only cut is saved under the sequence after that of the store
-pub saves_of_a_session : saves_of one_shard (resumed ∷ []) (Some (saved 4 one_counted)) (caller_reports reports)
-    ≡ record { sequence = 5; digest = lists_digest one lists; cut = cut_at (resumed ∷ []) (1 ∷ []) } ∷ []
+pub saves_of_a_session : saves_of of_one (resumed ∷ []) (Some (saved 4 one_counted)) (caller_reports reports)
+    ≡ record { sequence = 5; digest = lists_digest of_one lists; cut = cut_at (resumed ∷ []) (1 ∷ []) } ∷ []
 saves_of_a_session = refl
 
 pub report_with_a_store : session_part true of_the_packet

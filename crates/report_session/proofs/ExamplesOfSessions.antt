@@ -57,6 +57,7 @@ settings = record {
   rounds = 0;
   weigh = Bytes;
   deal = RoundRobin;
+  front = false;
   store = false;
 }
 
@@ -334,7 +335,7 @@ session_without_its_caller are = cc are.as_many
 -- ---- the session
 
 abbrev pub records : Records
-records = record { list = []; frames = 0; not_ipv4 = 0; short = 0; bad_header = 0 }
+records = record { list = []; frames = 0; not_ipv4 = 0; short = 0; bad_header = 0; cut = None }
 
 abbrev pub text : List ℕ
 text = codes "opened 0 0 0 0\nreport\nat 0 0 0 0\ntotal 0\nthreshold 1\ndone\nframes 0\nskipped 0 0 0\nend\n"

@@ -17,7 +17,8 @@ use Rattle.gate_workers.specs.{cut_at}
 use Rattle.slot_disk.specs.{CrashLeaves, CrashLeaves-weaker}
 use Rattle.slot_disk.specs.declared.disk.Disk.{Ghosts as DiskOf}
 use Rattle.checkpoint.specs.{OpenToOne, SavedValue, StoreOpensTo, lists_digest, store_positions, store_sequence}
-use Rattle.checkpoint.specs.declared.settings.StoreSettings.{StoreSettings}
+use Rattle.checkpoint.specs.{stored_header}
+use Rattle.checkpoint.specs.declared.header.StoreHeader.{StoreHeader}
 use Rattle.command_words.specs.{AreLimited}
 use Rattle.command_words.specs.declared.settings.Settings.{Settings}
 use Rattle.dealt_capture.specs.{DealingRules}
@@ -375,14 +376,14 @@ last_kept_positions_after start [] next = refl
 last_kept_positions_after start (first ∷ reports) next = last_kept_positions_after first.report.positions reports next
 
 -- what opens to one of the saves of reports
-kept_store_opens_to : (settings : StoreSettings) (opening : List ShardValue) (digest : List ℕ) (opened : Option SavedValue)
+kept_store_opens_to : (header : StoreHeader) (opening : List ShardValue) (digest : List ℕ) (opened : Option SavedValue)
     (sequence : ℕ) (reports more : List Reported) (image : List ℕ)
     → All (λ reported. length reported.report.positions ≡ length opening) (reports ++ more)
-    → OpensToSaves settings opened (saves_after sequence digest (saved_cuts true opening reports)) image
-    → (found : Option SavedValue) × StoreOpensTo settings image found
+    → OpensToSaves header opened (saves_after sequence digest (saved_cuts true opening reports)) image
+    → (found : Option SavedValue) × StoreOpensTo header image found
     × ((found ≡ opened) ⊎ ((saved : SavedValue) × Contains (positions_of_kept reports) (cut_positions saved.cut) × (found ≡ Some saved)))
-kept_store_opens_to settings opening digest opened sequence [] more image each opens = (opened, opens, inl refl)
-kept_store_opens_to settings opening digest opened sequence (first ∷ reports) more image each opens =
+kept_store_opens_to header opening digest opened sequence [] more image each opens = (opened, opens, inl refl)
+kept_store_opens_to header opening digest opened sequence (first ∷ reports) more image each opens =
     let saved : SavedValue = record { sequence = sequence + 1; digest = digest; cut = cut_at opening first.report.positions } in
     let at : cut_positions saved.cut ≡ first.report.positions =
     seen_positions_of_cut opening first.report.positions
@@ -390,7 +391,7 @@ kept_store_opens_to settings opening digest opened sequence (first ∷ reports) 
     ⊎_elim
     (λ before. (opened, before, inl refl))
     (λ later.
-    let found = kept_store_opens_to settings opening digest (Some saved) (sequence + 1) reports more image
+    let found = kept_store_opens_to header opening digest (Some saved) (sequence + 1) reports more image
     (All-tail (λ (reported : Reported). length reported.report.positions ≡ length opening) first (reports ++ more) each) later in (
       found.0,
       found.1,
@@ -407,19 +408,19 @@ kept_store_opens_to settings opening digest opened sequence (first ∷ reports) 
     opens
 
 -- what reopens at positions that aren't before the last that are shown
-kept_store_reopens_to : (settings : StoreSettings) (opened found : Option SavedValue) (start : List ℕ) (reports : List Reported)
-    (whole : Bool) (image : List ℕ) → store_positions settings opened ≡ start → StoreOpensTo settings image found
-    → AreNotPast (last_positions start reports) (store_positions settings found)
+kept_store_reopens_to : (header : StoreHeader) (opened found : Option SavedValue) (start : List ℕ) (reports : List Reported)
+    (whole : Bool) (image : List ℕ) → store_positions header.settings opened ≡ start → StoreOpensTo header image found
+    → AreNotPast (last_positions start reports) (store_positions header.settings found)
     → store_sequence opened + length reports ≤ store_sequence found
     → (whole ≡ true → store_sequence found ≡ store_sequence opened + length reports)
-    → ReopensAfterSaves settings opened (positions_of_kept reports) whole image
-kept_store_reopens_to settings opened found start reports whole image starts opens past counted exact =
+    → ReopensAfterSaves header opened (positions_of_kept reports) whole image
+kept_store_reopens_to header opened found start reports whole image starts opens past counted exact =
     let many : length (positions_of_kept reports) ≡ length reports = length-map reports _ in
     record {
       found = found;
       opens = opens;
       positions =
-          subst (λ positions. AreNotPast positions (store_positions settings found))
+          subst (λ positions. AreNotPast positions (store_positions header.settings found))
           (sym (ap (λ s. last_shown s (positions_of_kept reports)) starts ∙ last_kept_positions start reports)) past;
       counted = omega (arith, many, counted);
       exact = λ is. let same = exact is in omega (arith, many, same);
@@ -437,29 +438,32 @@ module _ (one : OpenToOne) {D : Type 0} (d : DiskOf D) (settings : Settings) (li
   abbrev opening_of_kept : List ShardValue
   opening_of_kept = session_opening (asked_shape settings) lists base
 
+  abbrev header_of_kept : StoreHeader
+  header_of_kept = stored_header (saves_settings settings) store
+
   abbrev digest_of_kept : List ℕ
-  digest_of_kept = lists_digest (saves_settings settings) lists
+  digest_of_kept = lists_digest header_of_kept lists
 
   abbrev KeepsStore : List CutValue → List CutValue → Type 0
   KeepsStore saved unfinished =
-      KeepsSaves d (saves_settings settings) digest_of_kept (d.image_now old) saved unfinished old new store
+      KeepsSaves d header_of_kept digest_of_kept (d.image_now old) saved unfinished old new store
 
   abbrev AreOfKept : List Reported → Type 0
   AreOfKept reports = All (λ reported. length reported.report.positions ≡ length opening_of_kept) reports
 
-  kept_store_starts : (opened : Option SavedValue) → StoreOpensTo (saves_settings settings) store opened
+  kept_store_starts : (opened : Option SavedValue) → StoreOpensTo header_of_kept store opened
       → store_positions (saves_settings settings) opened ≡ session_start opening_of_kept
   kept_store_starts opened opens =
       reopened_store_start_positions one settings lists store base opened limited many begins.fits (begins.opens used store known) opens
 
   -- what whole saves of reports leave
   kept_store_last : (opened : Option SavedValue) (reports more : List Reported) → AreOfKept (reports ++ more)
-      → StoreOpensTo (saves_settings settings) store opened
+      → StoreOpensTo header_of_kept store opened
       → store_positions (saves_settings settings)
       (last_of_saves opened (saves_after (store_sequence opened) digest_of_kept (saved_cuts true opening_of_kept reports)))
       ≡ last_positions (session_start opening_of_kept) reports
   kept_store_last opened reports more each opens =
-      reopened_store_positions (saves_settings settings) opening_of_kept digest_of_kept (session_start opening_of_kept) opened
+      reopened_store_positions header_of_kept opening_of_kept digest_of_kept (session_start opening_of_kept) opened
       (store_sequence opened) reports more (kept_store_starts opened opens) each
 
   kept_store_counts : (opened : Option SavedValue) (reports : List Reported)
@@ -471,13 +475,13 @@ module _ (one : OpenToOne) {D : Type 0} (d : DiskOf D) (settings : Settings) (li
       ∙ ap (λ n. store_sequence opened + n) (length-map reports _)
 
   kept_store_after_saves : (reports more : List Reported) (whole : Bool) (opened : Option SavedValue) (image : List ℕ)
-      → AreOfKept (reports ++ more) → StoreOpensTo (saves_settings settings) store opened
-      → StoreOpensTo (saves_settings settings) image
+      → AreOfKept (reports ++ more) → StoreOpensTo header_of_kept store opened
+      → StoreOpensTo header_of_kept image
       (last_of_saves opened (saves_after (store_sequence opened) digest_of_kept (saved_cuts true opening_of_kept reports)))
-      → ReopensAfterSaves (saves_settings settings) opened (positions_of_kept reports) whole image
+      → ReopensAfterSaves header_of_kept opened (positions_of_kept reports) whole image
   kept_store_after_saves reports more whole opened image each opens found =
       let counts = kept_store_counts opened reports in
-      kept_store_reopens_to (saves_settings settings) opened _ (session_start opening_of_kept) reports whole image
+      kept_store_reopens_to header_of_kept opened _ (session_start opening_of_kept) reports whole image
       (kept_store_starts opened opens) found
       (subst (AreNotPast (last_positions (session_start opening_of_kept) reports)) (sym (kept_store_last opened reports more each opens))
       (seen_positions_not_past_self _))
@@ -487,12 +491,12 @@ module _ (one : OpenToOne) {D : Type 0} (d : DiskOf D) (settings : Settings) (li
   kept_store_after_next : (reports : List Reported) (next : Reported) (whole : Bool) (opened found : Option SavedValue)
       (image : List ℕ) → (whole ≡ true → ⊥)
       → RisesInReopenedStore (length opening_of_kept) (session_start opening_of_kept) (reports ++ next ∷ [])
-      → StoreOpensTo (saves_settings settings) store opened → StoreOpensTo (saves_settings settings) image found
+      → StoreOpensTo header_of_kept store opened → StoreOpensTo header_of_kept image found
       → store_positions (saves_settings settings) found ≡ next.report.positions
       → store_sequence found ≡ store_sequence opened + length reports + 1
-      → ReopensAfterSaves (saves_settings settings) opened (positions_of_kept reports) whole image
+      → ReopensAfterSaves header_of_kept opened (positions_of_kept reports) whole image
   kept_store_after_next reports next whole opened found image part rises opens is at counts =
-      kept_store_reopens_to (saves_settings settings) opened found (session_start opening_of_kept) reports whole image
+      kept_store_reopens_to header_of_kept opened found (session_start opening_of_kept) reports whole image
       (kept_store_starts opened opens) is
       (subst (AreNotPast (last_positions (session_start opening_of_kept) reports)) (sym at)
       (reopened_store_next_not_before (length opening_of_kept) (session_start opening_of_kept) reports next rises))
@@ -500,34 +504,34 @@ module _ (one : OpenToOne) {D : Type 0} (d : DiskOf D) (settings : Settings) (li
 
   -- the images at any moment, where these reports are said to be saved
   kept_store_any_moment : (reports : List Reported) (opened : Option SavedValue) (image : List ℕ) → AreOfKept (reports ++ [])
-      → StoreOpensTo (saves_settings settings) store opened
-      → OpensToSaves (saves_settings settings) opened
+      → StoreOpensTo header_of_kept store opened
+      → OpensToSaves header_of_kept opened
       (saves_after (store_sequence opened) digest_of_kept (saved_cuts true opening_of_kept reports)) image
-      → OpensToSave (saves_settings settings) store written (positions_of_kept reports) image
+      → OpensToSave header_of_kept store written (positions_of_kept reports) image
   kept_store_any_moment reports opened image each opens is =
-      let found = kept_store_opens_to (saves_settings settings) opening_of_kept digest_of_kept opened (store_sequence opened) reports []
+      let found = kept_store_opens_to header_of_kept opening_of_kept digest_of_kept opened (store_sequence opened) reports []
       image each is in
       record {
         found = found.0;
         opens = found.1;
-        is = ⊎_elim (λ same. inl (subst (StoreOpensTo (saves_settings settings) store) (sym same) opens))
+        is = ⊎_elim (λ same. inl (subst (StoreOpensTo header_of_kept store) (sym same) opens))
             (λ other. inr (other.0, other.2, inl other.1)) found.2;
       }
 
   -- and where the next one is being saved
   kept_store_any_moment_of_next : (reports : List Reported) (next : Reported) (opened : Option SavedValue) (image : List ℕ)
       → AreOfKept ((reports ++ next ∷ []) ++ []) → IsBeingSaved written next.report.positions
-      → StoreOpensTo (saves_settings settings) store opened
-      → OpensToSaves (saves_settings settings) opened
+      → StoreOpensTo header_of_kept store opened
+      → OpensToSaves header_of_kept opened
       (saves_after (store_sequence opened) digest_of_kept (saved_cuts true opening_of_kept (reports ++ next ∷ []))) image
-      → OpensToSave (saves_settings settings) store written (positions_of_kept reports) image
+      → OpensToSave header_of_kept store written (positions_of_kept reports) image
   kept_store_any_moment_of_next reports next opened image each being opens is =
-      let found = kept_store_opens_to (saves_settings settings) opening_of_kept digest_of_kept opened (store_sequence opened)
+      let found = kept_store_opens_to header_of_kept opening_of_kept digest_of_kept opened (store_sequence opened)
       (reports ++ next ∷ []) [] image each is in
       record {
         found = found.0;
         opens = found.1;
-        is = ⊎_elim (λ same. inl (subst (StoreOpensTo (saves_settings settings) store) (sym same) opens))
+        is = ⊎_elim (λ same. inl (subst (StoreOpensTo header_of_kept store) (sym same) opens))
             (λ other. inr (
               other.0,
               other.2,
@@ -548,7 +552,7 @@ module _ (one : OpenToOne) {D : Type 0} (d : DiskOf D) (settings : Settings) (li
       → AreOfKept (reports ++ []) → written ≡ mark_text Opened (session_start opening_of_kept) ++ rest
       → (whole_lines written ≡ [] → ⊥) → ShowsSaves written (positions_of_kept reports)
       → KeepsStore (saved_cuts true opening_of_kept reports) []
-      → StoreIsKept d (saves_settings settings) old new store written whole
+      → StoreIsKept d header_of_kept old new store written whole
   kept_store_said reports more whole rest each of_reports begun some shown keeps = record {
     saves = positions_of_kept reports;
     shown = shown;
@@ -564,7 +568,7 @@ module _ (one : OpenToOne) {D : Type 0} (d : DiskOf D) (settings : Settings) (li
     };
     any_moment = CrashLeaves-weaker d.moment d.image_since old new _ _ keeps.any_moment
         (λ image. ⊎_elim (λ earlier. inl earlier) (λ opens. inr (kept_store_any_moment reports keeps.opened image of_reports keeps.opens
-        (subst (λ cuts. OpensToSaves (saves_settings settings) keeps.opened
+        (subst (λ cuts. OpensToSaves header_of_kept keeps.opened
         (saves_after (store_sequence keeps.opened) digest_of_kept cuts) image)
         (append-nil (saved_cuts true opening_of_kept reports)) opens))));
   }
@@ -576,7 +580,7 @@ module _ (one : OpenToOne) {D : Type 0} (d : DiskOf D) (settings : Settings) (li
       → ShowsSaves written (positions_of_kept reports) → IsBeingSaved written next.report.positions
       → KeepsStore (saved_cuts true opening_of_kept reports) (saved_cuts true opening_of_kept (next ∷ []))
       ⊎ KeepsStore (saved_cuts true opening_of_kept reports ++ saved_cuts true opening_of_kept (next ∷ [])) []
-      → StoreIsKept d (saves_settings settings) old new store written whole
+      → StoreIsKept d header_of_kept old new store written whole
   kept_store_unsaid reports next whole rest part rises begun some shown being =
       let cuts : List CutValue = saved_cuts true opening_of_kept reports in
       let of_next : List CutValue = saved_cuts true opening_of_kept (next ∷ []) in
@@ -587,12 +591,12 @@ module _ (one : OpenToOne) {D : Type 0} (d : DiskOf D) (settings : Settings) (li
       seen_positions_of_cut opening_of_kept next.report.positions
       (last_report_is_among_all (λ (reported : Reported). length reported.report.positions ≡ length opening_of_kept) reports next
       rises.each) in
-      let promise : (opened : Option SavedValue) → StoreOpensTo (saves_settings settings) store opened
+      let promise : (opened : Option SavedValue) → StoreOpensTo header_of_kept store opened
       → CrashLeaves d.moment d.image_since old new (λ image. d.image_now old image
-      ⊎ OpensToSaves (saves_settings settings) opened (saves_after (store_sequence opened) digest_of_kept (cuts ++ of_next)) image)
+      ⊎ OpensToSaves header_of_kept opened (saves_after (store_sequence opened) digest_of_kept (cuts ++ of_next)) image)
       → ((image : List ℕ) → d.image_now new image
-      → ReopensAfterSaves (saves_settings settings) opened (positions_of_kept reports) whole image)
-      → StoreIsKept d (saves_settings settings) old new store written whole = λ opened opens moments again. record {
+      → ReopensAfterSaves header_of_kept opened (positions_of_kept reports) whole image)
+      → StoreIsKept d header_of_kept old new store written whole = λ opened opens moments again. record {
         saves = positions_of_kept reports;
         shown = shown;
         unopened = λ none. absurd (some none);
@@ -605,13 +609,13 @@ module _ (one : OpenToOne) {D : Type 0} (d : DiskOf D) (settings : Settings) (li
         };
         any_moment = CrashLeaves-weaker d.moment d.image_since old new _ _ moments
             (λ image. ⊎_elim (λ earlier. inl earlier) (λ is. inr (kept_store_any_moment_of_next reports next opened image each being opens
-            (subst (λ saved. OpensToSaves (saves_settings settings) opened
+            (subst (λ saved. OpensToSaves header_of_kept opened
             (saves_after (store_sequence opened) digest_of_kept saved) image) (sym all) is))));
       } in
       ⊎_elim
       (λ keeps. promise keeps.opened keeps.opens keeps.any_moment (λ image possible. ⊎_elim
       (λ opens. let counts = kept_store_counts keeps.opened reports in
-      kept_store_reopens_to (saves_settings settings) keeps.opened _ (session_start opening_of_kept) reports whole image
+      kept_store_reopens_to header_of_kept keeps.opened _ (session_start opening_of_kept) reports whole image
       (kept_store_starts keeps.opened keeps.opens) opens
       (subst (AreNotPast (last_positions (session_start opening_of_kept) reports))
       (sym (kept_store_last keeps.opened reports (next ∷ []) rises.each keeps.opens)) (seen_positions_not_past_self _))
@@ -626,10 +630,10 @@ module _ (one : OpenToOne) {D : Type 0} (d : DiskOf D) (settings : Settings) (li
       (keeps.afterwards image possible)))
       (λ keeps. promise keeps.opened keeps.opens
       (CrashLeaves-weaker d.moment d.image_since old new _ _ keeps.any_moment
-      (λ image. ⊎_elim (λ earlier. inl earlier) (λ is. inr (subst (λ saved. OpensToSaves (saves_settings settings) keeps.opened
+      (λ image. ⊎_elim (λ earlier. inl earlier) (λ is. inr (subst (λ saved. OpensToSaves header_of_kept keeps.opened
       (saves_after (store_sequence keeps.opened) digest_of_kept saved) image) (append-nil (cuts ++ of_next)) is))))
       (λ image possible. kept_store_after_next reports next whole keeps.opened _ image part rises keeps.opens
-      (subst (λ saved. StoreOpensTo (saves_settings settings) image
+      (subst (λ saved. StoreOpensTo header_of_kept image
       (last_of_saves keeps.opened (saves_after (store_sequence keeps.opened) digest_of_kept saved))) (sym all)
       (keeps.afterwards image possible))
       (kept_store_last keeps.opened (reports ++ next ∷ []) [] each keeps.opens
@@ -642,7 +646,7 @@ module _ (one : OpenToOne) {D : Type 0} (d : DiskOf D) (settings : Settings) (li
 
   -- a session whose first line is whole
   kept_store_of_shape : KeptStoreTexts → (whole : Bool) (shape : KeptStoreShape opening_of_kept settings KeptByRun written)
-      → (whole ≡ true → shape.others ≡ []) → StoreIsKept d (saves_settings settings) old new store written whole
+      → (whole ≡ true → shape.others ≡ []) → StoreIsKept d header_of_kept old new store written whole
   kept_store_of_shape texts whole shape all =
       let some : whole_lines written ≡ [] → ⊥ = λ none.
       let same : [] ≡ mark_text Opened (session_start opening_of_kept) ∷ whole_lines shape.rest =
@@ -664,7 +668,7 @@ module _ (one : OpenToOne) {D : Type 0} (d : DiskOf D) (settings : Settings) (li
   -- a session that broke off in its first line
   kept_store_in_first_line : KeptStoreTexts → ((disk : D) (bytes : List ℕ) → d.reads disk ≡ Some bytes → d.image_now disk bytes)
       → (whole : Bool) → IsStrictBeginning written (mark_text Opened (session_start opening_of_kept)) → KeptByRun [] []
-      → StoreIsKept d (saves_settings settings) old new store written whole
+      → StoreIsKept d header_of_kept old new store written whole
   kept_store_in_first_line texts reading_is_image whole begins kept =
       let keeps = kept used store known in
       let none : whole_lines written ≡ [] =
@@ -687,7 +691,7 @@ module _ (one : OpenToOne) {D : Type 0} (d : DiskOf D) (settings : Settings) (li
 pub kept_store_after_session : OpenToOne → KeptStoreTexts → {D : Type 0} (d : DiskOf D) (rules : DealingRules) (settings : Settings)
     (old new : D) (store : List ℕ) (file : Option (List ℕ)) (text : List ℕ) → AreLimited settings → settings.store ≡ true
     → d.reads old ≡ Some store → IsSession settings rules (AreKeptOnDisk d old new) (d.reads old) file text
-    → StoreIsKept d (saves_settings settings) old new store text true
+    → StoreIsKept d (stored_header (saves_settings settings) store) old new store text true
 unfolding kept_store_whole
 kept_store_after_session one texts d rules settings old new store file text limited used known is =
     kept_store_of_shape one d settings is.lists is.base old new store text limited is.as_many used is.begins known texts true
@@ -702,12 +706,12 @@ pub kept_store_after_part : OpenToOne → KeptStoreTexts → {D : Type 0} (d : D
     (settings : Settings) (old new : D) (store : List ℕ) (file : Option (List ℕ)) (front : List ℕ) → AreLimited settings
     → settings.store ≡ true → d.reads old ≡ Some store
     → IsSessionInPart settings rules (AreKeptOnDisk d old new) (d.reads old) file front
-    → StoreIsKept d (saves_settings settings) old new store front false
+    → StoreIsKept d (stored_header (saves_settings settings) store) old new store front false
 kept_store_after_part one texts d reading_is_image rules settings old new store file front limited used known is =
     let opening : List ShardValue = session_opening (asked_shape settings) is.lists is.base in
     let Kept : SessionSaving = λ saved unfinished. settings.store ≡ true
     → AreKeptOnDisk d old new (saves_settings settings) is.lists saved unfinished in
-    let of_shape : KeptStoreShape opening settings Kept front → StoreIsKept d (saves_settings settings) old new store front false =
+    let of_shape : KeptStoreShape opening settings Kept front → StoreIsKept d (stored_header (saves_settings settings) store) old new store front false =
     λ shape. kept_store_of_shape one d settings is.lists is.base old new store front limited is.as_many used is.begins known texts
     false shape (λ no. absurd (false≢true no)) in
     ⊎_elim
@@ -723,9 +727,9 @@ kept_store_after_part one texts d reading_is_image rules settings old new store 
 -- and a run that left it as before
 pub kept_store_as_before : {D : Type 0} (d : DiskOf D)
     → ((disk : D) (moment : ℕ) (image : List ℕ) → moment ≤ d.moment disk → d.image_now disk image → d.image_since disk moment image)
-    → (settings : StoreSettings) (old new : D) (store : List ℕ) → IsAsBefore d old new
-    → StoreIsKept d settings old new store [] false
-kept_store_as_before d now_is_since settings old new store same = record {
+    → (header : StoreHeader) (old new : D) (store : List ℕ) → IsAsBefore d old new
+    → StoreIsKept d header old new store [] false
+kept_store_as_before d now_is_since header old new store same = record {
   saves = [];
   shown = refl;
   unopened = λ none image possible.

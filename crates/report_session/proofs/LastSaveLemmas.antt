@@ -18,7 +18,7 @@ use Rattle.report_session.specs.Saving.{CanMakeSaves, Saves, SavesInPart, SavesI
 use Rattle.report_session.specs.Session.{AreOfCaller, IsShownInSession, session_ends}
 use Rattle.report_session.specs.Session.{saved_cuts, session_start}
 use Rattle.report_session.specs.declared.session.Rest.{Rest}
-use Rattle.report_session.proofs.SaveLemmas.{broken_off_save_follows, saves_raise_sequence, saves_leave_settings}
+use Rattle.report_session.proofs.SaveLemmas.{broken_off_save_follows, saves_raise_sequence, saves_leave_header}
 use Rattle.report_session.proofs.SeenPositionLemmas.{seen_positions_of_cut, seen_position_is_not_past}
 use Rattle.report_session.proofs.SeenPositionLemmas.{seen_positions_are_not_past, seen_positions_same_length}
 use Rattle.report_session.proofs.SessionThreadLemmas.{first_session_thread_sees_starts}
@@ -104,14 +104,14 @@ last_save_is_possible d board settings called tail rest rounds (Some saver) now 
     let at = end.shown.is_report in
     let positions : cut_positions rest.cut ≡ session_ends opening =
     ap cut_positions end.cut_is ∙ seen_positions_of_cut opening end.last.report.positions at.as_many ∙ end.at_ends in
-    let same : after.settings ≡ saver.settings = saves_leave_settings saver cuts in
+    let same : after.header ≡ saver.header = saves_leave_header saver cuts in
     subst (λ o. IfSome o (CanSaveCut (d.reads new) (d.image_now new) rest.cut)) (sym done.saver)
     (record {
-      settings = subst AreSettings (sym same) can.fits.settings;
+      settings = subst (λ h. AreSettings h.settings) (sym same) can.fits.settings;
       stands = done.saves.stands;
       early = omega (arith, sequence, many, as_many, early);
-      shape = subst (λ s. HasCoreShape s.shards (settings_shape s) rest.cut) (sym same)
-          (subst (λ n. HasCoreShape n (settings_shape saver.settings) rest.cut) (sym can.fits.shards)
+      shape = subst (λ h. HasCoreShape h.settings.shards (settings_shape h.settings) rest.cut) (sym same)
+          (subst (λ n. HasCoreShape n (settings_shape saver.header.settings) rest.cut) (sym can.fits.shards)
           (subst (λ n. HasCoreShape (length opening) n rest.cut) (sym can.fits.shape) shape));
       no_earlier = subst (AreNotPast after.positions) (sym positions)
           (last_save_positions_within_ends opening settings rounds saver (last_save_starts_within_ends opening saver.positions starts seen) are.shown);
@@ -138,7 +138,7 @@ last_save_completes_session d opening store rounds last cut (Some saver) after o
 pub last_save_broken_off : OpenToOne → {D : Type 0} (d : DiskOf D) (opening : List ShardValue) (store : Bool)
     (rounds : List Reported) (last : Reported) (cut : CutValue) (saver between : Option SaverState) (old mid new : D)
     → is_some saver ≡ store → cut ≡ cut_at opening last.report.positions
-    → IfSome saver (λ saver. AreSettings saver.settings)
+    → IfSome saver (λ saver. AreSettings saver.header.settings)
     → ((disk : D) (bytes : List ℕ) → d.reads disk ≡ Some bytes → d.image_now disk bytes)
     → SavesInTurn d saver between old mid (saved_cuts store opening rounds)
     → SessionTextFollowsSaves store opening rounds last cut (SavesInPart d between mid new)

@@ -8,7 +8,7 @@ use Rattle.std.proofs.lemmas.List.Sums.{count_by-le-length}
 use Rattle.prefix_lattice.specs.{record_limit}
 use Rattle.shard_state.specs.{CutRepresents, ShardValue}
 use Rattle.pcap_frames.specs.{FrameValue, frame_count_limit}
-use Rattle.frame_records.specs.{AreRecordsOf}
+use Rattle.frame_records.specs.{AreRecordsOf, FileGives}
 use Rattle.frame_records.specs.declared.records.Records.{Records}
 use Rattle.hhh_report.specs.declared.reports.Reported.{Reported}
 use Rattle.report_text.specs.{ShowsPositions, IsTextSession as IsShowableSession, IsSessionText}
@@ -52,13 +52,18 @@ own_session_shows_something store reports =
       length-append others (shown_session_report store reports.last ∷ []),
     )
 
+-- what a file gives is within the limits of a capture
+abbrev pub ReadFilesAreWithinLimits : Type 0
+ReadFilesAreWithinLimits = (front : Bool) (file : List ℕ) (frames : List FrameValue) (cut : Option ℕ) → FileGives front file frames cut
+    → (length frames ≤ frame_count_limit) × IfSome cut (λ place. place < 2 ^ 64)
+
 -- what the text of a session says is a session that a text can show
 own_session_is_showable : (settings : Settings) (opened : List ℕ) (reports : SessionReports) (records : Records)
     (frames : List FrameValue) → ShowsPositions opened → length opened ≡ settings.shards
-    → length frames ≤ frame_count_limit → AreRecordsOf settings.weigh frames records
+    → (length frames ≤ frame_count_limit) × IfSome records.cut (λ place. place < 2 ^ 64) → AreRecordsOf settings.weigh frames records
     → All (λ reported. IsBoundedReport settings.grain settings.shards reported.report) (reports_in reports)
     → IsShowableSession settings.grain (shown_session settings.store opened reports records)
-own_session_is_showable settings opened reports records frames positions many few are fit =
+own_session_is_showable settings opened reports records frames positions many (few, cut) are fit =
     let fits = shown_session_keeps_property (λ (reported : Reported). IsBoundedReport settings.grain settings.shards reported.report) settings.store reports
     (λ store reported has. has) fit in
     record {
@@ -86,6 +91,7 @@ own_session_is_showable settings opened reports records frames positions many fe
       not_ipv4 = own_session_count_is_bounded _ frames records.not_ipv4 few are.not_ipv4;
       short = own_session_count_is_bounded _ frames records.short few are.short;
       bad_header = own_session_count_is_bounded _ frames records.bad_header few are.bad_header;
+      cut = cut;
     }
 
 -- the positions at which shards start, where their lists are small
@@ -108,12 +114,12 @@ own_session_starts_are_positions opening settings limited many before small =
     }
 
 -- the session that `report` writes is one, if the saved cut that it went on from represents the lists
-pub own_session_is_valid : PrintsOwnSession → (settings : Settings) (rules : DealingRules) (keeping : SessionKeeping) (store : Option (List ℕ))
-    (file text : List ℕ) (is : IsSession settings rules keeping store (Some file) text) → AreLimited settings
+pub own_session_is_valid : PrintsOwnSession → ReadFilesAreWithinLimits → (settings : Settings) (rules : DealingRules) (keeping : SessionKeeping)
+    (store : Option (List ℕ)) (file text : List ℕ) (is : IsSession settings rules keeping store (Some file) text) → AreLimited settings
     → IfSome is.base (λ cut. CutRepresents cut is.lists)
     → IsSessionText settings.grain text (shown_session settings.store (session_start (session_opening (asked_shape settings) is.lists is.base))
     is.spelled.reports is.records)
-own_session_is_valid prints settings rules keeping store file text is limited represents =
+own_session_is_valid prints within settings rules keeping store file text is limited represents =
     let opening = session_opening (asked_shape settings) is.lists is.base in
     let reports = is.spelled.reports in
     let known = shown_session settings.store (session_start opening) reports is.records in
@@ -136,23 +142,24 @@ own_session_is_valid prints settings rules keeping store file text is limited re
     (opening_shards_before_ends (asked_shape settings) is.lists is.base goes_on) small in
     record {
       is_session = own_session_is_showable settings (session_start opening) reports is.records is.dealt.frames starts
-          (length-map opening _ ∙ many) is.dealt.capture.1.limit is.dealt.are_records
+          (length-map opening _ ∙ many) (within settings.front file is.dealt.frames is.records.cut is.dealt.capture)
+          is.dealt.are_records
           (λ k d lt. bounded_report_if_sound opening settings is.lists (get_or (reports_in reports) k d) limited many many_lists alike
           small_lists (shown k d lt) (sound k d lt));
       spelled = is.spelled.spelled ∙ shown_session_prints_the_same settings.store (session_start opening) reports is.records ∙ prints known;
     }
 
 -- all its reports are sound: as many as each caller made rounds, with the calling thread, and the last
-pub own_session_reads_back : PrintsOwnSession → (settings : Settings) (rules : DealingRules) (keeping : SessionKeeping)
+pub own_session_reads_back : PrintsOwnSession → ReadFilesAreWithinLimits → (settings : Settings) (rules : DealingRules) (keeping : SessionKeeping)
     (store : Option (List ℕ)) (file text : List ℕ) (is : IsSession settings rules keeping store (Some file) text)
     → AreLimited settings → IfSome is.base (λ cut. CutRepresents cut is.lists)
     → (known : Session) × IsSessionText settings.grain text known × All (IsOwnReportSound settings is.lists) known.reports
     × (length known.reports ≡ (settings.callers + 1) * settings.rounds + 1)
-own_session_reads_back prints settings rules keeping store file text is limited represents =
+own_session_reads_back prints within settings rules keeping store file text is limited represents =
     let opening = session_opening (asked_shape settings) is.lists is.base in
     let reports = is.spelled.reports in (
       shown_session settings.store (session_start opening) reports is.records,
-      own_session_is_valid prints settings rules keeping store file text is limited represents,
+      own_session_is_valid prints within settings rules keeping store file text is limited represents,
       shown_session_keeps_property (IsOwnReportSound settings is.lists) settings.store reports (λ store reported sound. sound)
           (own_reports_are_sound settings rules keeping store (Some file) text is represents),
       shown_session_report_count opening settings settings.store reports is.spelled.are_reports,

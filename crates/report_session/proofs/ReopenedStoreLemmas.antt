@@ -11,8 +11,9 @@ use Rattle.shard_state.specs.{CutValue, ShardValue, cut_positions}
 use Rattle.hhh_report.specs.declared.reports.Reported.{Reported}
 use Rattle.gate_workers.specs.{cut_at}
 use Rattle.checkpoint.specs.{StoreOpensTo, SavedValue, OpenToOne, lists_digest, store_positions}
-use Rattle.checkpoint.specs.{store_sequence}
+use Rattle.checkpoint.specs.{store_sequence, stored_header}
 use Rattle.checkpoint.specs.declared.settings.StoreSettings.{StoreSettings}
+use Rattle.checkpoint.specs.declared.header.StoreHeader.{StoreHeader}
 use Rattle.report_text.specs.{tail_text}
 use Rattle.recovery.specs.{IsBaseFor, OpensToBase, base_positions}
 use Rattle.command_words.specs.{AreLimited}
@@ -74,14 +75,14 @@ reopened_store_sequence opened sequence digest (cut ∷ later) same =
     omega (arith, counted)
 
 -- the positions of the last save are those of the last report that was saved
-pub reopened_store_positions : (settings : StoreSettings) (opening : List ShardValue) (digest positions : List ℕ)
-    (opened : Option SavedValue) (sequence : ℕ) (reports more : List Reported) → store_positions settings opened ≡ positions
+pub reopened_store_positions : (header : StoreHeader) (opening : List ShardValue) (digest positions : List ℕ)
+    (opened : Option SavedValue) (sequence : ℕ) (reports more : List Reported) → store_positions header.settings opened ≡ positions
     → All (λ reported. length reported.report.positions ≡ length opening) (reports ++ more)
-    → store_positions settings (last_of_saves opened (saves_after sequence digest (saved_cuts true opening reports)))
+    → store_positions header.settings (last_of_saves opened (saves_after sequence digest (saved_cuts true opening reports)))
     ≡ last_positions positions reports
-reopened_store_positions settings opening digest positions opened sequence [] more same each = same
-reopened_store_positions settings opening digest positions opened sequence (next ∷ later) more same each =
-    reopened_store_positions settings opening digest next.report.positions
+reopened_store_positions header opening digest positions opened sequence [] more same each = same
+reopened_store_positions header opening digest positions opened sequence (next ∷ later) more same each =
+    reopened_store_positions header opening digest next.report.positions
     (Some (record { sequence = sequence + 1; digest = digest; cut = cut_at opening next.report.positions })) (sequence + 1)
     later more
     (seen_positions_of_cut opening next.report.positions
@@ -89,21 +90,21 @@ reopened_store_positions settings opening digest positions opened sequence (next
     (All-tail (λ (reported : Reported). length reported.report.positions ≡ length opening) next (later ++ more) each)
 
 -- the positions of a base are those that the store opened to
-reopened_store_base_positions : (settings : StoreSettings) (opened : Option SavedValue)
-    → store_positions settings opened ≡ base_positions settings (option_map (λ (saved : SavedValue). saved.cut) opened)
-reopened_store_base_positions settings None = refl
-reopened_store_base_positions settings (Some saved) = refl
+reopened_store_base_positions : (header : StoreHeader) (opened : Option SavedValue)
+    → store_positions header.settings opened ≡ base_positions header.settings (option_map (λ (saved : SavedValue). saved.cut) opened)
+reopened_store_base_positions header None = refl
+reopened_store_base_positions header (Some saved) = refl
 
 -- the positions at which the shards start are those that the store opened to
 pub reopened_store_start_positions : OpenToOne → (settings : Settings) (lists : List (List RecordValue)) (store : List ℕ)
     (base : Option CutValue) (opened : Option SavedValue) → AreLimited settings → length lists ≡ settings.shards
     → IfSome base (IsBaseFor (saves_settings settings) lists) → OpensToBase (saves_settings settings) lists store base
-    → StoreOpensTo (saves_settings settings) store opened
+    → StoreOpensTo (stored_header (saves_settings settings) store) store opened
     → store_positions (saves_settings settings) opened ≡ session_start (session_opening (asked_shape settings) lists base)
 reopened_store_start_positions one settings lists store base opened limited many fits found opens =
     let same : found.0 ≡ opened =
-    one (saves_settings settings) store found.0 opened (saves_settings-allowed settings limited) found.1 opens in
-    reopened_store_base_positions (saves_settings settings) opened
+    one (stored_header (saves_settings settings) store) store found.0 opened (saves_settings-allowed settings limited) found.1 opens in
+    reopened_store_base_positions (stored_header (saves_settings settings) store) opened
     ∙ ap (base_positions (saves_settings settings))
     (sym (found.3 ∙ ap (option_map (λ (saved : SavedValue). saved.cut)) same))
     ∙ base_starts settings lists base many fits
@@ -115,7 +116,7 @@ reopened_store_after_whole_saves : {D : Type 0} (d : DiskOf D) (settings : Store
 reopened_store_after_whole_saves d settings lists saved old new kept = λ store known.
     let keeps = kept store known in
     let last : Option SavedValue =
-    last_of_saves keeps.opened (saves_after (store_sequence keeps.opened) (lists_digest settings lists) saved) in
+    last_of_saves keeps.opened (saves_after (store_sequence keeps.opened) (lists_digest (stored_header settings store) lists) saved) in
     record {
       opened = keeps.opened;
       opens = keeps.opens;
@@ -142,7 +143,8 @@ reopened_store_after_broken_save one d settings lists base count rounds next old
     are kept = λ store known.
     let keeps = kept store known in
     let opening : List ShardValue = session_opening (asked_shape settings) lists base in
-    let digest : List ℕ = lists_digest (saves_settings settings) lists in
+    let header : StoreHeader = stored_header (saves_settings settings) store in
+    let digest : List ℕ = lists_digest header lists in
     let sequence : ℕ = store_sequence keeps.opened in
     let cuts : List CutValue = saved_cuts true opening rounds in
     let last : Option SavedValue = last_of_saves keeps.opened (saves_after sequence digest cuts) in
@@ -154,7 +156,7 @@ reopened_store_after_broken_save one d settings lists base count rounds next old
       never_fall = λ shard inside. are.never_fall shard (omega (arith, inside, starts));
     } in
     let positions : store_positions (saves_settings settings) last ≡ last_positions (session_start opening) rounds =
-    reopened_store_positions (saves_settings settings) opening digest (session_start opening) keeps.opened sequence rounds (next ∷ [])
+    reopened_store_positions header opening digest (session_start opening) keeps.opened sequence rounds (next ∷ [])
     (reopened_store_start_positions one settings lists store base keeps.opened limited many begins.fits (begins.opens used store known)
     keeps.opens) rises.each in
     let counted : store_sequence last ≡ sequence + length cuts = reopened_store_sequence keeps.opened sequence digest cuts refl in
@@ -162,7 +164,7 @@ reopened_store_after_broken_save one d settings lists base count rounds next old
       opened = keeps.opened;
       opens = keeps.opens;
       again = λ image possible. ⊎_elim
-          (λ (opens : StoreOpensTo (saves_settings settings) image last). record {
+          (λ (opens : StoreOpensTo header image last). record {
             found = last;
             opens = opens;
             no_earlier = record {

@@ -14,7 +14,7 @@ use Rattle.slot_disk.specs.declared.disk.Disk.{Ghosts as DiskOf}
 use Rattle.checkpoint.specs.{AreSettings, IsKnownSaver, OpensOldOrNew, StoreOpensTo, SavedValue}
 use Rattle.checkpoint.specs.{SaverState, DiskMatches, OpenToOne}
 use Rattle.checkpoint.specs.{saver_after, newest_in, next_saved, store_sequence}
-use Rattle.checkpoint.specs.declared.settings.StoreSettings.{StoreSettings}
+use Rattle.checkpoint.specs.declared.header.StoreHeader.{StoreHeader}
 use Rattle.report_session.specs.DealtFeed.{CanSaveCut}
 use Rattle.report_session.specs.Saving.{KeepsSaves, OpensToSaves, Saves, SavesCuts, SavesInPart}
 use Rattle.report_session.specs.Saving.{SavesBreakOff, SavesInTurn, after_saves, after_broken}
@@ -45,19 +45,19 @@ save_takes_next_sequence opened digest (cut ∷ cuts) =
     save_takes_next_sequence (Some (record { sequence = store_sequence opened + 1; digest = digest; cut = cut })) digest cuts
     ∙ omega arith
 
-opens_at_earlier_saves : (settings : StoreSettings) (opened : Option SavedValue) (saves later : List SavedValue) (image : List ℕ)
-    → OpensToSaves settings opened saves image → OpensToSaves settings opened (saves ++ later) image
-opens_at_earlier_saves settings opened [] [] image opens = opens
-opens_at_earlier_saves settings opened [] (saved ∷ later) image opens = inl opens
-opens_at_earlier_saves settings opened (saved ∷ saves) later image (inl opens) = inl opens
-opens_at_earlier_saves settings opened (saved ∷ saves) later image (inr among) =
-    inr (opens_at_earlier_saves settings (Some saved) saves later image among)
+opens_at_earlier_saves : (header : StoreHeader) (opened : Option SavedValue) (saves later : List SavedValue) (image : List ℕ)
+    → OpensToSaves header opened saves image → OpensToSaves header opened (saves ++ later) image
+opens_at_earlier_saves header opened [] [] image opens = opens
+opens_at_earlier_saves header opened [] (saved ∷ later) image opens = inl opens
+opens_at_earlier_saves header opened (saved ∷ saves) later image (inl opens) = inl opens
+opens_at_earlier_saves header opened (saved ∷ saves) later image (inr among) =
+    inr (opens_at_earlier_saves header (Some saved) saves later image among)
 
-opens_at_later_saves : (settings : StoreSettings) (opened : Option SavedValue) (saves later : List SavedValue) (image : List ℕ)
-    → OpensToSaves settings (last_of_saves opened saves) later image → OpensToSaves settings opened (saves ++ later) image
-opens_at_later_saves settings opened [] later image among = among
-opens_at_later_saves settings opened (saved ∷ saves) later image among =
-    inr (opens_at_later_saves settings (Some saved) saves later image among)
+opens_at_later_saves : (header : StoreHeader) (opened : Option SavedValue) (saves later : List SavedValue) (image : List ℕ)
+    → OpensToSaves header (last_of_saves opened saves) later image → OpensToSaves header opened (saves ++ later) image
+opens_at_later_saves header opened [] later image among = among
+opens_at_later_saves header opened (saved ∷ saves) later image among =
+    inr (opens_at_later_saves header (Some saved) saves later image among)
 
 -- what is known as a call began is known after it
 pub save_leaves_bytes_known : (old new : Option (List ℕ)) (bytes : List ℕ) → is_some new ≡ is_some old → old ≡ Some bytes
@@ -66,12 +66,12 @@ save_leaves_bytes_known old None bytes known is = cc (known, is)
 save_leaves_bytes_known old (Some now) bytes known is = (now, refl)
 
 -- saves that follow others, into the store that these left
-kept_saves_follow : OpenToOne → {D : Type 0} (d : DiskOf D) (settings : StoreSettings) (digest : List ℕ) (Earlier : List ℕ → Type 0)
-    (cuts later unfinished : List CutValue) (old mid new : D) (store between : List ℕ) → AreSettings settings
-    → d.image_now mid between → KeepsSaves d settings digest Earlier cuts [] old mid store
-    → KeepsSaves d settings digest (λ image. ⊥) later unfinished mid new between
-    → KeepsSaves d settings digest Earlier (cuts ++ later) unfinished old new store
-kept_saves_follow one {D} d settings digest Earlier cuts later unfinished old mid new store between are now
+kept_saves_follow : OpenToOne → {D : Type 0} (d : DiskOf D) (header : StoreHeader) (digest : List ℕ) (Earlier : List ℕ → Type 0)
+    (cuts later unfinished : List CutValue) (old mid new : D) (store between : List ℕ) → AreSettings header.settings
+    → d.image_now mid between → KeepsSaves d header digest Earlier cuts [] old mid store
+    → KeepsSaves d header digest (λ image. ⊥) later unfinished mid new between
+    → KeepsSaves d header digest Earlier (cuts ++ later) unfinished old new store
+kept_saves_follow one {D} d header digest Earlier cuts later unfinished old mid new store between are now
     first second =
     let opened : Option SavedValue = first.opened in
     let start : ℕ = store_sequence opened in
@@ -80,7 +80,7 @@ kept_saves_follow one {D} d settings digest Earlier cuts later unfinished old mi
     let then : ℕ = store_sequence second.opened in
     let next : List SavedValue = saves_after then digest (later ++ unfinished) in
     let same : second.opened ≡ last_of_saves opened saves =
-    one settings between second.opened (last_of_saves opened saves) are second.opens (first.afterwards between now) in
+    one header between second.opened (last_of_saves opened saves) are second.opens (first.afterwards between now) in
     let sequence : then ≡ start + length cuts = ap store_sequence same ∙ save_takes_next_sequence opened digest cuts in
     let parted : all ≡ saves ++ next =
     ap (saves_after start digest) (append_assoc cuts later unfinished) ∙ saves_after-append_saves start digest cuts (later ++ unfinished)
@@ -95,59 +95,59 @@ kept_saves_follow one {D} d settings digest Earlier cuts later unfinished old mi
       opened = opened;
       opens = first.opens;
       any_moment = CrashLeaves-trans d.moment d.image_since old mid new
-          (λ image. Earlier image ⊎ OpensToSaves settings opened all image)
+          (λ image. Earlier image ⊎ OpensToSaves header opened all image)
           (CrashLeaves-weaker d.moment d.image_since old mid
-          (λ image. Earlier image ⊎ OpensToSaves settings opened (saves_after start digest (cuts ++ [])) image)
-          (λ image. Earlier image ⊎ OpensToSaves settings opened all image) first.any_moment
+          (λ image. Earlier image ⊎ OpensToSaves header opened (saves_after start digest (cuts ++ [])) image)
+          (λ image. Earlier image ⊎ OpensToSaves header opened all image) first.any_moment
           (λ image. ⊎_elim (λ earlier. inl earlier)
-          (λ among. inr (subst (λ list. OpensToSaves settings opened list image) (sym parted)
-          (opens_at_earlier_saves settings opened saves next image
-          (subst (λ list. OpensToSaves settings opened (saves_after start digest list) image) (append-nil cuts) among))))))
+          (λ among. inr (subst (λ list. OpensToSaves header opened list image) (sym parted)
+          (opens_at_earlier_saves header opened saves next image
+          (subst (λ list. OpensToSaves header opened (saves_after start digest list) image) (append-nil cuts) among))))))
           (CrashLeaves-weaker d.moment d.image_since mid new
-          (λ image. ⊥ ⊎ OpensToSaves settings second.opened next image)
-          (λ image. Earlier image ⊎ OpensToSaves settings opened all image) second.any_moment
+          (λ image. ⊥ ⊎ OpensToSaves header second.opened next image)
+          (λ image. Earlier image ⊎ OpensToSaves header opened all image) second.any_moment
           (λ image. ⊎_elim (λ never. absurd never)
-          (λ among. inr (subst (λ list. OpensToSaves settings opened list image) (sym parted)
-          (opens_at_later_saves settings opened saves next image
-          (subst (λ held. OpensToSaves settings held next image) same among))))));
+          (λ among. inr (subst (λ list. OpensToSaves header opened list image) (sym parted)
+          (opens_at_later_saves header opened saves next image
+          (subst (λ held. OpensToSaves header held next image) same among))))));
       afterwards = λ image is.
-          subst (λ held. OpensToSaves settings held
+          subst (λ held. OpensToSaves header held
           (saves_after (start + length (cuts ++ later)) digest unfinished) image) (sym last)
-          (subst (λ n. OpensToSaves settings (last_of_saves second.opened (saves_after then digest later))
+          (subst (λ n. OpensToSaves header (last_of_saves second.opened (saves_after then digest later))
           (saves_after n digest unfinished) image) (omega (arith, sequence, length-append cuts later))
           (second.afterwards image is));
     }
 
 -- what a save may leave at any moment
 save_leaves : OpenToOne → {D : Type 0} (d : DiskOf D)
-    (saver : SaverState) (cut : CutValue) (old new : D) (bytes : List ℕ) → AreSettings saver.settings
+    (saver : SaverState) (cut : CutValue) (old new : D) (bytes : List ℕ) → AreSettings saver.header.settings
     → (store : IsKnownSaver saver bytes)
-    → CrashLeaves d.moment d.image_since old new (OpensOldOrNew saver.settings bytes (next_saved saver cut))
-    → CrashLeaves d.moment d.image_since old new (λ image. ⊥ ⊎ OpensToSaves saver.settings (newest_in store.first store.second)
+    → CrashLeaves d.moment d.image_since old new (OpensOldOrNew saver.header bytes (next_saved saver cut))
+    → CrashLeaves d.moment d.image_since old new (λ image. ⊥ ⊎ OpensToSaves saver.header (newest_in store.first store.second)
     (saves_after (store_sequence (newest_in store.first store.second)) saver.digest (cut ∷ [])) image)
 save_leaves one d saver cut old new bytes are store any_moment =
     let opened : Option SavedValue = newest_in store.first store.second in
     let saved : SavedValue = next_saved saver cut in
     let same : saved ≡ record { sequence = store_sequence opened + 1; digest = saver.digest; cut = cut } =
     ap (λ n. record { sequence = n + 1; digest = saver.digest; cut = cut }) store.sequence_is in
-    let was : StoreOpensTo saver.settings bytes opened = (store.first, store.second, store.holds, refl) in
-    CrashLeaves-weaker d.moment d.image_since old new (OpensOldOrNew saver.settings bytes saved)
-    (λ image. ⊥ ⊎ OpensToSaves saver.settings opened
+    let was : StoreOpensTo saver.header bytes opened = (store.first, store.second, store.holds, refl) in
+    CrashLeaves-weaker d.moment d.image_since old new (OpensOldOrNew saver.header bytes saved)
+    (λ image. ⊥ ⊎ OpensToSaves saver.header opened
     (saves_after (store_sequence opened) saver.digest (cut ∷ [])) image) any_moment
     (λ image. ⊎_elim
-    (λ alike. inr (inl (subst (StoreOpensTo saver.settings image)
-    (one saver.settings bytes alike.0 opened are alike.1 was) alike.2)))
-    (λ is_new. inr (inr (subst (λ s. StoreOpensTo saver.settings image (Some s)) same is_new))))
+    (λ alike. inr (inl (subst (StoreOpensTo saver.header image)
+    (one saver.header bytes alike.0 opened are alike.1 was) alike.2)))
+    (λ is_new. inr (inr (subst (λ s. StoreOpensTo saver.header image (Some s)) same is_new))))
 
 -- one save, as its contract states it
 pub one_save : OpenToOne → {D : Type 0} (d : DiskOf D) (saver : SaverState) (cut : CutValue) (old new : D)
-    → AreSettings saver.settings → DiskMatches (d.reads old) (d.image_now old) saver
+    → AreSettings saver.header.settings → DiskMatches (d.reads old) (d.image_now old) saver
     → is_some (d.reads new) ≡ is_some (d.reads old)
     → DiskMatches (d.reads new) (d.image_now new) (saver_after saver cut)
     → IfImageKnown (d.reads new) (λ bytes. (image : List ℕ) → d.image_now new image
-    → StoreOpensTo saver.settings image (Some (next_saved saver cut)))
+    → StoreOpensTo saver.header image (Some (next_saved saver cut)))
     → IfImageKnown (d.reads old)
-    (λ bytes. CrashLeaves d.moment d.image_since old new (OpensOldOrNew saver.settings bytes (next_saved saver cut)))
+    (λ bytes. CrashLeaves d.moment d.image_since old new (OpensOldOrNew saver.header bytes (next_saved saver cut)))
     → SavesCuts d saver (cut ∷ []) old new
 one_save one d saver cut old new are before known stands opens any_moment = record {
   known = known;
@@ -163,16 +163,16 @@ one_save one d saver cut old new are before known stands opens any_moment = reco
         any_moment = save_leaves one d saver cut old new bytes are store (any_moment bytes is);
         afterwards = λ image now.
             let bytes_now = save_leaves_bytes_known (d.reads old) (d.reads new) bytes known is in
-            subst (λ s. StoreOpensTo saver.settings image (Some s)) same (opens bytes_now.0 bytes_now.1 image now);
+            subst (λ s. StoreOpensTo saver.header image (Some s)) same (opens bytes_now.0 bytes_now.1 image now);
       };
 }
 
 -- an unfinished save, as its contract states it
 unfinished_save : OpenToOne → {D : Type 0} (d : DiskOf D) (saver : SaverState) (cut : CutValue) (old new : D)
-    → AreSettings saver.settings → DiskMatches (d.reads old) (d.image_now old) saver
+    → AreSettings saver.header.settings → DiskMatches (d.reads old) (d.image_now old) saver
     → ((disk : D) (t : ℕ) (image : List ℕ) → t ≤ d.moment disk → d.image_now disk image → d.image_since disk t image)
     → IfImageKnown (d.reads old)
-    (λ bytes. CrashLeaves d.moment d.image_since old new (OpensOldOrNew saver.settings bytes (next_saved saver cut)))
+    (λ bytes. CrashLeaves d.moment d.image_since old new (OpensOldOrNew saver.header bytes (next_saved saver cut)))
     → SavesInPart d (Some saver) old new [] (cut ∷ [])
 unfinished_save one d saver cut old new are before now_is_since any_moment = record {
   unused = λ none. cc none;
@@ -185,7 +185,7 @@ unfinished_save one d saver cut old new are before now_is_since any_moment = rec
         opens = (store.first, store.second, store.holds, refl);
         any_moment = leaves;
         afterwards = λ image now.
-            subst (λ n. OpensToSaves saver.settings opened (saves_after n saver.digest (cut ∷ [])) image) (omega arith)
+            subst (λ n. OpensToSaves saver.header opened (saves_after n saver.digest (cut ∷ [])) image) (omega arith)
             (⊎_elim (λ never. absurd never) (λ among. among)
             (leaves.each image (now_is_since new (d.moment old) image leaves.later now)));
       };
@@ -197,7 +197,7 @@ pub unfinished_save_of : OpenToOne → {D : Type 0} (d : DiskOf D) (before : Opt
     → IfSome before (CanSaveCut (d.reads old) (d.image_now old) cut)
     → ((disk : D) (t : ℕ) (image : List ℕ) → t ≤ d.moment disk → d.image_now disk image → d.image_since disk t image)
     → IfImageKnown (d.reads old)
-    (λ bytes. CrashLeaves d.moment d.image_since old new (OpensOldOrNew saver.settings bytes (next_saved saver cut)))
+    (λ bytes. CrashLeaves d.moment d.image_since old new (OpensOldOrNew saver.header bytes (next_saved saver cut)))
     → SavesInPart d before old new [] (cut ∷ [])
 unfinished_save_of one d before saver cut old new is can now_is_since any_moment =
     let may : CanSaveCut (d.reads old) (d.image_now old) cut saver =
@@ -220,16 +220,16 @@ no_save d (Some saver) disk only_now stands = record {
         let store = stands bytes is in
         let first = store.is_known.first in
         let second = store.is_known.second in
-        let was : StoreOpensTo saver.settings bytes (newest_in first second) = (first, second, store.is_known.holds, refl) in
+        let was : StoreOpensTo saver.header bytes (newest_in first second) = (first, second, store.is_known.holds, refl) in
         record {
           opened = newest_in first second;
           opens = was;
           any_moment = CrashLeaves-none d.moment d.image_since disk
-              (λ image. ⊥ ⊎ StoreOpensTo saver.settings image (newest_in first second))
-              (λ image since. inr (subst (λ i. StoreOpensTo saver.settings i (newest_in first second))
+              (λ image. ⊥ ⊎ StoreOpensTo saver.header image (newest_in first second))
+              (λ image since. inr (subst (λ i. StoreOpensTo saver.header i (newest_in first second))
               (sym (store.only image (only_now image since))) was));
           afterwards = λ image now.
-              subst (λ i. StoreOpensTo saver.settings i (newest_in first second)) (sym (store.only image now)) was;
+              subst (λ i. StoreOpensTo saver.header i (newest_in first second)) (sym (store.only image now)) was;
         };
   };
 }
@@ -239,10 +239,10 @@ fold-append_saves : {A B : Type 0} (f : B → A → B) (start : B) (xs ys : List
 fold-append_saves f start [] ys = refl
 fold-append_saves f start (x ∷ xs) ys = fold-append_saves f (f start x) xs ys
 
--- saves leave the settings and the digest of their saver
-pub saves_leave_settings : (saver : SaverState) (cuts : List CutValue) → (after_saves saver cuts).settings ≡ saver.settings
-saves_leave_settings saver [] = refl
-saves_leave_settings saver (cut ∷ cuts) = saves_leave_settings (saver_after saver cut) cuts
+-- saves leave the header and the digest of their saver
+pub saves_leave_header : (saver : SaverState) (cuts : List CutValue) → (after_saves saver cuts).header ≡ saver.header
+saves_leave_header saver [] = refl
+saves_leave_header saver (cut ∷ cuts) = saves_leave_header (saver_after saver cut) cuts
 
 pub saves_leave_digest : (saver : SaverState) (cuts : List CutValue) → (after_saves saver cuts).digest ≡ saver.digest
 saves_leave_digest saver [] = refl
@@ -256,17 +256,17 @@ saves_raise_sequence saver (cut ∷ cuts) = saves_raise_sequence (saver_after sa
 -- what is kept by the saver after these saves is kept by the one before them
 saves_kept_as_before : {D : Type 0} (d : DiskOf D)
     (saver : SaverState) (cuts saved unfinished : List CutValue) (mid new : D) (store : List ℕ)
-    → KeepsSaves d (after_saves saver cuts).settings (after_saves saver cuts).digest (λ image. ⊥)
+    → KeepsSaves d (after_saves saver cuts).header (after_saves saver cuts).digest (λ image. ⊥)
     saved unfinished mid new store
-    → KeepsSaves d saver.settings saver.digest (λ image. ⊥) saved unfinished mid new store
+    → KeepsSaves d saver.header saver.digest (λ image. ⊥) saved unfinished mid new store
 saves_kept_as_before d saver cuts saved unfinished mid new store kept =
-    subst (λ settings. KeepsSaves d settings saver.digest (λ image. ⊥) saved unfinished mid new store)
-    (saves_leave_settings saver cuts)
-    (subst (λ digest. KeepsSaves d (after_saves saver cuts).settings digest (λ image. ⊥) saved
+    subst (λ header. KeepsSaves d header saver.digest (λ image. ⊥) saved unfinished mid new store)
+    (saves_leave_header saver cuts)
+    (subst (λ digest. KeepsSaves d (after_saves saver cuts).header digest (λ image. ⊥) saved
     unfinished mid new store) (saves_leave_digest saver cuts) kept)
 
 saves_of_cuts_follow : OpenToOne → {D : Type 0} (d : DiskOf D) (saver : SaverState) (cuts later : List CutValue)
-    (old mid new : D) → AreSettings saver.settings
+    (old mid new : D) → AreSettings saver.header.settings
     → ((disk : D) (bytes : List ℕ) → d.reads disk ≡ Some bytes → d.image_now disk bytes)
     → SavesCuts d saver cuts old mid
     → SavesCuts d (after_saves saver cuts) later mid new
@@ -277,7 +277,7 @@ saves_of_cuts_follow one d saver cuts later old mid new are is_image first secon
       subst (DiskMatches (d.reads new) (d.image_now new)) (sym (fold-append_saves saver_after saver cuts later)) second.stands;
   kept = λ bytes is.
       let between = save_leaves_bytes_known (d.reads old) (d.reads mid) bytes first.known is in
-      kept_saves_follow one d saver.settings saver.digest (λ image. ⊥) cuts later [] old mid new bytes
+      kept_saves_follow one d saver.header saver.digest (λ image. ⊥) cuts later [] old mid new bytes
       between.0 are (is_image mid between.0 between.1) (first.kept bytes is)
       (saves_kept_as_before d saver cuts later [] mid new between.0
       (second.kept between.0 between.1));
@@ -285,7 +285,7 @@ saves_of_cuts_follow one d saver cuts later old mid new are is_image first secon
 
 -- saves after saves
 pub saves_follow : OpenToOne → {D : Type 0} (d : DiskOf D) (before between after : Option SaverState)
-    (cuts later : List CutValue) (old mid new : D) → IfSome before (λ saver. AreSettings saver.settings)
+    (cuts later : List CutValue) (old mid new : D) → IfSome before (λ saver. AreSettings saver.header.settings)
     → ((disk : D) (bytes : List ℕ) → d.reads disk ≡ Some bytes → d.image_now disk bytes)
     → SavesInTurn d before between old mid cuts
     → SavesInTurn d between after mid new later
@@ -359,7 +359,7 @@ saver_after_more_saves (Some saver) between cuts saved [] is =
 
 -- what broke off after saves
 pub broken_off_save_follows : OpenToOne → {D : Type 0} (d : DiskOf D) (before between : Option SaverState)
-    (cuts saved unfinished : List CutValue) (old mid new : D) → IfSome before (λ saver. AreSettings saver.settings)
+    (cuts saved unfinished : List CutValue) (old mid new : D) → IfSome before (λ saver. AreSettings saver.header.settings)
     → ((disk : D) (bytes : List ℕ) → d.reads disk ≡ Some bytes → d.image_now disk bytes)
     → SavesInTurn d before between old mid cuts
     → SavesInPart d between mid new saved unfinished
@@ -373,14 +373,14 @@ broken_off_save_follows one d (Some saver) between cuts saved unfinished old mid
           let known = save_leaves_bytes_known (d.reads old) (d.reads mid) bytes first.saves.known is in
           let then : SavesInPart d (Some (after_saves saver cuts)) mid new saved unfinished =
           subst (λ s. SavesInPart d s mid new saved unfinished) first.saver second in
-          kept_saves_follow one d saver.settings saver.digest (λ image. ⊥) cuts saved unfinished old mid
+          kept_saves_follow one d saver.header saver.digest (λ image. ⊥) cuts saved unfinished old mid
           new bytes known.0 are (is_image mid known.0 known.1) (first.saves.kept bytes is)
           (saves_kept_as_before d saver cuts saved unfinished mid new known.0 (then.kept known.0 known.1));
     }
 
 -- and the saver after it
 pub broken_saves_follow : OpenToOne → {D : Type 0} (d : DiskOf D) (before between after : Option SaverState)
-    (cuts saved unfinished : List CutValue) (old mid new : D) → IfSome before (λ saver. AreSettings saver.settings)
+    (cuts saved unfinished : List CutValue) (old mid new : D) → IfSome before (λ saver. AreSettings saver.header.settings)
     → ((disk : D) (bytes : List ℕ) → d.reads disk ≡ Some bytes → d.image_now disk bytes)
     → SavesInTurn d before between old mid cuts
     → SavesBreakOff d between after mid new saved unfinished

@@ -14,10 +14,10 @@ use Rattle.hhh_report.specs.declared.report.Report.{Report}
 use Rattle.hhh_report.specs.declared.reports.Reported.{Reported}
 use Rattle.gate_workers.specs.{IsCoreReport, cut_at}
 use Rattle.checkpoint.specs.{StoreBelongs, IsStoreOf, SavedValue, lists_digest, store_sequence}
-use Rattle.checkpoint.specs.declared.settings.StoreSettings.{StoreSettings}
+use Rattle.checkpoint.specs.declared.header.StoreHeader.{StoreHeader}
 use Rattle.command_words.specs.declared.settings.Settings.{Settings}
 use Rattle.report_text.specs.{report_text}
-use Rattle.report_session.specs.Saving.{OpensToSaves, last_of_saves, saves_after, saves_settings}
+use Rattle.report_session.specs.Saving.{OpensToSaves, last_of_saves, saves_after}
 use Rattle.report_session.specs.Session.{AreReports, IsShownInSession, SessionReports}
 use Rattle.report_session.specs.Session.{caller_reports, session_ends, saved_cuts}
 use Rattle.report_session.specs.Session.{saves_of}
@@ -68,16 +68,16 @@ saved_store_sessions_end_alike one represent text opening other_opening settings
     (subst (λ n. IsReportOf (cut_at other_opening last.positions) n last) (sym phi) second.is_report.is))
 
 -- what is saved of these reports is of the lists
-pub saved_store_belongs : (settings : StoreSettings) (lists : List (List RecordValue)) (opened : Option SavedValue)
-    (sequence : ℕ) (cuts : List CutValue) (image : List ℕ) → IsStoreOf settings lists opened
+pub saved_store_belongs : (header : StoreHeader) (lists : List (List RecordValue)) (opened : Option SavedValue)
+    (sequence : ℕ) (cuts : List CutValue) (image : List ℕ) → IsStoreOf header lists opened
     → All (λ cut. CutRepresents cut lists) cuts
-    → OpensToSaves settings opened (saves_after sequence (lists_digest settings lists) cuts) image
-    → StoreBelongs settings lists image
-saved_store_belongs settings lists opened sequence [] image of_lists all opens = (opened, opens, of_lists)
-saved_store_belongs settings lists opened sequence (cut ∷ cuts) image of_lists all (inl opens) = (opened, opens, of_lists)
-saved_store_belongs settings lists opened sequence (cut ∷ cuts) image of_lists all (inr among) =
-    saved_store_belongs settings lists
-    (Some (record { sequence = sequence + 1; digest = lists_digest settings lists; cut = cut })) (sequence + 1) cuts image
+    → OpensToSaves header opened (saves_after sequence (lists_digest header lists) cuts) image
+    → StoreBelongs header lists image
+saved_store_belongs header lists opened sequence [] image of_lists all opens = (opened, opens, of_lists)
+saved_store_belongs header lists opened sequence (cut ∷ cuts) image of_lists all (inl opens) = (opened, opens, of_lists)
+saved_store_belongs header lists opened sequence (cut ∷ cuts) image of_lists all (inr among) =
+    saved_store_belongs header lists
+    (Some (record { sequence = sequence + 1; digest = lists_digest header lists; cut = cut })) (sequence + 1) cuts image
     (refl, All-head (λ c. CutRepresents c lists) cut cuts all) (All-tail (λ c. CutRepresents c lists) cut cuts all) among
 
 pub saved_store_cuts_represent : SavedStoreCutsRepresent → (opening : List ShardValue) (settings : Settings) (reports : List Reported)
@@ -87,13 +87,13 @@ saved_store_cuts_represent represent opening settings reports shards bases shown
     All-map (λ cut. CutRepresents cut (core_lists opening)) (λ (r : Reported). cut_at opening r.report.positions) reports
     (λ k d lt. represent opening settings.phi _ shards (shown k d lt).is_report bases)
 
-pub saved_store_of_session_belongs : SavedStoreCutsRepresent → (opening : List ShardValue) (settings : Settings) (reports : List Reported)
-    (opened : Option SavedValue) (image : List ℕ) → AreCoreShards opening → BasesRepresent opening
-    → All (IsShownInSession opening settings) reports → IsStoreOf (saves_settings settings) (core_lists opening) opened
-    → OpensToSaves (saves_settings settings) opened (saves_of settings opening opened reports) image
-    → StoreBelongs (saves_settings settings) (core_lists opening) image
-saved_store_of_session_belongs represent opening settings reports opened image shards bases shown of_lists among =
-    saved_store_belongs (saves_settings settings) (core_lists opening) opened (store_sequence opened)
+pub saved_store_of_session_belongs : SavedStoreCutsRepresent → (header : StoreHeader) (opening : List ShardValue) (settings : Settings)
+    (reports : List Reported) (opened : Option SavedValue) (image : List ℕ) → AreCoreShards opening → BasesRepresent opening
+    → All (IsShownInSession opening settings) reports → IsStoreOf header (core_lists opening) opened
+    → OpensToSaves header opened (saves_of header opening opened reports) image
+    → StoreBelongs header (core_lists opening) image
+saved_store_of_session_belongs represent header opening settings reports opened image shards bases shown of_lists among =
+    saved_store_belongs header (core_lists opening) opened (store_sequence opened)
     (saved_cuts true opening reports) image of_lists
     (saved_store_cuts_represent represent opening settings reports shards bases shown) among
 
@@ -106,13 +106,13 @@ saved_store_holds_newest opened sequence digest (first ∷ cuts) cut =
     saved_store_holds_newest (Some (record { sequence = sequence + 1; digest = digest; cut = first })) (sequence + 1) digest cuts cut
     ∙ ap (λ n. Some (record { sequence = n; digest = digest; cut = cut })) (omega arith)
 
-pub saved_store_stands_at_ends : (opening : List ShardValue) (settings : Settings) (reports : SessionReports)
+pub saved_store_stands_at_ends : (header : StoreHeader) (opening : List ShardValue) (settings : Settings) (reports : SessionReports)
     (opened : Option SavedValue) → AreReports opening settings reports
-    → IsSomeAnd (last_of_saves opened (saves_of settings opening opened (caller_reports reports))) (λ saved.
+    → IsSomeAnd (last_of_saves opened (saves_of header opening opened (caller_reports reports))) (λ saved.
     (cut_positions saved.cut ≡ session_ends opening) × (saved.sequence ≡ store_sequence opened + (settings.rounds + 1)))
-saved_store_stands_at_ends opening settings reports opened are =
+saved_store_stands_at_ends header opening settings reports opened are =
     let f : Reported → CutValue = λ reported. cut_at opening reported.report.positions in
-    let digest : List ℕ = lists_digest (saves_settings settings) (core_lists opening) in
+    let digest : List ℕ = lists_digest header (core_lists opening) in
     let first : IsShownInSession opening settings reports.last =
     last_report_is_among_all (IsShownInSession opening settings) reports.rounds reports.last are.calling.shown in
     let parted : saved_cuts true opening (caller_reports reports) ≡ map f reports.rounds ++ f reports.last ∷ [] =

@@ -161,8 +161,8 @@ seen_positions_can_be_saved reads possible opening phi before now report (Some s
       settings = can.fits.settings;
       stands = can.stands;
       early = can.early;
-      shape = subst (HasCoreShape saver.settings.shards (settings_shape saver.settings)) (sym is)
-          (subst (λ n. HasCoreShape n (settings_shape saver.settings) (cut_at opening report.positions)) (sym can.fits.shards)
+      shape = subst (HasCoreShape saver.header.settings.shards (settings_shape saver.header.settings)) (sym is)
+          (subst (λ n. HasCoreShape n (settings_shape saver.header.settings) (cut_at opening report.positions)) (sym can.fits.shards)
           (subst (λ n. HasCoreShape (length opening) n (cut_at opening report.positions)) (sym can.fits.shape) shape));
       no_earlier = subst (AreNotPast saver.positions)
           (sym (ap cut_positions is ∙ seen_positions_of_cut opening report.positions at.as_many))
@@ -240,7 +240,7 @@ seen_positions_saver_is_early reads possible opening view count (Some saver) can
 
 pub seen_positions_allowed_settings : (reads : Option (List ℕ)) (possible : List ℕ → Type 0) (opening : List ShardValue) (view : View)
     (count : ℕ) (saver : Option SaverState) → IfSome saver (CanMakeSaves reads possible opening view count)
-    → IfSome saver (λ saver. AreSettings saver.settings)
+    → IfSome saver (λ saver. AreSettings saver.header.settings)
 seen_positions_allowed_settings reads possible opening view count None can = tt
 seen_positions_allowed_settings reads possible opening view count (Some saver) can = can.fits.settings
 

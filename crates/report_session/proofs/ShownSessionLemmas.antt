@@ -42,6 +42,7 @@ shown_session store opened reports records = record {
   not_ipv4 = records.not_ipv4;
   short = records.short;
   bad_header = records.bad_header;
+  cut = records.cut;
 }
 
 -- the line that says that a cut was saved, as it is printed

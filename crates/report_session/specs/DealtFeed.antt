@@ -55,8 +55,8 @@ pub record IsFeedCapture (settings : Settings) (rules : DealingRules) (file : Op
 -- a saver of the store that the settings ask for, over dealt lists, from these positions on
 pub record IsFeedSaver (settings : Settings) (lists : List (List RecordValue)) (positions : List ℕ) (saver : SaverState)
     : Type 0 where
-  pub settings_are : saver.settings ≡ saves_settings settings
-  pub digest_is : saver.digest ≡ lists_digest (saves_settings settings) lists
+  pub settings_are : saver.header.settings ≡ saves_settings settings
+  pub digest_is : saver.digest ≡ lists_digest saver.header lists
   pub early : saver.sequence ≤ greatest_opened
   pub positions_are : saver.positions ≡ positions
 
@@ -226,10 +226,10 @@ pub record IsFeedRest (board : WordsValue) (settings : Settings) (called : List 
 -- a saver that may save this cut, into the disk as it is
 pub record CanSaveCut (reads : Option (List ℕ)) (possible : List ℕ → Type 0) (cut : CutValue) (saver : SaverState)
     : Type 0 where
-  pub settings : AreSettings saver.settings
+  pub settings : AreSettings saver.header.settings
   pub stands : DiskMatches reads possible saver
   pub early : saver.sequence + 1 ≤ greatest_sequence
-  pub shape : HasCoreShape saver.settings.shards (settings_shape saver.settings) cut
+  pub shape : HasCoreShape saver.header.settings.shards (settings_shape saver.header.settings) cut
   pub no_earlier : AreNotPast saver.positions (cut_positions cut)
 
 -- bytes of the calling thread's rounds were written, before they broke off

@@ -8,7 +8,8 @@ use Rattle.gate_workers.specs.{IsLaterView, View}
 use Rattle.slot_disk.specs.{IfImageKnown, CrashLeaves}
 use Rattle.slot_disk.specs.declared.disk.Disk.{Ghosts as DiskOf}
 use Rattle.checkpoint.specs.{AreSettings, StoreBelongs, StoreOpensTo, SavedValue, SaverState, DiskMatches}
-use Rattle.checkpoint.specs.{saver_after, lists_digest}
+use Rattle.checkpoint.specs.declared.header.StoreHeader.{StoreHeader}
+use Rattle.checkpoint.specs.{saver_after, lists_digest, stored_header}
 use Rattle.checkpoint.specs.{greatest_sequence, store_positions, store_sequence}
 use Rattle.prefix_lattice.specs.{RecordValue}
 use Rattle.checkpoint.specs.declared.settings.StoreSettings.{StoreSettings}
@@ -25,6 +26,7 @@ saves_settings settings = record {
   capacity = settings.capacity;
   weigh = settings.weigh;
   deal = settings.deal;
+  grain = settings.grain;
 }
 
 -- what these cuts are saved as, one after another: under the sequence numbers after this one, and with this digest
@@ -38,33 +40,34 @@ abbrev pub last_of_saves : Option SavedValue → List SavedValue → Option Save
 last_of_saves opened [] = opened
 last_of_saves opened (saved ∷ later) = last_of_saves (Some saved) later
 
--- the image is a sound store that opens to what the store opened to before these saves, or to one of them
-abbrev pub OpensToSaves : StoreSettings → Option SavedValue → List SavedValue → List ℕ → Type 0
-OpensToSaves settings opened [] image = StoreOpensTo settings image opened
-OpensToSaves settings opened (saved ∷ later) image =
-    StoreOpensTo settings image opened ⊎ OpensToSaves settings (Some saved) later image
+-- the image is a sound store with this header, and opens to what the store opened to before these saves, or to one of them
+abbrev pub OpensToSaves : StoreHeader → Option SavedValue → List SavedValue → List ℕ → Type 0
+OpensToSaves header opened [] image = StoreOpensTo header image opened
+OpensToSaves header opened (saved ∷ later) image =
+    StoreOpensTo header image opened ⊎ OpensToSaves header (Some saved) later image
 
 -- The cuts `saved` were saved, and one save may be unfinished. A crash at any moment of the run leaves what it could have left
 -- before the run (`Earlier`), or a sound store that opens as before or to one of these cuts; which one isn't tied to the lines
 -- written by then. A crash afterwards leaves a store that opens to the last saved cut, or as before if there is none, or to
 -- the cut whose save is unfinished
-pub record KeepsSaves {D : Type 0} (d : DiskOf D) (settings : StoreSettings) (digest : List ℕ) (Earlier : List ℕ → Type 0)
+pub record KeepsSaves {D : Type 0} (d : DiskOf D) (header : StoreHeader) (digest : List ℕ) (Earlier : List ℕ → Type 0)
     (saved unfinished : List CutValue) (old new : D) (store : List ℕ) : Type 0 where
   pub opened : Option SavedValue
-  pub opens : StoreOpensTo settings store opened
+  pub opens : StoreOpensTo header store opened
   pub any_moment : CrashLeaves d.moment d.image_since old new (λ image. Earlier image
-      ⊎ OpensToSaves settings opened (saves_after (store_sequence opened) digest (saved ++ unfinished)) image)
+      ⊎ OpensToSaves header opened (saves_after (store_sequence opened) digest (saved ++ unfinished)) image)
   pub afterwards : (image : List ℕ) → d.image_now new image
-      → OpensToSaves settings (last_of_saves opened (saves_after (store_sequence opened) digest saved))
+      → OpensToSaves header (last_of_saves opened (saves_after (store_sequence opened) digest saved))
       (saves_after (store_sequence opened + length saved) digest unfinished) image
 
--- what a run keeps of the store on its disk, where the bytes of the disk were known as it began; given the store's settings,
--- the dealt lists, the cuts of them that were saved, and the one whose save is unfinished, if any
+-- what a run keeps of the store on its disk, where the bytes of the disk were known as it began, under the header that they
+-- have; given the store's settings, the dealt lists, the cuts of them that were saved, and the one whose save is unfinished,
+-- if any
 abbrev pub AreKeptOnDisk : {D : Type 0} → DiskOf D → (old new : D) → StoreSettings → List (List RecordValue)
     → (saved unfinished : List CutValue) → Type 0
 AreKeptOnDisk d old new settings lists saved unfinished =
-    IfImageKnown (d.reads old)
-    (KeepsSaves d settings (lists_digest settings lists) (d.image_now old) saved unfinished old new)
+    IfImageKnown (d.reads old) (λ store. KeepsSaves d (stored_header settings store)
+    (lists_digest (stored_header settings store) lists) (d.image_now old) saved unfinished old new store)
 
 -- of what a store opens to, `found` is no earlier than `opened`: neither its sequence nor the position of any shard is
 -- smaller
@@ -73,36 +76,41 @@ pub record IsNoEarlier (settings : StoreSettings) (opened found : Option SavedVa
   pub positions : AreNotPast (store_positions settings opened) (store_positions settings found)
 
 -- the image is a sound store that opens to nothing earlier than `last`, and to exactly that if no save is unfinished
-pub record SavesReopen (settings : StoreSettings) (last : Option SavedValue) (unfinished : List CutValue) (image : List ℕ)
+pub record SavesReopen (header : StoreHeader) (last : Option SavedValue) (unfinished : List CutValue) (image : List ℕ)
     : Type 0 where
   pub found : Option SavedValue
-  pub opens : StoreOpensTo settings image found
-  pub no_earlier : IsNoEarlier settings last found
+  pub opens : StoreOpensTo header image found
+  pub no_earlier : IsNoEarlier header.settings last found
   pub exact : unfinished ≡ [] → found ≡ last
 
 -- a store that had the bytes `store` before the cuts `saved` were saved, and before an unfinished save, if any: whatever a
 -- crash now leaves of it (Possible) opens to nothing earlier than the last saved cut, or as before where none was saved
-pub record ReopenFromStore (Possible : List ℕ → Type 0) (settings : StoreSettings) (digest : List ℕ)
+pub record ReopenFromStore (Possible : List ℕ → Type 0) (header : StoreHeader) (digest : List ℕ)
     (saved unfinished : List CutValue) (store : List ℕ) : Type 0 where
   pub opened : Option SavedValue
-  pub opens : StoreOpensTo settings store opened
+  pub opens : StoreOpensTo header store opened
   pub again : (image : List ℕ) → Possible image
-      → SavesReopen settings (last_of_saves opened (saves_after (store_sequence opened) digest saved)) unfinished image
+      → SavesReopen header (last_of_saves opened (saves_after (store_sequence opened) digest saved)) unfinished image
 
 -- the store on a disk opens again after a run, where its bytes were known as the run began, for the store's settings, the
 -- dealt lists, the cuts that were saved of them, and one whose save is unfinished, if any
 abbrev pub AreReopened : {D : Type 0} → DiskOf D → (old new : D)
     → StoreSettings → List (List RecordValue) → (saved unfinished : List CutValue) → Type 0
 AreReopened d old new settings lists saved unfinished =
-    IfImageKnown (d.reads old) (ReopenFromStore (d.image_now new) settings (lists_digest settings lists) saved unfinished)
+    IfImageKnown (d.reads old) (λ store. ReopenFromStore (d.image_now new) (stored_header settings store)
+    (lists_digest (stored_header settings store) lists) saved unfinished store)
+
+-- the image is a sound store with these settings in its header, and belongs to these lists
+abbrev pub BelongsToLists : StoreSettings → List (List RecordValue) → List ℕ → Type 0
+BelongsToLists settings lists image = StoreBelongs (stored_header settings image) lists image
 
 -- the saved cut that a session went on from, if any, represents these lists, and whatever a crash leaves of the store at any
 -- moment of the session, and after it, is a sound store that belongs to them
 pub record BelongThroughout {D : Type 0} (d : DiskOf D) (settings : StoreSettings) (lists : List (List RecordValue))
     (base : Option CutValue) (old new : D) : Type 0 where
   pub base_represents : IfSome base (λ cut. CutRepresents cut lists)
-  pub any_moment : CrashLeaves d.moment d.image_since old new (StoreBelongs settings lists)
-  pub afterwards : (image : List ℕ) → d.image_now new image → StoreBelongs settings lists image
+  pub any_moment : CrashLeaves d.moment d.image_since old new (BelongsToLists settings lists)
+  pub afterwards : (image : List ℕ) → d.image_now new image → BelongsToLists settings lists image
 
 -- the disk reads as before, and a crash at any moment leaves what it could have left before
 pub record IsAsBefore {D : Type 0} (d : DiskOf D) (old new : D) : Type 0 where
@@ -118,7 +126,7 @@ pub record SavesCuts {D : Type 0} (d : DiskOf D) (saver : SaverState) (cuts : Li
   pub known : is_some (d.reads new) ≡ is_some (d.reads old)
   pub stands : DiskMatches (d.reads new) (d.image_now new) (after_saves saver cuts)
   pub kept : IfImageKnown (d.reads old)
-      (KeepsSaves d saver.settings saver.digest (λ image. ⊥) cuts [] old new)
+      (KeepsSaves d saver.header saver.digest (λ image. ⊥) cuts [] old new)
 
 -- what a run with or without a saver did to the disk: the saver saved these cuts, or nothing was done
 abbrev pub Saves : {D : Type 0} → DiskOf D → Option SaverState → List CutValue → D → D → Type 0
@@ -132,7 +140,7 @@ pub record SavesInPart {D : Type 0} (d : DiskOf D) (saver : Option SaverState) (
     : Type 0 where
   pub unused : saver ≡ None → new ≡ old
   pub kept : IfSome saver (λ saver. IfImageKnown (d.reads old)
-      (KeepsSaves d saver.settings saver.digest (λ image. ⊥) saved unfinished old new))
+      (KeepsSaves d saver.header saver.digest (λ image. ⊥) saved unfinished old new))
 
 -- such saves, and this is the saver after them
 pub record SavesInTurn {D : Type 0} (d : DiskOf D) (before after : Option SaverState) (old new : D) (cuts : List CutValue)
@@ -154,9 +162,9 @@ pub record SavesBreakOff {D : Type 0} (d : DiskOf D) (before after : Option Save
 -- a saver for a board that may save what a pass with this view reads: no position that it saved is past what the view
 -- has seen
 pub record SavesFitBoard (opening : List ShardValue) (view : View) (saver : SaverState) : Type 0 where
-  pub settings : AreSettings saver.settings
-  pub shards : saver.settings.shards ≡ length opening
-  pub shape : settings_shape saver.settings ≡ core_shape opening
+  pub settings : AreSettings saver.header.settings
+  pub shards : saver.header.settings.shards ≡ length opening
+  pub shape : settings_shape saver.header.settings ≡ core_shape opening
   pub seen : AreNotPast saver.positions (map (λ trail. trail.seen) view.trails)
 
 -- a saver that may make this many saves of such reads, into the disk as it is
@@ -207,7 +215,7 @@ saves_settings-allowed settings limited = record {
   some = limited.some_shards;
   few = limited.few_shards;
   least = limited.least_capacity;
-  most = limited.most_capacity;
+  most = limited.fits;
 }
 
 -- a disk that is untouched is

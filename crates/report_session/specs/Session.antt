@@ -14,6 +14,7 @@ use Rattle.gate_workers.specs.{IsCoreReport, cut_at}
 use Rattle.frame_records.specs.declared.records.Records.{Records}
 use Rattle.slot_disk.specs.{IfImageKnown}
 use Rattle.checkpoint.specs.declared.settings.StoreSettings.{StoreSettings}
+use Rattle.checkpoint.specs.declared.header.StoreHeader.{StoreHeader}
 use Rattle.checkpoint.specs.{SavedValue, lists_digest, store_sequence}
 use Rattle.recovery.specs.{IsBaseFor, OpensToBase}
 use Rattle.command_words.specs.declared.settings.Settings.{Settings}
@@ -113,10 +114,10 @@ abbrev pub saved_cuts : Bool → List ShardValue → List Reported → List CutV
 saved_cuts store opening reports =
     if store then map (λ reported. cut_at opening reported.report.positions) reports else []
 
--- what the cuts of these reports are saved as, in a store that opened to this before
-abbrev pub saves_of : Settings → List ShardValue → Option SavedValue → List Reported → List SavedValue
-saves_of settings opening opened reports =
-    saves_after (store_sequence opened) (lists_digest (saves_settings settings) (core_lists opening))
+-- what the cuts of these reports are saved as, in a store with this header that opened to this before
+abbrev pub saves_of : StoreHeader → List ShardValue → Option SavedValue → List Reported → List SavedValue
+saves_of header opening opened reports =
+    saves_after (store_sequence opened) (lists_digest header (core_lists opening))
     (saved_cuts true opening reports)
 
 -- the positions of the last of these reports, or those at the start where there is none

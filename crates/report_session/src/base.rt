@@ -127,5 +127,6 @@ pub fn store_settings(settings: &Settings) -> StoreSettings
         capacity: settings.capacity,
         weigh: settings.weigh,
         deal: settings.deal,
+        grain: settings.grain,
     }
 }

@@ -13,9 +13,10 @@ ghost use Rattle.report_text.specs.declared.mark.Mark.TheVariants.{Opened};
 ghost use Rattle.report_text.specs.declared.session.Session.{Session};
 ghost use Rattle.shard_state.specs.{AreCoreShards, BasesRepresent, CutRepresents};
 ghost use Rattle.shard_state.specs.{ShardValue, core_shape, core_lists, cut_positions};
+ghost use Rattle.checkpoint.specs.declared.header.StoreHeader.{StoreHeader};
 ghost use Rattle.checkpoint.specs.declared.settings.StoreSettings.{StoreSettings};
 ghost use Rattle.checkpoint.specs.{StoreBelongs, IsStoreOf, StoreOpensTo, SavedValue};
-ghost use Rattle.checkpoint.specs.{store_sequence};
+ghost use Rattle.checkpoint.specs.{store_sequence, stored_header, written_header};
 ghost use Rattle.report_session.specs.Session.{AreReports, IsSession, IsSessionInPart, IsShownInSession};
 ghost use Rattle.report_session.specs.Session.{BeginsWholeSession};
 ghost use Rattle.report_session.specs.Session.{SessionReports, caller_reports, session_ends};
@@ -24,13 +25,14 @@ ghost use Rattle.report_session.specs.Session.{text_of_reports, session_start, I
 ghost use Rattle.dealt_capture.specs.{rules_by};
 ghost use Rattle.report_session.specs.KeptStore.{StoreIsKept};
 ghost use Rattle.report_session.specs.Saving.{IsAsBefore, BelongThroughout, OpensToSaves, AreKeptOnDisk};
-ghost use Rattle.report_session.specs.Saving.{last_of_saves, AreReopened, saves_settings};
+ghost use Rattle.report_session.specs.Saving.{last_of_saves, AreReopened, BelongsToLists, saves_settings};
 ghost use Rattle.hhh_report.specs.{IsSameReport, IsSound};
 ghost use Rattle.hhh_report.specs.declared.report.Report.{Report};
 ghost use Rattle.report_session.specs.Session.{asked_shape};
 
-use checkpoint::stores_open_to_one;
+use checkpoint::{stores_open_to_one, stores_show_their_header};
 use deal_rules::{Dealer, Dealers, Deals};
+use frame_records::files_are_read_or_refused;
 use gate_workers::reported_cuts_represent;
 use hhh_output::{
     a_cut_has_one_report, each_cut_has_a_report, reports_are_sound, standing_cuts_have_one_report,
@@ -77,11 +79,12 @@ pub fn resumed_sessions_end_alike()
 /// What the saves of reports, whether a session was whole or broke off, may leave of a store belongs to the dealt lists, if
 /// the store did before and the shards began with tables of their records.
 pub fn saves_belong()
-    ensures { (opening : List ShardValue) (settings : Settings) (reports : List Reported) (opened : Option SavedValue) (image : List ℕ)
+    ensures { (header : StoreHeader) (opening : List ShardValue) (settings : Settings) (reports : List Reported)
+        (opened : Option SavedValue) (image : List ℕ)
         → AreCoreShards opening → BasesRepresent opening → All (IsShownInSession opening settings) reports
-        → IsStoreOf (saves_settings settings) (core_lists opening) opened
-        → OpensToSaves (saves_settings settings) opened (saves_of settings opening opened reports) image
-        → StoreBelongs (saves_settings settings) (core_lists opening) image }
+        → IsStoreOf header (core_lists opening) opened
+        → OpensToSaves header opened (saves_of header opening opened reports) image
+        → StoreBelongs header (core_lists opening) image }
 {
     reported_cuts_represent();
 }
@@ -89,9 +92,9 @@ pub fn saves_belong()
 /// The last save of a session, which its store opens to, is of the last report: its positions are at the ends of the lists,
 /// and its sequence has risen by one for each report of the calling thread.
 pub fn last_saves_are_at_the_ends()
-    ensures { (opening : List ShardValue) (settings : Settings) (reports : SessionReports) (opened : Option SavedValue)
-        → AreReports opening settings reports
-        → IsSomeAnd (last_of_saves opened (saves_of settings opening opened (caller_reports reports))) (λ saved.
+    ensures { (header : StoreHeader) (opening : List ShardValue) (settings : Settings) (reports : SessionReports)
+        (opened : Option SavedValue) → AreReports opening settings reports
+        → IsSomeAnd (last_of_saves opened (saves_of header opening opened (caller_reports reports))) (λ saved.
         (cut_positions saved.cut ≡ session_ends opening) × (saved.sequence ≡ store_sequence opened + (settings.rounds + 1))) }
 {}
 
@@ -120,22 +123,23 @@ pub fn sessions_lose_no_save<D: Disk>()
 /// them, whether the session was whole or broke off. The settings have to be within their limits. A store with no gate open,
 /// such as one that was just formatted, belongs to any lists.
 pub fn stores_belong_throughout<D: Disk>()
-    ensures formatted { (settings : StoreSettings) (lists : List (List RecordValue)) (image : List ℕ) → StoreOpensTo settings image None
-        → StoreBelongs settings lists image }
+    ensures formatted { (settings : StoreSettings) (lists : List (List RecordValue)) (image : List ℕ)
+        → StoreOpensTo (written_header settings) image None → BelongsToLists settings lists image }
     ensures whole { (formula : DealKind → ℕ → RecordValue → ℕ → ℕ) (before now : D) (settings : Settings) (store : List ℕ)
         (file : Option (List ℕ)) (text : List ℕ) (is : IsSession settings (rules_by formula)
         (AreKeptOnDisk D.Disk before now) (D.reads before) file text)
         → AreLimited settings → settings.store ≡ true → D.reads before ≡ Some store
-        → ((image : List ℕ) → D.image_now before image → StoreBelongs (saves_settings settings) is.lists image)
+        → ((image : List ℕ) → D.image_now before image → BelongsToLists (saves_settings settings) is.lists image)
         → BelongThroughout D.Disk (saves_settings settings) is.lists is.base before now }
     ensures in_part { (formula : DealKind → ℕ → RecordValue → ℕ → ℕ) (before now : D) (settings : Settings) (store : List ℕ)
         (file : Option (List ℕ)) (front : List ℕ) (is : IsSessionInPart settings (rules_by formula)
         (AreKeptOnDisk D.Disk before now) (D.reads before) file front)
         → AreLimited settings → settings.store ≡ true → D.reads before ≡ Some store
-        → ((image : List ℕ) → D.image_now before image → StoreBelongs (saves_settings settings) is.lists image)
+        → ((image : List ℕ) → D.image_now before image → BelongsToLists (saves_settings settings) is.lists image)
         → BelongThroughout D.Disk (saves_settings settings) is.lists is.base before now }
 {
     stores_open_to_one();
+    stores_show_their_header();
     reported_cuts_represent();
 }
 
@@ -168,6 +172,7 @@ pub fn sessions_read_back<D: Disk>()
         × All (λ reported. IsSound settings.grain reported.report is.lists settings.capacity settings.phi) known.reports
         × (length known.reports ≡ (settings.callers + 1) * settings.rounds + 1) }
 {
+    files_are_read_or_refused();
     printed_sessions_read_back();
 }
 
@@ -179,14 +184,14 @@ pub fn sessions_keep_their_store<D: Disk>(dealers: &Dealers)
         → settings.store ≡ true → D.reads old ≡ Some store
         → IsSession settings (λ kind. ⟦<Dealer as Deals>⟧.may_answer (dealer_of kind dealers.now)) (AreKeptOnDisk D.Disk old new)
         (D.reads old) file text
-        → StoreIsKept D.Disk (saves_settings settings) old new store text true }
+        → StoreIsKept D.Disk (stored_header (saves_settings settings) store) old new store text true }
     ensures in_part { (old new : D) (settings : Settings) (store : List ℕ) (file : Option (List ℕ)) (front : List ℕ) → AreLimited settings
         → settings.store ≡ true → D.reads old ≡ Some store
         → IsSessionInPart settings (λ kind. ⟦<Dealer as Deals>⟧.may_answer (dealer_of kind dealers.now)) (AreKeptOnDisk D.Disk old new)
         (D.reads old) file front
-        → StoreIsKept D.Disk (saves_settings settings) old new store front false }
-    ensures as_before { (old new : D) (settings : StoreSettings) (store : List ℕ) → IsAsBefore D.Disk old new
-        → StoreIsKept D.Disk settings old new store [] false }
+        → StoreIsKept D.Disk (stored_header (saves_settings settings) store) old new store front false }
+    ensures as_before { (old new : D) (header : StoreHeader) (store : List ℕ) → IsAsBefore D.Disk old new
+        → StoreIsKept D.Disk header old new store [] false }
 {
     stores_open_to_one();
     texts_show_saves();

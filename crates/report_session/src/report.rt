@@ -8,6 +8,7 @@ ghost use Rattle.report_session.specs.Saving.{IsAsBefore, AreKeptOnDisk};
 use crate::base::open_base;
 use crate::feed::Setup;
 use crate::session::{openings_stand, write_session};
+use checkpoint::stores_show_their_header;
 use command_words::Settings;
 use deal_rules::Dealt;
 use gate_workers::Gate;
@@ -53,6 +54,7 @@ pub fn report_dealt<R: Threads + Wait + Sync, K: Sink, D: Disk, G: Gate + Sync>(
         Err(status) => return status,
     };
     openings_stand(&dealt, &base.cut, settings);
+    stores_show_their_header();
     let setup = Setup {
         rt,
         alloc,

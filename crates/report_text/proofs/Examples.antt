@@ -1,6 +1,6 @@
 -- Worked examples of the texts, most by computing.
 use Rattle.std.proofs.Common.{◌≡◌, ℕ, ◌^◌, ◌<◌, ◌≤◌, [], ◌∷◌, codes, refl, arith}
-use Rattle.std.proofs.Common.{◌-◌, ◌%◌, length, decimal}
+use Rattle.std.proofs.Common.{◌-◌, ◌%◌, length, decimal, Some, None}
 use Rattle.std.proofs.Math.ListN.{replicate}
 use Rattle.std.proofs.lemmas.List.Elements.{All-nil, All-cons, All-from_recursion}
 use Rattle.std.specs.Fmt.{digits}
@@ -17,7 +17,7 @@ use Rattle.report_text.specs.Printing.{text_line, number_text}
 use Rattle.report_text.specs.Printing.{positions_text}
 use Rattle.report_text.specs.Printing.{mark_name_text, line_text, lines_text, mark_text}
 use Rattle.report_text.specs.Printing.{report_text, tail_text}
-use Rattle.report_text.specs.Printing.{number_length, line_length}
+use Rattle.report_text.specs.Printing.{number_length, line_length, cut_length, cut_text}
 use Rattle.report_text.proofs.ShortListLemmas.{short_list_of_one_line}
 
 -- 100 bytes from 10.1.2.3 to 20.1.2.3
@@ -173,8 +173,18 @@ report_of_a_total_that_is_too_great tellable = omega (arith, tellable.total)
 
 -- seven frames, of which one was too short and two weren't IPv4
 abbrev records : Records
-records = record { list = []; frames = 7; not_ipv4 = 2; short = 1; bad_header = 0 }
+records = record { list = []; frames = 7; not_ipv4 = 2; short = 1; bad_header = 0; cut = None }
 
 pub text_of_a_tail : tail_text records ≡ codes "frames 7\nskipped 2 1 0\nend\n"
 unfolding digits
 text_of_a_tail = refl
+
+-- those of a capture whose eighth frame is cut
+pub text_of_a_cut_tail : tail_text (record records { cut = Some 500 }) ≡ codes "frames 7\nskipped 2 1 0\ncut 500\nend\n"
+unfolding digits
+text_of_a_cut_tail = refl
+
+-- the greatest place of a frame that is cut
+pub longest_line_of_a_cut : length (cut_text (Some (2 ^ 64 - 1))) ≡ cut_length
+unfolding digits
+longest_line_of_a_cut = refl

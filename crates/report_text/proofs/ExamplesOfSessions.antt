@@ -10,9 +10,10 @@ use Rattle.report_text.specs.Session.{IsSessionLine, ArePositions, IsReported}
 use Rattle.report_text.specs.Session.{IsTextSession}
 use Rattle.report_text.specs.Session.{HasSessionFault, whole_lines}
 use Rattle.report_text.specs.Session.{session_text}
+use Rattle.report_text.specs.Stages.{Stage, FollowsStage, counted, cut, ended}
 use Rattle.report_text.specs.declared.session.Session.{Session}
 use Rattle.report_text.specs.declared.session_fault.TextFault.TheVariants.{BadLine}
-use Rattle.report_text.specs.declared.session_line.SessionLine.TheVariants.{At, Total, Threshold, Line}
+use Rattle.report_text.specs.declared.session_line.SessionLine.TheVariants.{At, Total, Threshold, Line, Cut}
 use Rattle.report_text.proofs.ShortListLemmas.{short_list_of_no_line}
 use Rattle.report_text.proofs.Examples.{report, half, line_of_half_a_byte, no_line_by_bytes}
 
@@ -25,6 +26,7 @@ session = record {
   not_ipv4 = 0;
   short = 0;
   bad_header = 0;
+  cut = None;
 }
 
 pub text_of_a_session : session_text session
@@ -45,6 +47,7 @@ saved_session = record {
   not_ipv4 = 3;
   short = 2;
   bad_header = 1;
+  cut = None;
 }
 
 pub text_of_saved_positions : session_text saved_session
@@ -95,6 +98,7 @@ empty_session = record {
   not_ipv4 = 0;
   short = 0;
   bad_header = 0;
+  cut = None;
 }
 
 first_position : ShowsPositions (0 ∷ [])
@@ -123,7 +127,28 @@ session_of_no_record = record {
   not_ipv4 = omega arith;
   short = omega arith;
   bad_header = omega arith;
+  cut = tt;
 }
+
+-- the session of a capture that is cut right after its header
+pub text_of_a_cut_session : session_text (record empty_session { cut = Some 24 })
+    ≡ codes "opened 0\nreport\nat 0\ntotal 0\nthreshold 1\ndone\nframes 0\nskipped 0 0 0\ncut 24\nend\n"
+unfolding digits
+text_of_a_cut_session = refl
+
+-- a frame that is cut lies within 2^64 bytes
+pub no_cut_is_past_64_bits : ¬ IsTextSession Byte (record empty_session { cut = Some (2 ^ 64) })
+no_cut_is_past_64_bits is = let small : 2 ^ 64 < 2 ^ 64 = is.cut in omega (arith, small)
+
+-- at most one line `cut`, and only before the end
+pub no_line_cut_after_another : (next : Stage) → ¬ FollowsStage cut (Cut 24) next
+no_line_cut_after_another next follows = follows
+
+pub no_line_cut_before_the_skips : (next : Stage) → ¬ FollowsStage counted (Cut 24) next
+no_line_cut_before_the_skips next follows = follows
+
+pub no_line_cut_after_the_end : (next : Stage) → ¬ FollowsStage ended (Cut 24) next
+no_line_cut_after_the_end next follows = follows
 
 pub byte_after_a_session : HasSessionFault Byte
     (codes "opened 0\nreport\nat 0\ntotal 0\nthreshold 1\ndone\nframes 0\nskipped 0 0 0\nend\nx") (BadLine 10)

@@ -16,7 +16,7 @@ use Rattle.report_text.specs.Session.{IsSessionLine, line_words}
 use Rattle.report_text.specs.Stages.{words_in}
 use Rattle.report_text.specs.declared.session_line.SessionLine.{SessionLine}
 use Rattle.report_text.specs.declared.session_line.SessionLine.TheVariants.{Opened, Report, At, Total, Threshold, Line}
-use Rattle.report_text.specs.declared.session_line.SessionLine.TheVariants.{Done, Saved, Frames, Skipped, End}
+use Rattle.report_text.specs.declared.session_line.SessionLine.TheVariants.{Done, Saved, Frames, Skipped, Cut, End}
 
 -- texts that are unequal by a test differ
 pub named_line_texts_unlike : (text other : List ℕ) (b : Bool) → b ≡ pointwise eqb text other → b ≡ false → text ≢ other
@@ -78,6 +78,7 @@ pub record IsNoNamedLine (name : List ℕ) : Type 0 where
   pub threshold : name ≢ codes "threshold"
   pub frames : name ≢ codes "frames"
   pub skipped : name ≢ codes "skipped"
+  pub cut : name ≢ codes "cut"
 
 pub no_named_line_with_words : (name : List ℕ) (words : List (List ℕ)) → IsNoNamedLine name → 1 ≤ length words
     → (line : SessionLine)
@@ -92,6 +93,7 @@ no_named_line_with_words name words none some Done same = absurd (omega (arith, 
 no_named_line_with_words name words none some (Saved positions) same = none.saved (ap name_of_named_line same)
 no_named_line_with_words name words none some (Frames frames) same = none.frames (ap name_of_named_line same)
 no_named_line_with_words name words none some (Skipped skips) same = none.skipped (ap name_of_named_line same)
+no_named_line_with_words name words none some (Cut place) same = none.cut (ap name_of_named_line same)
 no_named_line_with_words name words none some End same = absurd (omega (arith, ap length same))
 
 -- a word that spells a position; so does the next word after some numbers, if all the words spell positions

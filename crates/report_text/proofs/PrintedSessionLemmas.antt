@@ -8,15 +8,15 @@ use Rattle.prefix_lattice.specs.declared.grain.Grain.{Grain}
 use Rattle.hhh_report.specs.declared.line.Line.{Line as LineValue}
 use Rattle.hhh_report.specs.declared.report.Report.{Report as ReportValue}
 use Rattle.hhh_report.specs.declared.reports.Reported.{Reported}
-use Rattle.report_text.specs.Printing.{line_text, lines_text, report_text}
-use Rattle.report_text.specs.Session.{words_text, report_lines, saved_lines}
+use Rattle.report_text.specs.Printing.{cut_text, line_text, lines_text, report_text}
+use Rattle.report_text.specs.Session.{words_text, report_lines, saved_lines, cut_lines}
 use Rattle.report_text.specs.Session.{saved_text, reported_lines, reported_text}
 use Rattle.report_text.specs.Session.{session_lines, session_text, printed_text, whole_lines}
 use Rattle.report_text.specs.Session.{IsTextSession, IsSessionText}
 use Rattle.report_text.specs.Session.{AreSameSessions}
 use Rattle.report_text.specs.declared.session.Session.{Session}
 use Rattle.report_text.specs.declared.session_line.SessionLine.TheVariants.{Opened, Report, At, Total, Threshold, Line}
-use Rattle.report_text.specs.declared.session_line.SessionLine.TheVariants.{Done, Saved, Frames, Skipped, End}
+use Rattle.report_text.specs.declared.session_line.SessionLine.TheVariants.{Done, Saved, Frames, Skipped, Cut, End}
 use Rattle.report_text.proofs.WholeLineLemmas.{whole_lines-lines}
 use Rattle.report_text.proofs.WholeSessionLemmas.{whole_session_lines, whole_sessions_apart, whole_session_skips}
 use Rattle.report_text.proofs.FirstLineLemmas.{FirstLineLaws, first_lines_told_by_texts}
@@ -65,8 +65,21 @@ printed_session_reports (reported ∷ reports) =
     flat_map-append words_text (reported_lines reported) (flat_map reported_lines reports)
     ∙ ap₂ (λ front behind. front ++ behind) (printed_session_whole_report reported) (printed_session_reports reports)
 
-pub printed_session_counts : (a b c : List ℕ) → a ++ (b ++ (c ++ [])) ≡ (a ++ b) ++ c
-printed_session_counts a b c = simp (append_assoc, append-nil)
+printed_session_cut_line : (place : Option ℕ) → flat_map words_text (cut_lines place) ≡ cut_text place
+printed_session_cut_line None = refl
+printed_session_cut_line (Some place) = append-nil (words_text (Cut place))
+
+printed_session_count_groups : (a b c d : List ℕ) → a ++ (b ++ (c ++ (d ++ []))) ≡ ((a ++ b) ++ c) ++ d
+printed_session_count_groups a b c d = simp (append_assoc, append-nil)
+
+-- two lines, the place of a cut frame, and the end
+pub printed_session_counts : (a b : List ℕ) (place : Option ℕ)
+    → a ++ (b ++ flat_map words_text (cut_lines place ++ End ∷ [])) ≡ ((a ++ b) ++ cut_text place) ++ words_text End
+printed_session_counts a b place =
+    ap (λ l. a ++ (b ++ l))
+    (flat_map-append words_text (cut_lines place) (End ∷ [])
+    ∙ ap (λ l. l ++ (words_text End ++ [])) (printed_session_cut_line place))
+    ∙ printed_session_count_groups a b (cut_text place) (words_text End)
 
 -- a session is printed as its text
 pub session-printed : (session : Session) → printed_text session ≡ session_text session
@@ -76,9 +89,9 @@ session-printed session =
     sym
     (ap (λ l. words_text (Opened session.opened) ++ l)
     (flat_map-append words_text (flat_map reported_lines session.reports)
-    (Frames session.frames ∷ Skipped (whole_session_skips session) ∷ End ∷ [])
+    (Frames session.frames ∷ Skipped (whole_session_skips session) ∷ (cut_lines session.cut ++ End ∷ []))
     ∙ ap₂ (λ front behind. front ++ behind) (printed_session_reports session.reports)
-    (printed_session_counts frames skipped_text (words_text End))))
+    (printed_session_counts frames skipped_text session.cut)))
 
 -- the whole lines of the text of a session are its lines
 pub printed_session_has_its_lines : (grain : Grain) (session : Session) → IsTextSession grain session

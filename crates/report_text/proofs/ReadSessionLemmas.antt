@@ -52,9 +52,9 @@ read_session_is_of_grain grain session is = λ place default within.
     λ number line inside. (lines number line inside).is_prefix
 
 -- the lines of a session, as they are read
-pub read_session_line_groups : (opened frames skips end : SessionLine) (reports : List SessionLine)
-    → ((opened ∷ (reports ++ frames ∷ [])) ++ skips ∷ []) ++ end ∷ [] ≡ opened ∷ (reports ++ frames ∷ skips ∷ end ∷ [])
-read_session_line_groups opened frames skips end reports =
+pub read_session_line_groups : (opened frames skips : SessionLine) (reports end : List SessionLine)
+    → ((opened ∷ (reports ++ frames ∷ [])) ++ skips ∷ []) ++ end ≡ opened ∷ (reports ++ frames ∷ skips ∷ end)
+read_session_line_groups opened frames skips reports end =
     ap (λ l. opened ∷ l)
-    (ap (λ l. l ++ end ∷ []) (append_assoc reports (frames ∷ []) (skips ∷ []))
-    ∙ append_assoc reports (frames ∷ skips ∷ []) (end ∷ []))
+    (ap (λ l. l ++ end) (append_assoc reports (frames ∷ []) (skips ∷ []))
+    ∙ append_assoc reports (frames ∷ skips ∷ []) end)

@@ -2,11 +2,11 @@
 use Rattle.std.proofs.Common.{◌≢◌, ℕ, List, Option, Some, None, refl}
 use Rattle.hhh_report.specs.declared.line.Line.{Line as LineValue}
 use Rattle.report_text.specs.Stages.{Stage, nothing, opened, begun, placed, weighed, listing, done, saved, counted}
-use Rattle.report_text.specs.Stages.{skipped, FollowsStage, line_after_report}
+use Rattle.report_text.specs.Stages.{skipped, cut, FollowsStage, line_after_report}
 use Rattle.report_text.specs.declared.session_line.Skips.{Skips}
 use Rattle.report_text.specs.declared.session_line.SessionLine.{SessionLine}
 use Rattle.report_text.specs.declared.session_line.SessionLine.TheVariants.{Opened, Report, At, Total, Threshold, Line}
-use Rattle.report_text.specs.declared.session_line.SessionLine.TheVariants.{Done, Saved, Frames, Skipped, End}
+use Rattle.report_text.specs.declared.session_line.SessionLine.TheVariants.{Done, Saved, Frames, Skipped, Cut, End}
 
 -- a session begins with positions
 pub line_refused_unless_opened : (line : SessionLine) → ((positions : List ℕ) → line ≢ Opened positions)
@@ -71,7 +71,14 @@ pub line_refused_unless_skips : (line : SessionLine) → ((skips : Skips) → li
 line_refused_unless_skips (Skipped skips) none next follows = none skips refl
 line_refused_unless_skips _ none next follows = follows
 
+-- the place of a cut frame, or the end
+pub line_refused_after_skips : (line : SessionLine) → ((place : ℕ) → line ≢ Cut place) → line ≢ End → (next : Stage)
+    → FollowsStage skipped line next → ⊥
+line_refused_after_skips (Cut place) none not_end next follows = none place refl
+line_refused_after_skips End none not_end next follows = not_end refl
+line_refused_after_skips _ none not_end next follows = follows
+
 -- and the end
-pub line_refused_unless_end : (line : SessionLine) → line ≢ End → (next : Stage) → FollowsStage skipped line next → ⊥
+pub line_refused_unless_end : (line : SessionLine) → line ≢ End → (next : Stage) → FollowsStage cut line next → ⊥
 line_refused_unless_end End none next follows = none refl
 line_refused_unless_end _ none next follows = follows

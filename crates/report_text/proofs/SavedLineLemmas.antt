@@ -1,5 +1,6 @@
 -- The lines `saved` of texts, from those of their parts.
 use Rattle.std.proofs.Common.{◌≡◌, ◌∙◌, inl, inr, ⊎_elim, ℕ, ◌<◌, ◌+◌, eqb, Bool, true, false, List, [], ◌∷◌, ◌++◌, map}
+use Rattle.std.proofs.Common.{Option, Some, None}
 use Rattle.std.proofs.Common.{length, get_or, drop, refl, sym, ap, subst, arith, append-nil, codes, decimal, ◌==◌}
 use Rattle.std.specs.Prelude.{if◌then◌else◌}
 use Rattle.std.specs.List.{flat_map, join_with_byte, AllByRecursion}
@@ -10,7 +11,7 @@ use Rattle.hhh_report.specs.declared.line.Line.{Line as LineValue}
 use Rattle.report_text.specs.Printing.{mark_text, report_text, tail_text, text_line}
 use Rattle.report_text.specs.SavedLines.{IsOtherLine, LinesShowSaves, ShowsSaves}
 use Rattle.report_text.specs.Session.{before_line, line_feed, line_words, report_lines, report_words}
-use Rattle.report_text.specs.Session.{skipped_words, words_text, whole_lines}
+use Rattle.report_text.specs.Session.{cut_lines, skipped_words, words_text, whole_lines}
 use Rattle.report_text.specs.declared.mark.Mark.{Mark}
 use Rattle.report_text.specs.declared.mark.Mark.TheVariants.{Opened as OpenedMark, Saved as SavedMark}
 use Rattle.report_text.specs.declared.session_line.SessionLine.{SessionLine}
@@ -124,20 +125,29 @@ saved_line_shows_its_save positions rest saves shows =
     subst (λ lines. LinesShowSaves lines (positions ∷ saves)) (sym (one_line_before_saved_ones (Saved positions) rest))
     (inr (positions, saves, refl, refl, shows))
 
+-- a frame that was cut is no save
+unsaved_end_line : IsUnsavedLine End
+unsaved_end_line = other_first_letter_is_not_saved 101 (drop 1 (codes "end")) [] (omega arith)
+
+unsaved_lines_of_cut : (place : Option ℕ) → AllByRecursion IsUnsavedLine (cut_lines place ++ End ∷ [])
+unsaved_lines_of_cut None = (unsaved_end_line, tt)
+unsaved_lines_of_cut (Some place) =
+    (other_first_letter_is_not_saved 99 (drop 1 (codes "cut")) (decimal place ∷ []) (omega arith), (unsaved_end_line, tt))
+
 -- the last lines show none
 pub last_lines_show_no_saved_one : (records : Records) → ShowsSaves (tail_text records) []
 last_lines_show_no_saved_one records =
     let skips : Skips = record { not_ipv4 = records.not_ipv4; short = records.short; bad_header = records.bad_header } in
-    let lines : List SessionLine = Frames records.frames ∷ Skipped skips ∷ End ∷ [] in
+    let lines : List SessionLine = Frames records.frames ∷ Skipped skips ∷ (cut_lines records.cut ++ End ∷ []) in
     subst (λ l. LinesShowSaves l [])
     (sym (ap whole_lines
-    (sym (printed_session_counts (words_text (Frames records.frames)) (words_text (Skipped skips)) (words_text End))
+    (sym (printed_session_counts (words_text (Frames records.frames)) (words_text (Skipped skips)) records.cut)
     ∙ sym (append-nil (flat_map words_text lines))) ∙ whole_lines-lines lines []))
     (unsaved_lines_before_others lines [] [] (
       other_first_letter_is_not_saved 102 (drop 1 (codes "frames")) (decimal records.frames ∷ []) (omega arith),
       (
         other_second_letter_is_not_saved 107 (drop 2 (codes "skipped")) (skipped_words skips) (omega arith),
-        (other_first_letter_is_not_saved 101 (drop 1 (codes "end")) [] (omega arith), tt),
+        unsaved_lines_of_cut records.cut,
       ),
     ) refl)
 

@@ -16,15 +16,15 @@ use Rattle.hhh_report.specs.declared.reports.Reported.{Reported}
 use Rattle.report_text.specs.Printing.{ShowsPositions, ShowsLine}
 use Rattle.report_text.specs.Session.{IsSessionLine, IsReportLine, AreSkips}
 use Rattle.report_text.specs.Session.{ArePositions, IsReported, IsTextSession}
-use Rattle.report_text.specs.Session.{reported_lines, saved_lines, session_lines}
+use Rattle.report_text.specs.Session.{reported_lines, saved_lines, cut_lines, session_lines}
 use Rattle.report_text.specs.Stages.{Stage, nothing, opened, begun, placed, weighed, listing, done, saved, counted}
-use Rattle.report_text.specs.Stages.{skipped, ended, FollowsStage, LeadsFromStage, ComesAfterLast}
+use Rattle.report_text.specs.Stages.{skipped, cut, ended, FollowsStage, LeadsFromStage, ComesAfterLast}
 use Rattle.report_text.specs.Stages.{body_lines}
 use Rattle.report_text.specs.declared.session.Session.{Session}
 use Rattle.report_text.specs.declared.session_line.Skips.{Skips}
 use Rattle.report_text.specs.declared.session_line.SessionLine.{SessionLine}
 use Rattle.report_text.specs.declared.session_line.SessionLine.TheVariants.{Opened, Report, At, Total, Threshold, Line}
-use Rattle.report_text.specs.declared.session_line.SessionLine.TheVariants.{Done, Saved, Frames, Skipped, End}
+use Rattle.report_text.specs.declared.session_line.SessionLine.TheVariants.{Done, Saved, Frames, Skipped, Cut, End}
 
 -- lines of a report that rise from the last one on
 abbrev pub SessionPartRises : Option PrefixValue → List LineValue → Type 0
@@ -83,6 +83,20 @@ session_part_pairs_rise last (line ∷ second ∷ lines) first pairs = (
       (AllPairs-list_tail PrecedesInSessionPart line (second ∷ lines) pairs),
 )
 
+-- the place of a frame that was cut, if one was, and the end
+pub record SessionEndPart (lines : List SessionLine) : Type 0 where
+  place : Option ℕ
+  small : IfSome place (λ number. number < 2 ^ 64)
+  spelled : lines ≡ cut_lines place ++ End ∷ []
+
+-- the skipped frames, and what follows them
+pub record CountedSessionPart (lines : List SessionLine) : Type 0 where
+  skips : Skips
+  are_skips : AreSkips skips
+  rest : List SessionLine
+  end : SessionEndPart rest
+  spelled : lines ≡ Skipped skips ∷ rest
+
 -- the counts and the end of a session over n shards, after some reports
 pub record SessionTailPart (grain : Grain) (n : ℕ) (lines : List SessionLine) : Type 0 where
   reports : List Reported
@@ -91,7 +105,9 @@ pub record SessionTailPart (grain : Grain) (n : ℕ) (lines : List SessionLine) 
   small : frames < 2 ^ 64
   skips : Skips
   are_skips : AreSkips skips
-  spelled : lines ≡ flat_map reported_lines reports ++ Frames frames ∷ Skipped skips ∷ End ∷ []
+  place : Option ℕ
+  small_place : IfSome place (λ number. number < 2 ^ 64)
+  spelled : lines ≡ flat_map reported_lines reports ++ Frames frames ∷ Skipped skips ∷ (cut_lines place ++ End ∷ [])
 
 -- what may follow a report
 pub record SessionPartAfterDone (grain : Grain) (n : ℕ) (lines : List SessionLine) : Type 0 where
@@ -166,8 +182,9 @@ SessionPartRest grain (weighed n) lines = WeighedSessionPart grain n lines
 SessionPartRest grain (listing n count last) lines = ListedSessionPart grain n count last lines
 SessionPartRest grain (done n) lines = SessionPartAfterDone grain n lines
 SessionPartRest grain (saved n) lines = SessionTailPart grain n lines
-SessionPartRest grain counted lines = (skips : Skips) × AreSkips skips × (lines ≡ Skipped skips ∷ End ∷ [])
-SessionPartRest grain skipped lines = lines ≡ End ∷ []
+SessionPartRest grain counted lines = CountedSessionPart lines
+SessionPartRest grain skipped lines = SessionEndPart lines
+SessionPartRest grain cut lines = lines ≡ End ∷ []
 SessionPartRest grain ended lines = lines ≡ []
 
 session_part_is_showable : (grain : Grain) (lines : List LineValue) → AllByRecursion (IsReportLine grain) lines
@@ -251,27 +268,30 @@ session_part_report_tail grain n lines begun_lines =
       small = tail.small;
       skips = tail.skips;
       are_skips = tail.are_skips;
+      place = tail.place;
+      small_place = tail.small_place;
       spelled =
           ap (λ l. Report ∷ l)
           (begun_lines.spelled
           ∙ ap (λ l. body_lines report ++ l)
           (after.spelled ∙ ap (λ l. saved_lines after.saved ++ l) tail.spelled)
           ∙ session_part_report_groups (body_lines report) (saved_lines after.saved) (flat_map reported_lines tail.reports)
-          (Frames tail.frames ∷ Skipped tail.skips ∷ End ∷ []));
+          (Frames tail.frames ∷ Skipped tail.skips ∷ (cut_lines tail.place ++ End ∷ [])));
     }
 
 -- the counts right after a report
-session_part_counts_tail : (grain : Grain) (n frames : ℕ) (skips : Skips) (lines : List SessionLine) → frames < 2 ^ 64
-    → AreSkips skips
-    → lines ≡ Skipped skips ∷ End ∷ [] → SessionTailPart grain n (Frames frames ∷ lines)
-session_part_counts_tail grain n frames skips lines small are spelled = record {
+session_part_counts_tail : (grain : Grain) (n frames : ℕ) (lines : List SessionLine) → frames < 2 ^ 64
+    → CountedSessionPart lines → SessionTailPart grain n (Frames frames ∷ lines)
+session_part_counts_tail grain n frames lines small counts = record {
   reports = [];
   are = tt;
   frames = frames;
   small = small;
-  skips = skips;
-  are_skips = are;
-  spelled = ap (λ l. Frames frames ∷ l) spelled;
+  skips = counts.skips;
+  are_skips = counts.are_skips;
+  place = counts.end.place;
+  small_place = counts.end.small;
+  spelled = ap (λ l. Frames frames ∷ l) (counts.spelled ∙ ap (λ l. Skipped counts.skips ∷ l) counts.end.spelled);
 }
 
 -- a report that was not saved
@@ -292,6 +312,7 @@ session_of_opened_parts grain positions lines are started =
         not_ipv4 = tail.skips.not_ipv4;
         short = tail.skips.short;
         bad_header = tail.skips.bad_header;
+        cut = tail.place;
       };
       is_session = record {
         opened = are;
@@ -301,6 +322,7 @@ session_of_opened_parts grain positions lines are started =
         not_ipv4 = tail.are_skips.not_ipv4;
         short = tail.are_skips.short;
         bad_header = tail.are_skips.bad_header;
+        cut = tail.small_place;
       };
       spelled = ap (λ l. Opened positions ∷ l) (started.spelled ∙ tail.spelled);
     }
@@ -357,15 +379,30 @@ session_part_one_line_more grain order (done n) (Saved positions) next lines fol
   spelled = refl;
 }
 session_part_one_line_more grain order (done n) (Frames frames) next lines follows is rest =
-    let counts = subst (λ s. SessionPartRest grain s lines) follows rest in
-    unsaved_session_part grain n (Frames frames ∷ lines) (session_part_counts_tail grain n frames counts.0 lines is counts.1 counts.2)
+    unsaved_session_part grain n (Frames frames ∷ lines)
+    (session_part_counts_tail grain n frames lines is (subst (λ s. SessionPartRest grain s lines) follows rest))
 session_part_one_line_more grain order (saved n) Report next lines follows is rest =
     session_part_report_tail grain n lines (subst (λ s. SessionPartRest grain s lines) follows rest)
 session_part_one_line_more grain order (saved n) (Frames frames) next lines follows is rest =
-    let counts = subst (λ s. SessionPartRest grain s lines) follows rest in session_part_counts_tail grain n frames counts.0 lines is counts.1 counts.2
-session_part_one_line_more grain order counted (Skipped skips) next lines follows is rest =
-    (skips, is, ap (λ l. Skipped skips ∷ l) (subst (λ s. SessionPartRest grain s lines) follows rest))
-session_part_one_line_more grain order skipped End next lines follows is rest =
+    session_part_counts_tail grain n frames lines is (subst (λ s. SessionPartRest grain s lines) follows rest)
+session_part_one_line_more grain order counted (Skipped skips) next lines follows is rest = record {
+  skips = skips;
+  are_skips = is;
+  rest = lines;
+  end = subst (λ s. SessionPartRest grain s lines) follows rest;
+  spelled = refl;
+}
+session_part_one_line_more grain order skipped (Cut place) next lines follows is rest = record {
+  place = Some place;
+  small = is;
+  spelled = ap (λ l. Cut place ∷ l) (subst (λ s. SessionPartRest grain s lines) follows rest);
+}
+session_part_one_line_more grain order skipped End next lines follows is rest = record {
+  place = None;
+  small = tt;
+  spelled = ap (λ l. End ∷ l) (subst (λ s. SessionPartRest grain s lines) follows rest);
+}
+session_part_one_line_more grain order cut End next lines follows is rest =
     ap (λ l. End ∷ l) (subst (λ s. SessionPartRest grain s lines) follows rest)
 session_part_one_line_more grain order _ _ next lines follows is rest = absurd follows
 

@@ -8,10 +8,10 @@ use Rattle.prefix_lattice.specs.declared.grain.Grain.{Grain}
 use Rattle.report_text.specs.Printing.{ShowsPositions}
 use Rattle.report_text.specs.Session.{IsSessionLine}
 use Rattle.report_text.specs.Stages.{Stage, nothing, opened, begun, placed, weighed, listing, done, saved, counted}
-use Rattle.report_text.specs.Stages.{skipped, ended, FollowsStage, LeadsFromStage}
+use Rattle.report_text.specs.Stages.{skipped, cut, ended, FollowsStage, LeadsFromStage}
 use Rattle.report_text.specs.declared.session_line.SessionLine.{SessionLine}
 use Rattle.report_text.specs.declared.session_line.SessionLine.TheVariants.{Opened, Report, At, Total, Threshold, Line}
-use Rattle.report_text.specs.declared.session_line.SessionLine.TheVariants.{Done, Saved, Frames, Skipped, End}
+use Rattle.report_text.specs.declared.session_line.SessionLine.TheVariants.{Done, Saved, Frames, Skipped, Cut, End}
 
 -- a line leads to one stage
 pub line_leads_to_one_stage : (stage : Stage) (line : SessionLine) (next other : Stage) → FollowsStage stage line next
@@ -29,7 +29,9 @@ line_leads_to_one_stage (done n) (Frames frames) next other one two = one ∙ sy
 line_leads_to_one_stage (saved n) Report next other one two = one ∙ sym two
 line_leads_to_one_stage (saved n) (Frames frames) next other one two = one ∙ sym two
 line_leads_to_one_stage counted (Skipped skips) next other one two = one ∙ sym two
+line_leads_to_one_stage skipped (Cut place) next other one two = one ∙ sym two
 line_leads_to_one_stage skipped End next other one two = one ∙ sym two
+line_leads_to_one_stage cut End next other one two = one ∙ sym two
 line_leads_to_one_stage _ _ next other one two = absurd one
 
 -- lines lead to one stage
@@ -71,6 +73,7 @@ ended_stage_is_last Done lines last leads = leads.1
 ended_stage_is_last (Saved positions) lines last leads = leads.1
 ended_stage_is_last (Frames frames) lines last leads = leads.1
 ended_stage_is_last (Skipped skips) lines last leads = leads.1
+ended_stage_is_last (Cut place) lines last leads = leads.1
 ended_stage_is_last End lines last leads = leads.1
 
 -- 1 to 16 shards
@@ -90,6 +93,7 @@ IsFitStage (done n) = AreStageShards n
 IsFitStage (saved n) = AreStageShards n
 IsFitStage counted = Unit {0}
 IsFitStage skipped = Unit {0}
+IsFitStage cut = Unit {0}
 IsFitStage ended = Unit {0}
 
 next_stage_is_fit : (grain : Grain) (stage : Stage) (line : SessionLine) (next : Stage) → FollowsStage stage line next
@@ -109,7 +113,9 @@ next_stage_is_fit grain (done n) (Frames frames) next follows is fit = subst IsF
 next_stage_is_fit grain (saved n) Report next follows is fit = subst IsFitStage (sym follows) fit
 next_stage_is_fit grain (saved n) (Frames frames) next follows is fit = subst IsFitStage (sym follows) tt
 next_stage_is_fit grain counted (Skipped skips) next follows is fit = subst IsFitStage (sym follows) tt
+next_stage_is_fit grain skipped (Cut place) next follows is fit = subst IsFitStage (sym follows) tt
 next_stage_is_fit grain skipped End next follows is fit = subst IsFitStage (sym follows) tt
+next_stage_is_fit grain cut End next follows is fit = subst IsFitStage (sym follows) tt
 next_stage_is_fit grain _ _ next follows is fit = absurd follows
 
 -- lines lead from such stages to such stages
@@ -145,6 +151,7 @@ end_of_stage (done n) = lines_after_done_stage
 end_of_stage (saved n) = lines_after_done_stage
 end_of_stage counted = lines_after_counts_stage
 end_of_stage skipped = End ∷ []
+end_of_stage cut = End ∷ []
 end_of_stage ended = []
 
 counts_stage_ends : LeadsFromStage counted lines_after_counts_stage ended
@@ -170,6 +177,7 @@ end_of_stage-leads (done n) = done_stage_ends n
 end_of_stage-leads (saved n) = (counted, refl, counts_stage_ends)
 end_of_stage-leads counted = counts_stage_ends
 end_of_stage-leads skipped = (ended, refl, refl)
+end_of_stage-leads cut = (ended, refl, refl)
 end_of_stage-leads ended = refl
 
 zeros_are_stage_positions : (n : ℕ) → AreStageShards n → ShowsPositions (replicate n 0)
@@ -204,4 +212,5 @@ end_of_stage-lines grain (done n) fit = (omega arith, counts_stage_lines grain)
 end_of_stage-lines grain (saved n) fit = (omega arith, counts_stage_lines grain)
 end_of_stage-lines grain counted fit = counts_stage_lines grain
 end_of_stage-lines grain skipped fit = (tt, tt)
+end_of_stage-lines grain cut fit = (tt, tt)
 end_of_stage-lines grain ended fit = tt

@@ -44,30 +44,31 @@ text_parts_of_line old a b c d new prefix lo hi is_a is_b is_c is_d is_new =
     (is_c ∙ ap (λ l. l ++ codes " " ++ lo) (is_b ∙ ap (λ l. l ++ prefix) is_a)))
     ∙ text_part_line_groups old (codes "line ") prefix (codes " ") lo hi (codes "\n")
 
--- parts of the last three lines, in other groups
-text_part_tail_groups : (old f frames end s not_ipv4 space short bad_header e : List ℕ)
-    → ((((old ++ f ++ frames) ++ (end ++ s) ++ not_ipv4) ++ space ++ short) ++ space ++ bad_header) ++ (end ++ e)
+-- parts of the last lines, in other groups
+text_part_tail_groups : (old f frames end s not_ipv4 space short bad_header cut e : List ℕ)
+    → ((((((old ++ f ++ frames) ++ (end ++ s) ++ not_ipv4) ++ space ++ short) ++ space ++ bad_header) ++ end) ++ cut) ++ e
     ≡ old
-    ++ ((((f ++ frames) ++ end) ++ ((s ++ (not_ipv4 ++ (space ++ (short ++ (space ++ bad_header))))) ++ end))
+    ++ (((((f ++ frames) ++ end) ++ ((s ++ (not_ipv4 ++ (space ++ (short ++ (space ++ bad_header))))) ++ end)) ++ cut)
     ++ e)
-text_part_tail_groups old f frames end s not_ipv4 space short bad_header e = simp append_assoc
+text_part_tail_groups old f frames end s not_ipv4 space short bad_header cut e = simp append_assoc
 
--- the last three lines
-pub text_parts_of_tail : (old a b c d new frames not_ipv4 short bad_header : List ℕ)
+-- the last lines
+pub text_parts_of_tail : (old a b c d e f new frames not_ipv4 short bad_header cut : List ℕ)
     → a ≡ old ++ codes "frames " ++ frames → b ≡ a ++ codes "\nskipped " ++ not_ipv4 → c ≡ b ++ codes " " ++ short
-    → d ≡ c ++ codes " " ++ bad_header → new ≡ d ++ codes "\nend\n"
+    → d ≡ c ++ codes " " ++ bad_header → e ≡ d ++ codes "\n" → f ≡ e ++ cut → new ≡ f ++ codes "end\n"
     → new
     ≡ old
     ++ (text_line (codes "frames" ∷ frames ∷ [])
-    ++ text_line (codes "skipped" ∷ not_ipv4 ∷ short ∷ bad_header ∷ []) ++ text_line (codes "end" ∷ []))
-text_parts_of_tail old a b c d new frames not_ipv4 short bad_header is_a is_b is_c is_d is_new =
+    ++ text_line (codes "skipped" ∷ not_ipv4 ∷ short ∷ bad_header ∷ []) ++ cut ++ text_line (codes "end" ∷ []))
+text_parts_of_tail old a b c d e f new frames not_ipv4 short bad_header cut is_a is_b is_c is_d is_e is_f is_new =
     is_new
-    ∙ ap (λ l. l ++ codes "\nend\n")
-    (is_d
-    ∙ ap (λ l. l ++ codes " " ++ bad_header)
-    (is_c ∙ ap (λ l. l ++ codes " " ++ short) (is_b ∙ ap (λ l. l ++ codes "\nskipped " ++ not_ipv4) is_a)))
+    ∙ ap (λ l. l ++ codes "end\n")
+    (is_f ∙ ap (λ l. l ++ cut)
+    (is_e ∙ ap (λ l. l ++ codes "\n")
+    (is_d ∙ ap (λ l. l ++ codes " " ++ bad_header)
+    (is_c ∙ ap (λ l. l ++ codes " " ++ short) (is_b ∙ ap (λ l. l ++ codes "\nskipped " ++ not_ipv4) is_a)))))
     ∙ text_part_tail_groups old (codes "frames ") frames (codes "\n") (codes "skipped ") not_ipv4 (codes " ") short bad_header
-    (codes "end\n")
+    cut (codes "end\n")
 
 -- parts of a report, in other groups
 text_part_report_groups : (old r positions t total end h threshold lines d : List ℕ)

@@ -1,5 +1,5 @@
 -- The lines of a session: they lead to its end, and determine what it says.
-use Rattle.std.proofs.Common.{◌≡◌, ℕ, ◌+◌, ◌<◌, ◌≤◌, List, [], ◌∷◌, ◌++◌, map, length, All, Option}
+use Rattle.std.proofs.Common.{◌≡◌, ℕ, ◌+◌, ◌<◌, ◌≤◌, ◌^◌, List, [], ◌∷◌, ◌++◌, map, length, All, Option}
 use Rattle.std.proofs.Common.{Some, None, IfSome, suc, refl, sym, ap, ◌∙◌, subst, arith, append_assoc}
 use Rattle.std.specs.List.{flat_map, AllZip, AllByRecursion}
 use Rattle.std.proofs.lemmas.List.Elements.{All-from_recursion, recursion_from_All}
@@ -11,9 +11,9 @@ use Rattle.report_text.specs.Printing.{ShowsPositions, ShowsLine}
 use Rattle.report_text.specs.Session.{IsSessionLine, ArePositions, IsReported}
 use Rattle.report_text.specs.Session.{IsTextSession}
 use Rattle.report_text.specs.Session.{AreSameSessions, report_lines, reported_lines}
-use Rattle.report_text.specs.Session.{saved_lines, session_lines}
+use Rattle.report_text.specs.Session.{saved_lines, cut_lines, session_lines}
 use Rattle.report_text.specs.Stages.{Stage, nothing, opened, begun, placed, weighed, listing, done, saved, counted}
-use Rattle.report_text.specs.Stages.{skipped, ended, LeadsFromStage, body_lines}
+use Rattle.report_text.specs.Stages.{skipped, cut, ended, LeadsFromStage, body_lines}
 use Rattle.report_text.specs.declared.session.Session.{Session}
 use Rattle.report_text.specs.declared.session_line.Skips.{Skips}
 use Rattle.report_text.specs.declared.session_line.SessionLine.{SessionLine}
@@ -78,45 +78,52 @@ whole_session_groups : (body mark reports tail : List SessionLine)
 whole_session_groups body mark reports tail = simp append_assoc
 
 -- the counts and the end
-abbrev whole_session_counts : ℕ → Skips → List SessionLine
-whole_session_counts frames skips = Frames frames ∷ Skipped skips ∷ End ∷ []
+abbrev whole_session_counts : ℕ → Skips → Option ℕ → List SessionLine
+whole_session_counts frames skips place = Frames frames ∷ Skipped skips ∷ (cut_lines place ++ End ∷ [])
 
-whole_session_counts-lead : (skips : Skips) → LeadsFromStage counted (Skipped skips ∷ End ∷ []) ended
-whole_session_counts-lead skips = (skipped, refl, (ended, refl, refl))
+whole_session_cut-leads : (place : Option ℕ) → LeadsFromStage skipped (cut_lines place ++ End ∷ []) ended
+whole_session_cut-leads None = (ended, refl, refl)
+whole_session_cut-leads (Some place) = (cut, refl, (ended, refl, refl))
+
+whole_session_counts-lead : (skips : Skips) (place : Option ℕ)
+    → LeadsFromStage counted (Skipped skips ∷ (cut_lines place ++ End ∷ [])) ended
+whole_session_counts-lead skips place = (skipped, refl, whole_session_cut-leads place)
 
 -- the first of some reports, after its first line
-whole_session_first_report : (grain : Grain) (n : ℕ) (reported : Reported) (reports : List Reported) (frames : ℕ) (skips : Skips)
+whole_session_first_report : (grain : Grain) (n : ℕ) (reported : Reported) (reports : List Reported) (frames : ℕ) (skips : Skips) (place : Option ℕ)
     → IsReported grain n reported
-    → WholeSessionGoesOn n (flat_map reported_lines reports ++ whole_session_counts frames skips)
+    → WholeSessionGoesOn n (flat_map reported_lines reports ++ whole_session_counts frames skips place)
     → LeadsFromStage (begun n)
-    (((body_lines reported.report ++ saved_lines reported.saved) ++ flat_map reported_lines reports) ++ whole_session_counts frames skips)
+    (((body_lines reported.report ++ saved_lines reported.saved) ++ flat_map reported_lines reports) ++ whole_session_counts frames skips place)
     ended
-whole_session_first_report grain n reported reports frames skips is on =
+whole_session_first_report grain n reported reports frames skips place is on =
     subst (λ l. LeadsFromStage (begun n) l ended)
     (whole_session_groups (body_lines reported.report) (saved_lines reported.saved) (flat_map reported_lines reports)
-    (whole_session_counts frames skips))
-    (whole_session_report_leads grain n reported (flat_map reported_lines reports ++ whole_session_counts frames skips) is on)
+    (whole_session_counts frames skips place))
+    (whole_session_report_leads grain n reported (flat_map reported_lines reports ++ whole_session_counts frames skips place) is on)
 
 -- reports lead to the end
-whole_session_reports_lead : (grain : Grain) (n : ℕ) (reports : List Reported) (frames : ℕ) (skips : Skips)
+whole_session_reports_lead : (grain : Grain) (n : ℕ) (reports : List Reported) (frames : ℕ) (skips : Skips) (place : Option ℕ)
     → AllByRecursion (IsReported grain n) reports
-    → WholeSessionGoesOn n (flat_map reported_lines reports ++ whole_session_counts frames skips)
-whole_session_reports_lead grain n [] frames skips all = record {
-  after_done = (counted, refl, whole_session_counts-lead skips);
-  after_saved = (counted, refl, whole_session_counts-lead skips);
+    → WholeSessionGoesOn n (flat_map reported_lines reports ++ whole_session_counts frames skips place)
+whole_session_reports_lead grain n [] frames skips place all = record {
+  after_done = (counted, refl, whole_session_counts-lead skips place);
+  after_saved = (counted, refl, whole_session_counts-lead skips place);
 }
-whole_session_reports_lead grain n (reported ∷ reports) frames skips all =
-    let first = whole_session_first_report grain n reported reports frames skips all.0 (whole_session_reports_lead grain n reports frames skips all.1) in
+whole_session_reports_lead grain n (reported ∷ reports) frames skips place all =
+    let first = whole_session_first_report grain n reported reports frames skips place all.0
+    (whole_session_reports_lead grain n reports frames skips place all.1) in
     record { after_done = (begun n, refl, first); after_saved = (begun n, refl, first) }
 
 -- one report or more
-whole_session_some_reports : (grain : Grain) (n : ℕ) (reports : List Reported) (frames : ℕ) (skips : Skips)
+whole_session_some_reports : (grain : Grain) (n : ℕ) (reports : List Reported) (frames : ℕ) (skips : Skips) (place : Option ℕ)
     → 1 ≤ length reports
     → AllByRecursion (IsReported grain n) reports
-    → LeadsFromStage (opened n) (flat_map reported_lines reports ++ whole_session_counts frames skips) ended
-whole_session_some_reports grain n [] frames skips some all = absurd (omega arith)
-whole_session_some_reports grain n (reported ∷ reports) frames skips some all =
-    (begun n, refl, whole_session_first_report grain n reported reports frames skips all.0 (whole_session_reports_lead grain n reports frames skips all.1))
+    → LeadsFromStage (opened n) (flat_map reported_lines reports ++ whole_session_counts frames skips place) ended
+whole_session_some_reports grain n [] frames skips place some all = absurd (omega arith)
+whole_session_some_reports grain n (reported ∷ reports) frames skips place some all =
+    let rest = whole_session_reports_lead grain n reports frames skips place all.1 in
+    (begun n, refl, whole_session_first_report grain n reported reports frames skips place all.0 rest)
 
 -- the skips of a session
 abbrev pub whole_session_skips : Session → Skips
@@ -128,7 +135,7 @@ pub whole_session_leads_to_end : (grain : Grain) (session : Session) → IsTextS
 whole_session_leads_to_end grain session is = (
   opened (length session.opened),
   refl,
-  whole_session_some_reports grain (length session.opened) session.reports session.frames (whole_session_skips session) is.some
+  whole_session_some_reports grain (length session.opened) session.reports session.frames (whole_session_skips session) session.cut is.some
       (recursion_from_All (IsReported grain (length session.opened)) session.reports is.reports),
 )
 
@@ -180,15 +187,25 @@ whole_session_lines_of_reports grain n (reported ∷ reports) all =
     whole_session_append grain (reported_lines reported) (flat_map reported_lines reports) (whole_session_reported_lines grain n reported all.0)
     (whole_session_lines_of_reports grain n reports all.1)
 
+whole_session_cut_lines : (grain : Grain) (place : Option ℕ) → IfSome place (λ number. number < 2 ^ 64)
+    → AllByRecursion (IsSessionLine grain) (cut_lines place ++ End ∷ [])
+whole_session_cut_lines grain None small = (tt, tt)
+whole_session_cut_lines grain (Some place) small = (small, (tt, tt))
+
 -- the lines of a session hold what lines may hold
 pub whole_session_lines : (grain : Grain) (session : Session) → IsTextSession grain session
     → AllByRecursion (IsSessionLine grain) (session_lines session)
 whole_session_lines grain session is = (
   is.opened,
-  whole_session_append grain (flat_map reported_lines session.reports) (whole_session_counts session.frames (whole_session_skips session))
+  whole_session_append grain (flat_map reported_lines session.reports) (whole_session_counts session.frames (whole_session_skips session) session.cut)
       (whole_session_lines_of_reports grain (length session.opened) session.reports
-      (recursion_from_All (IsReported grain (length session.opened)) session.reports is.reports))
-      (is.frames, (record { not_ipv4 = is.not_ipv4; short = is.short; bad_header = is.bad_header }, (tt, tt))),
+      (recursion_from_All (IsReported grain (length session.opened)) session.reports is.reports)) (
+        is.frames,
+        (
+          record { not_ipv4 = is.not_ipv4; short = is.short; bad_header = is.bad_header },
+          whole_session_cut_lines grain session.cut is.cut,
+        ),
+      ),
 )
 
 -- lines of a report before `done` are told apart
@@ -266,18 +283,30 @@ whole_session_reports_apart (reported ∷ reports) (another ∷ others) frames o
     let rest = whole_session_reports_apart reports others frames other_frames tail other marks.1 in
     (((record { positions = positions; total = total; threshold = threshold; lines = listed.0 }, marks.0), rest.0), rest.1)
 
+-- places of cut frames before the end are told apart
+whole_session_cuts_apart : (place other : Option ℕ) → cut_lines place ++ End ∷ [] ≡ cut_lines other ++ End ∷ []
+    → place ≡ other
+whole_session_cuts_apart None None same = refl
+whole_session_cuts_apart None (Some other) same = cc
+whole_session_cuts_apart (Some place) None same = cc
+whole_session_cuts_apart (Some place) (Some other) same = cc
+
 -- sessions with the same lines say the same
 pub whole_sessions_apart : (session other : Session) → session_lines session ≡ session_lines other
     → AreSameSessions session other
 whole_sessions_apart session other same =
     let opened_same : session.opened ≡ other.opened = cc in
-    let behind : flat_map reported_lines session.reports ++ whole_session_counts session.frames (whole_session_skips session)
-    ≡ flat_map reported_lines other.reports ++ whole_session_counts other.frames (whole_session_skips other) = cc in
+    let behind : flat_map reported_lines session.reports
+    ++ whole_session_counts session.frames (whole_session_skips session) session.cut
+    ≡ flat_map reported_lines other.reports
+    ++ whole_session_counts other.frames (whole_session_skips other) other.cut = cc in
     let both = whole_session_reports_apart session.reports other.reports session.frames other.frames
-    (Skipped (whole_session_skips session) ∷ End ∷ []) (Skipped (whole_session_skips other) ∷ End ∷ []) behind in
+    (Skipped (whole_session_skips session) ∷ (cut_lines session.cut ++ End ∷ []))
+    (Skipped (whole_session_skips other) ∷ (cut_lines other.cut ++ End ∷ [])) behind in
     let last = both.1 in
     let frames_same : session.frames ≡ other.frames = cc in
     let skips_same : whole_session_skips session ≡ whole_session_skips other = cc in
+    let ends : cut_lines session.cut ++ End ∷ [] ≡ cut_lines other.cut ++ End ∷ [] = cc in
     record {
       opened = opened_same;
       reports = both.0;
@@ -285,6 +314,7 @@ whole_sessions_apart session other same =
       not_ipv4 = ap (λ (s : Skips). s.not_ipv4) skips_same;
       short = ap (λ (s : Skips). s.short) skips_same;
       bad_header = ap (λ (s : Skips). s.bad_header) skips_same;
+      cut = whole_session_cuts_apart session.cut other.cut ends;
     }
 
 whole_session_same_report : (grain : Grain) (n : ℕ) (reported another : Reported) → IsReported grain n reported
@@ -331,4 +361,5 @@ whole_session_same grain session other is same =
       not_ipv4 = omega (arith, same.not_ipv4, is.not_ipv4);
       short = omega (arith, same.short, is.short);
       bad_header = omega (arith, same.bad_header, is.bad_header);
+      cut = subst (λ place. IfSome place (λ number. number < 2 ^ 64)) same.cut is.cut;
     }

@@ -15,7 +15,7 @@ use Rattle.report_text.specs.Stages.{words_in}
 use Rattle.report_text.specs.declared.session_line.Skips.{Skips}
 use Rattle.report_text.specs.declared.session_line.SessionLine.{SessionLine}
 use Rattle.report_text.specs.declared.session_line.SessionLine.TheVariants.{Opened, Report, At, Total, Threshold, Line}
-use Rattle.report_text.specs.declared.session_line.SessionLine.TheVariants.{Done, Saved, Frames, Skipped, End}
+use Rattle.report_text.specs.declared.session_line.SessionLine.TheVariants.{Done, Saved, Frames, Skipped, Cut, End}
 use Rattle.prefix_lattice.specs.{PrefixValue, IsPrefix, finest_grain, prefix_text, side_text}
 use Rattle.prefix_lattice.specs.declared.grain.Grain.{Grain}
 use Rattle.prefix_lattice.proofs.GrainLemmas.{grain_numbers}
@@ -84,6 +84,7 @@ word_list_of_line (Skipped skips) = (
   search rules,
   (decimal_is_text_word skips.not_ipv4, (decimal_is_text_word skips.short, (decimal_is_text_word skips.bad_header, tt))),
 )
+word_list_of_line (Cut place) = (search rules, (decimal_is_text_word place, tt))
 word_list_of_line End = (search rules, tt)
 
 -- the words in joined words, if there is at least one
@@ -196,6 +197,8 @@ word_list_tells_line grain law (Skipped skips) (Skipped other) is other_is same 
     let two = decimal_injective skips.short other.short is.short other_is.short second in
     let three = decimal_injective skips.bad_header other.bad_header is.bad_header other_is.bad_header third in
     ap Skipped (word_list_same_skips skips other one two three)
+word_list_tells_line grain law (Cut place) (Cut other) is other_is same =
+    let rest : decimal place ≡ decimal other = cc in ap Cut (decimal_injective place other is other_is rest)
 word_list_tells_line grain law End End is other_is same = refl
 word_list_tells_line grain law line other is other_is same =
     let kinds : word_list_initials (line_words line) ≡ word_list_initials (line_words other) = ap word_list_initials same in absurd

@@ -1,5 +1,6 @@
 -- The texts of reports and of the lines around them, and the positions that they can show.
 use Rattle.std.specs.Prelude.{ℕ, ◌+◌, ◌*◌, ◌≤◌, List, length, All, [], ◌∷◌, ◌++◌, map, codes, decimal, ◌<◌, ◌^◌}
+use Rattle.std.specs.Prelude.{Option, Some, None}
 use Rattle.std.specs.List.{join_with_byte, flat_map}
 use Rattle.prefix_lattice.specs.{text_space, prefix_text, IsPrefix, finest_grain, longest_prefix_text, record_limit}
 use Rattle.prefix_lattice.specs.{shard_limit}
@@ -36,6 +37,10 @@ number_length = 20
 abbrev pub line_length : ℕ
 line_length = 4 + 1 + longest_prefix_text + 2 * (1 + number_length) + 1
 
+-- the most bytes of the line of a cut frame: `cut` and its place, and after each a space or a line feed
+abbrev pub cut_length : ℕ
+cut_length = 3 + 1 + number_length + 1
+
 -- a line of a report: `line`, the prefix, which is two words, its low and its high
 abbrev pub line_text : Line → List ℕ
 line_text line = text_line (codes "line" ∷ prefix_text line.prefix ∷ decimal line.lo ∷ decimal line.hi ∷ [])
@@ -63,16 +68,23 @@ mark_name_text Saved = codes "saved"
 abbrev pub mark_text : Mark → List ℕ → List ℕ
 mark_text mark positions = positions_text (mark_name_text mark) positions
 
--- the last three lines: how many frames were read, and how many were skipped as not IPv4, as short and for a bad header
-abbrev pub counts_text : ℕ → ℕ → ℕ → ℕ → List ℕ
-counts_text frames not_ipv4 short bad_header =
+-- the line of the place of the frame inside which a capture ended, if it did
+abbrev pub cut_text : Option ℕ → List ℕ
+cut_text None = []
+cut_text (Some place) = number_text (codes "cut") place
+
+-- the last lines: how many frames were read, how many were skipped as not IPv4, as short and for a bad header, the place
+-- of a frame that was cut, if one was, and the end
+abbrev pub last_text : (frames not_ipv4 short bad_header : ℕ) (cut : Option ℕ) → List ℕ
+last_text frames not_ipv4 short bad_header cut =
     number_text (codes "frames") frames
     ++ text_line (codes "skipped" ∷ decimal not_ipv4 ∷ decimal short ∷ decimal bad_header ∷ [])
+    ++ cut_text cut
     ++ text_line (codes "end" ∷ [])
 
--- the last three lines, with the counts of some records
+-- the last lines, with the counts of some records and the place of the frame that was cut
 abbrev pub tail_text : Records → List ℕ
-tail_text records = counts_text records.frames records.not_ipv4 records.short records.bad_header
+tail_text records = last_text records.frames records.not_ipv4 records.short records.bad_header records.cut
 
 -- the line shows a prefix, and its low and high are 64-bit numbers
 pub record ShowsLine (grain : Grain) (line : Line) : Type 0 where

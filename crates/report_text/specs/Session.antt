@@ -9,13 +9,13 @@ use Rattle.hhh_report.specs.declared.line.Line.{Line as LineValue}
 use Rattle.hhh_report.specs.declared.report.Report.{Report as ReportValue}
 use Rattle.hhh_report.specs.declared.reports.Reported.{Reported}
 use Rattle.report_text.specs.Printing.{ShowsPositions, ShowsLine, text_line, report_text}
-use Rattle.report_text.specs.Printing.{mark_text, counts_text}
+use Rattle.report_text.specs.Printing.{mark_text, last_text}
 use Rattle.report_text.specs.declared.mark.Mark.TheVariants.{Opened as OpenedMark, Saved as SavedMark}
 use Rattle.report_text.specs.declared.session.Session.{Session}
 use Rattle.report_text.specs.declared.session_line.Skips.{Skips}
 use Rattle.report_text.specs.declared.session_line.SessionLine.{SessionLine}
 use Rattle.report_text.specs.declared.session_line.SessionLine.TheVariants.{Opened, Report, At, Total, Threshold, Line}
-use Rattle.report_text.specs.declared.session_line.SessionLine.TheVariants.{Done, Saved, Frames, Skipped, End}
+use Rattle.report_text.specs.declared.session_line.SessionLine.TheVariants.{Done, Saved, Frames, Skipped, Cut, End}
 use Rattle.report_text.specs.declared.session_fault.TextFault.{TextFault}
 use Rattle.report_text.specs.declared.session_fault.TextFault.TheVariants.{BadLine, MissingEnd, TooLong}
 use Rattle.report_text.specs.declared.session_fault.SessionFault.{SessionFault}
@@ -42,6 +42,7 @@ line_words Done = codes "done" ∷ []
 line_words (Saved positions) = codes "saved" ∷ map decimal positions
 line_words (Frames frames) = codes "frames" ∷ decimal frames ∷ []
 line_words (Skipped skips) = codes "skipped" ∷ skipped_words skips
+line_words (Cut place) = codes "cut" ∷ decimal place ∷ []
 line_words End = codes "end" ∷ []
 
 -- the text of a line of a session: its words, joined by one space, and a line feed
@@ -72,6 +73,7 @@ IsSessionLine grain Done = ⊤
 IsSessionLine grain (Saved positions) = ShowsPositions positions
 IsSessionLine grain (Frames frames) = frames < 2 ^ 64
 IsSessionLine grain (Skipped skips) = AreSkips skips
+IsSessionLine grain (Cut place) = place < 2 ^ 64
 IsSessionLine grain End = ⊤
 
 -- the lines of a report
@@ -88,13 +90,20 @@ saved_lines (Some positions) = Saved positions ∷ []
 abbrev pub reported_lines : Reported → List SessionLine
 reported_lines reported = report_lines reported.report ++ saved_lines reported.saved
 
--- the lines of a session: the positions at its start, its reports, and the four counts of frames
+-- the line after the counts of frames, if the capture ended inside a frame
+abbrev pub cut_lines : Option ℕ → List SessionLine
+cut_lines None = []
+cut_lines (Some place) = Cut place ∷ []
+
+-- the lines of a session: the positions at its start, its reports, the four counts of frames, the place of a frame that
+-- was cut, if one was, and the end
 abbrev pub session_lines : Session → List SessionLine
 session_lines session =
     Opened session.opened
     ∷ (flat_map reported_lines session.reports
     ++ Frames session.frames
-    ∷ Skipped (record { not_ipv4 = session.not_ipv4; short = session.short; bad_header = session.bad_header }) ∷ End ∷ [])
+    ∷ Skipped (record { not_ipv4 = session.not_ipv4; short = session.short; bad_header = session.bad_header })
+    ∷ (cut_lines session.cut ++ End ∷ []))
 
 -- the text of a session: that of its lines, one after the other
 abbrev pub session_text : Session → List ℕ
@@ -124,6 +133,7 @@ pub record IsTextSession (grain : Grain) (session : Session) : Type 0 where
   pub not_ipv4 : session.not_ipv4 < 2 ^ 64
   pub short : session.short < 2 ^ 64
   pub bad_header : session.bad_header < 2 ^ 64
+  pub cut : IfSome session.cut (λ place. place < 2 ^ 64)
 
 -- the text of the session
 pub record IsSessionText (grain : Grain) (text : List ℕ) (session : Session) : Type 0 where
@@ -199,6 +209,7 @@ pub record AreSameSessions (session other : Session) : Type 0 where
   pub not_ipv4 : session.not_ipv4 ≡ other.not_ipv4
   pub short : session.short ≡ other.short
   pub bad_header : session.bad_header ≡ other.bad_header
+  pub cut : session.cut ≡ other.cut
 
 -- the line that says that a cut was saved, as it is printed
 abbrev pub saved_text : Option (List ℕ) → List ℕ
@@ -209,9 +220,9 @@ saved_text (Some positions) = mark_text SavedMark positions
 abbrev pub reported_text : Reported → List ℕ
 reported_text reported = report_text reported.report ++ saved_text reported.saved
 
--- a session, as it is printed in parts: the line of the positions at its start, each report, and the last three lines
+-- a session, as it is printed in parts: the line of the positions at its start, each report, and the last lines
 abbrev pub printed_text : Session → List ℕ
 printed_text session =
     mark_text OpenedMark session.opened
     ++ (flat_map reported_text session.reports
-    ++ counts_text session.frames session.not_ipv4 session.short session.bad_header)
+    ++ last_text session.frames session.not_ipv4 session.short session.bad_header session.cut)

@@ -7,14 +7,14 @@ use Rattle.hhh_report.specs.{line_limit}
 use Rattle.hhh_report.specs.declared.report.Report.{Report as ReportValue}
 use Rattle.report_text.specs.declared.session_line.SessionLine.{SessionLine}
 use Rattle.report_text.specs.declared.session_line.SessionLine.TheVariants.{Opened, Report, At, Total, Threshold, Line}
-use Rattle.report_text.specs.declared.session_line.SessionLine.TheVariants.{Done, Saved, Frames, Skipped, End}
+use Rattle.report_text.specs.declared.session_line.SessionLine.TheVariants.{Done, Saved, Frames, Skipped, Cut, End}
 
 -- the words of a text that are separated by spaces
 abbrev pub words_in : List ℕ → List (List ℕ)
 words_in text = slice_split (λ byte. byte == text_space) text
 
--- the last line that was read: none yet; one of a session over this many shards before its last three lines, and among
--- the lines of a report how many were read and the prefix of the last one; or one of the last three lines
+-- the last line that was read: none yet; one of a session over this many shards before its last lines, and among the
+-- lines of a report how many were read and the prefix of the last one; or one of the last lines
 pub data Stage : Type 0 where
   nothing : Stage
   opened : ℕ → Stage
@@ -26,6 +26,7 @@ pub data Stage : Type 0 where
   saved : ℕ → Stage
   counted : Stage
   skipped : Stage
+  cut : Stage
   ended : Stage
 
 -- the prefix comes after the last one in the order of a report
@@ -49,7 +50,9 @@ FollowsStage (done shards) (Frames frames) next = next ≡ counted
 FollowsStage (saved shards) Report next = next ≡ begun shards
 FollowsStage (saved shards) (Frames frames) next = next ≡ counted
 FollowsStage counted (Skipped skips) next = next ≡ skipped
+FollowsStage skipped (Cut place) next = next ≡ cut
 FollowsStage skipped End next = next ≡ ended
+FollowsStage cut End next = next ≡ ended
 FollowsStage _ _ _ = ⊥
 
 -- lines lead from one stage to another

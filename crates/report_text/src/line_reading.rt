@@ -110,6 +110,9 @@ fn read_numbers(name: &[u8], rest: &[u8]) -> Option<SessionLine>
     if name == b"skipped".as_slice() {
         return skips_of(rest).map(SessionLine::Skipped);
     }
+    if name == b"cut".as_slice() {
+        return last_number(rest).map(SessionLine::Cut);
+    }
     None
 }
 

@@ -5,7 +5,7 @@ ghost use Rattle.report_text.specs.Printing.{ShowsPositions, report_text, mark_t
 ghost use Rattle.report_text.specs.Printing.{tail_text};
 
 use crate::Mark;
-use crate::putting::{put, put_lines, put_number, put_positions};
+use crate::putting::{put, put_cut, put_lines, put_number, put_positions};
 use frame_records::Records;
 use hhh_report::{Positions, Report};
 use std::alloc::AllocError;
@@ -19,8 +19,8 @@ const REPORT_ROOM: usize = 409;
 // The most bytes of a line of 16 positions, with the longer of its two names.
 const POSITIONS_ROOM: usize = 343;
 
-// The most bytes of the last three lines: four numbers and the words.
-const TAIL_ROOM: usize = 103;
+// The most bytes of the last lines of a session: five numbers and the words.
+const TAIL_ROOM: usize = 128;
 
 /// Appends the text of a report of 1 to 16 shards: the lines `report`, `at` with the positions, `total` and
 /// `threshold` with their numbers, one `line` with prefix, low and high for each line of the report, and `done`.
@@ -65,8 +65,9 @@ pub fn print_positions(
 }
 
 /// Appends the last lines of a session: `frames` with the number of frames that were read, `skipped` with the
-/// numbers of frames skipped as not IPv4, as short and for a bad header, and `end`. Memory is reserved first, so
-/// after an `Err`, which means that memory ran out, the bytes are as before.
+/// numbers of frames skipped as not IPv4, as short and for a bad header, `cut` with the place of the frame inside which
+/// the capture ended, if it did, and `end`. Memory is reserved first, so after an `Err`, which means that memory ran
+/// out, the bytes are as before.
 pub fn print_tail(records: &Records, into: &mut Vec<u8>) -> Result<(), AllocError>
     ensures ok { OnOk result (into.new.items ≡ into.old.items ++ tail_text records.now) }
     ensures err { OnErr result (into.new.items ≡ into.old.items) }
@@ -76,6 +77,8 @@ pub fn print_tail(records: &Records, into: &mut Vec<u8>) -> Result<(), AllocErro
     put_number(into, b"\nskipped ", records.not_ipv4);
     put_number(into, b" ", records.short);
     put_number(into, b" ", records.bad_header);
-    put(into, b"\nend\n");
+    put(into, b"\n");
+    put_cut(into, records.cut);
+    put(into, b"end\n");
     Ok(())
 }

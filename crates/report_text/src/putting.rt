@@ -2,8 +2,8 @@
 
 ghost use Rattle.std.specs.Prelude.{◌≡◌, ◌+◌, ◌*◌, ◌≤◌, ◌∷◌, ◌++◌, length, decimal, vec_len, vec_capacity};
 ghost use Rattle.prefix_lattice.specs.{prefix_text, longest_prefix_text};
-ghost use Rattle.report_text.specs.Printing.{line_text, lines_text, positions_text};
-ghost use Rattle.report_text.specs.Printing.{number_length, line_length};
+ghost use Rattle.report_text.specs.Printing.{cut_text, line_text, lines_text, positions_text};
+ghost use Rattle.report_text.specs.Printing.{cut_length, number_length, line_length};
 
 use hhh_report::Line;
 use itoa::Buffer;
@@ -67,6 +67,20 @@ fn put_line(text: &mut Vec<u8>, line: &Line)
     put_prefix(text, &line.prefix);
     put_number(text, b" ", line.lo);
     put_number(text, b" ", line.hi);
+    put(text, b"\n");
+}
+
+/// Appends the line of the frame inside which a capture ended to a text, if it did.
+pub(crate) fn put_cut(text: &mut Vec<u8>, cut: Option<u64>)
+    requires { vec_len text.old + cut_length ≤ vec_capacity text.old }
+    ensures text { text.new.items ≡ text.old.items ++ cut_text cut }
+    ensures length { vec_len text.new ≤ vec_len text.old + cut_length }
+    ensures room { vec_capacity text.old ≤ vec_capacity text.new }
+{
+    let Some(place) = cut else {
+        return;
+    };
+    put_number(text, b"cut ", place);
     put(text, b"\n");
 }
 

@@ -17,4 +17,6 @@ pub struct Session {
     pub short: u64,
     /// How many were skipped for a bad header.
     pub bad_header: u64,
+    /// The place in bytes of the frame inside which the capture ended, if it did.
+    pub cut: Option<u64>,
 }

@@ -33,6 +33,8 @@ pub(crate) enum SessionLine {
     Frames(u64),
     /// How many of them were skipped.
     Skipped(Skips),
+    /// The place of the frame inside which the capture ended.
+    Cut(u64),
     /// The session ends.
     End,
 }

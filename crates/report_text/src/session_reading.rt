@@ -5,11 +5,11 @@ ghost use Rattle.std.specs.Prelude.{All, IfSome, IfNone, IsTrue};
 ghost use Rattle.std.specs.List.{flat_map};
 ghost use Rattle.hhh_report.specs.{AreOfGrain, AreReportLines};
 ghost use Rattle.report_text.specs.Session.{HasReadFault, IsSessionText, longest_session};
-ghost use Rattle.report_text.specs.Session.{reported_lines, saved_lines, session_lines};
+ghost use Rattle.report_text.specs.Session.{reported_lines, saved_lines, cut_lines, session_lines};
 ghost use Rattle.report_text.specs.Stages.{ComesAfterLast, line_after_report, after_report};
 ghost use Rattle.report_text.specs.Stages.{body_lines};
 ghost use Rattle.report_text.specs.LineCursor.{ReadsLines, HasReadToStage};
-ghost use Rattle.report_text.specs.Stages.{nothing, opened, begun, listing, done, counted, ended};
+ghost use Rattle.report_text.specs.Stages.{nothing, opened, begun, listing, done, counted, skipped, ended};
 
 use crate::line_cursor::LineCursor;
 use crate::session_line::SessionLine;
@@ -64,9 +64,7 @@ fn read_all(
     let SessionLine::Skipped(skips) = lines.next(alloc, grain)? else {
         return Err(lines.refuse());
     };
-    let SessionLine::End = lines.next(alloc, grain)? else {
-        return Err(lines.refuse());
-    };
+    let cut = read_end(alloc, grain, lines)?;
     Ok(Session {
         opened,
         reports: listed.reports,
@@ -74,6 +72,7 @@ fn read_all(
         not_ipv4: skips.not_ipv4,
         short: skips.short,
         bad_header: skips.bad_header,
+        cut,
     })
 }
 
@@ -238,4 +237,27 @@ fn after_saved(line: SessionLine) -> Option<Option<u64>>
         SessionLine::Frames(frames) => Some(Some(frames)),
         _ => None,
     }
+}
+
+// The last lines of a session: the place of a frame that was cut, if one was, and the end.
+fn read_end(
+    alloc: Global,
+    grain: Grain,
+    lines: &mut LineCursor<'_>,
+) -> Result<Option<u64>, SessionFault>
+    requires { HasReadToStage grain lines.old skipped }
+    ensures read { IfOk result (λ cut. ReadsLines grain lines.old lines.new (cut_lines cut ++ SessionLine.End ∷ []) skipped ended) }
+    ensures fault { IfErr result (HasReadFault grain lines.old.text.now) }
+{
+    let line = lines.next(alloc, grain)?;
+    let SessionLine::Cut(place) = line else {
+        let SessionLine::End = line else {
+            return Err(lines.refuse());
+        };
+        return Ok(None);
+    };
+    let SessionLine::End = lines.next(alloc, grain)? else {
+        return Err(lines.refuse());
+    };
+    Ok(Some(place))
 }

@@ -2,6 +2,7 @@ ghost use Rattle.std.specs.Prelude.{◌≡◌, ◌%◌};
 ghost use Rattle.deal_rules.specs.{IsAsked};
 
 mod damaged_stores;
+mod first_version;
 mod one_failing_call;
 mod stores;
 
@@ -50,6 +51,9 @@ fn each_store<R: Abort + Threads + Wait + Sync>(
     stores::saves_each_round(rt, alloc, dealers)?;
     stores::formats(rt, alloc, dealers)?;
     stores::refuses_stores(rt, alloc, dealers)?;
+    stores::keeps_tables_by_half_bytes(rt, alloc, dealers)?;
+    first_version::stores_of_the_first_version(rt, alloc, dealers)?;
+    first_version::headers_of_no_version(rt, alloc, dealers)?;
     damaged_stores::damaged_stores(rt, alloc, dealers)?;
     stores::tells_the_faults_of_the_disk(rt, alloc, dealers)
 }

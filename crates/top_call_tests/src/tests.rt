@@ -2,6 +2,7 @@ ghost use Rattle.std.specs.Prelude.{◌≡◌, ◌%◌, bit_xor};
 ghost use Rattle.deal_rules.specs.{IsAsked};
 
 mod audits;
+mod cut_captures;
 mod disk_faults;
 mod endings;
 mod gates;
@@ -80,6 +81,8 @@ fn each_answer<R: Abort + Threads + Wait + Sync>(
     refusals::refuses_captures(rt, alloc, dealers)?;
     hostile_captures::each_front_of_a_capture(rt, alloc, dealers)?;
     hostile_captures::a_frame_of_all_ones(rt, alloc, dealers)?;
+    cut_captures::fronts_are_taken(rt, alloc, dealers)?;
+    cut_captures::each_front_is_weighed(rt, alloc, dealers)?;
     refusals::tells_the_faults_of_source_and_sink(rt, alloc, dealers)?;
     rounds::reports_in_rounds(rt, alloc, dealers)?;
     rounds::ends_at_the_first_fault(rt, alloc, dealers)?;

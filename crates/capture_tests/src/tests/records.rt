@@ -91,7 +91,7 @@ fn read(
 
 // A source of any kind keeps what is known of one in memory out of the proof.
 fn read_all<S: Source>(alloc: Global, source: &mut S, weigh: Weigh) -> Option<Counted> {
-    match read_records(alloc, source, weigh) {
+    match read_records(alloc, source, weigh, false) {
         Ok(records) => Some(numbers_of(&records)),
         Err(_) => None,
     }
@@ -239,7 +239,7 @@ fn refusal_of(
     let mut bytes = capture_of(alloc, &[PLAIN], 100)?;
     bytes.truncate(length);
     let mut source = MemorySource::new(bytes, Vec::from_slice(alloc, fails)?, 30);
-    Ok(read_records(alloc, &mut source, Weigh::Bytes).err())
+    Ok(read_records(alloc, &mut source, Weigh::Bytes, false).err())
 }
 
 const CUT_FRAME: ReadRefusal = ReadRefusal::Capture(CaptureFault {

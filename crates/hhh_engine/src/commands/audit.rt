@@ -6,10 +6,11 @@ ghost use Rattle.outside_io.specs.{ReadsFront};
 ghost use Rattle.deal_rules.specs.{dealer_of};
 ghost use Rattle.hhh_report.specs.{AreOfGrain};
 ghost use Rattle.command_words.specs.{AreLimited};
+ghost use Rattle.command_words.specs.declared.command.Command.TheVariants.{Audit as AuditCommand};
 ghost use Rattle.hhh_engine.specs.Reading.{AreAuditing, HasNoAudit};
 ghost use Rattle.hhh_engine.specs.Tasks.{audit_task};
 ghost use Rattle.hhh_engine.specs.Ending.{course, Ends, EndsInOrder, faults_of_source};
-ghost use Rattle.hhh_engine.specs.Inputs.{inputs};
+ghost use Rattle.hhh_engine.specs.Inputs.{ReadsSession, inputs};
 
 use crate::{Settings, Status};
 use deal_rules::{Dealer, Dealers, Deals};
@@ -37,7 +38,9 @@ pub(crate) fn audit<S: Source, T: Source, K: Sink>(
         (inputs (S.left capture.old) (S.left capture.new) (T.left text.old) (T.left text.new) store) (K.taken sink.old) (K.taken sink.new))
         (course K.Sink (S.left capture.old) (faults_of_source (S.faults capture.old) (T.faults text.old))
         (faults_of_source (S.faults capture.new) (T.faults text.new)) sink.old sink.new) result }
-    ensures order { (store : Option (List ℕ)) → EndsInOrder ⊤ ⊤ (inputs (S.left capture.old) (S.left capture.new) (T.left text.old) (T.left text.new) store)
+    ensures order { (store : Option (List ℕ)) → EndsInOrder ⊤
+        (ReadsSession (inputs (S.left capture.old) (S.left capture.new) (T.left text.old) (T.left text.new) store) (AuditCommand settings.now))
+        (inputs (S.left capture.old) (S.left capture.new) (T.left text.old) (T.left text.new) store)
         (faults_of_source (S.faults capture.old) (T.faults text.old))
         (faults_of_source (S.faults capture.new) (T.faults text.new)) text.old text.new result }
     ensures capture_front { ReadsFront (S.left capture.old) (S.left capture.new) }
@@ -75,15 +78,17 @@ fn read_audited<S: Source, T: Source>(
     ensures capture_front { ReadsFront (S.left capture.old) (S.left capture.new) }
     ensures text_front { ReadsFront (T.left text.old) (T.left text.new) }
     ensures refused { (store : Option (List ℕ))
-        → IfErr result (HasNoAudit settings.now.grain (inputs (S.left capture.old) (S.left capture.new) (T.left text.old) (T.left text.new) store)
+        → IfErr result (HasNoAudit settings.now (inputs (S.left capture.old) (S.left capture.new) (T.left text.old) (T.left text.new) store)
         (faults_of_source (S.faults capture.old) (T.faults text.old)) (faults_of_source (S.faults capture.new) (T.faults text.new))) }
     ensures order { (store : Option (List ℕ))
-        → IfErr result (EndsInOrder ⊤ ⊤ (inputs (S.left capture.old) (S.left capture.new) (T.left text.old) (T.left text.new) store)
+        → IfErr result (EndsInOrder ⊤
+        (ReadsSession (inputs (S.left capture.old) (S.left capture.new) (T.left text.old) (T.left text.new) store) (AuditCommand settings.now))
+        (inputs (S.left capture.old) (S.left capture.new) (T.left text.old) (T.left text.new) store)
         (faults_of_source (S.faults capture.old) (T.faults text.old)) (faults_of_source (S.faults capture.new) (T.faults text.new)) text.old text.new) }
     ensures told { (IsErrOf result Status.ReadFault → ⊥)
         → faults_of_source (S.faults capture.new) (T.faults text.new) ≡ faults_of_source (S.faults capture.old) (T.faults text.old) }
 {
-    let records = read_records(alloc, capture, settings.weigh)?;
+    let records = read_records(alloc, capture, settings.weigh, settings.front)?;
     let bytes = read_text(alloc, text)?;
     let session = read_session(alloc, settings.grain, &bytes)?;
     let dealt = deal_records(alloc, records.list, settings, dealers)?;

@@ -1,6 +1,6 @@
 //! The demonstration: made traffic is counted, reported and audited.
 
-ghost use Rattle.std.specs.Prelude.{◌≡◌, ◌≤◌, ◌↔◌, ℕ, List, length, Option, IfErr, IfOk};
+ghost use Rattle.std.specs.Prelude.{◌≡◌, ◌≤◌, ◌↔◌, ℕ, false, List, length, Option, None, IfErr, IfOk};
 ghost use Rattle.prefix_lattice.specs.{record_limit};
 ghost use Rattle.pcap_frames.specs.{FrameValue};
 ghost use Rattle.frame_records.specs.{AreRecordsOf, FileHasFrames, HasRecords};
@@ -115,7 +115,7 @@ fn verdict_on(
 fn made_records(alloc: Global, seed: u64, frames: u32, weigh: Weigh) -> Result<Records, AllocError>
     requires { (1 ≤ frames) × (frames ≤ most_frames) }
     ensures records { IfOk result (λ records. (made : List FrameValue) × FileHasFrames (made_capture seed frames) made
-        × AreRecordsOf weigh made records) }
+        × AreRecordsOf weigh made records × (records.cut ≡ None)) }
     ensures few { IfOk result (λ records. length records.list ≤ record_limit) }
 {
     made_captures_are_captures();
@@ -134,11 +134,11 @@ fn made_records(alloc: Global, seed: u64, frames: u32, weigh: Weigh) -> Result<R
 
 // The records of a capture, which is read to its end.
 fn read_capture<S: Source>(alloc: Global, capture: &mut S, weigh: Weigh) -> Result<Records, Status>
-    ensures records { IfOk result (HasRecords weigh (S.left capture.old)) }
+    ensures records { IfOk result (HasRecords weigh false (S.left capture.old)) }
     ensures few { IfOk result (λ records. length records.list ≤ record_limit) }
-    ensures refused { IfErr result (HasNoText (S.left capture.old) (S.faults capture.old) (S.faults capture.new)) }
+    ensures refused { IfErr result (HasNoText false (S.left capture.old) (S.faults capture.old) (S.faults capture.new)) }
 {
-    Ok(read_records(alloc, capture, weigh)?)
+    Ok(read_records(alloc, capture, weigh, false)?)
 }
 
 // The lines that say what was made, counted and reported, and that the audit found the report sound.

@@ -75,10 +75,10 @@ fn read_dealt<S: Source>(
     ensures tail { IfOk result (λ fed. 0 < length fed.tail.items) }
     ensures at_end { OnOk result (IsAtEnd (S.left capture.new)) }
     ensures front { ReadsFront (S.left capture.old) (S.left capture.new) }
-    ensures refused { IfErr result (HasNoText (S.left capture.old) (S.faults capture.old) (S.faults capture.new)) }
+    ensures refused { IfErr result (HasNoText settings.now.front (S.left capture.old) (S.faults capture.old) (S.faults capture.new)) }
     ensures told { (IsErrOf result Status.ReadFault → ⊥) → S.faults capture.new ≡ S.faults capture.old }
 {
-    let records = read_records(alloc, capture, settings.weigh)?;
+    let records = read_records(alloc, capture, settings.weigh, settings.front)?;
     let mut tail = Vec::new(alloc);
     print_tail(&records, &mut tail)?;
     let dealt = deal_records(alloc, records.list, settings, dealers)?;

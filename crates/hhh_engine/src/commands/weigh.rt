@@ -55,13 +55,13 @@ fn read_weight<S: Source>(
     capture: &mut S,
 ) -> Result<Vec<u8>, Status>
     requires { IsPrefix Byte prefix.now }
-    ensures text { IfOk result (λ text. IfSome (S.left capture.old) (λ file. IsWeightText prefix.now settings.now.weigh file text.items)) }
+    ensures text { IfOk result (λ text. IfSome (S.left capture.old) (λ file. IsWeightText prefix.now settings.now file text.items)) }
     ensures at_end { OnOk result (IsAtEnd (S.left capture.new)) }
     ensures front { ReadsFront (S.left capture.old) (S.left capture.new) }
-    ensures refused { IfErr result (HasNoText (S.left capture.old) (S.faults capture.old) (S.faults capture.new)) }
+    ensures refused { IfErr result (HasNoText settings.now.front (S.left capture.old) (S.faults capture.old) (S.faults capture.new)) }
     ensures told { (IsErrOf result Status.ReadFault → ⊥) → S.faults capture.new ≡ S.faults capture.old }
 {
-    let records = read_records(alloc, capture, settings.weigh)?;
+    let records = read_records(alloc, capture, settings.weigh, settings.front)?;
     Ok(weigh_text(alloc, prefix, records.list.as_slice())?)
 }
 

@@ -4,6 +4,7 @@ use checkpoint::StoreSettings;
 use deal_rules::{DealKind, Dealers};
 use frame_records::Weigh;
 use hhh_engine::Status;
+use prefix_lattice::Grain;
 use slot_disk::{Disk, MemoryDisk};
 use std::alloc::{AllocError, Global};
 use std::marker::Sync;
@@ -11,7 +12,7 @@ use std::process::Abort;
 use std::sync::Wait;
 use std::test::Fail;
 use std::thread::Threads;
-use test_runs::{FORMAT, HEADER, ONE, REPORT, disk_with, run_on};
+use test_runs::{FORMAT, HEADER, ONE, REPORT, SECOND_SESSION, SESSION, disk_with, run_on};
 
 // A disk with these bytes, whose calls with these numbers fail.
 fn disk_of(alloc: Global, bytes: &[u8], fails: &[u64]) -> Result<MemoryDisk, AllocError> {
@@ -64,17 +65,63 @@ pub(crate) fn formats<R: Abort + Threads + Wait + Sync>(
     alloc: Global,
     dealers: &Dealers,
 ) -> Result<(), Fail> {
-    let words = ["format", "--store", "s", "--shards", "1", "--capacity", "2"];
+    let by_bytes = ["format", "--store=s", "--shards=1", "--capacity=2"];
+    let header = [0, 0, 0x48, 0x48, 0x48, 0x53, 2, 1, 0, 2, 0, 0, 8];
+    formats_as(rt, alloc, dealers, &by_bytes, &header)?;
+    let by_nibbles = ["format", "--store=s", "--shards=1", "--bits=4"];
+    let header = [0, 0, 0x48, 0x48, 0x48, 0x53, 2, 1, 2, 0, 0, 0, 4];
+    formats_as(rt, alloc, dealers, &by_nibbles, &header)
+}
+
+fn formats_as<R: Abort + Threads + Wait + Sync>(
+    rt: &R,
+    alloc: Global,
+    dealers: &Dealers,
+    words: &[&str],
+    header: &[u8],
+) -> Result<(), Fail> {
     let mut disk = disk_of(alloc, &[], &[])?;
-    let ended = run_on(rt, alloc, dealers, &words, &[], &mut disk)?;
+    let ended = run_on(rt, alloc, dealers, words, &[], &mut disk)?;
     assert_eq!(rt; ended.status, Status::Done);
-    let header = [0, 0, 0x48, 0x48, 0x48, 0x53, 1, 1, 0, 2, 0, 0];
-    begins_with(rt, &front_on(rt, &mut disk), &header);
+    begins_with(rt, &front_on(rt, &mut disk), header);
+    Ok(())
+}
+
+const BY_NIBBLES: [&str; 4] = ["report", "--store=s", "--shards=1", "--bits=4"];
+
+// A store of tables by half bytes goes on, and isn't opened by whole bytes.
+pub(crate) fn keeps_tables_by_half_bytes<R: Abort + Threads + Wait + Sync>(
+    rt: &R,
+    alloc: Global,
+    dealers: &Dealers,
+) -> Result<(), Fail> {
+    let mut disk = MemoryDisk::with_room(
+        alloc,
+        2_000_000,
+        1_048_576,
+        Vec::new(alloc),
+        None,
+        Vec::new(alloc),
+    )?;
+    let format = ["format", "--store=s", "--shards=1", "--bits=4"];
+    run_on(rt, alloc, dealers, &format, &[], &mut disk)?;
+    for session in [SESSION, SECOND_SESSION] {
+        let ended = run_on(rt, alloc, dealers, &BY_NIBBLES, &[ONE], &mut disk)?;
+        assert_eq!(rt; ended.status, Status::Done);
+        assert_eq!(rt; ended.text.as_slice(), session.as_bytes());
+    }
+    let ended = run_on(rt, alloc, dealers, &REPORT, &[ONE], &mut disk)?;
+    let stored = StoreSettings {
+        grain: Grain::Nibble,
+        ..ASKED
+    };
+    let asked = ASKED;
+    assert_eq!(rt; ended.status, Status::OtherSettings { stored, asked });
     Ok(())
 }
 
 // The bytes of a disk that holds as many.
-fn front_on(rt: &impl Abort, disk: &mut MemoryDisk) -> [u8; 64] {
+pub(crate) fn front_on(rt: &impl Abort, disk: &mut MemoryDisk) -> [u8; 64] {
     let mut front = [1; 64];
     assert_eq!(rt; disk.len(), Ok(64));
     assert_eq!(rt; disk.read_at(0, &mut front), Ok(64));
@@ -120,6 +167,7 @@ const ASKED: StoreSettings = StoreSettings {
     capacity: 512,
     weigh: Weigh::Bytes,
     deal: DealKind::RoundRobin,
+    grain: Grain::Byte,
 };
 
 fn refuses_other_settings<R: Abort + Threads + Wait + Sync>(

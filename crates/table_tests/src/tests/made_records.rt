@@ -34,7 +34,7 @@ fn made_records_are_counted_alike(alloc: Global) -> Result<bool, Fail> {
 
 // A source of any kind keeps what is known of one in memory out of the proof.
 fn read_all<S: Source>(alloc: Global, source: &mut S) -> Option<Records> {
-    read_records(alloc, source, Weigh::Bytes).ok()
+    read_records(alloc, source, Weigh::Bytes, false).ok()
 }
 
 fn are_counted_alike(alloc: Global, capacity: u32, records: &[Record]) -> Result<bool, AllocError>

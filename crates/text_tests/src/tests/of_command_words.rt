@@ -20,13 +20,14 @@ const DEFAULTS: Settings = Settings {
     weigh: Weigh::Bytes,
     deal: DealKind::RoundRobin,
     grain: Grain::Byte,
+    front: false,
     store: false,
 };
 
 // Arguments joined by single spaces, and what is wrong with them.
 type BadWords = (&'static str, WordsKind);
 
-const BAD_WORDS: [BadWords; 80] = [
+const BAD_WORDS: [BadWords; 88] = [
     ("", WordsKind::NoCommand),
     ("way", WordsKind::UnknownCommand),
     ("Report", WordsKind::UnknownCommand),
@@ -49,13 +50,15 @@ const BAD_WORDS: [BadWords; 80] = [
     ("format --store S --capture C", WordsKind::Refused),
     ("format --store S --phi 1", WordsKind::Refused),
     ("format --bits 4", WordsKind::Refused),
-    ("format --store S --bits 8", WordsKind::Refused),
+    ("format --store S --front yes", WordsKind::Refused),
     ("audit", WordsKind::Refused),
     ("audit --report R --store S", WordsKind::Refused),
     ("audit --report R --block 1", WordsKind::Refused),
     ("make 7", WordsKind::Refused),
     ("make 7 1 --shards 1", WordsKind::Refused),
+    ("make 7 1 --front yes", WordsKind::Refused),
     ("demo 7 1 --capture C", WordsKind::Refused),
+    ("demo 7 1 --front no", WordsKind::Refused),
     ("report --shards", WordsKind::Refused),
     ("report --shards --phi", WordsKind::Refused),
     ("report --shards=", WordsKind::Refused),
@@ -118,7 +121,11 @@ const BAD_WORDS: [BadWords; 80] = [
         WordsKind::OutOfLimits(Opt::Bits),
     ),
     (
-        "report --bits 4 --store s",
+        "format --store S --bits 5",
+        WordsKind::OutOfLimits(Opt::Bits),
+    ),
+    (
+        "format --bits 4 --capacity 1025 --store S",
         WordsKind::OutOfLimits(Opt::Bits),
     ),
     (
@@ -126,6 +133,11 @@ const BAD_WORDS: [BadWords; 80] = [
         WordsKind::OutOfLimits(Opt::Bits),
     ),
     ("demo 7 1 --bits 0", WordsKind::OutOfLimits(Opt::Bits)),
+    ("report --front maybe", WordsKind::BadChoice(Opt::Front)),
+    (
+        "weigh 0.0.0.0/0 0.0.0.0/0 --front=Yes",
+        WordsKind::BadChoice(Opt::Front),
+    ),
     ("make 07 1", WordsKind::BadNumber(Opt::Seed)),
     (
         "make 18446744073709551616 1",
@@ -172,6 +184,18 @@ const BAD_WORDS: [BadWords; 80] = [
     (
         "report --bits 4 --capacity 1025 --phi 1",
         WordsKind::OutOfLimits(Opt::Bits),
+    ),
+    (
+        "audit --report R --front maybe --bits 5",
+        WordsKind::OutOfLimits(Opt::Bits),
+    ),
+    (
+        "report --front maybe --capacity 1025 --bits 4",
+        WordsKind::OutOfLimits(Opt::Bits),
+    ),
+    (
+        "report --phi 1 --front maybe",
+        WordsKind::BadChoice(Opt::Front),
     ),
     // the bound
     ("report --capacity 17 --phi 117647", WordsKind::Bound),
@@ -237,6 +261,7 @@ const ALL: Settings = Settings {
     callers: 8,
     rounds: 32,
     grain: Grain::Byte,
+    front: true,
     store: true,
 };
 
@@ -248,6 +273,17 @@ const SMALL: Settings = Settings {
 
 const BY_PACKETS: Settings = Settings {
     weigh: Weigh::Packets,
+    ..DEFAULTS
+};
+
+const FRONT: Settings = Settings {
+    front: true,
+    ..DEFAULTS
+};
+
+const FRONT_BY_PACKETS: Settings = Settings {
+    weigh: Weigh::Packets,
+    front: true,
     ..DEFAULTS
 };
 
@@ -263,7 +299,13 @@ const BY_HALF_BYTES: Settings = Settings {
     ..DEFAULTS
 };
 
-const GOOD_WORDS: [GoodWords; 12] = [
+const STORED_BY_HALF_BYTES: Settings = Settings {
+    grain: Grain::Nibble,
+    store: true,
+    ..DEFAULTS
+};
+
+const GOOD_WORDS: [GoodWords; 16] = [
     GoodWords {
         line: "report",
         command: Command::Report(DEFAULTS),
@@ -286,7 +328,7 @@ const GOOD_WORDS: [GoodWords; 12] = [
         store: "",
     },
     GoodWords {
-        line: "report --phi=117648 --rounds 32 --deal free --capacity 17 --block 1 --shards=16 --store s --workers=16 --weigh packets --callers 8 --bits 8 --capture c",
+        line: "report --phi=117648 --rounds 32 --deal free --capacity 17 --block 1 --shards=16 --store s --workers=16 --weigh packets --callers 8 --front yes --bits 8 --capture c",
         command: Command::Report(ALL),
         capture: "c",
         report: "",
@@ -298,6 +340,34 @@ const GOOD_WORDS: [GoodWords; 12] = [
         capture: "",
         report: "",
         store: "s",
+    },
+    GoodWords {
+        line: "format --bits 4 --store S",
+        command: Command::Format(STORED_BY_HALF_BYTES),
+        capture: "",
+        report: "",
+        store: "S",
+    },
+    GoodWords {
+        line: "report --bits 4 --store S",
+        command: Command::Report(STORED_BY_HALF_BYTES),
+        capture: "-",
+        report: "",
+        store: "S",
+    },
+    GoodWords {
+        line: "report --front no",
+        command: Command::Report(DEFAULTS),
+        capture: "-",
+        report: "",
+        store: "",
+    },
+    GoodWords {
+        line: "audit --front=yes --report R",
+        command: Command::Audit(FRONT),
+        capture: "-",
+        report: "R",
+        store: "",
     },
     GoodWords {
         line: "audit --report R",
@@ -395,14 +465,21 @@ fn names_these(named: &PathTexts, case: &GoodWords) -> bool {
         && named.store.as_str() == case.store
 }
 
-const WEIGH_BY_PACKETS: [&str; 5] = ["weigh", "10.1.0.0/16", "--weigh", "packets", "0.0.0.0/0"];
+const WEIGH_BY_PACKETS: [&str; 6] = [
+    "weigh",
+    "10.1.0.0/16",
+    "--weigh",
+    "packets",
+    "--front=yes",
+    "0.0.0.0/0",
+];
 
 #[test]
 fn reads_a_prefix(rt: HostRuntime) -> Result<(), Fail> {
     let prefix = Prefix::parse(Grain::Byte, b"10.1.0.0/16", b"0.0.0.0/0")?;
     let command = Command::Weigh {
         prefix,
-        settings: BY_PACKETS,
+        settings: FRONT_BY_PACKETS,
     };
     assert!(rt; ask_for(rt.alloc(), &WEIGH_BY_PACKETS, command));
     Ok(())
@@ -411,7 +488,7 @@ fn reads_a_prefix(rt: HostRuntime) -> Result<(), Fail> {
 // Why arguments are refused, and how it is told.
 type Told = (WordsKind, &'static str);
 
-const TOLD: [Told; 17] = [
+const TOLD: [Told; 18] = [
     (WordsKind::NoCommand, "no command"),
     (WordsKind::UnknownCommand, "unknown command"),
     (WordsKind::Refused, "refused"),
@@ -443,6 +520,7 @@ const TOLD: [Told; 17] = [
         WordsKind::OutOfLimits(Opt::Bits),
         "bits: outside its limits",
     ),
+    (WordsKind::BadChoice(Opt::Front), "front: no such choice"),
     (WordsKind::Bound, "phi times capacity is below 2000000"),
 ];
 

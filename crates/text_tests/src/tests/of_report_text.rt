@@ -93,22 +93,44 @@ fn are_printed(alloc: Global) -> Result<bool, AllocError> {
 
 #[test]
 fn prints_the_last_lines(rt: HostRuntime) -> Result<(), Fail> {
-    assert!(rt; is_the_tail(rt.alloc())?);
+    assert_eq!(rt; first_other_tail(rt.alloc(), &TAILS)?, None);
     Ok(())
 }
 
-// Whether the last lines are printed with these numbers of frames.
-fn is_the_tail(alloc: Global) -> Result<bool, AllocError> {
+// The place of a frame that was cut, if one was, and the last lines.
+type Tail = (Option<u64>, &'static str);
+
+const TAILS: [Tail; 2] = [
+    (None, "frames 7|skipped 2 1 0|end|"),
+    (
+        Some(18_446_744_073_709_551_615),
+        "frames 7|skipped 2 1 0|cut 18446744073709551615|end|",
+    ),
+];
+
+// The place of the first case whose last lines are printed otherwise.
+fn first_other_tail(alloc: Global, tails: &[Tail]) -> Result<Option<usize>, AllocError> {
+    for (place, (cut, lines)) in tails.iter().enumerate() {
+        if !is_the_tail(alloc, *cut, lines)? {
+            return Ok(Some(place));
+        }
+    }
+    Ok(None)
+}
+
+// Whether the last lines are printed with these numbers of frames, and this place of a frame that was cut.
+fn is_the_tail(alloc: Global, cut: Option<u64>, lines: &str) -> Result<bool, AllocError> {
     let records = Records {
         list: RecordList::new(alloc),
         frames: 7,
         not_ipv4: 2,
         short: 1,
         bad_header: 0,
+        cut,
     };
     let mut text = Vec::new(alloc);
     print_tail(&records, &mut text)?;
-    Ok(text.as_slice() == b"frames 7\nskipped 2 1 0\nend\n".as_slice())
+    Ok(text.as_slice() == text_of(alloc, lines)?.as_slice())
 }
 
 // The text of lines, each of which ends by `|` here and by a line feed there.
@@ -152,6 +174,7 @@ fn is_the_session(session: &Session, line: Line) -> bool {
         && session.reports.len() == 1
         && is_the_report(session.reports.at(0), line)
         && counts_of(session) == (1, 0, 0, 0)
+        && session.cut.is_none()
 }
 
 // Whether a report is the one of `SESSION`.
@@ -210,6 +233,16 @@ fn are_saved(reported: &Reported, positions: &[u64]) -> bool {
     }
 }
 
+const CUT_SESSION: &str =
+    "opened 0|report|at 0|total 0|threshold 1|done|frames 0|skipped 0 0 0|cut 24|end|";
+
+#[test]
+fn reads_where_a_capture_was_cut(rt: HostRuntime) -> Result<(), Fail> {
+    let session = session_of(rt.alloc(), Grain::Byte, CUT_SESSION)?;
+    assert_eq!(rt; session.cut, Some(24));
+    Ok(())
+}
+
 // The fault of a text, if it has one.
 fn fault_of(alloc: Global, lines: &str) -> Result<Option<SessionFault>, AllocError> {
     let text = text_of(alloc, lines)?;
@@ -222,7 +255,7 @@ fn fault_of(alloc: Global, lines: &str) -> Result<Option<SessionFault>, AllocErr
 // A text, and the number of its first wrong line.
 type WrongText = (&'static str, u64);
 
-const WRONG_TEXTS: [WrongText; 7] = [
+const WRONG_TEXTS: [WrongText; 12] = [
     (
         "opened 0|report|at 0|total 00|threshold 1|done|frames 0|skipped 0 0 0|end|",
         4,
@@ -250,6 +283,26 @@ const WRONG_TEXTS: [WrongText; 7] = [
     (
         "opened 0|report|at 16777217|total 100|threshold 1|line 10.1.2.3/32 20.1.2.3/32 100 100|done|frames 1|skipped 0 0 0|end|",
         3,
+    ),
+    (
+        "opened 0|report|at 0|total 0|threshold 1|done|frames 0|skipped 0 0 0|cut 24|cut 24|end|",
+        10,
+    ),
+    (
+        "opened 0|report|at 0|total 0|threshold 1|done|frames 0|cut 24|skipped 0 0 0|end|",
+        8,
+    ),
+    (
+        "opened 0|report|at 0|total 0|threshold 1|done|frames 0|skipped 0 0 0|cut 01|end|",
+        9,
+    ),
+    (
+        "opened 0|report|at 0|total 0|threshold 1|done|frames 0|skipped 0 0 0|cut 18446744073709551616|end|",
+        9,
+    ),
+    (
+        "opened 0|report|at 0|total 0|threshold 1|done|frames 0|skipped 0 0 0|end|cut 24|",
+        10,
     ),
 ];
 

@@ -7,7 +7,7 @@ use exact_audit::Verdict;
 use frame_records::Weigh;
 use hhh_engine::{Opt, Status, WordsKind, fault_line};
 use pcap_frames::{CaptureFault, FaultKind};
-use prefix_lattice::{PrefixFault, Side};
+use prefix_lattice::{Grain, PrefixFault, Side};
 use report_text::TextFault;
 use std::alloc::{AllocError, Global};
 use std::marker::Sync;
@@ -79,9 +79,9 @@ const CASES: [Case; 17] = [
         "hhh: bad words: limits\n",
     ),
     (
-        &["report", "--bits", "4", "--store", "s"],
-        WordsKind::OutOfLimits(Opt::Bits),
-        "hhh: bad words: limits\n",
+        &["report", "--front", "maybe"],
+        WordsKind::BadChoice(Opt::Front),
+        "hhh: bad words: choice\n",
     ),
     (
         &["report", "x"],
@@ -250,6 +250,7 @@ const SETTINGS: StoreSettings = StoreSettings {
     capacity: 2,
     weigh: Weigh::Bytes,
     deal: DealKind::Free,
+    grain: Grain::Byte,
 };
 
 // A status, its number, and the line that reports it.

@@ -8,6 +8,7 @@ use Rattle.checkpoint.specs.Body.{snapshot_bytes}
 use Rattle.checkpoint.specs.Decoding.{ListFits, BeginsWith, SnapshotFits}
 use Rattle.checkpoint.proofs.DecodeFaultLemmas.{decode_fault_is_same}
 use Rattle.checkpoint.proofs.PrefixFreeLemmas.{snapshots_are_prefix_free}
+use Rattle.checkpoint.proofs.SettingsLemmas.{settings_capacity_is_small}
 use Rattle.checkpoint.proofs.ReadListLemmas.{read_list_grows, read_list_has_too_few}
 use Rattle.checkpoint.proofs.decoding.read_snapshots.Goals as goal
 
@@ -15,8 +16,9 @@ pub returns-in_err-snapshot-clause-damaged : goal.returns-in_err-snapshot-clause
 returns-in_err-snapshot-clause-damaged c =
     let p = err_from_is_err_and c.from_residual-in_err-snapshot.result c.from_residual-in_err-snapshot.ensures.1 in
     let shape = settings_shape c.args.settings.now in
+    let most = settings_capacity_is_small shape.grain shape.capacity c.requires.most in
     rw (p.1, p.2) (λ is.
-    read_list_has_too_few snapshot_bytes (SnapshotFits shape) (snapshots_are_prefix_free shape c.requires.most) c.args.bytes.now
+    read_list_has_too_few snapshot_bytes (SnapshotFits shape) (snapshots_are_prefix_free shape most) c.args.bytes.now
     c.loop-shard.rest.now c.loop-shard.shard c.args.settings.now.shards (take c.loop-shard.shard c.loop-shard.cut.shards)
     c.loop-shard.invariant.2 (omega arith) (c.in_err-snapshot.ensures.damaged (decode_fault_is_same _ _ is)))
 

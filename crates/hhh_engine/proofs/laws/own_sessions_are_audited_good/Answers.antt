@@ -12,7 +12,7 @@ returns-clause-is_text g c = λ formula before now settings store file text is l
 
 pub returns-clause-good : goal.returns-clause-good
 returns-clause-good g c = λ formula before now settings other store file text is limited grain shards capacity phi deal weigh
-    short represents.
+    front short represents.
     let known = c.sessions_read_back.ensures formula before now settings store file text is limited represents in
     record {
       lists = is.lists;
@@ -20,7 +20,7 @@ returns-clause-good g c = λ formula before now settings other store file text i
       audited = record {
         records = is.records;
         dealt = own_session_is_dealt_alike settings other (rules_by formula) file is.records is.lists shards deal weigh
-            is.dealt;
+            front is.dealt;
         is_session = subst (λ g. IsSessionText g text known.0) grain known.1;
         not_long = short;
       };

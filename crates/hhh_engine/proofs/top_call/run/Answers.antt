@@ -5,8 +5,8 @@ pub returns : goal.returns
 returns g c =
     run_ends_by_command g.S.Source g.T.Source g.K.Sink g.D.Disk _ _ _
     (record {
-      never_both = c.files_are_read_or_refused.ensures.never_both;
-      one_fault = c.files_are_read_or_refused.ensures.one_fault;
+      never_both = λ front file gives fault. c.files_are_read_or_refused.ensures.never_both front file gives.0 gives.1 fault gives.2;
+      one_fault = λ front file fault other. c.files_are_read_or_refused.ensures.one_fault front front file fault other;
       decided = c.openings_are_decided.ensures;
       opened = c.belonging_stores_are_opened.ensures;
       one_text_fault = c.session_texts_have_one_reading.ensures.one_fault;

@@ -34,7 +34,7 @@ returns-in-Ok-write_session-clause-ends g c =
           (λ cuts. Saves g.D.Disk c.in-Ok.base.saver cuts
           c.open_base.new.disk c.write_session.new.disk) _ _ base.begins
           c.openings_stand.ensures.represents
-          (λ cuts saves used. dealt_report_keeps_saves g.D.Disk
+          (λ cuts saves used. dealt_report_keeps_saves c.stores_show_their_header.ensures g.D.Disk
           c.args.settings.now c.args.fed.dealt c.in-Ok.base.positions c.in-Ok.base.saver cuts [] c.args.disk.now
           c.open_base.new.disk c.write_session.new.disk base.used base.saver c.open_base.ensures.any_moment
           c.open_base.ensures.reads
@@ -57,7 +57,7 @@ returns-clause-ends g c =
     c.open_base.new.disk c.write_session.new.disk) (c.write_session.new.disk ≡ c.open_base.new.disk) c.args.sink.now
     c.write_session.new.sink c.args.disk.now c.write_session.new.disk
     c.in-Err-write_session.status base.begins c.openings_stand.ensures.represents
-    (λ saved unfinished saves used. dealt_report_keeps_saves g.D.Disk
+    (λ saved unfinished saves used. dealt_report_keeps_saves c.stores_show_their_header.ensures g.D.Disk
     c.args.settings.now c.args.fed.dealt c.in-Ok.base.positions c.in-Ok.base.saver saved unfinished c.args.disk.now
     c.open_base.new.disk c.write_session.new.disk base.used base.saver c.open_base.ensures.any_moment
     c.open_base.ensures.reads saves used)

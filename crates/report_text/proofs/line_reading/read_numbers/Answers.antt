@@ -4,7 +4,7 @@ use Rattle.report_text.proofs.NamedLineLemmas.{named_line_texts_unlike, named_li
 use Rattle.report_text.proofs.NamedLineLemmas.{named_line_words, named_line_fits}
 use Rattle.std.proofs.lemmas.Option.{IfSome_then}
 use Rattle.report_text.specs.Session.{AreSkips, skipped_words}
-use Rattle.report_text.specs.declared.session_line.SessionLine.TheVariants.{Total, Threshold, Frames, Skipped}
+use Rattle.report_text.specs.declared.session_line.SessionLine.TheVariants.{Total, Threshold, Frames, Skipped, Cut}
 use Rattle.report_text.specs.Stages.{words_in}
 use Rattle.report_text.proofs.line_reading.read_numbers.Goals as goal
 
@@ -47,6 +47,15 @@ returns-then-eq-4-clause-read c = λ grain.
     (named_line_fits AreSkips (λ skips. words_in c.args.rest.now ≡ skipped_words skips)
     c.skips_of.result c.skips_of.ensures.small c.skips_of.ensures.read)
 
+pub returns-then-eq-5-clause-read : goal.returns-then-eq-5-clause-read
+returns-then-eq-5-clause-read c = λ grain.
+    named_line_words grain Cut (λ number. decimal number ∷ []) (λ number. number < 2 ^ 64) c.args.name.now (codes "cut")
+    c.eq-5.result (words_in c.args.rest.now) c.last_number-then-eq-5.result c.map-then-eq-5.result
+    (c.eq-5.ensures ∙ ap (pointwise eqb c.args.name.now) c.as_slice-5.ensures) c.if-eq-5.true
+    (λ x is. is) (λ x. refl) c.map-then-eq-5.ensures.cases
+    (named_line_fits (λ number. number < 2 ^ 64) (λ number. words_in c.args.rest.now ≡ decimal number ∷ [])
+    c.last_number-then-eq-5.result c.last_number-then-eq-5.ensures.small c.last_number-then-eq-5.ensures.read)
+
 pub returns-clause-refused : goal.returns-clause-refused
 returns-clause-refused c = λ grain line is same.
     let name = c.args.name.now in
@@ -66,5 +75,8 @@ returns-clause-refused c = λ grain line is same.
       skipped =
           named_line_texts_unlike name _ c.eq-4.result (c.eq-4.ensures ∙ ap (pointwise eqb name) c.as_slice-4.ensures)
           c.if-eq-4.false;
+      cut =
+          named_line_texts_unlike name _ c.eq-5.result (c.eq-5.ensures ∙ ap (pointwise eqb name) c.as_slice-5.ensures)
+          c.if-eq-5.false;
     })
     (named_line_has_words c.args.rest.now) line same
