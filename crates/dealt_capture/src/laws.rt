@@ -5,7 +5,7 @@ ghost use Rattle.prefix_lattice.specs.{RecordValue};
 ghost use Rattle.deal_rules.specs.declared.deal_kind.DealKind.{DealKind};
 ghost use Rattle.frame_records.specs.declared.records.Records.{Records};
 ghost use Rattle.command_words.specs.declared.settings.Settings.{Settings};
-ghost use Rattle.dealt_capture.specs.Dealing.{AreDealtRecords, DealingRules, rules_by};
+ghost use Rattle.dealt_capture.specs.Dealing.{AreDealtRecords, rules_by};
 
 use deal_rules::a_formula_deals_in_one_way;
 use frame_records::files_are_read_or_refused;
@@ -18,9 +18,9 @@ pub fn captures_are_dealt_in_one_way()
         (lists other_lists : List (List RecordValue)) → settings.weigh ≡ other.weigh
         → AreDealtRecords settings (rules_by formula) file records lists
         → AreDealtRecords other (rules_by formula) file others other_lists → records.list ≡ others.list }
-    ensures cut { (rules other_rules : DealingRules) (settings other : Settings) (file : List ℕ) (records others : Records)
-        (lists other_lists : List (List RecordValue)) → AreDealtRecords settings rules file records lists
-        → AreDealtRecords other other_rules file others other_lists → records.cut ≡ others.cut }
+    ensures cut { (formula : DealKind → ℕ → RecordValue → ℕ → ℕ) (settings other : Settings) (file : List ℕ) (records others : Records)
+        (lists other_lists : List (List RecordValue)) → AreDealtRecords settings (rules_by formula) file records lists
+        → AreDealtRecords other (rules_by formula) file others other_lists → records.cut ≡ others.cut }
     ensures lists { (formula : DealKind → ℕ → RecordValue → ℕ → ℕ) (settings other : Settings) (file : List ℕ) (records others : Records)
         (lists other_lists : List (List RecordValue)) → settings.shards ≡ other.shards → settings.deal ≡ other.deal
         → settings.weigh ≡ other.weigh → AreDealtRecords settings (rules_by formula) file records lists

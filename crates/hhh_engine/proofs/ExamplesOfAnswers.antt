@@ -51,7 +51,7 @@ pub session_is_the_answer :
     IsAnswer in_turn keeps_nothing (report_command settings) (inputs (Some header) (Some []) None None None) text
 session_is_the_answer = session_over_the_header
 
-asks_for_a_report : AskForCommand words (report_command settings)
+pub asks_for_a_report : AskForCommand words (report_command settings)
 asks_for_a_report = record {
   arguments = [];
   are_words = record {
@@ -85,7 +85,7 @@ asks_for_a_report = record {
   wide = omega arith;
 }
 
-pub report_asks_to_read : CommandUses UsesCapture words
+abbrev pub report_asks_to_read : CommandUses UsesCapture words
 report_asks_to_read = record { command = report_command settings; asked = asks_for_a_report; uses = tt }
 
 no_words_ask : (command : Command) → AskForCommand [] command → ⊥

@@ -146,7 +146,7 @@ read_order_of_variant command other read before now text text_read status is sto
 -- ---- the top call
 
 -- the arguments ask for what their command uses
-read_order_as_asked : (Uses : Command → Type 0) (words : List (List ℕ)) (command : Command) → AskForCommand words command
+abbrev read_order_as_asked : (Uses : Command → Type 0) (words : List (List ℕ)) (command : Command) → AskForCommand words command
     → Uses command → CommandUses Uses words
 read_order_as_asked Uses words command asked uses = record { command = command; asked = asked; uses = uses }
 

@@ -9,7 +9,7 @@ use Rattle.command_words.specs.declared.command.Command.TheVariants.{Audit}
 use Rattle.command_words.specs.declared.settings.Settings.{Settings}
 use Rattle.session_audit.specs.{AreAudited, IsAuditedSound, IsUnsoundAudit}
 use Rattle.hhh_engine.specs.Inputs.{InputBytes}
-use Rattle.dealt_capture.specs.{DealingRules}
+use Rattle.dealt_capture.specs.{DealingRules, IsCaptureFile}
 use Rattle.run_status.specs.declared.status.Status.{Status}
 use Rattle.run_status.specs.declared.status.Status.TheVariants.{Done, BadWords, BadCapture, ReadFault, WriteFault}
 use Rattle.run_status.specs.declared.status.Status.TheVariants.{DiskFault, NotFormatted, Damaged, OtherSettings}

@@ -4,7 +4,7 @@ use Rattle.std.specs.Prelude.{⊤, ℕ, ◌≡◌, ◌-◌, ◌⊎◌, Some, Lis
 use Rattle.pcap_frames.specs.declared.file_order.FileOrder.{FileOrder}
 use Rattle.pcap_frames.specs.declared.fault.CaptureFault.{CaptureFault}
 use Rattle.pcap_frames.specs.declared.fault.FaultKind.{FaultKind}
-use Rattle.pcap_frames.specs.declared.fault.FaultKind.TheVariants.{ShortHeader, CutFrame}
+use Rattle.pcap_frames.specs.declared.fault.FaultKind.TheVariants.{ShortHeader, CutFrame, CutBlock}
 use Rattle.pcap_frames.specs.Frame.{FrameValue, frame_fault}
 use Rattle.pcap_frames.specs.Header.{header_fault}
 use Rattle.pcap_frames.specs.Capture.{SplitsCapture, EndsInside}
@@ -26,10 +26,11 @@ pub record ShowsInFrames (bytes : List ℕ) (frames : List FrameValue) (fault : 
 abbrev pub ShowsFault : List ℕ → List FrameValue → CaptureFault → Type 0
 ShowsFault bytes frames fault = ShowsInHeader bytes frames fault ⊎ ShowsInFrames bytes frames fault
 
--- a kind of fault that only the end of a file makes: ShortHeader or CutFrame
+-- a kind of fault that only the end of a file makes: ShortHeader, CutFrame or CutBlock
 abbrev pub IsEndFault : FaultKind → Type 0
 IsEndFault ShortHeader = ⊤
 IsEndFault CutFrame = ⊤
+IsEndFault CutBlock = ⊤
 IsEndFault shown = ⊥
 
 -- this is the file's first fault, and these are the frames before it

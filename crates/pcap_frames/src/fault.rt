@@ -16,7 +16,7 @@ pub enum FaultKind {
     /// The first four bytes are none of the four spellings of the magic.
     #[error("not a capture")]
     NotCapture,
-    /// The version is not 2.4.
+    /// The version is not 2.4, or not 1 in the section header of a pcapng capture.
     #[error("version")]
     Version,
     /// The link type is not 1, Ethernet.
@@ -31,6 +31,24 @@ pub enum FaultKind {
     /// Bytes follow frame 16,777,216.
     #[error("too many frames")]
     TooManyFrames,
+    /// The byte-order magic of a section header is spelled in neither byte order.
+    #[error("byte order")]
+    ByteOrder,
+    /// The length of a block is below the least of its type, no multiple of four, or too small for its packet.
+    #[error("block")]
+    BadBlock,
+    /// The last four bytes of a block are not its length.
+    #[error("block tail")]
+    BadTail,
+    /// A packet names an interface that its section has not described.
+    #[error("interface")]
+    BadInterface,
+    /// The file ends inside a block.
+    #[error("cut block")]
+    CutBlock,
+    /// Bytes follow block 16,777,216.
+    #[error("too many blocks")]
+    TooManyBlocks,
 }
 
 /// The first fault of a capture.
@@ -39,8 +57,8 @@ pub enum FaultKind {
 pub struct CaptureFault {
     /// What is wrong.
     pub kind: FaultKind,
-    /// The offset in the file, in bytes from 0: of the wrong field, of the first byte of the frame or of the byte
-    /// after the last frame, or, for a short header, the file's length.
+    /// The offset in the file, in bytes from 0: of the wrong field, of the first byte of the frame or the block or of
+    /// the byte after the last one, or, for a short header, the file's length.
     pub place: u64,
 }
 

@@ -5,17 +5,19 @@ ghost use Rattle.pcap_frames.specs.FileOrder.{number_in_order};
 
 use byteorder::{BigEndian, ByteOrder, LittleEndian};
 
-/// The byte order of all numbers in a file, as its magic shows.
+/// The byte order of all numbers in a file or a section, as its magic shows.
 #[derive(Clone, Copy, PartialEq, Eq)]
-pub(crate) enum FileOrder {
+pub enum FileOrder {
+    /// The most significant byte comes first.
     Big,
+    /// The least significant byte comes first.
     Little,
 }
 
 impl FileOrder {
     /// The number in the two bytes from this offset on.
     #[tactic(auto, unfolding(crate::specs::FileOrder::number_in_order))]
-    pub(crate) fn u16_at(self, bytes: &[u8], place: usize) -> u16
+    pub fn u16_at(self, bytes: &[u8], place: usize) -> u16
         requires { place + 2 ≤ length bytes.now }
         ensures { result ≡ number_in_order self 2 place bytes.now }
     {
@@ -27,7 +29,7 @@ impl FileOrder {
 
     /// The number in the four bytes from this offset on.
     #[tactic(auto, unfolding(crate::specs::FileOrder::number_in_order))]
-    pub(crate) fn u32_at(self, bytes: &[u8], place: usize) -> u32
+    pub fn u32_at(self, bytes: &[u8], place: usize) -> u32
         requires { place + 4 ≤ length bytes.now }
         ensures { result ≡ number_in_order self 4 place bytes.now }
     {

@@ -12,6 +12,7 @@ mod reading;
 mod visitor;
 
 pub use fault::{CaptureFault, FaultKind, FeedFault, ReadRefusal};
+pub use file_order::FileOrder;
 pub use frame::Frame;
 pub use laws::{files_are_decided, fronts_are_decided};
 pub use reader::FrameReader;

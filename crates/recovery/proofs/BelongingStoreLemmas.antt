@@ -5,8 +5,8 @@ use Rattle.std.specs.List.{AllZip}
 use Rattle.std.proofs.lemmas.List.Elements.{All-head, All-tail}
 use Rattle.prefix_lattice.specs.{RecordValue, total_weight}
 use Rattle.shard_state.specs.{IsSnapshot, SnapshotRepresents, SnapshotValue, snapshot_total}
-use Rattle.checkpoint.specs.declared.settings.StoreSettings.{StoreSettings}
-use Rattle.checkpoint.specs.{IsSaved, SavedValue, StoreHolds, newest_in}
+use Rattle.checkpoint.specs.declared.header.StoreHeader.{StoreHeader}
+use Rattle.checkpoint.specs.{IsSaved, SavedValue, StoreHolds, newest_in, stored_header}
 use Rattle.recovery.specs.Reopening.{ContinuesList}
 use Rattle.recovery.specs.Reopening.{BelongingOpen}
 use Rattle.checkpoint.specs.{settings_shape}
@@ -29,29 +29,30 @@ belonging_store_continues total (shard ∷ shards) (list ∷ lists) kept represe
     )
 
 -- what is the newest may be saved
-belonging_store_has_newest_save : (settings : StoreSettings) (image : List ℕ) (first second : Option SavedValue) (saved : SavedValue)
-    → StoreHolds settings image first second → newest_in first second ≡ Some saved → IsSaved settings.shards (settings_shape settings) saved
-belonging_store_has_newest_save settings image None None saved holds is = absurd (cc is)
-belonging_store_has_newest_save settings image None (Some one) saved holds is =
+belonging_store_has_newest_save : (header : StoreHeader) (image : List ℕ) (first second : Option SavedValue) (saved : SavedValue)
+    → StoreHolds header image first second → newest_in first second ≡ Some saved
+    → IsSaved header.settings.shards (settings_shape header.settings) saved
+belonging_store_has_newest_save header image None None saved holds is = absurd (cc is)
+belonging_store_has_newest_save header image None (Some one) saved holds is =
     let same : one ≡ saved = cc is in
-    subst (IsSaved settings.shards (settings_shape settings)) same holds.second_slot.2.is_saved
-belonging_store_has_newest_save settings image (Some one) None saved holds is =
+    subst (IsSaved header.settings.shards (settings_shape header.settings)) same holds.second_slot.2.is_saved
+belonging_store_has_newest_save header image (Some one) None saved holds is =
     let same : one ≡ saved = cc is in
-    subst (IsSaved settings.shards (settings_shape settings)) same holds.first_slot.2.is_saved
-belonging_store_has_newest_save settings image (Some one) (Some two) saved holds is = by_test (nat_lt one.sequence two.sequence) is
+    subst (IsSaved header.settings.shards (settings_shape header.settings)) same holds.first_slot.2.is_saved
+belonging_store_has_newest_save header image (Some one) (Some two) saved holds is = by_test (nat_lt one.sequence two.sequence) is
   where
-    by_test : (b : Bool) → (if b then Some two else Some one) ≡ Some saved → IsSaved settings.shards (settings_shape settings) saved
+    by_test : (b : Bool) → (if b then Some two else Some one) ≡ Some saved → IsSaved header.settings.shards (settings_shape header.settings) saved
     by_test true is =
         let same : two ≡ saved = cc is in
-        subst (IsSaved settings.shards (settings_shape settings)) same holds.second_slot.2.is_saved
+        subst (IsSaved header.settings.shards (settings_shape header.settings)) same holds.second_slot.2.is_saved
     by_test false is =
         let same : one ≡ saved = cc is in
-        subst (IsSaved settings.shards (settings_shape settings)) same holds.first_slot.2.is_saved
+        subst (IsSaved header.settings.shards (settings_shape header.settings)) same holds.first_slot.2.is_saved
 
 pub belonging_stores_are_opened : BelongingStoreHasWeights → BelongingOpen
 belonging_stores_are_opened total settings lists image None opens of early = (None, opens, tt, refl)
 belonging_stores_are_opened total settings lists image (Some saved) opens of early =
-    let is_saved = belonging_store_has_newest_save settings image opens.0 opens.1 saved opens.2 opens.3 in (
+    let is_saved = belonging_store_has_newest_save (stored_header settings image) image opens.0 opens.1 saved opens.2 opens.3 in (
       Some saved,
       opens,
       record {

@@ -2,13 +2,16 @@
 use Rattle.std.proofs.Common.{◌≡◌, ℕ, ◌+◌, List, [], ◌∷◌, None, Some, refl, ap, inl, arith}
 use Rattle.std.specs.Prelude.{slice_index}
 use Rattle.prefix_lattice.specs.{RecordValue}
+use Rattle.prefix_lattice.specs.declared.grain.Grain.TheVariants.{Byte}
 use Rattle.shard_state.specs.{CutValue, SnapshotValue, empty_snapshot, no_entries}
 use Rattle.slot_disk.specs.{known_slots_of}
 use Rattle.slot_disk.specs.declared.fault.BeginFault.TheVariants.{TooShort}
 use Rattle.slot_disk.specs.declared.fault.BodyFault.TheVariants as body
 use Rattle.checkpoint.specs.declared.fault.DecodeFault.TheVariants as decode
+use Rattle.checkpoint.specs.declared.header.StoreHeader.{StoreHeader}
 use Rattle.checkpoint.specs.declared.settings.StoreSettings.{StoreSettings}
-use Rattle.checkpoint.specs.{AreSettings, SavedValue, StoreHolds, lists_digest, settings_header}
+use Rattle.checkpoint.specs.declared.version.Version.TheVariants.{First}
+use Rattle.checkpoint.specs.{AreSettings, SavedValue, StoreHolds, header_bytes, lists_digest, written_header}
 use Rattle.checkpoint.specs.{greatest_sequence, saver_of}
 use Rattle.recovery.specs.declared.fault.OpenFault.TheVariants.{DiskFault, NotFormatted, OtherSettings, Damaged}
 use Rattle.recovery.specs.declared.fault.OpenFault.TheVariants.{OutOfMemory}
@@ -20,7 +23,7 @@ use Rattle.recovery.specs.Reopening.{MatchesLists, OpensToBase, IsBaseFor, CanGo
 use Rattle.recovery.specs.Reopening.{base_positions, greatest_opened}
 use Rattle.recovery.specs.Reopening.{IsShownByBytes}
 use Rattle.recovery.specs.Found.{IsFrontFault, IsBodyFault, IsFoundFault}
-use Rattle.recovery.specs.Found.{IsListFault, MatchesDigest, HoldsFound}
+use Rattle.recovery.specs.Found.{IsListFault, MatchesDigest, HoldsFound, ShowsHeader}
 use Rattle.recovery.specs.Found.{base_in_parts}
 use Rattle.recovery.proofs.OpenSlotLemmas.{store_open_slot_is_sound}
 use Rattle.shard_state.specs.{TableShape}
@@ -28,13 +31,23 @@ use Rattle.checkpoint.specs.{settings_shape}
 
 -- however records are weighed and dealt
 module _ (any : StoreSettings) where
-  -- this many shards with tables of two entries
+  -- this many shards with tables of two entries, by whole bytes
   abbrev settings : ℕ → StoreSettings
-  settings shards = record any { shards = shards; capacity = 2 }
+  settings shards = record any { shards = shards; capacity = 2; grain = Byte }
+
+  abbrev header : StoreHeader
+  header = written_header (settings 1)
 
   -- a store of one shard with these gates and no body
   abbrev store : ℕ → ℕ → List ℕ
-  store first second = first ∷ second ∷ settings_header (settings 1)
+  store first second = first ∷ second ∷ header_bytes header
+
+  -- the header that such a store has in the first version, and a store with it
+  abbrev old_header : StoreHeader
+  old_header = record { version = First; settings = settings 1 }
+
+  abbrev old_store : List ℕ
+  old_store = 0 ∷ 0 ∷ header_bytes old_header
 
   -- a list of one packet of 100 bytes, and snapshots of none of its records and, as they say, of two
   abbrev list : List RecordValue
@@ -58,15 +71,19 @@ module _ (any : StoreSettings) where
   pub are_settings : AreSettings (settings 1)
   are_settings = record { some = omega arith; few = omega arith; least = omega arith; most = omega arith }
 
-  pub header_of_one_shard : HasHeader (settings 1) (store 0 0)
-  header_of_one_shard = record { long = omega arith; are = are_settings; spelled = refl }
+  pub header_of_one_shard : HasHeader header (store 0 0)
+  header_of_one_shard = record { long = omega arith; is_header = record { settings = are_settings; taken = tt }; spelled = refl }
 
-  pub not_a_header_of_two : HasHeader (settings 2) (store 0 0) → ⊥
-  not_a_header_of_two header =
-      let shards : 1 ≡ 2 = ap (λ (l : List ℕ). slice_index l 5) header.spelled in omega (arith, shards)
+  pub not_a_header_of_two : HasHeader (written_header (settings 2)) (store 0 0) → ⊥
+  not_a_header_of_two has =
+      let shards : 1 ≡ 2 = ap (λ (l : List ℕ). slice_index l 5) has.spelled in omega (arith, shards)
 
-  pub short_bytes_have_no_header : (spelled : StoreSettings) → HasHeader spelled (0 ∷ []) → ⊥
-  short_bytes_have_no_header spelled header = omega (arith, header.long)
+  pub header_of_an_old_store : HasHeader old_header old_store
+  header_of_an_old_store =
+      record { long = omega arith; is_header = record { settings = are_settings; taken = refl }; spelled = refl }
+
+  pub short_bytes_have_no_header : (any_header : StoreHeader) → HasHeader any_header (0 ∷ []) → ⊥
+  short_bytes_have_no_header any_header has = omega (arith, has.long)
 
   -- a gate is open over no body: the bytes end before it
   pub open_gate_is_damaged : IsDamaged (settings 1) 0 (store 1 0)
@@ -113,18 +130,30 @@ module _ (any : StoreSettings) where
 
   pub broken_slot_is_refused : RefusesOpening (settings 1) (list ∷ []) (store 1 1) (Damaged 0)
   broken_slot_is_refused =
-      inl (record { long = omega arith; are = are_settings; spelled = refl }, first_gate_is_first_damaged)
+      inl (
+        record { long = omega arith; is_header = record { settings = are_settings; taken = tt }; spelled = refl },
+        first_gate_is_first_damaged,
+      )
 
   -- a store with no gate open opens to no base, at position 0
-  pub formatted_store_holds_nothing : StoreHolds (settings 1) (store 0 0) None None
-  formatted_store_holds_nothing = record { long = omega arith; header = refl; first_slot = refl; second_slot = refl }
+  pub formatted_store_holds_nothing : StoreHolds header (store 0 0) None None
+  formatted_store_holds_nothing = record { long = omega arith; header = refl; taken = tt; first_slot = refl; second_slot = refl }
 
   pub formatted_store_opens_to_no_base : OpensToBase (settings 1) (list ∷ []) (store 0 0) None
   formatted_store_opens_to_no_base = (None, (None, None, formatted_store_holds_nothing, refl), tt, refl)
 
+  -- so does one of the first version, which has its own header
+  pub old_store_opens_to_no_base : OpensToBase (settings 1) (list ∷ []) old_store None
+  old_store_opens_to_no_base = (
+    None,
+    (None, None, record { long = omega arith; header = refl; taken = refl; first_slot = refl; second_slot = refl }, refl),
+    tt,
+    refl,
+  )
+
   pub formatted_store_is_not_damaged : IsDamaged (settings 1) 1 (store 0 0) → ⊥
   formatted_store_is_not_damaged =
-      store_open_slot_is_sound (settings 1) 1 (store 0 0) None None (omega arith) formatted_store_holds_nothing
+      store_open_slot_is_sound header 1 (store 0 0) None None (omega arith) formatted_store_holds_nothing
 
   pub no_base_is_at_0 : base_positions (settings 2) None ≡ 0 ∷ 0 ∷ []
   no_base_is_at_0 = refl
@@ -135,8 +164,8 @@ module _ (any : StoreSettings) where
   pub empty_cut_is_a_base : IsBaseFor (settings 1) (list ∷ []) cut
   empty_cut_is_a_base = record { shape = record { as_many = refl; alike = refl }; continues = empty_cut_continues }
 
-  pub save_with_another_digest_is_not_of_the_lists : ([] ≡ lists_digest (settings 1) (list ∷ []) → ⊥)
-      → MatchesLists (settings 1) (list ∷ []) (saved 1) → ⊥
+  pub save_with_another_digest_is_not_of_the_lists : ([] ≡ lists_digest header (list ∷ []) → ⊥)
+      → MatchesLists header (list ∷ []) (saved 1) → ⊥
   save_with_another_digest_is_not_of_the_lists other of = other of.digest
 
   -- what the opening of that store gives
@@ -144,7 +173,7 @@ module _ (any : StoreSettings) where
   opened = record {
     base = None;
     positions = 0 ∷ [];
-    saver = saver_of (known_slots_of (store 0 0)) (settings 1) (lists_digest (settings 1) (list ∷ [])) None;
+    saver = saver_of (known_slots_of (store 0 0)) header (lists_digest header (list ∷ [])) None;
   }
 
   pub opened_store_can_go_on : CanGoOn (settings 1) (list ∷ []) opened
@@ -188,7 +217,10 @@ module _ (any : StoreSettings) where
   pub first_save_is_of_its_digest : MatchesDigest (list ∷ []) [] (saved 1)
   first_save_is_of_its_digest = record { digest_is = refl; continues = first_save_continues }
 
-  pub nothing_was_found : HoldsFound (settings 1) None (store 0 0)
+  pub old_store_shows_its_header : ShowsHeader (settings 1) old_header old_store
+  old_store_shows_its_header = (header_of_an_old_store, refl)
+
+  pub nothing_was_found : HoldsFound header None (store 0 0)
   nothing_was_found = (None, None, formatted_store_holds_nothing, refl, tt)
 
   pub nothing_has_no_base : base_in_parts None ≡ None

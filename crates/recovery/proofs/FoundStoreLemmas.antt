@@ -1,34 +1,38 @@
 -- The newest slot of a store, and what it opens to.
-use Rattle.std.proofs.Common.{◌≡◌, ◌≤◌, ℕ, Bool, true, false, nat_lt, if◌then◌else◌, List, Option, None, Some, IfSome}
-use Rattle.std.proofs.Common.{length}
+use Rattle.std.proofs.Common.{◌≡◌, ℕ, Bool, true, false, nat_lt, if◌then◌else◌, List, Option, None, Some, IfSome}
 use Rattle.std.proofs.Common.{refl, sym, ap, subst, ◌∙◌, inr, arith}
 use Rattle.prefix_lattice.specs.{RecordValue}
 use Rattle.shard_state.specs.{CutValue}
-use Rattle.slot_disk.specs.{IsStoreOfKnown, KnownSlotsState, front_bytes, slot_header}
+use Rattle.slot_disk.specs.{IsStoreOfKnown, KnownSlotsState}
 use Rattle.checkpoint.specs.declared.newest.Newest.{Newest}
+use Rattle.checkpoint.specs.declared.header.StoreHeader.{StoreHeader}
 use Rattle.checkpoint.specs.declared.settings.StoreSettings.{StoreSettings}
-use Rattle.checkpoint.specs.{AreSettings, HasNewest, IsSafeSaver, SavedValue, SlotHolds}
-use Rattle.checkpoint.specs.{lists_digest, settings_header, newest_in}
+use Rattle.checkpoint.specs.{HasNewest, IsSafeSaver, SavedValue, SaverState, SlotHolds}
+use Rattle.checkpoint.specs.{header_bytes, header_digest, lists_digest, newest_in, stored_header}
 use Rattle.checkpoint.specs.{newest_slot_in, store_positions, store_sequence, saved_in, saver_of}
-use Rattle.recovery.specs.Reopening.{IsDamaged, RefusesOpening, OpensToBase}
-use Rattle.recovery.specs.Found.{HoldsFound, IsBodyFault, IsFoundFault}
+use Rattle.recovery.specs.Reopening.{HasHeader, IsDamaged, RefusesOpening, OpensToBase, base_positions}
+use Rattle.recovery.specs.Found.{HoldsFound, IsBodyFault, IsFoundFault, ShowsHeader}
 use Rattle.recovery.specs.Found.{IsListFault, MatchesDigest, base_in_parts}
 use Rattle.recovery.specs.declared.fault.OpenFault.{OpenFault}
 use Rattle.recovery.specs.declared.fault.OpenFault.TheVariants.{DiskFault, NotFormatted, OtherSettings, Damaged}
 use Rattle.recovery.specs.declared.fault.OpenFault.TheVariants.{OtherCapture, OutOfMemory}
 use Rattle.recovery.proofs.OpenSlotLemmas.{open_slot_is_not_damaged}
 
+-- the header that the bytes show is there
+pub found_store_has_header : (settings : StoreSettings) (header : StoreHeader) (image : List ℕ) → ShowsHeader settings header image
+    → HasHeader (stored_header settings image) image
+found_store_has_header settings header image shows = subst (λ (h : StoreHeader). HasHeader h image) (sym shows.1) shows.0
+
 -- a fault of slot 0
-pub found_store_fault_at_zero : (settings : StoreSettings) (image : List ℕ) (fault : OpenFault) → front_bytes ≤ length image
-    → AreSettings settings → slot_header image ≡ settings_header settings → IsBodyFault settings 0 image fault
-    → IsFoundFault settings image fault
-found_store_fault_at_zero settings image DiskFault long are spelled is = tt
-found_store_fault_at_zero settings image OutOfMemory long are spelled is = tt
-found_store_fault_at_zero settings image NotFormatted long are spelled is = absurd is
-found_store_fault_at_zero settings image (OtherSettings stored asked) long are spelled is = absurd is
-found_store_fault_at_zero settings image (OtherCapture stored asked) long are spelled is = absurd is
-found_store_fault_at_zero settings image (Damaged slot) long are spelled is = (
-  record { long = long; are = are; spelled = spelled },
+pub found_store_fault_at_zero : (settings : StoreSettings) (image : List ℕ) (fault : OpenFault)
+    → HasHeader (stored_header settings image) image → IsBodyFault settings 0 image fault → IsFoundFault settings image fault
+found_store_fault_at_zero settings image DiskFault has is = tt
+found_store_fault_at_zero settings image OutOfMemory has is = tt
+found_store_fault_at_zero settings image NotFormatted has is = absurd is
+found_store_fault_at_zero settings image (OtherSettings stored asked) has is = absurd is
+found_store_fault_at_zero settings image (OtherCapture stored asked) has is = absurd is
+found_store_fault_at_zero settings image (Damaged slot) has is = (
+  has,
   record {
     within = omega (arith, is.0);
     damaged = subst (λ (n : ℕ). IsDamaged settings n image) (sym is.0) is.1;
@@ -37,16 +41,16 @@ found_store_fault_at_zero settings image (Damaged slot) long are spelled is = (
 )
 
 -- a fault of slot 1, where slot 0 is sound
-pub found_store_fault_at_one : (settings : StoreSettings) (image : List ℕ) (fault : OpenFault) → front_bytes ≤ length image
-    → AreSettings settings → slot_header image ≡ settings_header settings → (held : Option SavedValue)
-    → SlotHolds settings 0 image held → IsBodyFault settings 1 image fault → IsFoundFault settings image fault
-found_store_fault_at_one settings image DiskFault long are spelled held holds is = tt
-found_store_fault_at_one settings image OutOfMemory long are spelled held holds is = tt
-found_store_fault_at_one settings image NotFormatted long are spelled held holds is = absurd is
-found_store_fault_at_one settings image (OtherSettings stored asked) long are spelled held holds is = absurd is
-found_store_fault_at_one settings image (OtherCapture stored asked) long are spelled held holds is = absurd is
-found_store_fault_at_one settings image (Damaged slot) long are spelled held holds is = (
-  record { long = long; are = are; spelled = spelled },
+pub found_store_fault_at_one : (settings : StoreSettings) (image : List ℕ) (fault : OpenFault)
+    → HasHeader (stored_header settings image) image → (held : Option SavedValue) → SlotHolds settings 0 image held → IsBodyFault settings 1 image fault
+    → IsFoundFault settings image fault
+found_store_fault_at_one settings image DiskFault has held holds is = tt
+found_store_fault_at_one settings image OutOfMemory has held holds is = tt
+found_store_fault_at_one settings image NotFormatted has held holds is = absurd is
+found_store_fault_at_one settings image (OtherSettings stored asked) has held holds is = absurd is
+found_store_fault_at_one settings image (OtherCapture stored asked) has held holds is = absurd is
+found_store_fault_at_one settings image (Damaged slot) has held holds is = (
+  has,
   record {
     within = omega (arith, is.0);
     damaged = subst (λ (n : ℕ). IsDamaged settings n image) (sym is.0) is.1;
@@ -57,10 +61,10 @@ found_store_fault_at_one settings image (Damaged slot) long are spelled held hol
 )
 
 -- the newest slot of a store that was found
-found_store_has_newest : (settings : StoreSettings) (image : List ℕ) (found : Option Newest) (last : Newest) (slot : ℕ)
-    → HoldsFound settings found image → found ≡ Some last → slot ≡ last.slot → HasNewest settings slot (saved_in last) image
-found_store_has_newest settings image found last slot holds is at =
-    let of_last = subst (λ (f : Option Newest). HoldsFound settings f image) is holds in
+found_store_has_newest : (header : StoreHeader) (image : List ℕ) (found : Option Newest) (last : Newest) (slot : ℕ)
+    → HoldsFound header found image → found ≡ Some last → slot ≡ last.slot → HasNewest header slot (saved_in last) image
+found_store_has_newest header image found last slot holds is at =
+    let of_last = subst (λ (f : Option Newest). HoldsFound header f image) is holds in
     record {
       first = of_last.0;
       second = of_last.1;
@@ -69,22 +73,31 @@ found_store_has_newest settings image found last slot holds is at =
       slot_is = sym (at ∙ of_last.4);
     }
 
+-- a digest that was made with the bytes of the header is that of the lists
+pub found_store_has_digest : (settings : StoreSettings) (header : StoreHeader) (lists : List (List RecordValue)) (image bytes digest : List ℕ)
+    → ShowsHeader settings header image → bytes ≡ header_bytes header → digest ≡ header_digest bytes lists
+    → digest ≡ lists_digest (stored_header settings image) lists
+found_store_has_digest settings header lists image bytes digest shows spelled made =
+    made ∙ ap (λ (l : List ℕ). header_digest l lists) (spelled ∙ ap header_bytes (sym shows.1))
+
 -- a fault of the newest slot
 pub list_fault_of_found_store : (settings : StoreSettings) (lists : List (List RecordValue)) (image digest : List ℕ) (found : Option Newest) (fault : OpenFault)
-    → HoldsFound settings found image → digest ≡ lists_digest settings lists → IsListFault lists digest found fault
+    → HoldsFound (stored_header settings image) found image → digest ≡ lists_digest (stored_header settings image) lists
+    → IsListFault lists digest found fault
     → RefusesOpening settings lists image fault
 list_fault_of_found_store settings lists image digest found DiskFault holds of is = absurd is
 list_fault_of_found_store settings lists image digest found OutOfMemory holds of is = absurd is
 list_fault_of_found_store settings lists image digest found NotFormatted holds of is = absurd is
 list_fault_of_found_store settings lists image digest found (OtherSettings stored asked) holds of is = absurd is
 list_fault_of_found_store settings lists image digest found (Damaged slot) holds of is =
-    inr (saved_in is.0, found_store_has_newest settings image found is.0 slot holds is.1 is.2, is.3 ∙ of, is.4)
+    inr (saved_in is.0, found_store_has_newest (stored_header settings image) image found is.0 slot holds is.1 is.2, is.3 ∙ of, is.4)
 list_fault_of_found_store settings lists image digest found (OtherCapture stored asked) holds of is =
-    (is.0.slot, saved_in is.0, found_store_has_newest settings image found is.0 is.0.slot holds is.1 refl, is.2, is.3 ∙ of, is.4)
+    (is.0.slot, saved_in is.0, found_store_has_newest (stored_header settings image) image found is.0 is.0.slot holds is.1 refl, is.2, is.3 ∙ of, is.4)
 
 -- what a store opens to whose newest slot was found
 pub found_store_opens_to_base : (settings : StoreSettings) (lists : List (List RecordValue)) (image digest : List ℕ) (found : Option Newest)
-    (base : Option CutValue) → HoldsFound settings found image → digest ≡ lists_digest settings lists
+    (base : Option CutValue) → HoldsFound (stored_header settings image) found image
+    → digest ≡ lists_digest (stored_header settings image) lists
     → IfSome found (λ (last : Newest). MatchesDigest lists digest (saved_in last)) → base ≡ base_in_parts found
     → OpensToBase settings lists image base
 found_store_opens_to_base settings lists image digest None base holds of accepted is =
@@ -106,11 +119,22 @@ found_store_without_newest (Some one) (Some two) none = by_test (nat_lt one.sequ
     by_test true none = refl
     by_test false none = cc none
 
+-- the saver of a store has its header, the digest that it was given, and the positions of the base
+pub record FoundStoreSaverHas (header : StoreHeader) (digest : List ℕ) (found : Option Newest) (saver : SaverState) : Type 0 where
+  pub header_is : saver.header ≡ header
+  pub digest_is : saver.digest ≡ digest
+  pub positions_are : saver.positions ≡ base_positions header.settings (base_in_parts found)
+
+pub found_store_saver_has : (header : StoreHeader) (slots : KnownSlotsState) (digest : List ℕ) (found : Option Newest)
+    → FoundStoreSaverHas header digest found (saver_of slots header digest found)
+found_store_saver_has header slots digest None = record { header_is = refl; digest_is = refl; positions_are = refl }
+found_store_saver_has header slots digest (Some last) = record { header_is = refl; digest_is = refl; positions_are = refl }
+
 -- the disk matches what the saver of that store knows
-pub found_store_saver_stands : (settings : StoreSettings) (slots : KnownSlotsState) (digest : List ℕ) (found : Option Newest)
-    (possible : List ℕ → Type 0) (image : List ℕ) → HoldsFound settings found image → IsStoreOfKnown image possible slots
-    → IsSafeSaver (saver_of slots settings digest found) possible image
-found_store_saver_stands settings slots digest None possible image holds store = record {
+pub found_store_saver_stands : (header : StoreHeader) (slots : KnownSlotsState) (digest : List ℕ) (found : Option Newest)
+    (possible : List ℕ → Type 0) (image : List ℕ) → HoldsFound header found image → IsStoreOfKnown image possible slots
+    → IsSafeSaver (saver_of slots header digest found) possible image
+found_store_saver_stands header slots digest None possible image holds store = record {
   is_known = record {
     slots_are = store.slots_are;
     first = holds.0;
@@ -118,11 +142,11 @@ found_store_saver_stands settings slots digest None possible image holds store =
     holds = holds.2;
     slot_is = found_store_without_newest holds.0 holds.1 holds.3;
     sequence_is = ap store_sequence holds.3;
-    positions_are = ap (store_positions settings) holds.3;
+    positions_are = ap (store_positions header.settings) holds.3;
   };
   only = store.only;
 }
-found_store_saver_stands settings slots digest (Some last) possible image holds store = record {
+found_store_saver_stands header slots digest (Some last) possible image holds store = record {
   is_known = record {
     slots_are = store.slots_are;
     first = holds.0;
@@ -130,7 +154,7 @@ found_store_saver_stands settings slots digest (Some last) possible image holds 
     holds = holds.2;
     slot_is = holds.4;
     sequence_is = ap store_sequence holds.3;
-    positions_are = ap (store_positions settings) holds.3;
+    positions_are = ap (store_positions header.settings) holds.3;
   };
   only = store.only;
 }

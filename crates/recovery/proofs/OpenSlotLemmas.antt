@@ -3,6 +3,7 @@ use Rattle.std.proofs.Common.{◌≡◌, ℕ, zero, suc, ◌<◌, Bool, true, Li
 use Rattle.std.proofs.Common.{arith, if◌then◌else◌}
 use Rattle.slot_disk.specs.{Closed, Whole, KnownSlotsState, slot_content, is_gate_open, known_slot_open}
 use Rattle.slot_disk.specs.{shown_in, known_slots_of, slot_body}
+use Rattle.checkpoint.specs.declared.header.StoreHeader.{StoreHeader}
 use Rattle.checkpoint.specs.declared.settings.StoreSettings.{StoreSettings}
 use Rattle.checkpoint.specs.{IsBody, SavedValue, SlotHolds, StoreHolds, span_of}
 use Rattle.checkpoint.specs.declared.fault.DecodeFault.{DecodeFault}
@@ -31,13 +32,13 @@ open_slot_is_not_damaged settings slot image None shut damaged =
 open_slot_is_not_damaged settings slot image (Some saved) holds damaged = damaged.no_body saved holds
 
 -- nor is one of a sound store
-pub store_open_slot_is_sound : (settings : StoreSettings) (slot : ℕ) (image : List ℕ) (first second : Option SavedValue) → slot < 2
-    → StoreHolds settings image first second → IsDamaged settings slot image → ⊥
-store_open_slot_is_sound settings zero image first second within holds damaged =
-    open_slot_is_not_damaged settings 0 image first holds.first_slot damaged
-store_open_slot_is_sound settings (suc zero) image first second within holds damaged =
-    open_slot_is_not_damaged settings 1 image second holds.second_slot damaged
-store_open_slot_is_sound settings (suc (suc slot)) image first second within holds damaged = absurd (omega (arith, within))
+pub store_open_slot_is_sound : (header : StoreHeader) (slot : ℕ) (image : List ℕ) (first second : Option SavedValue) → slot < 2
+    → StoreHolds header image first second → IsDamaged header.settings slot image → ⊥
+store_open_slot_is_sound header zero image first second within holds damaged =
+    open_slot_is_not_damaged header.settings 0 image first holds.first_slot damaged
+store_open_slot_is_sound header (suc zero) image first second within holds damaged =
+    open_slot_is_not_damaged header.settings 1 image second holds.second_slot damaged
+store_open_slot_is_sound header (suc (suc slot)) image first second within holds damaged = absurd (omega (arith, within))
 
 -- a gate that is known to be open
 pub open_slot_is_known : (slots : KnownSlotsState) (slot : ℕ) (image : List ℕ) → slot < 2 → slots ≡ known_slots_of image

@@ -3,8 +3,9 @@ use Rattle.std.specs.Prelude.{ℕ, ◌≡◌, ◌≢◌, ⊤, List, Option, Some
 use Rattle.prefix_lattice.specs.{RecordValue}
 use Rattle.shard_state.specs.{CutValue}
 use Rattle.checkpoint.specs.declared.newest.Newest.{Newest}
+use Rattle.checkpoint.specs.declared.header.StoreHeader.{StoreHeader}
 use Rattle.checkpoint.specs.declared.settings.StoreSettings.{StoreSettings}
-use Rattle.checkpoint.specs.{SavedValue, StoreHolds, newest_in, newest_slot_in, saved_in}
+use Rattle.checkpoint.specs.{SavedValue, StoreHolds, newest_in, newest_slot_in, saved_in, stored_header}
 use Rattle.recovery.specs.Reopening.{HasHeader, IsDamaged, IsFirstDamaged, ContinuesFrom}
 use Rattle.recovery.specs.declared.fault.OpenFault.{OpenFault}
 use Rattle.recovery.specs.declared.fault.OpenFault.TheVariants.{DiskFault, NotFormatted, OtherSettings, Damaged}
@@ -13,8 +14,9 @@ use Rattle.recovery.specs.declared.fault.OpenFault.TheVariants.{OtherCapture, Ou
 -- the gates and the header are refused for this fault
 abbrev pub IsFrontFault : StoreSettings → List ℕ → OpenFault → Type 0
 IsFrontFault settings image DiskFault = ⊤
-IsFrontFault settings image NotFormatted = (spelled : StoreSettings) → HasHeader spelled image → ⊥
-IsFrontFault settings image (OtherSettings stored asked) = HasHeader stored image × (asked ≡ settings) × (stored ≢ settings)
+IsFrontFault settings image NotFormatted = (header : StoreHeader) → HasHeader header image → ⊥
+IsFrontFault settings image (OtherSettings stored asked) =
+    HasHeader (stored_header stored image) image × (asked ≡ settings) × (stored ≢ settings)
 IsFrontFault settings image (Damaged slot) = ⊥
 IsFrontFault settings image (OtherCapture stored asked) = ⊥
 IsFrontFault settings image OutOfMemory = ⊥
@@ -31,9 +33,10 @@ IsBodyFault settings slot image OutOfMemory = ⊤
 -- the store is refused for this fault, whatever was dealt
 abbrev pub IsFoundFault : StoreSettings → List ℕ → OpenFault → Type 0
 IsFoundFault settings image DiskFault = ⊤
-IsFoundFault settings image NotFormatted = (spelled : StoreSettings) → HasHeader spelled image → ⊥
-IsFoundFault settings image (OtherSettings stored asked) = HasHeader stored image × (asked ≡ settings) × (stored ≢ settings)
-IsFoundFault settings image (Damaged slot) = HasHeader settings image × IsFirstDamaged settings slot image
+IsFoundFault settings image NotFormatted = (header : StoreHeader) → HasHeader header image → ⊥
+IsFoundFault settings image (OtherSettings stored asked) =
+    HasHeader (stored_header stored image) image × (asked ≡ settings) × (stored ≢ settings)
+IsFoundFault settings image (Damaged slot) = HasHeader (stored_header settings image) image × IsFirstDamaged settings slot image
 IsFoundFault settings image (OtherCapture stored asked) = ⊥
 IsFoundFault settings image OutOfMemory = ⊤
 
@@ -54,10 +57,14 @@ IsListFault lists digest found (OtherCapture stored asked) =
     (last : Newest) × (found ≡ Some last) × (stored ≡ last.saved.digest) × (asked ≡ digest) × (stored ≢ asked)
 IsListFault lists digest found OutOfMemory = ⊥
 
--- this is the newest slot of the bytes
-abbrev pub HoldsFound : StoreSettings → Option Newest → List ℕ → Type 0
-HoldsFound settings found image =
-    (first : Option SavedValue) × (second : Option SavedValue) × StoreHolds settings image first second
+-- the bytes have this header, and it is the one that they show under the settings
+abbrev pub ShowsHeader : StoreSettings → StoreHeader → List ℕ → Type 0
+ShowsHeader settings header image = HasHeader header image × (stored_header settings image ≡ header)
+
+-- this is the newest slot of a store with this header
+abbrev pub HoldsFound : StoreHeader → Option Newest → List ℕ → Type 0
+HoldsFound header found image =
+    (first : Option SavedValue) × (second : Option SavedValue) × StoreHolds header image first second
     × (option_map saved_in found ≡ newest_in first second) × IfSome found (λ last. last.slot ≡ newest_slot_in first second)
 
 -- the cut of the newest slot

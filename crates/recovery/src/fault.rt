@@ -16,7 +16,7 @@ pub enum OpenFault {
     /// A call of the disk failed.
     #[error("disk fault")]
     DiskFault,
-    /// The disk is shorter than 64 bytes, or its header spells no settings.
+    /// The disk is shorter than 64 bytes, or its header spells no settings in either version.
     #[error("store not formatted")]
     NotFormatted,
     /// The header spells other settings.
@@ -37,7 +37,7 @@ pub enum OpenFault {
     OtherCapture {
         /// The digest in the newest slot.
         stored: [u8; 32],
-        /// The digest of the dealt records.
+        /// The digest of the dealt records under the header of the store.
         asked: [u8; 32],
     },
     /// Out of memory.

@@ -3,24 +3,25 @@
 ghost use Rattle.std.specs.Prelude.{◌≡◌, ◌≤◌, ◌<◌, ℕ, length, option_map, IfErr, IfOk, IfSome, IsErrOf, Some};
 ghost use Rattle.outside_io.specs.{FaultRose};
 ghost use Rattle.slot_disk.specs.{IfImageKnown, CrashLeaves, MatchesKnown};
-ghost use Rattle.checkpoint.specs.{AreSettings, IsNewestSave, DiskMatches, settings_header, saved_in};
+ghost use Rattle.checkpoint.specs.{AreSettings, IsHeader, IsNewestSave, DiskMatches, header_bytes, saved_in};
 ghost use Rattle.recovery.specs.Reopening.{CanGoOn, RefusesOpening, OpensToBase, base_positions};
-ghost use Rattle.recovery.specs.Found.{HoldsFound, IsFoundFault, base_in_parts};
+ghost use Rattle.recovery.specs.Found.{HoldsFound, IsFoundFault, ShowsHeader, base_in_parts};
 
 use crate::belonging::check_newest;
 use crate::bodies::read_slot;
-use crate::front::open_front;
+use crate::front::{Front, open_front};
 use crate::newest::newest_of;
 use crate::{OpenFault, Opened};
 use checkpoint::{Newest, Saver, StoreSettings, digest_of};
 use deal_rules::Dealt;
 use hhh_report::Positions;
 use shard_state::Cut;
-use slot_disk::{Disk, Slots};
+use slot_disk::Disk;
 use std::alloc::{AllocError, Global};
 
 /// Opens the store of these settings, which has saved cuts of the dealt records, with as many shards as the settings
-/// have. The base is the newest saved cut, `None` where no gate is open.
+/// have. The base is the newest saved cut, `None` where no gate is open. The header of the store may be of either
+/// version: digests are made with the bytes that stand there, and saves leave them.
 ///
 /// Each refusal comes exactly if its variant says so, in the order that `OpenFault` gives. Whatever is returned, the
 /// disk reads as before, and a crash leaves nothing that it could not have left before. After `Ok` a crash leaves the
@@ -45,9 +46,10 @@ pub fn reopen<D: Disk>(
     ensures no_fault { (IsErrOf result OpenFault.DiskFault → ⊥) → D.faults disk.new ≡ D.faults disk.old }
 {
     let found = find_newest(alloc, disk, settings)?;
-    let digest = digest_of(dealt, settings);
+    let digest = digest_of(dealt, found.front.slots.header());
     check_newest(&found.newest, dealt, &digest)?;
-    let saver = Saver::new(alloc, found.slots, *settings, digest, &found.newest)?;
+    let Front { slots, header } = found.front;
+    let saver = Saver::new(alloc, slots, header, digest, &found.newest)?;
     let positions = copy_positions(alloc, saver.positions())?;
     Ok(Opened {
         base: into_base(found.newest),
@@ -59,7 +61,7 @@ pub fn reopen<D: Disk>(
 /// The gates and the header of a store, and its newest slot.
 #[derive(Drop)]
 pub(crate) struct Found {
-    pub(crate) slots: Slots,
+    pub(crate) front: Front,
     pub(crate) newest: Option<Newest>,
 }
 
@@ -70,10 +72,13 @@ fn find_newest<D: Disk>(
     settings: &StoreSettings,
 ) -> Result<Found, OpenFault>
     requires { AreSettings settings.now }
-    ensures stands { IfOk result (λ found. MatchesKnown (D.reads disk.new) (D.image_now disk.new) found.slots) }
-    ensures header { IfOk result (λ found. found.slots.header ≡ settings_header settings.now) }
-    ensures newest { IfOk result (λ found. IsNewestSave settings.now found.slots found.newest) }
-    ensures holds { IfOk result (λ found. IfImageKnown (D.reads disk.old) (HoldsFound settings.now found.newest)) }
+    ensures stands { IfOk result (λ found. MatchesKnown (D.reads disk.new) (D.image_now disk.new) found.front.slots) }
+    ensures is_header { IfOk result (λ found. IsHeader found.front.header) }
+    ensures settings { IfOk result (λ found. found.front.header.settings ≡ settings.now) }
+    ensures spelled { IfOk result (λ found. found.front.slots.header ≡ header_bytes found.front.header) }
+    ensures shows { IfOk result (λ found. IfImageKnown (D.reads disk.old) (ShowsHeader settings.now found.front.header)) }
+    ensures newest { IfOk result (λ found. IsNewestSave settings.now found.front.slots found.newest) }
+    ensures holds { IfOk result (λ found. IfImageKnown (D.reads disk.old) (HoldsFound found.front.header found.newest)) }
     ensures refused { IfErr result (λ fault. IfImageKnown (D.reads disk.old) (λ image. IsFoundFault settings.now image fault)) }
     ensures reads { D.reads disk.new ≡ D.reads disk.old }
     ensures any_moment { CrashLeaves D.moment D.image_since disk.old disk.new (D.image_now disk.old) }
@@ -81,11 +86,11 @@ fn find_newest<D: Disk>(
     ensures fault { IsErrOf result OpenFault.DiskFault → FaultRose (D.faults disk.old) (D.faults disk.new) }
     ensures no_fault { (IsErrOf result OpenFault.DiskFault → ⊥) → D.faults disk.new ≡ D.faults disk.old }
 {
-    let slots = open_front(disk, settings)?;
-    let first = read_slot(alloc, disk, &slots, settings, 0)?;
-    let second = read_slot(alloc, disk, &slots, settings, 1)?;
+    let front = open_front(disk, settings)?;
+    let first = read_slot(alloc, disk, &front.slots, settings, 0)?;
+    let second = read_slot(alloc, disk, &front.slots, settings, 1)?;
     Ok(Found {
-        slots,
+        front,
         newest: newest_of(first, second),
     })
 }

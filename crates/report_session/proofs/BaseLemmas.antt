@@ -27,7 +27,6 @@ use Rattle.report_session.proofs.SessionThreadLemmas.{first_session_thread_sees_
 use Rattle.report_session.specs.Session.{asked_shape}
 use Rattle.checkpoint.specs.{settings_shape}
 use Rattle.report_session.specs.Session.{GoesOnFrom}
-use Rattle.std.proofs.Common.{Bool}
 
 -- shards may go on from the base
 pub base_goes_on : (settings : Settings) (lists : List (List RecordValue)) (store : Option (List ℕ)) (base : Option CutValue)

@@ -463,7 +463,7 @@ module _ (one : OpenToOne) {D : Type 0} (d : DiskOf D) (settings : Settings) (li
       (last_of_saves opened (saves_after (store_sequence opened) digest_of_kept (saved_cuts true opening_of_kept reports)))
       ≡ last_positions (session_start opening_of_kept) reports
   kept_store_last opened reports more each opens =
-      reopened_store_positions (saves_settings settings) opening_of_kept digest_of_kept (session_start opening_of_kept) opened
+      reopened_store_positions header_of_kept opening_of_kept digest_of_kept (session_start opening_of_kept) opened
       (store_sequence opened) reports more (kept_store_starts opened opens) each
 
   kept_store_counts : (opened : Option SavedValue) (reports : List Reported)

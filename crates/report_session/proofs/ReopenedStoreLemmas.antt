@@ -11,7 +11,7 @@ use Rattle.shard_state.specs.{CutValue, ShardValue, cut_positions}
 use Rattle.hhh_report.specs.declared.reports.Reported.{Reported}
 use Rattle.gate_workers.specs.{cut_at}
 use Rattle.checkpoint.specs.{StoreOpensTo, SavedValue, OpenToOne, lists_digest, store_positions}
-use Rattle.checkpoint.specs.{store_sequence}
+use Rattle.checkpoint.specs.{store_sequence, stored_header}
 use Rattle.checkpoint.specs.declared.settings.StoreSettings.{StoreSettings}
 use Rattle.checkpoint.specs.declared.header.StoreHeader.{StoreHeader}
 use Rattle.report_text.specs.{tail_text}

@@ -14,7 +14,7 @@ use Rattle.slot_disk.specs.declared.disk.Disk.{Ghosts as DiskOf}
 use Rattle.checkpoint.specs.{AreSettings, IsKnownSaver, OpensOldOrNew, StoreOpensTo, SavedValue}
 use Rattle.checkpoint.specs.{SaverState, DiskMatches, OpenToOne}
 use Rattle.checkpoint.specs.{saver_after, newest_in, next_saved, store_sequence}
-use Rattle.checkpoint.specs.declared.settings.StoreSettings.{StoreSettings}
+use Rattle.checkpoint.specs.declared.header.StoreHeader.{StoreHeader}
 use Rattle.report_session.specs.DealtFeed.{CanSaveCut}
 use Rattle.report_session.specs.Saving.{KeepsSaves, OpensToSaves, Saves, SavesCuts, SavesInPart}
 use Rattle.report_session.specs.Saving.{SavesBreakOff, SavesInTurn, after_saves, after_broken}

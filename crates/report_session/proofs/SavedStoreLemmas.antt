@@ -14,10 +14,10 @@ use Rattle.hhh_report.specs.declared.report.Report.{Report}
 use Rattle.hhh_report.specs.declared.reports.Reported.{Reported}
 use Rattle.gate_workers.specs.{IsCoreReport, cut_at}
 use Rattle.checkpoint.specs.{StoreBelongs, IsStoreOf, SavedValue, lists_digest, store_sequence}
-use Rattle.checkpoint.specs.declared.settings.StoreSettings.{StoreSettings}
+use Rattle.checkpoint.specs.declared.header.StoreHeader.{StoreHeader}
 use Rattle.command_words.specs.declared.settings.Settings.{Settings}
 use Rattle.report_text.specs.{report_text}
-use Rattle.report_session.specs.Saving.{OpensToSaves, last_of_saves, saves_after, saves_settings}
+use Rattle.report_session.specs.Saving.{OpensToSaves, last_of_saves, saves_after}
 use Rattle.report_session.specs.Session.{AreReports, IsShownInSession, SessionReports}
 use Rattle.report_session.specs.Session.{caller_reports, session_ends, saved_cuts}
 use Rattle.report_session.specs.Session.{saves_of}

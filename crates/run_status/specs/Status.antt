@@ -11,6 +11,8 @@ use Rattle.recovery.specs.declared.fault.OpenFault.TheVariants as opening
 use Rattle.pcap_frames.specs.declared.fault.FaultKind.{FaultKind}
 use Rattle.pcap_frames.specs.declared.fault.FaultKind.TheVariants.{ShortHeader, NotCapture, Version, Link}
 use Rattle.pcap_frames.specs.declared.fault.FaultKind.TheVariants.{LongFrame, CutFrame, TooManyFrames}
+use Rattle.pcap_frames.specs.declared.fault.FaultKind.TheVariants.{ByteOrder, BadBlock, BadTail, BadInterface}
+use Rattle.pcap_frames.specs.declared.fault.FaultKind.TheVariants.{CutBlock, TooManyBlocks}
 use Rattle.command_words.specs.declared.words_kind.WordsKind.{WordsKind}
 use Rattle.command_words.specs.declared.words_kind.WordsKind.TheVariants.{NoCommand, UnknownCommand, Refused}
 use Rattle.command_words.specs.declared.words_kind.WordsKind.TheVariants.{BadPrefix, BadNumber, OutOfLimits}
@@ -83,6 +85,12 @@ fault_text Link = codes "link"
 fault_text LongFrame = codes "long frame"
 fault_text CutFrame = codes "cut frame"
 fault_text TooManyFrames = codes "too many frames"
+fault_text ByteOrder = codes "byte order"
+fault_text BadBlock = codes "block"
+fault_text BadTail = codes "block tail"
+fault_text BadInterface = codes "interface"
+fault_text CutBlock = codes "cut block"
+fault_text TooManyBlocks = codes "too many blocks"
 
 -- what is wrong with the text of a session, in a few words
 abbrev pub session_text : TextFault → List ℕ

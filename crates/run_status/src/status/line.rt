@@ -88,5 +88,11 @@ fn kind_text(kind: FaultKind) -> &'static [u8]
         FaultKind::LongFrame => b"long frame",
         FaultKind::CutFrame => b"cut frame",
         FaultKind::TooManyFrames => b"too many frames",
+        FaultKind::ByteOrder => b"byte order",
+        FaultKind::BadBlock => b"block",
+        FaultKind::BadTail => b"block tail",
+        FaultKind::BadInterface => b"interface",
+        FaultKind::CutBlock => b"cut block",
+        FaultKind::TooManyBlocks => b"too many blocks",
     }
 }

@@ -46,7 +46,7 @@ impl Intervals for MergedIntervals<'_> {
 fn demo_records(alloc: Global) -> Result<Records, Fail> {
     let bytes = make_bytes(alloc, 7, 200_000)?;
     let mut capture = MemorySource::new(bytes, Vec::new(alloc), 65_536);
-    Ok(read_records(alloc, &mut capture, Weigh::Bytes).map_err(|_| "a capture")?)
+    Ok(read_records(alloc, &mut capture, Weigh::Bytes, false).map_err(|_| "a capture")?)
 }
 
 // These records, dealt to 8 shards.

@@ -7,7 +7,7 @@ returns-clause-records c = λ formula settings other file records others lists o
     is.frames is_other.frames records others weigh is.capture is_other.capture is.are_records is_other.are_records
 
 pub returns-clause-cut : goal.returns-clause-cut
-returns-clause-cut c = λ rules other_rules settings other file records others lists other_lists is is_other.
+returns-clause-cut c = λ formula settings other file records others lists other_lists is is_other.
     c.files_are_read_or_refused.ensures.one_cut other.front settings.front file is_other.frames is.frames others.cut records.cut
     is_other.capture is.capture
 

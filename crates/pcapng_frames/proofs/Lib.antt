@@ -1,0 +1,10 @@
+pub mod BlockNumberLemmas
+pub mod VerdictLemmas
+pub mod WholeBlockLemmas
+pub mod BlockSplitLemmas
+pub mod NgFileLemmas
+pub mod Examples
+pub mod PacketHeadLemmas
+pub mod KeptVerdictLemmas
+pub mod NgStepLemmas
+pub mod NgFedLemmas
