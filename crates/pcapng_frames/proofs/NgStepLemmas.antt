@@ -1,8 +1,8 @@
 -- What each step of a reader of a pcapng capture leaves.
-use Rattle.std.proofs.Common.{ℕ, ◌≡◌, ◌+◌, ◌≤◌, ◌<◌, Bool, true, false, min, List, [], ◌∷◌, ◌++◌, length, take, drop}
+use Rattle.std.proofs.Common.{◌-◌, length-take, ℕ, ◌≡◌, ◌+◌, ◌≤◌, ◌<◌, Bool, true, false, min, List, [], ◌∷◌, ◌++◌, length, take, drop}
 use Rattle.std.proofs.Common.{refl, sym, ap, ◌∙◌, arith, length-append, subst, inl, inr, ◌⊎◌, append-nil, append_assoc}
 use Rattle.std.proofs.lemmas.Bool.{lt-ltb, le-ltb, cases_lt}
-use Rattle.std.proofs.lemmas.List.{drop_all, nil_from_length}
+use Rattle.std.proofs.lemmas.List.{drop_all, nil_from_length, take-append-drop}
 use Rattle.pcap_frames.specs.{FrameValue, number_in_order, header_fault_at}
 use Rattle.pcap_frames.specs.declared.file_order.FileOrder.{FileOrder}
 use Rattle.pcap_frames.specs.declared.fault.CaptureFault.{CaptureFault}
@@ -11,13 +11,13 @@ use Rattle.pcap_frames.specs.declared.fault.FaultKind.TheVariants.{CutBlock}
 use Rattle.pcapng_frames.specs.declared.block.BlockKind.{BlockKind}
 use Rattle.pcapng_frames.specs.declared.block.BlockKind.TheVariants.{SectionHeader, InterfaceDescription, EnhancedPacket, Other}
 use Rattle.pcapng_frames.specs.declared.verdict.Verdict.TheVariants.{Waits, IsWrong, IsWhole}
-use Rattle.pcapng_frames.specs.Block.{BlockValue, block_kind, block_order, block_length, block_content, block_at, least_length}
+use Rattle.pcapng_frames.specs.Block.{BlockValue, kind_of_type, block_kind, block_order, block_length, block_content, block_at, least_length}
 use Rattle.pcapng_frames.specs.Section.{SectionPlace, before_blocks, after_block, after_blocks, frames_of_blocks, frames_of_content}
 use Rattle.pcapng_frames.specs.Verdict.{verdict_of, block_verdict}
 use Rattle.pcapng_frames.specs.NgCapture.{BeginsWithBlock, BeginsWithBlocks, SplitsBlocks, IsNgCapture, ShowsNgFault, HasNgFaultAfter}
 use Rattle.pcapng_frames.specs.Kept.{KeptValue, kept_of, kept_and, kept_verdict}
 use Rattle.pcapng_frames.specs.NgReader.{BlockPlace, NgReaderState, InBlocks, AtFault, LacksMemory, IsInBlock, NgRepresents, NgAdvances}
-use Rattle.pcapng_frames.specs.NgPart.{block_needs, gives_frame}
+use Rattle.pcapng_frames.specs.NgPart.{block_needs, gives_frame, SplitsPiece, NgStepTakes}
 use Rattle.pcapng_frames.proofs.VerdictLemmas.{VerdictTells, PacketVerdictTells, verdict_fits, verdict_tells, verdict_on_nothing}
 use Rattle.pcapng_frames.proofs.WholeBlockLemmas.{whole_block_is_long, block_at-of_whole_block_front}
 use Rattle.pcapng_frames.proofs.BlockSplitLemmas.{split_blocks_stay, split_blocks_and_one, after_split_blocks, frames_of_split_blocks, split_blocks_count}
@@ -183,6 +183,51 @@ ng_step_ends_block at front given whole needs given_is = record {
       }) (before ++ front) (frames ++ g)) (sym own) one);
 }
 
+-- the whole block is in the piece, and no byte of it arrived before
+pub ng_step_block_in_piece : (at new : BlockPlace) (piece block rest : List ℕ) (given : List FrameValue)
+    → SplitsPiece at.section.order piece block rest → at.kept.came ≡ 0 → block_verdict at.section block ≡ IsWhole
+    → new ≡ record {
+      section = after_block at.section (block_at at.section.order block);
+      frames = at.frames + length given;
+      kept = at.kept;
+    } → given ≡ frames_of_content at.section.interfaces (block_at at.section.order block).content
+    → NgStepTakes (InBlocks at) (InBlocks new) piece rest given
+ng_step_block_in_piece at new piece block rest given splits none whole new_is given_is = record {
+  front = block;
+  joined = splits.joined;
+  some = omega (arith, splits.some);
+  advances = record {
+    reads = λ before frames stands.
+        let nothing : stands.rest ≡ [] =
+        nil_from_length stands.rest (sym (ap (λ (k : KeptValue). k.came) stands.kept_is) ∙ none) in
+        let same : stands.rest ++ block ≡ block = ap (λ l. l ++ block) nothing in
+        let begins : BeginsWithBlocks before_blocks (before ++ block) stands.blocks block =
+        subst (λ l. BeginsWithBlocks before_blocks (before ++ block) stands.blocks l) same
+        (split_blocks_stay before_blocks before block stands.blocks stands.rest stands.splits.begins) in
+        let one = ng_step_one_block at (before ++ block) frames stands.blocks block begins stands.splits.frames_are
+        stands.section_is stands.count_is whole (omega (arith, splits.size)) in
+        let kept : kept_of [] ≡ at.kept = ap kept_of (sym nothing) ∙ sym stands.kept_is in
+        let shown : IsInBlock (record {
+          section = after_block at.section (block_at at.section.order block);
+          frames = at.frames + length given;
+          kept = kept_of [];
+        }) (before ++ block) (frames ++ given) =
+        subst (λ (g : List FrameValue).
+        IsInBlock (record {
+          section = after_block at.section (block_at at.section.order block);
+          frames = at.frames + length g;
+          kept = kept_of [];
+        }) (before ++ block) (frames ++ g)) (sym given_is) one in
+        subst (λ p. IsInBlock p (before ++ block) (frames ++ given)) (sym new_is)
+        (subst (λ (k : KeptValue).
+        IsInBlock (record {
+          section = after_block at.section (block_at at.section.order block);
+          frames = at.frames + length given;
+          kept = k;
+        }) (before ++ block) (frames ++ given)) kept shown);
+  };
+}
+
 -- ---- steps of a reader that has stopped, and steps one after another
 
 -- a fault stays
@@ -300,7 +345,7 @@ pub record NgStepHolds (order : FileOrder) (first : List ℕ) : Type 0 where
 
 ng_step_holds_packet : (kind : BlockKind) (order : FileOrder) (size : ℕ) (interfaces : List Bool) (first : List ℕ) (came : ℕ)
     → VerdictTells kind (block_order kind order first) size (length interfaces) first
-    → gives_frame interfaces (block_content kind order first) ≡ true → size ≤ came → length first ≡ min 70 came
+    → gives_frame interfaces (block_content kind order first) ≡ true → size ≤ came → min 70 came ≤ length first
     → NgStepHolds order first
 ng_step_holds_packet SectionHeader order size interfaces first came tells gives there long = absurd (let wrong : false ≡ true = gives in cc)
 ng_step_holds_packet InterfaceDescription order size interfaces first came tells gives there long = absurd (let wrong : false ≡ true = gives in cc)
@@ -312,14 +357,14 @@ ng_step_holds_packet EnhancedPacket order size interfaces first came tells gives
 ng_step_holds_packet Other order size interfaces first came tells gives there long = absurd (let wrong : false ≡ true = gives in cc)
 
 pub ng_step_holds : (at : SectionPlace) (kept : KeptValue) (first : List ℕ) (given : Bool) → kept_verdict at kept ≡ IsWhole
-    → first ≡ kept.first → length first ≡ min 70 kept.came
+    → first ≡ kept.first → min 70 kept.came ≤ length first
     → given ≡ gives_frame at.interfaces (block_at at.order first).content → given ≡ true → NgStepHolds at.order kept.first
 ng_step_holds at kept first given whole is long gives yes_given =
     let fits = verdict_fits at kept.came kept.first kept.last whole in
     let tells = verdict_tells at kept.came kept.first kept.last whole in
     ng_step_holds_packet (block_kind at.order kept.first) at.order (block_length at.order kept.first) at.interfaces kept.first kept.came tells
     (ap (λ l. gives_frame at.interfaces (block_at at.order l).content) (sym is) ∙ sym gives ∙ yes_given) fits.there
-    (ap length (sym is) ∙ long)
+    (omega (arith, long, ap length is))
 
 -- nothing kept waits
 pub ng_step_starts_block : (at : SectionPlace) (kept : KeptValue) → kept ≡ kept_of [] → kept_verdict at kept ≡ Waits
@@ -357,3 +402,49 @@ ng_step_ends_in_block at file frames stands cut =
       is_cut = elim cut [ inl some ↦ inl (omega arith) | inr first ↦ inr (nil_from_length stands.blocks (omega arith)) ];
       is_fault = ap (λ (s : SectionPlace). header_fault_at CutBlock s.place) stands.section_is;
     })
+
+-- ---- a whole block of the piece
+
+-- what is kept when no byte came waits
+pub ng_step_between_blocks : (at : SectionPlace) (kept : KeptValue) → kept.came ≡ 0 → kept_verdict at kept ≡ Waits
+unfolding verdict_of
+ng_step_between_blocks at kept none = rw none refl
+
+-- the bytes of a whole block have the fields of its kind
+pub ng_step_block_has_fields : (at : SectionPlace) (block : List ℕ) → block_verdict at block ≡ IsWhole
+    → least_length (block_kind at.order block) ≤ length block
+ng_step_block_has_fields at block whole =
+    let fits = verdict_fits at (length block) block _ whole in omega (arith, fits.least, fits.there)
+
+-- the bytes of a whole block, as if they were kept
+abbrev pub ng_step_whole_block : SectionPlace → List ℕ → KeptValue
+ng_step_whole_block at block = record {
+  first = block;
+  last = drop (block_length at.order block - 4) block;
+  came = length block;
+}
+
+-- the verdict on a block as long as its length says
+pub ng_step_block_verdict : (at : SectionPlace) (block last : List ℕ) → length block ≡ block_length at.order block
+    → last ≡ drop (length block - 4) block → verdict_of at (length block) block last ≡ block_verdict at block
+ng_step_block_verdict at block last size is =
+    ap (λ l. verdict_of at (length block) block l) (is ∙ ap (λ n. drop (n - 4) block) size)
+
+-- a block is split off by its length
+pub ng_step_splits_piece : (order : FileOrder) (piece block rest : List ℕ) (number : ℕ) (kind : BlockKind) (own : FileOrder) (size : ℕ)
+    → 12 ≤ size → size ≤ length piece → number ≡ number_in_order order 4 0 piece → kind ≡ kind_of_type number
+    → own ≡ block_order kind order piece → size ≡ number_in_order own 4 4 piece → block ≡ take size piece → rest ≡ drop size piece
+    → SplitsPiece order piece block rest
+ng_step_splits_piece order piece block rest number kind own size some there type_is kind_is own_is size_is block_is rest_is =
+    let kinds : kind ≡ block_kind order piece = kind_is ∙ ap kind_of_type type_is in
+    let owns : own ≡ block_order (block_kind order piece) order piece =
+    own_is ∙ ap (λ k. block_order k order piece) kinds in
+    let all : size ≡ block_length order piece = size_is ∙ ap (λ o. number_in_order o 4 4 piece) owns in
+    let joined : piece ≡ block ++ rest =
+    sym (take-append-drop size piece) ∙ ap (λ l. l ++ drop size piece) (sym block_is) ∙ ap (λ l. block ++ l) (sym rest_is) in
+    let long : length block ≡ size = ap length block_is ∙ (let e : length (take size piece) ≡ size = omega (arith, length-take size piece) in e) in
+    record {
+      joined = joined;
+      some = omega arith;
+      size = long ∙ all ∙ ap (block_length order) joined ∙ block_length-of_longer_kept_verdict order block rest (omega arith);
+    }

@@ -1,6 +1,7 @@
 -- The state of a reader, made from its parts, and what one step of it does, which no public contract cites.
 use Rattle.std.specs.Prelude.{⊤, ℕ, ◌≡◌, ◌*◌, ◌^◌, ◌<◌, ◌≤◌, nat_lt, if◌then◌else◌, Bool, false, Option, None, Some, List, [], ◌∷◌, ◌++◌, length}
-use Rattle.pcap_frames.specs.{FrameValue, AreFrames, VisitorSees}
+use Rattle.pcap_frames.specs.declared.frame.Frame.{Frame}
+use Rattle.pcap_frames.specs.{FrameValue, frame_content, AreFrames, VisitorSees}
 use Rattle.pcap_frames.specs.declared.file_order.FileOrder.{FileOrder}
 use Rattle.pcapng_frames.specs.declared.reader.section.SectionState.{SectionState}
 use Rattle.pcapng_frames.specs.declared.reader.packet.HeldPacket.{HeldPacket}
@@ -64,6 +65,17 @@ gives_frame interfaces Nothing = false
 abbrev pub frames_held : Option HeldPacket → List FrameValue
 frames_held None = []
 frames_held (Some held) = packet_frame held.order held.kept.first ∷ []
+
+-- the frame that is shown, if any
+abbrev pub frames_shown : Option Frame → List FrameValue
+frames_shown None = []
+frames_shown (Some frame) = frame_content frame ∷ []
+
+-- the piece is a block, as long as its length says, and then a rest
+pub record SplitsPiece (order : FileOrder) (piece block rest : List ℕ) : Type 0 where
+  pub joined : piece ≡ block ++ rest
+  pub some : 12 ≤ length block
+  pub size : length block ≡ block_length order block
 
 -- the reader took a front of the piece, at least one byte, which completes these frames; this rest remains
 pub record NgStepTakes (old new : NgReaderState) (piece rest : List ℕ) (given : List FrameValue) : Type 0 where

@@ -5,15 +5,15 @@ mod packet;
 mod part;
 pub(crate) mod section;
 
-ghost use Rattle.std.specs.Prelude.{◌≡◌, ℕ, ◌<◌, List, [], ◌++◌, length, IfOk, OnOk, OnErr, IsTrue, ◌↔◌};
-ghost use Rattle.pcap_frames.specs.{FrameValue, IfHadMemory, RepresentSame};
-ghost use Rattle.pcapng_frames.specs.NgPart.{frames_held};
+ghost use Rattle.std.specs.Prelude.{◌≡◌, ℕ, ◌<◌, List, [], ◌++◌, length, IfOk, IfSome, IfNone, OnOk, OnErr, IsTrue, ◌↔◌};
+ghost use Rattle.pcap_frames.specs.{FrameValue, AreFrames, IfHadMemory, RepresentSame};
+ghost use Rattle.pcapng_frames.specs.NgPart.{frames_held, frames_shown};
 ghost use Rattle.pcapng_frames.specs.NgReader.{NgRepresents, HasNgStopped};
 ghost use Rattle.pcapng_frames.specs.NgFeeding.{IsNgResultInState, FeedsNgReader, ShowsNgBeginning};
 ghost use Rattle.pcapng_frames.specs.NgFeeding.{IsNgResultOf, IsNgFinalResult};
 
 use packet::HeldPacket;
-use part::{BlockPart, Stage};
+use part::{BlockPart, Stage, Whole};
 use pcap_frames::{CaptureFault, FaultKind, FeedFault, FrameVisitor};
 use std::alloc::{AllocError, Global};
 use std::marker::Model;
@@ -67,6 +67,26 @@ impl NgReader {
         }
     }
 
+    /// Takes the block at the front of the piece, if the reader is between two blocks and the whole next block is there
+    /// without a fault.
+    fn whole_block<'a>(&mut self, piece: &'a [u8]) -> Result<Option<Whole<'a>>, AllocError>
+        ensures takes { IfOk result (λ found. IfSome found (λ whole.
+            NgStepTakes self.old self.new piece.now whole.rest.now (frames_shown whole.frame))) }
+        ensures are_frames { IfOk result (λ found. IfSome found (λ whole. AreFrames (frames_shown whole.frame))) }
+        ensures none { IfOk result (λ found. IfNone found (self.new ≡ self.old)) }
+    {
+        if !matches!(self.stage, Stage::Blocks) {
+            return Ok(None);
+        }
+        match self.part.whole_block(piece) {
+            Ok(found) => Ok(found),
+            Err(error) => {
+                self.stage = Stage::LacksMemory;
+                Err(error)
+            }
+        }
+    }
+
     /// Takes a front of the piece, and shows the visitor the frame that it completes. Returns the bytes after it.
     fn show_front<'a, V: FrameVisitor>(
         &mut self,
@@ -77,6 +97,12 @@ impl NgReader {
         ensures ok { IfOk result (λ rest. NgStepShows V.represents visitor.old visitor.new self.old self.new piece.now rest.now) }
         ensures err { OnErr result (RepresentSame V.represents visitor.old visitor.new) }
     {
+        if let Some(whole) = self.whole_block(piece)? {
+            if let Some(frame) = whole.frame {
+                visitor.frame(&frame)?;
+            }
+            return Ok(whole.rest);
+        }
         let (held, rest) = self.take(piece)?;
         if let Some(held) = held {
             visitor.frame(&held.frame())?;

@@ -1,9 +1,9 @@
 //! Where a reader is in a file, and its steps from one block to the next.
 
-ghost use Rattle.std.specs.Prelude.{◌≡◌, ℕ, ◌+◌, ◌^◌, ◌<◌, ◌≤◌, List, [], length, IfOk};
+ghost use Rattle.std.specs.Prelude.{◌≡◌, ℕ, ◌+◌, ◌^◌, ◌<◌, ◌≤◌, List, [], length, true, IfOk, IfSome, IfNone};
 ghost use Rattle.pcapng_frames.specs.declared.verdict.Verdict.TheVariants as verdicts;
-ghost use Rattle.pcapng_frames.specs.Block.{block_at};
-ghost use Rattle.pcap_frames.specs.{FrameValue, header_fault_at};
+ghost use Rattle.pcapng_frames.specs.Block.{block_at, block_length};
+ghost use Rattle.pcap_frames.specs.{FrameValue, AreFrames, header_fault_at};
 ghost use Rattle.pcap_frames.specs.declared.fault.FaultKind.TheVariants.{CutBlock};
 ghost use Rattle.pcap_frames.specs.declared.fault.FeedFault.TheVariants.{Refused};
 ghost use Rattle.pcapng_frames.specs.NgFeeding.{IsNgFinalResult};
@@ -11,15 +11,16 @@ ghost use Rattle.pcapng_frames.specs.Kept.{KeptValue, kept_of, kept_and, kept_ve
 ghost use Rattle.pcapng_frames.specs.NgReader as state;
 ghost use Rattle.pcapng_frames.specs.NgReader.{NgAdvances};
 ghost use Rattle.pcapng_frames.specs.NgPart.{section_place, place_of_part, state_of_part, IsPartInStage, IsPartWithin};
-ghost use Rattle.pcapng_frames.specs.NgPart.{IsSectionWithin, block_needs, NgStepTakes, frames_held};
+ghost use Rattle.pcapng_frames.specs.NgPart.{IsSectionWithin, block_needs, NgStepTakes, frames_held, frames_shown, SplitsPiece};
+ghost use Rattle.pcapng_frames.specs.Verdict.{block_verdict};
 ghost use Rattle.pcapng_frames.specs.Section.{before_blocks, after_block, frames_of_content};
 
 use crate::block::BlockKind;
 use crate::reader::kept::KeptBytes;
-use crate::reader::packet::HeldPacket;
+use crate::reader::packet::{HeldPacket, frame_at};
 use crate::reader::section::SectionState;
 use crate::verdict::{Verdict, verdict_of};
-use pcap_frames::{CaptureFault, FaultKind, FeedFault};
+use pcap_frames::{CaptureFault, FaultKind, FeedFault, FileOrder, Frame};
 use std::alloc::{AllocError, Global};
 use std::mem;
 
@@ -56,6 +57,13 @@ pub(crate) struct Taken<'a> {
     pub(crate) rest: &'a [u8],
 }
 
+/// A whole block of a piece: its frame, if it gives one, and the bytes after it.
+#[derive(Clone, Copy)]
+pub(crate) struct Whole<'a> {
+    pub(crate) frame: Option<Frame<'a>>,
+    pub(crate) rest: &'a [u8],
+}
+
 impl BlockPart {
     /// The part before the file's first byte.
     pub(crate) fn new(alloc: Global) -> BlockPart
@@ -85,6 +93,67 @@ impl BlockPart {
             Stage::Blocks => self.take_block(piece),
             Stage::AtFault(_) | Stage::LacksMemory => Ok(pass_over(stage, piece)),
         }
+    }
+
+    /// Takes the block at the front of the piece, if no byte of it arrived before and the whole block is there without a
+    /// fault. The only error is that memory runs out.
+    pub(crate) fn whole_block<'a>(
+        &mut self,
+        piece: &'a [u8],
+    ) -> Result<Option<Whole<'a>>, AllocError>
+        requires { IsPartWithin self.old }
+        ensures sound { IfOk result (λ _. IsPartWithin self.new) }
+        ensures takes { IfOk result (λ found. IfSome found (λ whole. NgStepTakes (state.InBlocks (place_of_part self.old))
+            (state.InBlocks (place_of_part self.new)) piece.now whole.rest.now (frames_shown whole.frame))) }
+        ensures are_frames { IfOk result (λ found. IfSome found (λ whole. AreFrames (frames_shown whole.frame))) }
+        ensures none { IfOk result (λ found. IfNone found (self.new ≡ self.old)) }
+    {
+        if self.kept.came() != 0 {
+            return Ok(None);
+        }
+        let Some((block, rest)) = split_block(self.section.order, piece) else {
+            return Ok(None);
+        };
+        if !self.is_whole(block) {
+            return Ok(None);
+        }
+        let frame = self.pass_block(block)?;
+        Ok(Some(Whole { frame, rest }))
+    }
+
+    /// Whether these bytes, as many as the length of the block says, are a whole block without a fault.
+    fn is_whole(&self, block: &[u8]) -> bool
+        requires some { 12 ≤ length block.now }
+        requires size { length block.now ≡ block_length self.now.section.order block.now }
+        ensures { result ≡ true → block_verdict (section_place self.now.section) block.now ≡ verdicts.IsWhole }
+    {
+        let (_, last) = block.split_at(block.len() - 4);
+        let verdict = verdict_of(&self.section, block.len() as u64, block, last);
+        matches!(verdict, Verdict::IsWhole)
+    }
+
+    /// Goes past a whole block of the piece, and gives its frame if it is a packet of an Ethernet interface.
+    fn pass_block<'a>(&mut self, block: &'a [u8]) -> Result<Option<Frame<'a>>, AllocError>
+        requires within { IsPartWithin self.old }
+        requires none { self.old.kept.came ≡ 0 }
+        requires whole { block_verdict (section_place self.old.section) block.now ≡ verdicts.IsWhole }
+        ensures within { IfOk result (λ _. IsPartWithin self.new) }
+        ensures place { IfOk result (λ frame. place_of_part self.new ≡ record {
+          section = after_block (section_place self.old.section) (block_at self.old.section.order block.now);
+          frames = self.old.frames + length (frames_shown frame);
+          kept = self.old.kept;
+        }) }
+        ensures gives { IfOk result (λ frame. frames_shown frame
+            ≡ frames_of_content self.old.section.interfaces.items (block_at self.old.section.order block.now).content) }
+        ensures are_frames { IfOk result (λ frame. AreFrames (frames_shown frame)) }
+    {
+        let order = self.section.order;
+        let gives = self.section.end_block(block)?;
+        if !gives {
+            return Ok(None);
+        }
+        self.frames += 1;
+        Ok(Some(frame_at(order, block)))
     }
 
     /// How many bytes the block needs, as far as is known.
@@ -203,6 +272,24 @@ impl BlockPart {
         self.frames += 1;
         Ok(Some(HeldPacket { order, kept }))
     }
+}
+
+/// The block at the front of the piece, as long as its length says, and the bytes after it.
+fn split_block(order: FileOrder, piece: &[u8]) -> Option<(&[u8], &[u8])>
+    ensures { IfSome result (λ found. SplitsPiece order piece.now found.0.now found.1.now) }
+{
+    if piece.len() < 12 {
+        return None;
+    }
+    let kind = BlockKind::of_type(order.u32_at(piece, 0));
+    let size = kind.order(order, piece).u32_at(piece, 4) as usize;
+    if size < 12 {
+        return None;
+    }
+    if piece.len() < size {
+        return None;
+    }
+    Some(piece.split_at(size))
 }
 
 /// Takes all the bytes, in a stage that no bytes change.

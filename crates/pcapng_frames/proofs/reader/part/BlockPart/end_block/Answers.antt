@@ -32,7 +32,7 @@ returns-then-not-gives-clause-within c =
 pub invariant_of-result : goal.invariant_of-result
 invariant_of-result c =
     let holds = ng_step_holds (section_place c.args.self.now.section) c.args.self.now.kept c.first.result.now c.in_ok-gives.gives
-    c.requires.whole c.first.ensures.bytes c.first.ensures.length c.in_ok-gives.ensures.gives c.if-not-gives.false in
+    c.requires.whole c.first.ensures.bytes (omega (arith, c.first.ensures.length)) c.in_ok-gives.ensures.gives c.if-not-gives.false in
     let kept = ap (λ k. k.first) c.replace-kept.ensures.value in
     record { header = rw kept holds.header; limit = rw kept holds.limit; head = rw kept holds.head }
 
