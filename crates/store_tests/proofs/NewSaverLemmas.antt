@@ -3,7 +3,7 @@ use Rattle.std.proofs.Common.{◌≡◌, ◌∙◌, ℕ, List, Bool, true, false
 use Rattle.std.specs.Prelude.{if◌then◌else◌}
 use Rattle.slot_disk.specs.{IsStoreOfKnown, KnownSlotsState, closed_known_slots}
 use Rattle.checkpoint.specs.declared.settings.StoreSettings.{StoreSettings}
-use Rattle.checkpoint.specs.{FormatIsEmpty, IsSafeSaver, SavedValue, settings_header, saver_of}
+use Rattle.checkpoint.specs.{FormatIsEmpty, IsSafeSaver, SavedValue, header_bytes, saver_of, written_header}
 use Rattle.checkpoint.specs.{newest_in, newest_slot_in, store_positions, store_sequence}
 
 -- two closed gates and a header
@@ -26,8 +26,8 @@ new_saver_begins_with_slot_zero (Some one) (Some two) none = by_test (nat_lt one
 
 -- the saver of a store with no gate open
 pub new_saver_stands : FormatIsEmpty → (settings : StoreSettings) (slots : KnownSlotsState) (digest : List ℕ)
-    (possible : List ℕ → Type 0) (bytes : List ℕ) → slots ≡ closed_known_slots (settings_header settings)
-    → IsStoreOfKnown bytes possible slots → IsSafeSaver (saver_of slots settings digest None) possible bytes
+    (possible : List ℕ → Type 0) (bytes : List ℕ) → slots ≡ closed_known_slots (header_bytes (written_header settings))
+    → IsStoreOfKnown bytes possible slots → IsSafeSaver (saver_of slots (written_header settings) digest None) possible bytes
 new_saver_stands empty settings slots digest possible bytes closed store =
     let opens = empty settings bytes store.long (sym store.slots_are ∙ closed) in
     record {

@@ -1,19 +1,19 @@
 //! Headers, bodies and saves of a store.
 
 ghost use Rattle.std.specs.Prelude.{◌≡◌, ◌<◌, [], ◌∷◌, IfOk};
-ghost use Rattle.checkpoint.specs.{AreSettings, DiskMatches};
+ghost use Rattle.checkpoint.specs.{AreSettings, DiskMatches, written_header};
 
 use super::worked_saves::{
-    DIGEST, ONE_SHARD, PACKET, Part, SMALLEST, cut_of, dealt_of, disk_of, has_parts, leaves,
-    records,
+    DIGEST, HALF_BYTES, OLD_DIGEST, ONE_SHARD, PACKET, Part, SMALLEST, cut_by, cut_of, dealt_of,
+    disk_of, has_parts, leaves, records,
 };
 use checkpoint::{
-    DecodeFault, SaveFault, Saved, Saver, StoreSettings, decode, digest_of, encode,
-    formatted_stores_are_empty, header_of, read_header, span,
+    DecodeFault, SaveFault, Saved, Saver, StoreHeader, StoreSettings, Version, decode, digest_of,
+    encode, formatted_stores_are_empty, header_of, read_header, span,
 };
 use deal_rules::DealKind;
 use frame_records::Weigh;
-use prefix_lattice::{Node, Record, RecordList};
+use prefix_lattice::{Grain, Node, Record, RecordList};
 use shard_state::Cut;
 use slot_disk::{Disk, MemoryDisk, Slots, format};
 use std::alloc::{AllocError, Global};
@@ -24,22 +24,32 @@ const GREATEST: StoreSettings = StoreSettings {
     capacity: 4096,
     weigh: Weigh::Packets,
     deal: DealKind::Free,
+    grain: Grain::Byte,
 };
 
-// Settings, the front of their header, after which all bytes are 0, and the span of their bodies. The front is the
-// letters, the version, the shards, the capacity, the weighing and the dealing.
-type Header = (StoreSettings, [u8; 10], u64);
+// Settings, the front of the header that is written for them, after which all bytes are 0, and the span of their
+// bodies. The front is the letters, the version, the shards, the capacity, the weighing, the dealing and the grain.
+type Header = (StoreSettings, [u8; 11], u64);
 
-const HEADERS: [Header; 3] = [
-    (SMALLEST, [0x48, 0x48, 0x48, 0x53, 1, 1, 0, 2, 0, 0], 1_556),
+const HEADERS: [Header; 4] = [
+    (
+        SMALLEST,
+        [0x48, 0x48, 0x48, 0x53, 2, 1, 0, 2, 0, 0, 8],
+        1_556,
+    ),
     (
         ONE_SHARD,
-        [0x48, 0x48, 0x48, 0x53, 1, 1, 2, 0, 0, 0],
+        [0x48, 0x48, 0x48, 0x53, 2, 1, 2, 0, 0, 0, 8],
         307_556,
     ),
     (
+        HALF_BYTES,
+        [0x48, 0x48, 0x48, 0x53, 2, 1, 2, 0, 0, 0, 4],
+        996_356,
+    ),
+    (
         GREATEST,
-        [0x48, 0x48, 0x48, 0x53, 1, 16, 0x10, 0, 1, 2],
+        [0x48, 0x48, 0x48, 0x53, 2, 16, 0x10, 0, 1, 2, 8],
         39_326_576,
     ),
 ];
@@ -58,81 +68,140 @@ fn first_wrong_header(cases: &[Header]) -> Option<usize> {
     None
 }
 
-fn are_spelled(settings: &StoreSettings, front: &[u8; 10], room: u64) -> bool {
+fn are_spelled(settings: &StoreSettings, front: &[u8; 11], room: u64) -> bool {
     settings.shards >= 1
         && settings.shards <= 16
         && settings.capacity >= 2
-        && settings.capacity <= 4096
+        && settings.capacity <= settings.grain.greatest_capacity()
         && span(settings) == room
         && go_both_ways(settings, front)
 }
 
-// Whether the header begins so, and all its other bytes are 0.
-fn go_both_ways(settings: &StoreSettings, front: &[u8; 10]) -> bool
+// Whether the header that is written begins so, and all its other bytes are 0.
+fn go_both_ways(settings: &StoreSettings, front: &[u8; 11]) -> bool
     requires { AreSettings settings.now }
 {
     let header = header_of(settings);
-    read_header(&header) == Some(*settings)
+    is_read_as(&header, Version::Second, settings)
         && header.starts_with(front)
-        && &header[10..] == [0; 52].as_slice()
+        && &header[11..] == [0; 51].as_slice()
 }
 
-// A place, and a byte there with which a header or a body is none.
-type Damage = (usize, u8);
+fn is_read_as(bytes: &[u8; 62], version: Version, settings: &StoreSettings) -> bool {
+    let header = StoreHeader {
+        version,
+        settings: *settings,
+    };
+    read_header(bytes) == Some(header)
+}
 
-const HEADER_DAMAGES: [Damage; 10] = [
-    (0, 0x47),
-    (3, 0x54),
-    (4, 2),
-    (5, 0),
-    (5, 17),
-    (6, 0x11),
-    (8, 2),
-    (9, 3),
-    (10, 1),
-    (61, 1),
+// Settings, and the front of their header in the first version, which has no byte for the grain.
+type OldHeader = (StoreSettings, [u8; 11]);
+
+const OLD_HEADERS: [OldHeader; 3] = [
+    (SMALLEST, [0x48, 0x48, 0x48, 0x53, 1, 1, 0, 2, 0, 0, 0]),
+    (ONE_SHARD, [0x48, 0x48, 0x48, 0x53, 1, 1, 2, 0, 0, 0, 0]),
+    (GREATEST, [0x48, 0x48, 0x48, 0x53, 1, 16, 0x10, 0, 1, 2, 0]),
 ];
 
 #[test]
-fn other_headers_are_refused(rt: HostRuntime) {
-    assert_eq!(rt; first_header_read(&HEADER_DAMAGES), None);
-    assert!(rt; a_capacity_of_one_is_refused());
+fn headers_of_the_first_version_are_read(rt: HostRuntime) {
+    assert_eq!(rt; first_wrong_old_header(&OLD_HEADERS), None);
 }
 
-fn first_header_read(cases: &[Damage]) -> Option<usize> {
-    for (place, (at, byte)) in cases.iter().enumerate() {
-        if !is_header_refused(*at, *byte) {
+fn first_wrong_old_header(cases: &[OldHeader]) -> Option<usize> {
+    for (place, (settings, front)) in cases.iter().enumerate() {
+        if !is_read_as(&header_with(front), Version::First, settings) {
             return Some(place);
         }
     }
     None
 }
 
-fn is_header_refused(place: usize, byte: u8) -> bool {
-    let mut header = header_of(&ONE_SHARD);
-    if place >= header.len() {
-        return false;
-    }
-    header[place] = byte;
-    read_header(&header).is_none()
+// A header with this front, all of whose other bytes are 0.
+fn header_with(front: &[u8; 11]) -> [u8; 62] {
+    let mut header = [0; 62];
+    header[..11].copy_from_slice(front);
+    header
 }
 
-fn a_capacity_of_one_is_refused() -> bool {
-    let mut header = header_of(&ONE_SHARD);
-    header[6] = 0;
-    header[7] = 1;
-    read_header(&header).is_none()
+// Fronts of headers. In each header each byte is changed to each value, and what comes out is read or refused as the
+// text of the format says.
+const FRONTS: [[u8; 11]; 4] = [
+    [0x48, 0x48, 0x48, 0x53, 1, 1, 2, 0, 0, 0, 0],
+    [0x48, 0x48, 0x48, 0x53, 2, 1, 2, 0, 0, 0, 8],
+    [0x48, 0x48, 0x48, 0x53, 2, 16, 4, 0, 1, 2, 4],
+    [0x48, 0x48, 0x48, 0x53, 2, 16, 0, 2, 1, 2, 8],
+];
+
+#[test]
+fn changed_headers_are_read_or_refused(rt: HostRuntime) {
+    assert_eq!(rt; first_wrong_front(&FRONTS), None);
+}
+
+fn first_wrong_front(cases: &[[u8; 11]]) -> Option<usize> {
+    for (place, front) in cases.iter().enumerate() {
+        if !are_changes_told(&header_with(front)) {
+            return Some(place);
+        }
+    }
+    None
+}
+
+fn are_changes_told(header: &[u8; 62]) -> bool {
+    for place in 0..62 {
+        if !are_values_told(header, place) {
+            return false;
+        }
+    }
+    true
+}
+
+fn are_values_told(header: &[u8; 62], place: usize) -> bool
+    requires { place < 62 }
+{
+    for value in 0..256u16 {
+        let mut changed = *header;
+        changed[place] = value as u8;
+        if read_header(&changed).is_some() != is_header(&changed) {
+            return false;
+        }
+    }
+    true
+}
+
+// Whether the text of the format allows these bytes 2 to 63 of a store.
+fn is_header(bytes: &[u8; 62]) -> bool {
+    let capacity = 256 * u32::from(bytes[6]) + u32::from(bytes[7]);
+    let most = if bytes[10] == 4 { 1024 } else { 4096 };
+    bytes.starts_with(&[0x48, 0x48, 0x48, 0x53])
+        && has_known_version(bytes[4], bytes[10])
+        && (1..=16).contains(&bytes[5])
+        && (2..=most).contains(&capacity)
+        && bytes[8] < 2
+        && bytes[9] < 3
+        && bytes[11..] == [0; 51]
+}
+
+fn has_known_version(version: u8, grain: u8) -> bool {
+    match version {
+        1 => grain == 0,
+        2 => grain == 8 || grain == 4,
+        _ => false,
+    }
 }
 
 #[test]
 fn the_digest_is_that_of_the_dealt_records(rt: HostRuntime) -> Result<(), Fail> {
-    assert!(rt; packet_digest(rt.alloc())? == DIGEST);
+    assert!(rt; are_packet_digests(rt.alloc())?);
     Ok(())
 }
 
-fn packet_digest(alloc: Global) -> Result<[u8; 32], Fail> {
+// Under the header of each version.
+fn are_packet_digests(alloc: Global) -> Result<bool, Fail> {
     let dealt = dealt_of(alloc, PACKET, 1)?;
-    Ok(digest_of(&dealt, &ONE_SHARD))
+    let old = header_with(&[0x48, 0x48, 0x48, 0x53, 1, 1, 2, 0, 0, 0, 0]);
+    Ok(digest_of(&dealt, &header_of(&ONE_SHARD)) == DIGEST && digest_of(&dealt, &old) == OLD_DIGEST)
 }
 
 // The body of the packet alone, as the third save.
@@ -208,6 +277,9 @@ fn decoded(alloc: Global, bytes: &[u8], settings: &StoreSettings) -> Result<Save
 {
     decode(alloc, bytes, settings)
 }
+
+// A place, and a byte there with which a body is none.
+type Damage = (usize, u8);
 
 // In the length, the sequence, the position, the first total, the first number of entries, the key of all traffic, its
 // count, its error, and the last total.
@@ -294,6 +366,39 @@ fn other_bodies_are_damaged(alloc: Global) -> Result<bool, AllocError> {
     Ok(has_other_shards && is_damaged(alloc, &body, &ONE_SHARD))
 }
 
+// A body by half bytes has 81 tables, which are 12 bytes and one entry here: 48 + 8 + 81 * 36 bytes.
+#[test]
+fn bodies_are_of_their_grain(rt: HostRuntime) -> Result<(), Fail> {
+    assert!(rt; are_bodies_of_their_grain(rt.alloc())?);
+    Ok(())
+}
+
+fn are_bodies_of_their_grain(alloc: Global) -> Result<bool, Fail> {
+    let whole = packet_body(alloc)?;
+    let half = half_body(alloc)?;
+    Ok(
+        half.len() == 2_972
+            && is_damaged(alloc, &whole, &HALF_BYTES)
+            && is_damaged(alloc, &half, &ONE_SHARD)
+            && is_third_by_half_bytes(alloc, &half)?,
+    )
+}
+
+// The body of the packet alone by half bytes, as the third save.
+fn half_body(alloc: Global) -> Result<Vec<u8>, AllocError> {
+    let cut = cut_by(alloc, Grain::Nibble, records(alloc, PACKET, 1)?, 512)?;
+    encode(alloc, 3, &DIGEST, &cut)
+}
+
+fn is_third_by_half_bytes(alloc: Global, body: &[u8]) -> Result<bool, Fail> {
+    let saved = decoded(alloc, body, &HALF_BYTES)?;
+    Ok(
+        saved.cut.grain() == Grain::Nibble
+            && is_third(alloc, &saved)?
+            && spells(alloc, &saved, body)?,
+    )
+}
+
 const WIDEST: StoreSettings = StoreSettings {
     capacity: 4096,
     ..ONE_SHARD
@@ -357,7 +462,7 @@ fn have_same_table(cut: &Cut, read: &Cut) -> bool {
 // Makes a store, and a saver of it: calls 0 to 3 of the disk.
 fn make_store<D: Disk>(alloc: Global, disk: &mut D) -> Result<Saver, Fail>
     ensures stands { IfOk result (λ saver. DiskMatches (D.reads disk.new) (D.image_now disk.new) saver) }
-    ensures settings { IfOk result (λ saver. saver.settings ≡ SMALLEST) }
+    ensures header { IfOk result (λ saver. saver.header ≡ written_header SMALLEST) }
     ensures sequence { IfOk result (λ saver. saver.sequence ≡ 0) }
     ensures positions { IfOk result (λ saver. saver.positions ≡ 0 ∷ []) }
 {
@@ -374,13 +479,17 @@ fn make_store<D: Disk>(alloc: Global, disk: &mut D) -> Result<Saver, Fail>
     if slots.header() != &header {
         return Err("another header".into());
     }
-    Ok(Saver::new(alloc, slots, SMALLEST, DIGEST, &None)?)
+    let spelled = StoreHeader {
+        version: Version::Second,
+        settings: SMALLEST,
+    };
+    Ok(Saver::new(alloc, slots, spelled, DIGEST, &None)?)
 }
 
 // Saves a cut of one packet: calls 4 to 9 of the disk.
 fn save_first<D: Disk>(alloc: Global, disk: &mut D) -> Result<Saver, Fail>
     ensures stands { IfOk result (λ saver. DiskMatches (D.reads disk.new) (D.image_now disk.new) saver) }
-    ensures settings { IfOk result (λ saver. saver.settings ≡ SMALLEST) }
+    ensures header { IfOk result (λ saver. saver.header ≡ written_header SMALLEST) }
     ensures sequence { IfOk result (λ saver. saver.sequence ≡ 1) }
     ensures positions { IfOk result (λ saver. saver.positions ≡ 1 ∷ []) }
 {
@@ -436,7 +545,7 @@ fn saved_in<D: Disk>(
 
 // Two closed gates, and the header of the smallest settings.
 const MADE_STORE: [u8; 64] = [
-    0, 0, 0x48, 0x48, 0x48, 0x53, 1, 1, 0, 2, 0, 0, 0, 0, 0, 0, 0, 0, 0, 0, 0, 0, 0, 0, 0, 0, 0, 0,
+    0, 0, 0x48, 0x48, 0x48, 0x53, 2, 1, 0, 2, 0, 0, 8, 0, 0, 0, 0, 0, 0, 0, 0, 0, 0, 0, 0, 0, 0, 0,
     0, 0, 0, 0, 0, 0, 0, 0, 0, 0, 0, 0, 0, 0, 0, 0, 0, 0, 0, 0, 0, 0, 0, 0, 0, 0, 0, 0, 0, 0, 0, 0,
     0, 0, 0, 0,
 ];

@@ -2,9 +2,11 @@
 
 ghost use Rattle.std.specs.Prelude.{◌≡◌, ◌≤◌, ◌^◌, length};
 ghost use Rattle.checkpoint.specs.{AreSettings, greatest_sequence};
+ghost use Rattle.prefix_lattice.specs.declared.grain.Grain.TheVariants.{Byte};
 
 use super::worked_saves::{
-    DIGEST, ONE_SHARD, PACKET, SMALLEST, cut_of, dealt_of, disk_of, records,
+    DIGEST, HALF_BYTES, OLD_DIGEST, ONE_SHARD, PACKET, Part, SMALLEST, cut_of, dealt_of, disk_of,
+    has_parts, records,
 };
 use checkpoint::{StoreSettings, digest_of, encode, header_of};
 use deal_rules::Dealt;
@@ -23,6 +25,12 @@ const OTHER_PACKET: Record = Record {
 
 // As `DIGEST`, of the same header and of 00000001 01000001 65000001 00000064.
 const OTHER_DIGEST: [u8; 32] = [
+    0xc2, 0xea, 0x7b, 0x91, 0xa3, 0x0d, 0xc2, 0x70, 0x6c, 0x9c, 0x81, 0x46, 0x2d, 0xe9, 0xf6, 0x57,
+    0x9e, 0xde, 0x91, 0xcd, 0x1b, 0xdd, 0xe1, 0x7f, 0x69, 0xa5, 0x71, 0x23, 0x1f, 0xb9, 0x22, 0x22,
+];
+
+// As `OLD_DIGEST`, of the header of the first version and the same record.
+const OTHER_OLD_DIGEST: [u8; 32] = [
     0x48, 0x4b, 0xd1, 0x3d, 0x1c, 0x87, 0x66, 0x30, 0x16, 0xfe, 0xe1, 0x05, 0x01, 0x69, 0xde, 0x09,
     0x9e, 0x69, 0x81, 0x95, 0xdd, 0x83, 0xe5, 0xc6, 0x8d, 0x8e, 0x68, 0x76, 0x0c, 0xfd, 0x2d, 0x70,
 ];
@@ -148,7 +156,7 @@ fn small_digest(alloc: Global, count: usize) -> Result<[u8; 32], Fail>
     requires { count ≤ 2 ^ 24 }
 {
     let dealt = dealt_of(alloc, PACKET, count)?;
-    Ok(digest_of(&dealt, &SMALLEST))
+    Ok(digest_of(&dealt, &header_of(&SMALLEST)))
 }
 
 // Opens a new store, saves a cut of the dealt packet, and gives the digest of the saver.
@@ -160,6 +168,7 @@ fn save_first<D: Disk>(
     requires settings { AreSettings settings.now }
     requires shards { settings.now.shards ≡ 1 }
     requires capacity { settings.now.capacity ≡ 512 }
+    requires grain { settings.now.grain ≡ Byte }
 {
     let dealt = dealt_of(alloc, PACKET, 1)?;
     let opened = reopen(alloc, disk, settings, &dealt)?;
@@ -202,6 +211,58 @@ fn a_left_store_is_opened(alloc: Global) -> Result<bool, Fail> {
     )
 }
 
+// Two closed gates, and the header of the first version of one shard of capacity 512.
+const OLD_STORE: [u8; 64] = [
+    0, 0, 0x48, 0x48, 0x48, 0x53, 1, 1, 2, 0, 0, 0, 0, 0, 0, 0, 0, 0, 0, 0, 0, 0, 0, 0, 0, 0, 0, 0,
+    0, 0, 0, 0, 0, 0, 0, 0, 0, 0, 0, 0, 0, 0, 0, 0, 0, 0, 0, 0, 0, 0, 0, 0, 0, 0, 0, 0, 0, 0, 0, 0,
+    0, 0, 0, 0,
+];
+
+// What a save of the packet leaves of it: gate 0 is open, the header stands, and the body has the digest under it.
+const SAVED_OLD_FRONT: [u8; 64] = [
+    1, 0, 0x48, 0x48, 0x48, 0x53, 1, 1, 2, 0, 0, 0, 0, 0, 0, 0, 0, 0, 0, 0, 0, 0, 0, 0, 0, 0, 0, 0,
+    0, 0, 0, 0, 0, 0, 0, 0, 0, 0, 0, 0, 0, 0, 0, 0, 0, 0, 0, 0, 0, 0, 0, 0, 0, 0, 0, 0, 0, 0, 0, 0,
+    0, 0, 0, 0,
+];
+
+const SAVED_OLD_STORE: [Part; 3] = [
+    (0, &SAVED_OLD_FRONT),
+    (64, &[0, 0, 0, 0, 0, 0, 3, 0xbc, 0, 0, 0, 0, 0, 0, 0, 1]),
+    (80, &OLD_DIGEST),
+];
+
+// Other records are another capture, whose digest is made with the header of the first version too.
+const OTHER_OLD_CAPTURE: OpenFault = OpenFault::OtherCapture {
+    stored: OLD_DIGEST,
+    asked: OTHER_OLD_DIGEST,
+};
+
+#[test]
+fn a_store_of_the_first_version_keeps_its_header(rt: HostRuntime) -> Result<(), Fail> {
+    assert!(rt; an_old_store_keeps_its_header(rt.alloc())?);
+    Ok(())
+}
+
+fn an_old_store_keeps_its_header(alloc: Global) -> Result<bool, Fail> {
+    let image = saved_old_image(alloc)?;
+    Ok(
+        image.len() == 64 + 956
+            && has_parts(&image, &SAVED_OLD_STORE)
+            && open(alloc, &image, &ONE_SHARD, PACKET, 1)? == found_at(1, 1)
+            && open(alloc, &image, &ONE_SHARD, OTHER_PACKET, 1)? == Err(OTHER_OLD_CAPTURE)
+            && open(alloc, &image, &HALF_BYTES, PACKET, 1)? == Err(HALF_ASKED),
+    )
+}
+
+// The bytes of a store of the first version that the dealt packet was saved into.
+fn saved_old_image(alloc: Global) -> Result<Vec<u8>, Fail> {
+    let mut disk = disk_of(alloc, OLD_STORE.to_vec(alloc)?, None, &[])?;
+    if save_first(alloc, &mut disk, &ONE_SHARD)? != OLD_DIGEST {
+        return Err("another digest".into());
+    }
+    Ok(disk.crash(alloc, 0)?)
+}
+
 #[test]
 fn other_bytes_are_refused(rt: HostRuntime) -> Result<(), Fail> {
     assert!(rt; is_not_formatted(rt.alloc(), &[0; 63])?);
@@ -227,6 +288,43 @@ fn other_settings_are_refused(rt: HostRuntime) -> Result<(), Fail> {
 fn a_smaller_store_is_refused(alloc: Global) -> Result<bool, Fail> {
     let bytes = store_of(alloc, [0, 0], &[], &[])?;
     Ok(open(alloc, &bytes, &ONE_SHARD, PACKET, 1)? == Err(OTHER_SETTINGS))
+}
+
+const HALF_ASKED: OpenFault = OpenFault::OtherSettings {
+    stored: ONE_SHARD,
+    asked: HALF_BYTES,
+};
+
+const HALF_STORED: OpenFault = OpenFault::OtherSettings {
+    stored: HALF_BYTES,
+    asked: ONE_SHARD,
+};
+
+// A store by half bytes. It has other settings than one by whole bytes, and is none with a third version in byte 6 or
+// steps of 5 bits in byte 12.
+#[test]
+fn a_store_is_of_its_grain(rt: HostRuntime) -> Result<(), Fail> {
+    assert!(rt; is_store_of_its_grain(rt.alloc())?);
+    Ok(())
+}
+
+fn is_store_of_its_grain(alloc: Global) -> Result<bool, Fail> {
+    let store = half_store(alloc, 2, 4)?;
+    Ok(
+        open(alloc, &store, &ONE_SHARD, PACKET, 1)? == Err(HALF_STORED)
+            && is_not_formatted(alloc, &half_store(alloc, 3, 4)?)?
+            && is_not_formatted(alloc, &half_store(alloc, 2, 5)?)?,
+    )
+}
+
+// A store by half bytes with both gates closed, this byte 6 and this byte 12.
+fn half_store(alloc: Global, version: u8, grain: u8) -> Result<Vec<u8>, AllocError> {
+    let mut header = header_of(&HALF_BYTES);
+    header[4] = version;
+    header[10] = grain;
+    let mut bytes = [0; 2].to_vec(alloc)?;
+    bytes.extend_from_slice(&header)?;
+    Ok(bytes)
 }
 
 // The gates of a store, and the slot that is damaged.

@@ -3,7 +3,7 @@
 ghost use Rattle.std.specs.Prelude.{◌≡◌, ◌≤◌, ◌%◌, ◌^◌, [], ◌∷◌, length, IfOk};
 ghost use Rattle.deal_rules.specs.{IsAsked};
 ghost use Rattle.prefix_lattice.specs.declared.grain.Grain.TheVariants.{Byte};
-ghost use Rattle.shard_state.specs.{cut_positions};
+ghost use Rattle.shard_state.specs.{cut_positions, most_grain_capacity};
 
 use checkpoint::StoreSettings;
 use deal_rules::{DealKind, Dealer, Dealt, deal};
@@ -19,6 +19,12 @@ pub(crate) const ONE_SHARD: StoreSettings = StoreSettings {
     capacity: 512,
     weigh: Weigh::Bytes,
     deal: DealKind::RoundRobin,
+    grain: Grain::Byte,
+};
+
+pub(crate) const HALF_BYTES: StoreSettings = StoreSettings {
+    grain: Grain::Nibble,
+    ..ONE_SHARD
 };
 
 // The smallest settings: tables of two entries.
@@ -34,9 +40,15 @@ pub(crate) const PACKET: Record = Record {
     weight: 100,
 };
 
-// SHA-256, by another program, of the header of one shard of capacity 512, by bytes and dealt in turn, and of
-// 00000001 0a010203 14010203 00000064.
+// SHA-256, by another program, of the header of the second version of one shard of capacity 512, by bytes, dealt in turn
+// and by whole bytes, and of 00000001 0a010203 14010203 00000064.
 pub(crate) const DIGEST: [u8; 32] = [
+    0x6c, 0xd1, 0x07, 0x99, 0xfb, 0xe3, 0xcc, 0x1c, 0xa3, 0x93, 0x32, 0xe0, 0xed, 0xf3, 0x36, 0x4f,
+    0x50, 0x2e, 0x13, 0xcc, 0x92, 0x8f, 0x7d, 0x82, 0x6a, 0x07, 0x32, 0xd3, 0xc6, 0xce, 0x1b, 0x79,
+];
+
+// The same of the header of the first version.
+pub(crate) const OLD_DIGEST: [u8; 32] = [
     0xb7, 0x81, 0x69, 0x0e, 0x5c, 0x08, 0xaf, 0xc3, 0x7c, 0xff, 0x7d, 0x3d, 0x45, 0x68, 0x8c, 0x7f,
     0x7b, 0x7a, 0x07, 0xdf, 0xbf, 0x74, 0xa5, 0xeb, 0x2d, 0x99, 0x79, 0x32, 0x36, 0x26, 0x73, 0x91,
 ];
@@ -79,7 +91,7 @@ fn deal_in_turn(alloc: Global, rec: Record, count: usize) -> Result<Dealt, Alloc
     deal(alloc, &list, &dealer, 1)
 }
 
-// A cut of one shard that counted these records whole.
+// A cut of one shard, by whole bytes, that counted these records whole.
 pub(crate) fn cut_of(alloc: Global, list: RecordList, capacity: u32) -> Result<Cut, AllocError>
     requires few { length list ≤ 2 ^ 24 }
     requires least { 2 ≤ capacity }
@@ -88,9 +100,27 @@ pub(crate) fn cut_of(alloc: Global, list: RecordList, capacity: u32) -> Result<C
     ensures shape { IfOk result (λ cut. cut.shape ≡ record { grain = Byte; capacity = capacity }) }
     ensures positions { IfOk result (λ cut. cut_positions cut ≡ length list ∷ []) }
 {
-    let mut shard = ShardState::start(alloc, Grain::Byte, list, capacity)?;
+    cut_by(alloc, Grain::Byte, list, capacity)
+}
+
+// The same by a grain.
+pub(crate) fn cut_by(
+    alloc: Global,
+    grain: Grain,
+    list: RecordList,
+    capacity: u32,
+) -> Result<Cut, AllocError>
+    requires few { length list ≤ 2 ^ 24 }
+    requires least { 2 ≤ capacity }
+    requires most { capacity ≤ 4096 }
+    requires of_grain { capacity ≤ most_grain_capacity grain }
+    ensures shards { IfOk result (λ cut. length cut.shards ≡ 1) }
+    ensures shape { IfOk result (λ cut. cut.shape ≡ record { grain = grain; capacity = capacity }) }
+    ensures positions { IfOk result (λ cut. cut_positions cut ≡ length list ∷ []) }
+{
+    let mut shard = ShardState::start(alloc, grain, list, capacity)?;
     shard.fold_block(u32::MAX);
-    let mut cut = Cut::with_room(alloc, Grain::Byte, 1, capacity)?;
+    let mut cut = Cut::with_room(alloc, grain, 1, capacity)?;
     cut.copy_shard(0, &shard);
     Ok(cut)
 }
