@@ -1,0 +1,5 @@
+pub mod PairLemmas
+pub mod CrossingLemmas
+pub mod AlarmLemmas
+pub mod OnceLemmas
+pub mod CertainLemmas
