@@ -1,10 +1,11 @@
 -- Alarms, one for each crossing.
 use Rattle.std.proofs.Common.{◌≡◌, ℕ, ◌+◌, ◌<◌, ◌≤◌, Bool, true, false, cond, ◌&&◌, ◌||◌, eqb, nat_eq, ◌==◌}
 use Rattle.std.proofs.Common.{List, [], ◌∷◌, ◌++◌, length, map, filter, take, refl, sym, ap, subst, ◌∙◌, arith, append_assoc, get_or}
-use Rattle.std.specs.Prelude.{count_by, MatchOption, Option, Some, None}
+use Rattle.std.specs.Prelude.{count_by, All, MatchOption, Option, Some, None}
 use Rattle.std.specs.Option.{option_to_list}
 use Rattle.std.proofs.lemmas.List.{map-append, length-take-le}
-use Rattle.std.proofs.lemmas.List.Elements.{filter-append}
+use Rattle.std.proofs.lemmas.List.Elements.{filter-append, filter_passes, All-nil, All-cons, All-head, All-tail}
+use Rattle.std.proofs.lemmas.Bool.{and_parts, not-true}
 use Rattle.std.specs.List.{list_any, enumerate_from, slice_get}
 use Rattle.prefix_lattice.specs.{PrefixValue, under, same_as}
 use Rattle.hhh_report.specs.declared.line.Line.{Line}
@@ -13,8 +14,9 @@ use Rattle.watch_rules.specs.declared.rule.Rule.{Rule}
 use Rattle.watch_rules.specs.declared.alarm.Alarm.{Alarm}
 use Rattle.watch_rules.specs.declared.raised.Raised.{Raised}
 use Rattle.watch_rules.specs.Alarms.{IsAlarm, AreAlarms, AreAlarmsOf}
-use Rattle.watch_rules.specs.Crossings.{LineByRule, beside, line_by_rules, crossings}
-use Rattle.watch_rules.specs.Watch.{is_raised, raised_by, next_crossings}
+use Rattle.watch_rules.specs.Crossings.{LineByRule, beside, is_over, line_by_rules, lines_by_rules, crossings}
+use Rattle.watch_rules.specs.RaisedPairs.{is_raised, raised_by, AreNew}
+use Rattle.watch_rules.specs.Watch.{is_next, next_crossings}
 use Rattle.watch_rules.proofs.PairLemmas.{PairUnderHolds, is_pair}
 use Rattle.watch_rules.proofs.CrossingLemmas.{crossing_rules-more, crossings-more, report_crossings, next_crossings_are}
 
@@ -94,3 +96,23 @@ alarms_of_next_report one may_answer rules reports place reported raised alarms 
 
 pub alarms_raise-append : (alarms more : List Alarm) → raised_by (alarms ++ more) ≡ raised_by alarms ++ raised_by more
 alarms_raise-append alarms more = map-append _ alarms more
+
+-- alarms of crossings that aren't raised are new
+pub alarms_are_new : (may_answer : ℕ → ℕ → ℕ → ℕ → Type 0) (raised : List Raised) (places : List LineByRule) (alarms : List Alarm)
+    → AreAlarms may_answer places alarms → All (λ at. is_next raised at ≡ true) places → AreNew raised alarms
+alarms_are_new may_answer raised [] [] are next = All-nil (λ (alarm : Alarm). is_raised raised alarm.rule alarm.prefix ≡ false)
+alarms_are_new may_answer raised [] (alarm ∷ alarms) are next = absurd are
+alarms_are_new may_answer raised (at ∷ places) [] are next = absurd are
+alarms_are_new may_answer raised (at ∷ places) (alarm ∷ alarms) are next =
+    let here : is_raised raised at.number at.line.prefix ≡ false =
+    not-true _ (and_parts (is_over at) _ (All-head (λ (place : LineByRule). is_next raised place ≡ true) at places next)).1 in
+    All-cons (λ (a : Alarm). is_raised raised a.rule a.prefix ≡ false) alarm alarms
+    (ap (λ n. is_raised raised n alarm.prefix) are.0.rule ∙ ap (λ p. is_raised raised at.number p) are.0.prefix ∙ here)
+    (alarms_are_new may_answer raised places alarms are.1
+    (All-tail (λ (place : LineByRule). is_next raised place ≡ true) at places next))
+
+pub next_alarms_are_new : (may_answer : ℕ → ℕ → ℕ → ℕ → Type 0) (rules : List Rule) (raised : List Raised) (report : ℕ)
+    (lines : List Line) (alarms : List Alarm) → AreAlarms may_answer (next_crossings rules raised report lines) alarms → AreNew raised alarms
+next_alarms_are_new may_answer rules raised report lines alarms are =
+    alarms_are_new may_answer raised (next_crossings rules raised report lines) alarms are
+    (filter_passes (is_next raised) (lines_by_rules rules report lines))

@@ -17,7 +17,8 @@ use Rattle.watch_rules.specs.declared.rule.Rule.{Rule}
 use Rattle.watch_rules.specs.declared.raised.Raised.{Raised}
 use Rattle.watch_rules.specs.Crossings.{LineByRule, beside, line_by_rules, lines_by_rules, is_over, is_first_over}
 use Rattle.watch_rules.specs.Crossings.{have_over, had_over, crossings}
-use Rattle.watch_rules.specs.Watch.{is_raised, is_next, next_crossings}
+use Rattle.watch_rules.specs.RaisedPairs.{is_raised}
+use Rattle.watch_rules.specs.Watch.{is_next, next_crossings}
 use Rattle.watch_rules.proofs.PairLemmas.{PairUnderHolds, is_pair, pair_rules, pair_any-count, pair_any-filter, pair_count-rule}
 
 -- the crossings of a report after others

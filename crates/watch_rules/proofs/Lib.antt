@@ -3,3 +3,4 @@ pub mod CrossingLemmas
 pub mod AlarmLemmas
 pub mod OnceLemmas
 pub mod CertainLemmas
+pub mod RaisedPairLemmas

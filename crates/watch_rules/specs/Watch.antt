@@ -1,12 +1,10 @@
--- What a watch has seen: the rules and prefixes that it has alarmed of.
-use Rattle.std.specs.Prelude.{ℕ, ◌≡◌, ◌^◌, ◌<◌, ◌≤◌, ◌==◌, ◌&&◌, Bool, not, List, length, map, filter}
-use Rattle.std.specs.List.{list_any}
-use Rattle.prefix_lattice.specs.{PrefixValue, same_as}
+-- The limits of a watch, and the crossings that it tells next.
+use Rattle.std.specs.Prelude.{ℕ, ◌^◌, ◌≤◌, ◌&&◌, Bool, not, List, length, filter}
 use Rattle.hhh_report.specs.declared.line.Line.{Line}
 use Rattle.watch_rules.specs.declared.rule.Rule.{Rule}
-use Rattle.watch_rules.specs.declared.alarm.Alarm.{Alarm}
 use Rattle.watch_rules.specs.declared.raised.Raised.{Raised}
 use Rattle.watch_rules.specs.Crossings.{LineByRule, lines_by_rules, is_over}
+use Rattle.watch_rules.specs.RaisedPairs.{is_raised}
 
 -- the most rules of a watch
 abbrev pub rule_limit : ℕ
@@ -20,15 +18,6 @@ report_limit = 2 ^ 62
 pub record AreRules (rules : List Rule) : Type 0 where
   pub some : 1 ≤ length rules
   pub few : length rules ≤ rule_limit
-
--- the pairs of a rule and a prefix that some alarms name
-abbrev pub raised_by : List Alarm → List Raised
-raised_by alarms = map (λ (alarm : Alarm). record { rule = alarm.rule; prefix = alarm.prefix }) alarms
-
--- a rule, by its number, and a prefix are among these pairs
-abbrev pub is_raised : List Raised → ℕ → PrefixValue → Bool
-is_raised raised number prefix =
-    list_any (λ (pair : Raised). pair.rule == number && same_as pair.prefix prefix) raised
 
 -- a line is over the limit of a rule, and that pair isn't raised
 abbrev pub is_next : List Raised → LineByRule → Bool

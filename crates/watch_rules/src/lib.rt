@@ -7,6 +7,7 @@ mod alarms;
 mod judge;
 mod laws;
 mod raised;
+mod raised_pairs;
 mod rule;
 mod watch;
 mod watching;

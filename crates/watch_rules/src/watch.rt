@@ -1,18 +1,14 @@
 //! A watch over reports that come one after another.
 
-ghost use Rattle.std.specs.Prelude.{◌≡◌, ◌+◌, ◌<◌, ◌≤◌, ◌++◌, ◌&&◌, not, nat_le, [], List, Bool, IfOk, OnOk, OnErr};
-ghost use Rattle.std.specs.Prelude.{true, false, MatchOption, length, filter, vec_len, vec_capacity};
-ghost use Rattle.prefix_lattice.specs.{same_as};
-ghost use Rattle.hhh_report.specs.declared.line.Line.{Line};
-ghost use Rattle.watch_rules.specs.declared.rule.Rule.{Rule};
+ghost use Rattle.std.specs.Prelude.{◌≡◌, ◌+◌, ◌<◌, ◌≤◌, ◌++◌, [], List, true, false, filter, IfOk, OnOk, OnErr, MatchOption};
 ghost use Rattle.watch_rules.specs.Alarms.{AreAlarms, IsAlarm};
 ghost use Rattle.watch_rules.specs.Crossings.{LineByRule, beside, line_by_rules};
-ghost use Rattle.watch_rules.specs.Watch.{AreRules, is_next, is_raised, next_crossings, raised_by, report_limit};
+ghost use Rattle.watch_rules.specs.RaisedPairs.{raised_by};
+ghost use Rattle.watch_rules.specs.Watch.{AreRules, is_next, next_crossings, report_limit};
 
-use crate::raised::Raised;
+use crate::raised_pairs::RaisedPairs;
 use crate::{Alarm, Alarms, Judge, Judges, Rule};
 use hhh_report::{Line, Report};
-use prefix_lattice::Prefix;
 use std::alloc::{AllocError, Global};
 
 /// Rules, and what they have raised so far: an alarm for each line that is surely over the limit of a rule, the first
@@ -23,7 +19,7 @@ pub struct Watch<'a> {
     judge: &'a Judge,
     rules: Vec<Rule>,
     seen: u64,
-    raised: Vec<Raised>,
+    raised: RaisedPairs,
     ghost are_rules: { AreRules rules.items },
 }
 
@@ -34,14 +30,14 @@ impl<'a> Watch<'a> {
         ensures judge { IfOk result (λ watch. watch.judge.now ≡ judge.now) }
         ensures rules { IfOk result (λ watch. watch.rules.items ≡ rules.items) }
         ensures seen { IfOk result (λ watch. watch.seen ≡ 0) }
-        ensures raised { IfOk result (λ watch. watch.raised.items ≡ []) }
+        ensures raised { IfOk result (λ watch. watch.raised ≡ []) }
     {
         Ok(Watch {
             alloc,
             judge,
             rules,
             seen: 0,
-            raised: Vec::new(alloc),
+            raised: RaisedPairs::new(alloc),
         })
     }
 
@@ -51,16 +47,15 @@ impl<'a> Watch<'a> {
     pub fn see(&mut self, report: &Report) -> Result<Alarms, AllocError>
         requires { self.old.seen < report_limit }
         ensures alarms { IfOk result (λ alarms. AreAlarms (⟦<Judge as Judges>⟧.may_answer self.old.judge.now)
-            (next_crossings self.old.rules.items self.old.raised.items (self.old.seen + 1) report.now.lines) alarms) }
-        ensures raised { IfOk result (λ alarms. self.new.raised.items ≡ self.old.raised.items ++ raised_by alarms) }
+            (next_crossings self.old.rules.items self.old.raised (self.old.seen + 1) report.now.lines) alarms) }
+        ensures raised { IfOk result (λ alarms. self.new.raised ≡ self.old.raised ++ raised_by alarms) }
         ensures seen { OnOk result (self.new.seen ≡ self.old.seen + 1) }
-        ensures err { OnErr result ((self.new.seen ≡ self.old.seen) × (self.new.raised.items ≡ self.old.raised.items)) }
+        ensures err { OnErr result ((self.new.seen ≡ self.old.seen) × (self.new.raised ≡ self.old.raised)) }
         ensures judge { self.new.judge.now ≡ self.old.judge.now }
         ensures rules { self.new.rules.items ≡ self.old.rules.items }
     {
         let alarms = self.alarms_of(report)?;
-        self.raised.reserve(alarms.len())?;
-        raise(&mut self.raised, alarms.as_slice());
+        self.raised.raise(alarms.as_slice())?;
         self.seen += 1;
         Ok(alarms)
     }
@@ -69,7 +64,7 @@ impl<'a> Watch<'a> {
     fn alarms_of(&self, report: &Report) -> Result<Alarms, AllocError>
         requires { self.now.seen < report_limit }
         ensures { IfOk result (λ alarms. AreAlarms (⟦<Judge as Judges>⟧.may_answer self.now.judge.now)
-            (next_crossings self.now.rules.items self.now.raised.items (self.now.seen + 1) report.now.lines) alarms) }
+            (next_crossings self.now.rules.items self.now.raised (self.now.seen + 1) report.now.lines) alarms) }
     {
         let mut alarms = Alarms::new(self.alloc);
         for line in report.lines.as_slice() {
@@ -84,7 +79,7 @@ impl<'a> Watch<'a> {
         requires ordered { line.now.lo ≤ line.now.hi }
         ensures { OnOk result ((before : List LineByRule)
             → AreAlarms (⟦<Judge as Judges>⟧.may_answer self.now.judge.now) before alarms.old
-            → AreAlarms (⟦<Judge as Judges>⟧.may_answer self.now.judge.now) (before ++ filter (is_next self.now.raised.items)
+            → AreAlarms (⟦<Judge as Judges>⟧.may_answer self.now.judge.now) (before ++ filter (is_next self.now.raised)
             (line_by_rules self.now.rules.items (self.now.seen + 1) line.now)) alarms.new) }
     {
         for (number, rule) in self.rules.iter().enumerate() {
@@ -100,13 +95,13 @@ impl<'a> Watch<'a> {
         requires seen { self.now.seen < report_limit }
         requires ordered { line.now.lo ≤ line.now.hi }
         ensures { let at = beside (self.now.seen + 1) line.now number rule.now in
-            MatchOption result (is_next self.now.raised.items at ≡ false) (λ alarm.
-            (is_next self.now.raised.items at ≡ true) × IsAlarm (⟦<Judge as Judges>⟧.may_answer self.now.judge.now) at alarm) }
+            MatchOption result (is_next self.now.raised at ≡ false) (λ alarm.
+            (is_next self.now.raised at ≡ true) × IsAlarm (⟦<Judge as Judges>⟧.may_answer self.now.judge.now) at alarm) }
     {
         if !line.prefix.under(&rule.prefix) || line.lo < rule.limit {
             return None;
         }
-        if self.has_raised(number, &line.prefix) {
+        if self.raised.has(number, &line.prefix) {
             return None;
         }
         Some(Alarm {
@@ -117,32 +112,4 @@ impl<'a> Watch<'a> {
             severity: self.judge.ask(line.lo, line.hi, rule.limit),
         })
     }
-
-    // Whether there was an alarm for this rule and prefix.
-    fn has_raised(&self, number: u32, prefix: &Prefix) -> bool
-        ensures { result ≡ is_raised self.now.raised.items number prefix.now }
-    {
-        self.raised.iter().any(|pair| pair.rule == number && is_same(&pair.prefix, prefix))
-    }
-}
-
-// Appends the pairs of these alarms. There is room for them.
-fn raise(raised: &mut Vec<Raised>, alarms: &[Alarm])
-    requires { vec_len raised.old + length alarms.now ≤ vec_capacity raised.old }
-    ensures { raised.new.items ≡ raised.old.items ++ raised_by alarms.now }
-{
-    for alarm in alarms {
-        let pair = Raised {
-            rule: alarm.rule,
-            prefix: alarm.prefix,
-        };
-        raised.push(pair).unwrap();
-    }
-}
-
-// Whether two prefixes are the same: each is under the other.
-fn is_same(prefix: &Prefix, other: &Prefix) -> bool
-    ensures { result ≡ same_as prefix.now other.now }
-{
-    prefix.under(other) && other.under(prefix)
 }

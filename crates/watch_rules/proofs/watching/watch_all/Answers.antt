@@ -1,5 +1,5 @@
 use Rattle.std.proofs.Common.{◌≡◌, ◌+◌, ◌++◌, ◌∙◌, sym, ap, subst, rules, arith}
-use Rattle.watch_rules.specs.Watch.{raised_by, next_crossings}
+use Rattle.watch_rules.specs.RaisedPairs.{raised_by}
 use Rattle.watch_rules.proofs.AlarmLemmas.{alarms_of_next_report, alarms_raise-append}
 use Rattle.watch_rules.proofs.watching.watch_all.Goals as goal
 
@@ -20,6 +20,6 @@ loop-reported-preserved g c =
           ∙ sym (ap raised_by c.in_ok-append.ensures.ok ∙ alarms_raise-append alarms more);
       alarms = rw c.in_ok-append.ensures.ok
           (alarms_of_next_report c.prefixes_are_ordered.ensures.antisymmetric _ c.args.rules.items c.args.reports.now
-          c.loop-reported.reported-index c.reported-item.result c.loop-reported.watch.raised.items alarms more
+          c.loop-reported.reported-index c.reported-item.result c.loop-reported.watch.raised alarms more
           (rw items at c.loop-reported-test.true) (rw items at c.reported-item.is) inv.raised inv.alarms next);
     }

@@ -1,6 +1,6 @@
 use Rattle.std.proofs.Common.{◌≡◌, ℕ, ◌+◌, take, map}
 use Rattle.watch_rules.specs.Alarms.{AreAlarmsOf}
-use Rattle.watch_rules.specs.Watch.{raised_by}
+use Rattle.watch_rules.specs.RaisedPairs.{raised_by}
 use Rattle.watch_rules.proofs.watching.watch_all.Given as goal
 
 -- the alarms of the reports so far
@@ -12,6 +12,6 @@ invariant-loop-reported g l =
       judge : l.watch.judge.now ≡ l.judge;
       rules : l.watch.rules.items ≡ l.fn.rules.items;
       seen : l.watch.seen ≡ l.reported-index;
-      raised : l.watch.raised.items ≡ raised_by l.alarms;
+      raised : l.watch.raised ≡ raised_by l.alarms;
       alarms : AreAlarmsOf may_answer l.fn.rules.items (take l.reported-index l.reports) l.alarms;
     }

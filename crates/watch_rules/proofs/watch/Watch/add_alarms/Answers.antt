@@ -13,11 +13,11 @@ loop-number-preserved g c =
     let is = rw same at c.rule-item.is in
     elim c.match-alarm_of.branch [
       | in-Some+in_ok-push w ↦ λ before are.
-          alarms_of_next_rule _ (is_next c.args.self.now.raised.items) before rules (c.args.self.now.seen + 1) c.loop-number.number
+          alarms_of_next_rule _ (is_next c.args.self.now.raised) before rules (c.args.self.now.seen + 1) c.loop-number.number
           c.args.line.now c.rule-item.result c.loop-number.alarms _ (Some w.in-Some.alarm)
           within is w.in-Some.ensures (w.alarms-is ∙ w.in_ok-push.ensures.ok) (c.loop-number.invariant before are)
       | in_default w ↦ λ before are.
-          alarms_of_next_rule _ (is_next c.args.self.now.raised.items) before rules (c.args.self.now.seen + 1) c.loop-number.number
+          alarms_of_next_rule _ (is_next c.args.self.now.raised) before rules (c.args.self.now.seen + 1) c.loop-number.number
           c.args.line.now c.rule-item.result c.loop-number.alarms _ None
           within is w.in_default.ensures (w.alarms-is ∙ sym (append-nil c.loop-number.alarms)) (c.loop-number.invariant before are)
     ]

@@ -8,4 +8,4 @@ abbrev pub invariant-loop-line : goal.invariant-loop-line
 invariant-loop-line g l =
     let may_answer : ℕ → ℕ → ℕ → ℕ → Type 0 = λ lo hi limit severity.
     (goal.Fn-dyn g).post (l.self.judge.now.rule.vtable, l.self.judge.now.rule.value) (lo, (hi, (limit, tt))) severity in
-    AreAlarms may_answer (next_crossings l.self.rules.items l.self.raised.items (l.self.seen + 1) (take l.line-index l.report.lines)) l.alarms
+    AreAlarms may_answer (next_crossings l.self.rules.items l.self.raised (l.self.seen + 1) (take l.line-index l.report.lines)) l.alarms
