@@ -1,21 +1,20 @@
 -- What an alarm says of the records of a sound report.
-use Rattle.std.proofs.Common.{◌≡◌, ℕ, zero, suc, ◌+◌, ◌-◌, ◌<◌, ◌≤◌, Bool, true, false, ◌&&◌, leb}
-use Rattle.std.proofs.Common.{List, [], ◌∷◌, ◌++◌, length, map, filter, get_or, refl, sym, ap, subst, ◌∙◌, arith, All, Contains}
-use Rattle.std.proofs.Common.{append_assoc, length-append}
-use Rattle.std.specs.Prelude.{Some, None}
-use Rattle.std.specs.List.{slice_get, enumerate_from}
+use Rattle.std.proofs.Common.{◌≡◌, ℕ, suc, ◌+◌, ◌-◌, ◌≤◌, true, leb}
+use Rattle.std.proofs.Common.{List, [], ◌∷◌, ◌++◌, length, get_or, refl, sym, subst, ◌∙◌, arith, All, Contains}
+use Rattle.std.proofs.Common.{append_assoc}
+use Rattle.std.specs.Prelude.{Some}
+use Rattle.std.specs.List.{slice_get}
 use Rattle.std.proofs.lemmas.Bool.{and_parts, leb-true}
-use Rattle.std.proofs.lemmas.List.Elements.{All-nil, All-cons, All-append, All-filter, filter_passes, All-contains, All-head, All-tail, All-weaker}
-use Rattle.prefix_lattice.specs.{RecordValue, PrefixValue, under, prefix_weight}
-use Rattle.prefix_lattice.specs.declared.grain.Grain.{Grain}
+use Rattle.std.proofs.lemmas.List.Elements.{All-nil, All-cons, All-append, All-filter, filter_passes, All-contains, All-head, All-tail}
+use Rattle.prefix_lattice.specs.{under, prefix_weight}
 use Rattle.prefix_lattice.proofs.ListLemmas.{Contains-list_head, Contains-list_tail}
-use Rattle.hhh_report.specs.{IsSound, LineHoldsWeight, records_before}
+use Rattle.hhh_report.specs.{LineHoldsWeight, records_before}
 use Rattle.hhh_report.specs.declared.line.Line.{Line}
 use Rattle.hhh_report.specs.declared.reports.Reported.{Reported}
 use Rattle.watch_rules.specs.declared.rule.Rule.{Rule}
 use Rattle.watch_rules.specs.declared.alarm.Alarm.{Alarm}
 use Rattle.watch_rules.specs.Alarms.{IsAlarm, AreAlarms, AreAlarmsOf, IsCertain}
-use Rattle.watch_rules.specs.Crossings.{LineByRule, beside, line_by_rules, lines_by_rules, is_over, is_first_over, had_over, crossings}
+use Rattle.watch_rules.specs.Crossings.{LineByRule, beside, line_by_rules, lines_by_rules, is_over, is_first_over, crossings}
 use Rattle.watch_rules.proofs.PairLemmas.{pair_rules}
 use Rattle.watch_rules.proofs.CrossingLemmas.{crossings_after, crossings_are_recursive, report_crossings}
 

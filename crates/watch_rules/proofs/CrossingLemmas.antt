@@ -1,8 +1,8 @@
 -- The crossings of reports, one report after another.
-use Rattle.std.proofs.Common.{◌≡◌, ℕ, zero, suc, ◌+◌, ◌-◌, ◌<◌, ◌≤◌, Bool, true, false, cond, not, ◌&&◌, ◌||◌, eqb, leb}
-use Rattle.std.proofs.Common.{List, [], ◌∷◌, ◌++◌, length, map, filter, take, refl, sym, ap, subst, ◌∙◌, arith, append_assoc}
+use Rattle.std.proofs.Common.{◌≡◌, ℕ, suc, ◌+◌, ◌-◌, ◌<◌, Bool, true, false, cond, not, ◌&&◌, ◌||◌, leb}
+use Rattle.std.proofs.Common.{List, [], ◌∷◌, ◌++◌, length, filter, take, refl, sym, ap, subst, ◌∙◌, arith, append_assoc}
 use Rattle.std.proofs.Common.{length-append, get_or}
-use Rattle.std.specs.Prelude.{Some, None}
+use Rattle.std.specs.Prelude.{Some}
 use Rattle.std.specs.List.{list_any, enumerate_from, flat_map, slice_get}
 use Rattle.std.proofs.lemmas.Bool.{and_parts}
 use Rattle.std.proofs.lemmas.List.{append-nil, take_more, length-take-le}
@@ -75,11 +75,11 @@ crossings-push rules reports last =
     crossings_are_recursive rules (reports ++ last ∷ []) ∙ crossings_after-push rules [] reports last
     ∙ ap (λ l. l ++ report_crossings rules reports last) (sym (crossings_are_recursive rules reports))
 
-and_turned : (x y z : Bool) → ((x && y) && z) ≡ (y && (x && z))
-and_turned true true z = refl
-and_turned true false z = refl
-and_turned false true z = refl
-and_turned false false z = refl
+crossing_and_turned : (x y z : Bool) → ((x && y) && z) ≡ (y && (x && z))
+crossing_and_turned true true z = refl
+crossing_and_turned true false z = refl
+crossing_and_turned false true z = refl
+crossing_and_turned false false z = refl
 
 -- a line of a prefix is over the limit for the first time exactly if its low reaches the limit, the prefix is under the
 -- rule's, and no earlier report had it over the limit
@@ -104,7 +104,7 @@ crossing_of_prefix one before prefix report line number rule = by_same (same_as 
         let equal : line.prefix ≡ prefix = one line.prefix prefix parts.0 parts.1 in
         ap (λ b. b && is_first_over before (beside report line number rule)) is
         ∙ ap (λ p. (under p rule.prefix && leb rule.limit line.lo) && not (had_over p rule.limit before)) equal
-        ∙ and_turned (under prefix rule.prefix) (leb rule.limit line.lo) (not (had_over prefix rule.limit before))
+        ∙ crossing_and_turned (under prefix rule.prefix) (leb rule.limit line.lo) (not (had_over prefix rule.limit before))
         ∙ sym (ap (λ b. (b && leb rule.limit line.lo)
         && (under prefix rule.prefix && not (had_over prefix rule.limit before))) is)
     by_same false is =
@@ -112,12 +112,12 @@ crossing_of_prefix one before prefix report line number rule = by_same (same_as 
         ∙ sym (ap (λ b. (b && leb rule.limit line.lo)
         && (under prefix rule.prefix && not (had_over prefix rule.limit before))) is)
 
-or_of_ands : (x y z : Bool) → ((x && z) || (y && z)) ≡ ((x || y) && z)
-or_of_ands true true true = refl
-or_of_ands true true false = refl
-or_of_ands true false true = refl
-or_of_ands true false false = refl
-or_of_ands false y z = refl
+crossing_or_of_ands : (x y z : Bool) → ((x && z) || (y && z)) ≡ ((x || y) && z)
+crossing_or_of_ands true true true = refl
+crossing_or_of_ands true true false = refl
+crossing_or_of_ands true false true = refl
+crossing_or_of_ands true false false = refl
+crossing_or_of_ands false y z = refl
 
 -- whether a rule and a prefix are among the crossings of lines after other reports
 crossing_is_among_lines : PairUnderHolds → (rules : List Rule) (number : ℕ) (rule : Rule) → slice_get rules number ≡ Some rule
@@ -140,14 +140,14 @@ crossing_is_among_lines one rules number rule got before prefix report (line ∷
     ∙ list_any-append (is_pair number prefix) (filter (is_first_over before) here) (filter (is_first_over before) others)
     ∙ ap (λ b. b || list_any (is_pair number prefix) (filter (is_first_over before) others)) at_line
     ∙ ap (λ b. (over && news) || b) (crossing_is_among_lines one rules number rule got before prefix report lines)
-    ∙ or_of_ands over (have_over prefix rule.limit lines) news
+    ∙ crossing_or_of_ands over (have_over prefix rule.limit lines) news
 
-one_report_more : (had has any later : Bool)
+crossing_of_one_report_more : (had has any later : Bool)
     → ((had || (has || false)) || any) ≡ ((had || (has || false)) || later)
     → (had || ((has && (true && not had)) || any)) ≡ (had || (has || later))
-one_report_more true has any later same = refl
-one_report_more false true any later same = refl
-one_report_more false false any later same = same
+crossing_of_one_report_more true has any later same = refl
+crossing_of_one_report_more false true any later same = refl
+crossing_of_one_report_more false false any later same = same
 
 crossing_is_after : PairUnderHolds → (rules : List Rule) (number : ℕ) (rule : Rule) → slice_get rules number ≡ Some rule
     → (prefix : PrefixValue) → under prefix rule.prefix ≡ true → (before reports : List Reported)
@@ -169,7 +169,7 @@ crossing_is_after one rules number rule got prefix below before (reported ∷ re
     ∙ ap (λ b. had || (b || any))
     (crossing_is_among_lines one rules number rule got before prefix (length before + 1) reported.report.lines
     ∙ ap (λ b. has && (b && not had)) below)
-    ∙ one_report_more had has any (had_over prefix rule.limit reports) more
+    ∙ crossing_of_one_report_more had has any (had_over prefix rule.limit reports) more
 
 -- a rule and a prefix under its own are among the crossings of reports exactly if these have the prefix over its limit
 pub crossing_is_among : PairUnderHolds → (rules : List Rule) (number : ℕ) (rule : Rule) → slice_get rules number ≡ Some rule

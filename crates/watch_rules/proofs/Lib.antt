@@ -4,3 +4,4 @@ pub mod AlarmLemmas
 pub mod OnceLemmas
 pub mod CertainLemmas
 pub mod RaisedPairLemmas
+pub mod Examples

@@ -1,17 +1,15 @@
 -- How often a pair of a rule and a prefix stands among lines beside rules.
-use Rattle.std.proofs.Common.{◌≡◌, ℕ, zero, suc, ◌+◌, ◌<◌, ◌≤◌, Bool, true, false, cond, not, ◌&&◌, ◌||◌, eqb, leb}
-use Rattle.std.proofs.Common.{List, [], ◌∷◌, ◌++◌, map, filter, sum_by, refl, sym, ap, subst, ◌∙◌, arith}
+use Rattle.std.proofs.Common.{◌≡◌, ℕ, zero, suc, ◌+◌, ◌<◌, Bool, true, false, cond, ◌&&◌, ◌||◌, eqb}
+use Rattle.std.proofs.Common.{List, [], ◌∷◌, ◌++◌, map, filter, sum_by, refl, sym, ap, ◌∙◌, arith}
 use Rattle.std.specs.Prelude.{count_by, All, Some, None}
-use Rattle.std.specs.List.{list_any, enumerate_from, flat_map, slice_get}
-use Rattle.std.proofs.lemmas.Bool.{eqb-true, ne_eqb, eq-eqb, and_parts, and_right, cond_both}
+use Rattle.std.specs.List.{list_any, enumerate_from, slice_get}
+use Rattle.std.proofs.lemmas.Bool.{ne_eqb, eq-eqb, and_right, cond_both}
 use Rattle.std.proofs.lemmas.List.Elements.{All-head, All-tail}
-use Rattle.std.proofs.lemmas.List.Folds.{list_any-append}
-use Rattle.std.proofs.lemmas.List.Sums.{sum_by-append, sum_by-cons}
+use Rattle.std.proofs.lemmas.List.Sums.{sum_by-cons}
 use Rattle.prefix_lattice.specs.{PrefixValue, under, same_as}
 use Rattle.hhh_report.specs.declared.line.Line.{Line}
-use Rattle.hhh_report.specs.declared.reports.Reported.{Reported}
 use Rattle.watch_rules.specs.declared.rule.Rule.{Rule}
-use Rattle.watch_rules.specs.Crossings.{LineByRule, beside, line_by_rules, lines_by_rules, is_over, is_first_over, have_over, had_over}
+use Rattle.watch_rules.specs.Crossings.{LineByRule, beside, line_by_rules, lines_by_rules}
 
 -- that `under` goes no way round but between equal prefixes
 abbrev pub PairUnderHolds : Type 0

@@ -1,14 +1,12 @@
 -- The codes of raised pairs.
-use Rattle.std.proofs.Common.{◌≡◌, ℕ, ◌+◌, ◌*◌, ◌^◌, ◌<◌, ◌≤◌, ◌/◌, ◌%◌, Bool, true, false, cond, not, ◌&&◌, ◌||◌, eqb, nat_eq, ltb}
-use Rattle.std.proofs.Common.{List, [], ◌∷◌, ◌++◌, length, map, take, get_or, refl, sym, ap, subst, ◌∙◌, arith, All, append_assoc, inl, inr}
+use Rattle.std.proofs.Common.{◌≡◌, ℕ, ◌+◌, ◌*◌, ◌^◌, ◌<◌, ◌/◌, ◌%◌, Bool, true, false, cond, not, ◌&&◌, ◌||◌, eqb, ltb}
+use Rattle.std.proofs.Common.{List, [], ◌∷◌, ◌++◌, length, take, get_or, refl, sym, ap, subst, ◌∙◌, arith, append_assoc, inl, inr}
 use Rattle.std.specs.Prelude.{Result, Ok, Err, OnOk, is_err}
-use Rattle.std.specs.List.{list_any}
 use Rattle.std.specs.BTreeSet.{BTreeSet, contains}
 use Rattle.std.specs.BTreeMap.{is_at}
 use Rattle.std.specs.Ordering.{nat_cmp, is_eq}
-use Rattle.std.specs.declared.cmp.Ordering.{Ordering}
 use Rattle.std.specs.declared.cmp.Ordering.TheVariants.{Less, Equal, Greater}
-use Rattle.std.proofs.lemmas.Bool.{and_parts, and_from, cond_both, ltb-true, eqb-true, eq-eqb, ne_eqb, or_cases, false_from_ne_true, false≢true}
+use Rattle.std.proofs.lemmas.Bool.{and_parts, and_from, cond_both, ltb-true, eqb-true, eq-eqb, ne_eqb, or_cases, false≢true}
 use Rattle.std.proofs.lemmas.List.{take_more, map-append}
 use Rattle.std.proofs.lemmas.List.Elements.{All-head, All-tail}
 use Rattle.std.proofs.lemmas.List.Folds.{list_any-append}
@@ -139,8 +137,8 @@ pairs_are_entered laws raised alarms place alarm codes new within at is adds cod
     subst (λ l. AreCoded l new) (sym grown) (pair_is_entered laws (raised ++ before) codes new alarm.rule alarm.prefix is adds coded)
 
 -- the codes of pairs, where those of some alarms are taken out
-abbrev pub AreTakenOut : List Raised → List Alarm → BTreeSet ℕ → Type 0
-AreTakenOut raised alarms codes = (number : ℕ) (prefix : PrefixValue) → number < 2 ^ 32 → IsPrefix finest_grain prefix
+abbrev pub ArePairsTakenOut : List Raised → List Alarm → BTreeSet ℕ → Type 0
+ArePairsTakenOut raised alarms codes = (number : ℕ) (prefix : PrefixValue) → number < 2 ^ 32 → IsPrefix finest_grain prefix
     → contains nat_cmp codes (pair_code number prefix) ≡ (is_raised raised number prefix && not (is_raised (raised_by alarms) number prefix))
 
 and_not_of_pairs : (found any : Bool) (raised : Bool) → cond found false (raised && not any) ≡ (raised && not (any || (found || false)))
@@ -156,7 +154,7 @@ and_not_of_pairs false false false = refl
 pub pairs_are_taken_out : PairLaws → (raised : List Raised) (alarms : List Alarm) (place : ℕ) (alarm : Alarm) (codes new : BTreeSet ℕ)
     → place < length alarms → alarm ≡ get_or alarms place alarm → IsPrefix finest_grain alarm.prefix
     → ((code : ℕ) → contains nat_cmp new code ≡ cond (is_at (nat_cmp (pair_code alarm.rule alarm.prefix)) code) false (contains nat_cmp codes code))
-    → AreTakenOut raised (take place alarms) codes → AreTakenOut raised (take (place + 1) alarms) new
+    → ArePairsTakenOut raised (take place alarms) codes → ArePairsTakenOut raised (take (place + 1) alarms) new
 pairs_are_taken_out laws raised alarms place alarm codes new within at is takes out = λ other last small is_last.
     let found : Bool = eqb alarm.rule other && same_as alarm.prefix last in
     let before = raised_by (take place alarms) in
@@ -173,7 +171,7 @@ pairs_are_taken_out laws raised alarms place alarm codes new within at is takes 
     (record { rule = alarm.rule; prefix = alarm.prefix } ∷ [])))
 
 -- at first none is taken out
-pub no_pair_is_taken_out : (raised : List Raised) (codes : BTreeSet ℕ) → AreCoded raised codes → AreTakenOut raised [] codes
+pub no_pair_is_taken_out : (raised : List Raised) (codes : BTreeSet ℕ) → AreCoded raised codes → ArePairsTakenOut raised [] codes
 no_pair_is_taken_out raised codes coded = λ other last small is_last.
     coded other last small is_last ∙ and_true_of_pairs (is_raised raised other last)
   where
@@ -199,7 +197,7 @@ new_pair_is_not_raised one raised (alarm ∷ alarms) new number prefix is =
 
 -- once all new ones are taken out, the others are left
 pub other_pairs_are_left : PairUnderHolds → (raised : List Raised) (alarms : List Alarm) (codes : BTreeSet ℕ) → AreNew raised alarms
-    → AreTakenOut (raised ++ raised_by alarms) alarms codes → AreCoded raised codes
+    → ArePairsTakenOut (raised ++ raised_by alarms) alarms codes → AreCoded raised codes
 other_pairs_are_left one raised alarms codes new out = λ other last small is_last.
     let added = is_raised (raised_by alarms) other last in
     out other last small is_last

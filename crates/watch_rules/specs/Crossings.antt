@@ -1,5 +1,5 @@
 -- Crossings: where the lines of reports show that a prefix is surely over the limit of a rule.
-use Rattle.std.specs.Prelude.{ℕ, ◌≡◌, ◌+◌, ◌-◌, ◌&&◌, Bool, not, nat_le, List, length, map, filter, take}
+use Rattle.std.specs.Prelude.{ℕ, ◌-◌, ◌&&◌, Bool, not, nat_le, List, map, filter, take}
 use Rattle.std.specs.List.{list_any, enumerate_from, flat_map}
 use Rattle.prefix_lattice.specs.{PrefixValue, under, same_as}
 use Rattle.hhh_report.specs.declared.line.Line.{Line}

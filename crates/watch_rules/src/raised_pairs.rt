@@ -1,9 +1,7 @@
 //! The pairs of a rule and a prefix for which there was an alarm.
 
-ghost use Rattle.std.specs.Prelude.{◌≡◌, ◌+◌, ◌*◌, ◌<◌, ◌≤◌, ◌++◌, ◌^◌, ℕ, List, [], false, All, length, OnOk, OnErr, vec_len, vec_capacity};
-ghost use Rattle.std.specs.BTreeSet.{contains};
-ghost use Rattle.std.specs.Ordering.{nat_cmp};
-ghost use Rattle.prefix_lattice.specs.{PrefixValue, IsPrefix, finest_grain};
+ghost use Rattle.std.specs.Prelude.{◌≡◌, ◌+◌, ◌≤◌, ◌++◌, List, [], length, OnOk, OnErr, vec_len, vec_capacity};
+ghost use Rattle.prefix_lattice.specs.{IsPrefix, finest_grain};
 ghost use Rattle.watch_rules.specs.declared.raised.Raised.{Raised};
 ghost use Rattle.watch_rules.specs.RaisedPairs.{AreCoded, AreNew, is_raised, pair_code, raised_by};
 

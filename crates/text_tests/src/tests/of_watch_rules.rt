@@ -18,7 +18,7 @@ fn times_the_limit(lo: u64, hi: u64, limit: u64) -> u32
     (lo / limit).min(7) as u32
 }
 
-fn judge(alloc: Global) -> Result<Judge, Fail> {
+fn judge_of_times(alloc: Global) -> Result<Judge, Fail> {
     Ok(Judge::new(Box::new(alloc, times_the_limit)?))
 }
 
@@ -41,8 +41,12 @@ fn line_of(source: &str, dest: &str, weight: u64) -> Result<Line, Fail> {
 
 /// A report of 10.1.2.3/32 20.1.2.3/32 with an interval of 100 to 100.
 fn report_of_100(alloc: Global) -> Result<Report, Fail> {
+    let line = line_of("10.1.2.3/32", "20.1.2.3/32", 100)?;
+    if line.lo > line.hi {
+        return Err("low above high".into());
+    }
     let mut lines = Lines::new(alloc);
-    lines.push(line_of("10.1.2.3/32", "20.1.2.3/32", 100)?)?;
+    lines.push(line)?;
     Ok(Report {
         positions: Positions::new(alloc),
         total: 100,
@@ -65,7 +69,7 @@ fn alarms_of_100(alloc: Global, limit: u64, times: u32) -> Result<Alarms, Fail> 
         return Err("too many reports".into());
     }
     let rules = one_rule(alloc, rule_of("0.0.0.0/0", "0.0.0.0/0", limit)?)?;
-    Ok(watch_all(alloc, &judge(alloc)?, rules, &reports)?)
+    Ok(watch_all(alloc, &judge_of_times(alloc)?, rules, &reports)?)
 }
 
 fn one_rule(alloc: Global, rule: Rule) -> Result<Vec<Rule>, AllocError>
@@ -150,7 +154,7 @@ fn alarms_come_by_line_and_then_by_rule(rt: HostRuntime) -> Result<(), Fail> {
 /// Whether a host of 100 and its network of 150 are told by the rules that they are over, and the host again for
 /// another rule once it has 130.
 fn are_in_order(alloc: Global) -> Result<bool, Fail> {
-    let judge = judge(alloc)?;
+    let judge = judge_of_times(alloc)?;
     let all = rule_of("0.0.0.0/0", "0.0.0.0/0", 100)?;
     let network = rule_of("10.0.0.0/8", "0.0.0.0/0", 120)?;
     let mut watch = Watch::new(alloc, &judge, two_rules(alloc, all, network)?)?;
@@ -165,9 +169,9 @@ fn are_in_order(alloc: Global) -> Result<bool, Fail> {
 /// Whether alarms have these reports, rules and lows.
 fn has_places(alarms: &Alarms, places: &[(u64, u32, u64)]) -> bool {
     alarms.len() == places.len()
-        && alarms
-            .as_slice()
-            .iter()
-            .zip(places)
-            .all(|(alarm, place)| (alarm.report, alarm.rule, alarm.lo) == *place)
+        && alarms.as_slice().iter().zip(places).all(|(alarm, place)| (
+            alarm.report,
+            alarm.rule,
+            alarm.lo,
+        ) == *place)
 }

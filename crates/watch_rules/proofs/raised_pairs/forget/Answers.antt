@@ -4,7 +4,7 @@ use Rattle.std.specs.BTreeMap.{is_at}
 use Rattle.std.specs.Ordering.{nat_cmp}
 use Rattle.std.proofs.lemmas.List.{take_all}
 use Rattle.watch_rules.specs.RaisedPairs.{raised_by}
-use Rattle.watch_rules.proofs.RaisedPairLemmas.{PairLaws, AreTakenOut, pairs_are_taken_out, other_pairs_are_left}
+use Rattle.watch_rules.proofs.RaisedPairLemmas.{PairLaws, ArePairsTakenOut, pairs_are_taken_out, other_pairs_are_left}
 use Rattle.watch_rules.proofs.raised_pairs.forget.Goals as goal
 
 pub loop-alarm-preserved : goal.loop-alarm-preserved
@@ -25,6 +25,6 @@ loop-alarm-preserved c = λ pairs coded.
 pub returns : goal.returns
 returns c = λ pairs coded new.
     other_pairs_are_left c.prefixes_are_ordered.ensures.antisymmetric pairs c.args.alarms.now c.loop-alarm.codes new
-    (subst (λ l. AreTakenOut (pairs ++ raised_by c.args.alarms.now) l c.loop-alarm.codes)
+    (subst (λ l. ArePairsTakenOut (pairs ++ raised_by c.args.alarms.now) l c.loop-alarm.codes)
     (take_all c.loop-alarm.alarm-index c.args.alarms.now c.loop-alarm-test.false)
     (c.loop-alarm.invariant (pairs ++ raised_by c.args.alarms.now) coded))

@@ -1,4 +1,4 @@
-use Rattle.std.proofs.Common.{◌≡◌, ◌+◌, ◌++◌, ◌∙◌, sym, ap, subst, rules, arith}
+use Rattle.std.proofs.Common.{◌+◌, ◌++◌, ◌∙◌, sym, ap}
 use Rattle.watch_rules.specs.RaisedPairs.{raised_by}
 use Rattle.watch_rules.proofs.AlarmLemmas.{alarms_of_next_report, alarms_raise-append}
 use Rattle.watch_rules.proofs.watching.watch_all.Goals as goal

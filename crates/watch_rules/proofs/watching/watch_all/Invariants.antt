@@ -1,4 +1,4 @@
-use Rattle.std.proofs.Common.{◌≡◌, ℕ, ◌+◌, take, map}
+use Rattle.std.proofs.Common.{◌≡◌, ℕ, take}
 use Rattle.watch_rules.specs.Alarms.{AreAlarmsOf}
 use Rattle.watch_rules.specs.RaisedPairs.{raised_by}
 use Rattle.watch_rules.proofs.watching.watch_all.Given as goal

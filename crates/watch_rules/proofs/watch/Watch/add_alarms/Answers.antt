@@ -1,4 +1,4 @@
-use Rattle.std.proofs.Common.{◌≡◌, ◌+◌, ◌∙◌, Some, None, sym}
+use Rattle.std.proofs.Common.{◌+◌, ◌∙◌, Some, None, sym}
 use Rattle.std.proofs.lemmas.List.{append-nil}
 use Rattle.watch_rules.specs.Watch.{is_next}
 use Rattle.watch_rules.proofs.AlarmLemmas.{alarms_of_next_rule}

@@ -1,4 +1,4 @@
-use Rattle.std.proofs.Common.{◌≡◌, ℕ, ◌+◌, ◌++◌, List, take, filter}
+use Rattle.std.proofs.Common.{ℕ, ◌+◌, ◌++◌, List, take, filter}
 use Rattle.watch_rules.specs.Alarms.{AreAlarms}
 use Rattle.watch_rules.specs.Crossings.{LineByRule, line_by_rules}
 use Rattle.watch_rules.specs.Watch.{is_next}

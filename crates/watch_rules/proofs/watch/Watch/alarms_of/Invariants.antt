@@ -1,4 +1,4 @@
-use Rattle.std.proofs.Common.{◌≡◌, ℕ, ◌+◌, take}
+use Rattle.std.proofs.Common.{ℕ, ◌+◌, take}
 use Rattle.watch_rules.specs.Alarms.{AreAlarms}
 use Rattle.watch_rules.specs.Watch.{next_crossings}
 use Rattle.watch_rules.proofs.watch.Watch.alarms_of.Given as goal
