@@ -1,0 +1,7 @@
+pub mod PairLemmas
+pub mod CrossingLemmas
+pub mod AlarmLemmas
+pub mod OnceLemmas
+pub mod CertainLemmas
+pub mod RaisedPairLemmas
+pub mod Examples
