@@ -2,7 +2,7 @@
 use Rattle.std.proofs.Common.{◌≡◌, ℕ, ◌+◌, List, [], ◌∷◌, None, Some, refl, ap, inl, arith}
 use Rattle.std.specs.Prelude.{slice_index}
 use Rattle.prefix_lattice.specs.{RecordValue}
-use Rattle.prefix_lattice.specs.declared.grain.Grain.TheVariants.{Byte}
+use Rattle.prefix_lattice.specs.declared.grain.Grain.TheVariants.{Byte, Nibble}
 use Rattle.shard_state.specs.{CutValue, SnapshotValue, empty_snapshot, no_entries}
 use Rattle.slot_disk.specs.{known_slots_of}
 use Rattle.slot_disk.specs.declared.fault.BeginFault.TheVariants.{TooShort}
@@ -11,7 +11,7 @@ use Rattle.checkpoint.specs.declared.fault.DecodeFault.TheVariants as decode
 use Rattle.checkpoint.specs.declared.header.StoreHeader.{StoreHeader}
 use Rattle.checkpoint.specs.declared.settings.StoreSettings.{StoreSettings}
 use Rattle.checkpoint.specs.declared.version.Version.TheVariants.{First}
-use Rattle.checkpoint.specs.{AreSettings, SavedValue, StoreHolds, header_bytes, lists_digest, written_header}
+use Rattle.checkpoint.specs.{AreSettings, SavedValue, StoreHolds, VersionTakes, header_bytes, lists_digest, written_header}
 use Rattle.checkpoint.specs.{greatest_sequence, saver_of}
 use Rattle.recovery.specs.declared.fault.OpenFault.TheVariants.{DiskFault, NotFormatted, OtherSettings, Damaged}
 use Rattle.recovery.specs.declared.fault.OpenFault.TheVariants.{OutOfMemory}
@@ -81,6 +81,12 @@ module _ (any : StoreSettings) where
   pub header_of_an_old_store : HasHeader old_header old_store
   header_of_an_old_store =
       record { long = omega arith; is_header = record { settings = are_settings; taken = refl }; spelled = refl }
+
+  -- no bytes are a header of the first version by half bytes
+  pub old_header_is_not_by_half_bytes : (image : List ℕ)
+      → HasHeader (record { version = First; settings = record any { grain = Nibble } }) image → ⊥
+  old_header_is_not_by_half_bytes image has =
+      let taken : VersionTakes First Nibble = has.is_header.taken in cc taken
 
   pub short_bytes_have_no_header : (any_header : StoreHeader) → HasHeader any_header (0 ∷ []) → ⊥
   short_bytes_have_no_header any_header has = omega (arith, has.long)
