@@ -18,10 +18,6 @@ fn times_the_limit(lo: u64, hi: u64, limit: u64) -> u32
     (lo / limit).min(7) as u32
 }
 
-fn judge_of_times(alloc: Global) -> Result<Judge, Fail> {
-    Ok(Judge::new(Box::new(alloc, times_the_limit)?))
-}
-
 // A rule for all prefixes under this one.
 fn rule_of(source: &str, dest: &str, limit: u64) -> Result<Rule, Fail> {
     if limit == 0 {
@@ -69,7 +65,8 @@ fn alarms_of_100(alloc: Global, limit: u64, times: u32) -> Result<Alarms, Fail> 
         return Err("too many reports".into());
     }
     let rules = one_rule(alloc, rule_of("0.0.0.0/0", "0.0.0.0/0", limit)?)?;
-    Ok(watch_all(alloc, &judge_of_times(alloc)?, rules, &reports)?)
+    let judge = Judge::new(Box::new(alloc, times_the_limit)?);
+    Ok(watch_all(alloc, &judge, rules, &reports)?)
 }
 
 fn one_rule(alloc: Global, rule: Rule) -> Result<Vec<Rule>, AllocError>
@@ -154,7 +151,7 @@ fn alarms_come_by_line_and_then_by_rule(rt: HostRuntime) -> Result<(), Fail> {
 /// Whether a host of 100 and its network of 150 are told by the rules that they are over, and the host again for
 /// another rule once it has 130.
 fn are_in_order(alloc: Global) -> Result<bool, Fail> {
-    let judge = judge_of_times(alloc)?;
+    let judge = Judge::new(Box::new(alloc, times_the_limit)?);
     let all = rule_of("0.0.0.0/0", "0.0.0.0/0", 100)?;
     let network = rule_of("10.0.0.0/8", "0.0.0.0/0", 120)?;
     let mut watch = Watch::new(alloc, &judge, two_rules(alloc, all, network)?)?;
