@@ -5,6 +5,8 @@ use Rattle.pcap_frames.specs.declared.fault.CaptureFault.{CaptureFault}
 use Rattle.pcap_frames.specs.declared.fault.FaultKind.{FaultKind}
 use Rattle.pcap_frames.specs.declared.fault.FaultKind.TheVariants.{ShortHeader, NotCapture, Version, Link}
 use Rattle.pcap_frames.specs.declared.fault.FaultKind.TheVariants.{LongFrame, CutFrame, TooManyFrames}
+use Rattle.pcap_frames.specs.declared.fault.FaultKind.TheVariants.{ByteOrder, BadBlock, BadTail, BadInterface}
+use Rattle.pcap_frames.specs.declared.fault.FaultKind.TheVariants.{CutBlock, TooManyBlocks}
 use Rattle.pcap_frames.specs.{FrameValue, IsCapture, HasFaultAfter, HasCaptureFault, header_fault_at, frame_count_limit}
 use Rattle.pcap_frames.specs.{IsSeen, ShowsBeforeFault}
 use Rattle.pcap_frames.specs.declared.fault.ReadRefusal.{ReadRefusal}
@@ -94,6 +96,12 @@ front_is_decided_by_kind file fault Version is has = front_is_refused_for_anothe
 front_is_decided_by_kind file fault Link is has = front_is_refused_for_another_kind file fault has (λ cut. cc)
 front_is_decided_by_kind file fault LongFrame is has = front_is_refused_for_another_kind file fault has (λ cut. cc)
 front_is_decided_by_kind file fault TooManyFrames is has = front_is_refused_for_another_kind file fault has (λ cut. cc)
+front_is_decided_by_kind file fault ByteOrder is has = front_is_refused_for_another_kind file fault has (λ cut. cc)
+front_is_decided_by_kind file fault BadBlock is has = front_is_refused_for_another_kind file fault has (λ cut. cc)
+front_is_decided_by_kind file fault BadTail is has = front_is_refused_for_another_kind file fault has (λ cut. cc)
+front_is_decided_by_kind file fault BadInterface is has = front_is_refused_for_another_kind file fault has (λ cut. cc)
+front_is_decided_by_kind file fault CutBlock is has = front_is_refused_for_another_kind file fault has (λ cut. cc)
+front_is_decided_by_kind file fault TooManyBlocks is has = front_is_refused_for_another_kind file fault has (λ cut. cc)
 
 pub front_is_decided : (front : Bool) (file : List ℕ)
     → ((frames : List FrameValue) × IsCapture file frames) ⊎ ((fault : CaptureFault) × HasCaptureFault file fault)
