@@ -1,3 +1,4 @@
+mod blocks;
 mod fakes;
 mod frames;
 mod fronts;
