@@ -12,8 +12,12 @@ use std::test::Fail;
 use std::thread::Threads;
 use test_runs::{ONE, REPORT, SECOND_SESSION, SESSION, disk_with, run_on};
 
-// The gates, the first open, and the header for one shard at the default capacity. 52 zeros follow.
-const FRONT: [u8; 12] = [1, 0, 0x48, 0x48, 0x48, 0x53, 1, 1, 2, 0, 0, 0];
+// The gates, both closed, and the header for one shard at the default capacity.
+const EMPTY: [u8; 64] = [
+    0, 0, 0x48, 0x48, 0x48, 0x53, 1, 1, 2, 0, 0, 0, 0, 0, 0, 0, 0, 0, 0, 0, 0, 0, 0, 0, 0, 0, 0, 0,
+    0, 0, 0, 0, 0, 0, 0, 0, 0, 0, 0, 0, 0, 0, 0, 0, 0, 0, 0, 0, 0, 0, 0, 0, 0, 0, 0, 0, 0, 0, 0, 0,
+    0, 0, 0, 0,
+];
 
 // SHA-256 of that header and of the list of one packet of 100 bytes from 10.1.2.3 to 20.1.2.3.
 const DIGEST: [u8; 32] = [
@@ -29,8 +33,9 @@ const DIGEST_OF_TWO: [u8; 32] = [
 
 // The bytes of the store after one report on one packet.
 fn saved_store(alloc: Global) -> Result<Vec<u8>, AllocError> {
-    let mut bytes = Vec::from_slice(alloc, &FRONT)?;
-    bytes.extend_from_slice(&[0; 52])?;
+    let mut front = EMPTY;
+    front[0] = 1;
+    let mut bytes = Vec::from_slice(alloc, &front)?;
     bytes.extend_from_slice(&956u64.to_be_bytes())?;
     bytes.extend_from_slice(&1u64.to_be_bytes())?;
     bytes.extend_from_slice(&DIGEST)?;
@@ -54,14 +59,6 @@ fn push_table(bytes: &mut Vec<u8>, source: u32, dest: u32) -> Result<(), AllocEr
     bytes.extend_from_slice(&dest.to_be_bytes())?;
     bytes.extend_from_slice(&100u64.to_be_bytes())?;
     bytes.extend_from_slice(&0u64.to_be_bytes())
-}
-
-// The header alone, with both gates closed.
-fn empty_store(alloc: Global) -> Result<Vec<u8>, AllocError> {
-    let mut bytes = Vec::from_slice(alloc, &FRONT)?;
-    bytes[0] = 0;
-    bytes.extend_from_slice(&[0; 52])?;
-    Ok(bytes)
 }
 
 pub(crate) fn stores_of_the_first_version<R: Abort + Threads + Wait + Sync>(
@@ -93,7 +90,7 @@ fn is_first_saved_to<R: Abort + Threads + Wait + Sync>(
     alloc: Global,
     dealers: &Dealers,
 ) -> Result<(), Fail> {
-    let mut disk = disk_with(alloc, &empty_store(alloc)?, None, &[])?;
+    let mut disk = disk_with(alloc, &EMPTY, None, &[])?;
     session_is(rt, alloc, dealers, &mut disk, SESSION)?;
     assert!(rt; is_saved_as_before(alloc, &mut disk, 1)?);
     Ok(())
@@ -144,19 +141,30 @@ fn refuses_another_capture<R: Abort + Threads + Wait + Sync>(
     Ok(())
 }
 
-// A version and a grain that no header has.
+// A version that no header has, and a grain that one of the first version doesn't name.
 pub(crate) fn headers_of_no_version<R: Abort + Threads + Wait + Sync>(
     rt: &R,
     alloc: Global,
     dealers: &Dealers,
 ) -> Result<(), Fail> {
-    for (place, byte) in [(6, 3), (12, 8)] {
-        let mut bytes = empty_store(alloc)?;
-        bytes[place] = byte;
-        let mut disk = disk_with(alloc, &bytes, None, &[])?;
-        let ended = run_on(rt, alloc, dealers, &REPORT, &[ONE], &mut disk)?;
-        assert_eq!(rt; ended.status, Status::NotFormatted);
-        assert_eq!(rt; front_on(rt, &mut disk)[place], byte);
-    }
+    let mut third = EMPTY;
+    third[6] = 3;
+    is_not_formatted(rt, alloc, dealers, &third)?;
+    let mut with_grain = EMPTY;
+    with_grain[12] = 8;
+    is_not_formatted(rt, alloc, dealers, &with_grain)
+}
+
+// The store isn't opened, and stands as it was.
+fn is_not_formatted<R: Abort + Threads + Wait + Sync>(
+    rt: &R,
+    alloc: Global,
+    dealers: &Dealers,
+    header: &[u8; 64],
+) -> Result<(), Fail> {
+    let mut disk = disk_with(alloc, header, None, &[])?;
+    let ended = run_on(rt, alloc, dealers, &REPORT, &[ONE], &mut disk)?;
+    assert_eq!(rt; ended.status, Status::NotFormatted);
+    assert!(rt; front_on(rt, &mut disk) == *header);
     Ok(())
 }
