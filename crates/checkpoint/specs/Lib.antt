@@ -14,6 +14,7 @@ pub use Rattle.checkpoint.specs.Body.{IsBody, IsSaved, greatest_sequence}
 pub use Rattle.checkpoint.specs.Saved.{SavedValue, saved_value}
 unfoldable pub use Rattle.checkpoint.specs.Digest.{header_digest}
 pub use Rattle.checkpoint.specs.Digest.{lists_digest}
+pub use Rattle.checkpoint.specs.Version.{VersionTakes}
 pub use Rattle.checkpoint.specs.Header.{AreSettings, IsHeader, header_bytes, settings_shape, stored_header, written_header}
 pub use Rattle.checkpoint.specs.Lengths.{span_of}
 pub use Rattle.checkpoint.specs.Store.{StoreBelongs, HasNewest, IsStoreOf}
