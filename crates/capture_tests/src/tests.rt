@@ -1,5 +1,6 @@
 mod blocks;
 mod fakes;
+mod formats;
 mod frames;
 mod fronts;
 mod made;

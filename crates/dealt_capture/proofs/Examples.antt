@@ -1,8 +1,8 @@
 -- Worked examples of rules of dealing, for one packet, and of a capture that is cut.
 use Rattle.std.proofs.Common.{ℕ, true, false, [], ◌≡◌, Some, None, refl, arith, ◌%◌}
 use Rattle.prefix_lattice.specs.{RecordValue}
-use Rattle.pcap_frames.proofs.Examples.{cut_file, cut_file_is_no_capture, fault_of_a_cut_file}
-use Rattle.frame_records.specs.{IsFrontOf}
+use Rattle.pcap_frames.proofs.Examples.{cut_file}
+use Rattle.frame_records.proofs.ExamplesOfReading.{front_of_a_cut_capture, cut_capture_is_not_whole}
 use Rattle.dealt_capture.specs.Dealing.{IsCaptureFile, rules_by}
 use Rattle.deal_rules.specs.declared.deal_kind.DealKind.{DealKind}
 use Rattle.deal_rules.specs.declared.deal_kind.DealKind.TheVariants.{Free}
@@ -22,14 +22,10 @@ shard_of_the_packet = refl
 pub no_other_shard_of_the_packet : rules_by by_destination Free 0 packet 4 2 → ⊥
 no_other_shard_of_the_packet is = omega (arith, is)
 
--- a capture that is cut inside its first frame has no frame before the cut, which is at the end of the file header
-pub front_without_a_frame : IsFrontOf cut_file [] 24
-front_without_a_frame = fault_of_a_cut_file
-
--- it is taken where its front is asked for, and else isn't
+-- a capture that is cut inside its first frame is taken where its front is asked for, and else isn't
 pub cut_capture_has_a_front : IsCaptureFile true cut_file
-cut_capture_has_a_front = ([], Some 24, (refl, front_without_a_frame))
+cut_capture_has_a_front = ([], Some 24, front_of_a_cut_capture)
 
 pub cut_capture_is_none_unasked : IsCaptureFile false cut_file → ⊥
-cut_capture_is_none_unasked (frames, None, is) = cut_file_is_no_capture frames is
+cut_capture_is_none_unasked (frames, None, is) = cut_capture_is_not_whole false frames is
 cut_capture_is_none_unasked (frames, Some place, is) = let asked : false ≡ true = is.0 in cc

@@ -1,10 +1,10 @@
 -- Worked examples of what is kept of the frames of a capture: an IPv4 packet, an ARP frame, and the packet once more.
-use Rattle.std.proofs.Common.{ℕ, Bool, ◌≡◌, ◌-◌, ◌^◌, true, false, List, [], ◌∷◌, Some, None, Err, inl, inr, refl}
+use Rattle.std.proofs.Common.{ℕ, Bool, ◌≡◌, ◌-◌, ◌^◌, true, false, List, [], ◌∷◌, ◌++◌, take, Some, None, Err, inl, inr, refl}
 use Rattle.std.proofs.Common.{arith}
-use Rattle.pcap_frames.specs.declared.fault.FaultKind.TheVariants.{ShortHeader, CutFrame}
+use Rattle.pcap_frames.specs.declared.fault.FaultKind.TheVariants.{ShortHeader, CutFrame, CutBlock, BadTail}
 use Rattle.pcap_frames.specs.declared.fault.ReadRefusal.TheVariants.{Capture, ReadFault, OutOfMemory}
-use Rattle.pcap_frames.specs.{FrameValue, header_fault, header_fault_at}
-use Rattle.frame_records.specs.CaptureFile.{FileHasFrames, FileGives, IsRefusedFile}
+use Rattle.pcap_frames.specs.{FrameValue, number_in_order, header_fault, header_fault_at}
+use Rattle.frame_records.specs.CaptureFile.{FileHasFrames, is_cut, IsFrontOf, FileGives, IsRefusedFile}
 use Rattle.frame_records.specs.declared.records.Records.{Records}
 use Rattle.frame_records.specs.declared.skip.Skip.TheVariants.{Short, BadHeader}
 use Rattle.frame_records.specs.declared.weigh.Weigh.TheVariants.{Bytes, Packets}
@@ -15,6 +15,7 @@ use Rattle.outside_io.specs.{ReadsFront}
 use Rattle.frame_records.specs.Records.{AreRecordsOf, HasRecords, HasRefused}
 use Rattle.frame_records.proofs.Examples.{plain, arp, weighing}
 use Rattle.pcap_frames.proofs.Examples.{cut_file, fault_of_a_cut_file, cut_file_is_no_capture}
+use Rattle.pcapng_frames.proofs.Examples as blocks
 
 abbrev frames : List FrameValue
 frames = plain ∷ arp ∷ plain ∷ []
@@ -51,10 +52,10 @@ records_of_an_untold_capture = record {
 
 -- an empty file is refused for its missing header, at its first byte
 pub empty_file_has_no_header : IsRefusedFile true [] (header_fault_at ShortHeader 0)
-unfolding header_fault
+unfolding header_fault number_in_order
 empty_file_has_no_header = record {
   first = ([], inr (inl (record { none_shown = refl; short = omega arith; none_before = refl; is_fault = refl })));
-  no_front = λ asked (cut : ShortHeader ≡ CutFrame). cc;
+  no_front = λ asked (cut : is_cut ShortHeader ≡ true). cc;
 }
 
 pub empty_file_is_refused : HasRefused true (Some []) 3 3 (Capture (header_fault_at ShortHeader 0))
@@ -99,22 +100,45 @@ after_a_bad_header = refl
 
 -- no frames are taken from an empty file
 pub empty_file_has_no_frames : (frames : List FrameValue) → FileHasFrames [] frames → ⊥
+unfolding number_in_order
 empty_file_has_no_frames frames (order, splits) = let header = splits.header in omega (arith, header.whole)
+
+-- ---- kinds of faults that cut a capture
+
+pub capture_is_cut_in_a_frame : is_cut CutFrame ≡ true
+capture_is_cut_in_a_frame = refl
+
+pub capture_is_cut_in_a_block : is_cut CutBlock ≡ true
+capture_is_cut_in_a_block = refl
+
+pub other_tail_is_no_cut : is_cut BadTail ≡ false
+other_tail_is_no_cut = refl
 
 -- ---- a capture of one frame that is cut before the frame's last byte
 
 -- its front has no frame, and the frame that is cut is the one at the end of the file header
+pub front_without_a_frame : IsFrontOf cut_file [] 24
+unfolding number_in_order
+front_without_a_frame = record {
+  fault = header_fault_at CutFrame 24;
+  first = fault_of_a_cut_file;
+  cut = refl;
+  place_is = refl;
+}
+
 pub front_of_a_cut_capture : FileGives true cut_file [] (Some 24)
-front_of_a_cut_capture = (refl, fault_of_a_cut_file)
+front_of_a_cut_capture = (refl, front_without_a_frame)
 
 pub no_front_unless_asked_for : FileGives false cut_file [] (Some 24) → ⊥
 no_front_unless_asked_for gives = let asked : false ≡ true = gives.0 in cc
 
 -- the front isn't taken for a whole capture
 pub cut_capture_is_not_whole : (front : Bool) (frames : List FrameValue) → FileGives front cut_file frames None → ⊥
+unfolding number_in_order
 cut_capture_is_not_whole front frames = cut_file_is_no_capture frames
 
 pub cut_is_refused_unless_asked_for : IsRefusedFile false cut_file (header_fault_at CutFrame 24)
+unfolding number_in_order
 cut_is_refused_unless_asked_for = record { first = ([], fault_of_a_cut_file); no_front = λ (asked : false ≡ true) cut. cc }
 
 pub cut_is_not_refused_where_asked_for : IsRefusedFile true cut_file (header_fault_at CutFrame 24) → ⊥
@@ -129,3 +153,22 @@ records_of_a_front = record {
   whole = λ (asked : true ≡ false). cc;
   are = record { list = refl; frames = refl; not_ipv4 = refl; short = refl; bad_header = refl };
 }
+
+-- ---- a pcapng capture of one packet, and the same cut in its packet
+
+pub frame_of_a_pcapng_capture : FileHasFrames blocks.ng_capture (blocks.packet ∷ [])
+unfolding number_in_order
+frame_of_a_pcapng_capture = blocks.capture_of_a_packet
+
+-- the block that is cut is the third, at byte 48
+pub front_before_a_cut_block : FileGives true (blocks.header_block ++ (blocks.interface_block ++ take 52 blocks.packet_block)) [] (Some 48)
+unfolding number_in_order
+front_before_a_cut_block = (
+  refl,
+  record {
+    fault = header_fault_at CutBlock 48;
+    first = inr blocks.ends_in_the_packet;
+    cut = refl;
+    place_is = refl;
+  },
+)

@@ -5,7 +5,7 @@ ghost use Rattle.pcap_frames.specs.{FrameValue, frame_count_limit};
 ghost use Rattle.pcap_frames.specs.declared.fault.CaptureFault.{CaptureFault};
 ghost use Rattle.frame_records.specs.CaptureFile.{FileGives, IsRefusedFile};
 
-use pcap_frames::files_are_decided;
+use pcapng_frames::any_captures_are_decided;
 
 /// Each file either gives one list of frames, with one cut or none, or is refused for its first fault, and never both.
 /// Whether the front of a cut capture is asked for decides only which of the two: where a file gives frames either way, they
@@ -25,5 +25,5 @@ pub fn files_are_read_or_refused()
     ensures limited { (front : Bool) (file : List ℕ) (frames : List FrameValue) (cut : Option ℕ) → FileGives front file frames cut
         → (length frames ≤ frame_count_limit) × IfSome cut (λ place. place < 2 ^ 64) }
 {
-    files_are_decided();
+    any_captures_are_decided();
 }

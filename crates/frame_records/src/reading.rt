@@ -3,7 +3,8 @@
 ghost use Rattle.std.specs.Prelude.{◌≡◌, ◌≤◌, ◌<◌, true, Some, vec_len, length, IfOk, IfErr, OnOk, OnErr, IsErrOf};
 ghost use Rattle.std.specs.Io.KnownBytes.{IsAtEnd};
 ghost use Rattle.outside_io.specs.{ReadsFront};
-ghost use Rattle.pcap_frames.specs.declared.fault.FaultKind.TheVariants.{CutFrame};
+ghost use Rattle.pcap_frames.specs.{IsEndFault};
+ghost use Rattle.frame_records.specs.CaptureFile.{is_cut};
 ghost use Rattle.frame_records.specs.Records.{HasRecords, HasRefused};
 ghost use Rattle.frame_records.specs.RecordVisitor.{visitor_weighing};
 ghost use Rattle.prefix_lattice.specs.{record_limit};
@@ -11,14 +12,16 @@ ghost use Rattle.prefix_lattice.specs.{record_limit};
 use crate::record_visitor::RecordVisitor;
 use crate::{Records, Weigh};
 use outside_io::Source;
-use pcap_frames::{CaptureFault, FaultKind, ReadRefusal, read_frames};
+use pcap_frames::{CaptureFault, FaultKind, ReadRefusal};
+use pcapng_frames::read_any;
 use std::alloc::{AllocError, Global};
 
-/// Reads a capture to its end through a buffer of 65,536 bytes. Returns the records of its frames in their order,
-/// weighed as `weigh` says, with the numbers of all frames and of those skipped. The frames themselves are not kept.
+/// Reads a capture, classic or pcapng, to its end through a buffer of 65,536 bytes. Returns the records of its frames in
+/// their order, weighed as `weigh` says, with the numbers of all frames and of those skipped. The frames themselves are
+/// not kept.
 ///
-/// Under `front` a capture that is cut inside a frame, and has no other fault before, is taken up to that frame, whose
-/// offset is `cut`. Without `front`, and for a whole capture, `cut` is `None`.
+/// Under `front` a capture that is cut inside a frame or a block, and has no other fault before, is taken up to there: the
+/// offset of the cut frame or block is `cut`. Without `front`, and for a whole capture, `cut` is `None`.
 ///
 /// The refusals are those of reading the frames; `OutOfMemory` may also come from the buffer or a record. After a
 /// refusal the source has been read in part, or to its end, and nothing is kept.
@@ -61,26 +64,27 @@ fn read_weighed<S: Source, const PACKETS: bool>(
     ensures told { (IsErrOf result ReadRefusal.ReadFault → ⊥) → S.faults source.new ≡ S.faults source.old }
 {
     let mut visitor = RecordVisitor::<PACKETS>::new(alloc);
-    match read_frames(source, &mut visitor, buffer) {
+    match read_any(alloc, source, &mut visitor, buffer) {
         Ok(_) => Ok(visitor.records),
         Err(ReadRefusal::Capture(fault)) => up_to_cut(visitor.records, fault, front),
         Err(refusal) => Err(refusal),
     }
 }
 
-// The records before this fault, where it is a cut frame and the front of a cut capture is asked for.
+// The records before this fault, where it is a cut frame or block and the front of a cut capture is asked for.
 fn up_to_cut(mut records: Records, fault: CaptureFault, front: bool) -> Result<Records, ReadRefusal>
     ensures taken { IfOk result (λ taken. taken ≡ record records { cut = Some fault.place }) }
     ensures asked { OnOk result (front ≡ true) }
-    ensures cut { OnOk result (fault.kind ≡ CutFrame) }
+    ensures cut { OnOk result (is_cut fault.kind ≡ true) }
+    ensures ends { OnOk result (IsEndFault fault.kind) }
     ensures refused { IfErr result (λ refusal. refusal ≡ ReadRefusal.Capture fault) }
-    ensures other { OnErr result (front ≡ true → fault.kind ≡ CutFrame → ⊥) }
+    ensures other { OnErr result (front ≡ true → is_cut fault.kind ≡ true → ⊥) }
 {
     if !front {
         return Err(ReadRefusal::Capture(fault));
     }
     match fault.kind {
-        FaultKind::CutFrame => {
+        FaultKind::CutFrame | FaultKind::CutBlock => {
             records.cut = Some(fault.place);
             Ok(records)
         }

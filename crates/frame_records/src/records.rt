@@ -17,8 +17,8 @@ pub struct Records {
     pub short: u64,
     /// How many were skipped as `Skip::BadHeader`.
     pub bad_header: u64,
-    /// The offset of the first byte of the frame inside which the capture was cut, and before which all frames are
-    /// counted. `None` for a whole capture.
+    /// The offset of the first byte of the frame or block inside which the capture was cut, and before which all frames
+    /// are counted. `None` for a whole capture.
     pub cut: Option<u64>,
 }
 

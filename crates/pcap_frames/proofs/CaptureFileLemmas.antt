@@ -1,24 +1,23 @@
 -- The laws of captures and first faults.
-use Rattle.std.proofs.Common.{ℕ, ◌≡◌, ◌+◌, ◌-◌, ◌<◌, ◌≤◌, ◌^◌, List, [], ◌∷◌, ◌++◌, length, take, drop, get_or, ap, arith}
+use Rattle.std.proofs.Common.{ℕ, ◌≡◌, ◌+◌, ◌-◌, ◌<◌, ◌≤◌, ◌^◌, List, [], ◌∷◌, ◌++◌, length, take, drop, get_or, ap, arith, sym, subst}
 use Rattle.std.proofs.Common.{inl, inr, length-take, length-drop}
 use Rattle.std.proofs.lemmas.List.{get_or-take, get_or-drop, get_or_past}
-use Rattle.std.proofs.lemmas.Bool.{cases_lt}
-use Rattle.byteorder.specs.Numbers.{big_from-lt, little_from-lt}
+use Rattle.std.proofs.lemmas.Bool.{cases_lt, lt-ltb}
 use Rattle.pcap_frames.specs.declared.file_order.FileOrder.{FileOrder}
-use Rattle.pcap_frames.specs.declared.file_order.FileOrder.TheVariants.{Big, Little}
 use Rattle.pcap_frames.specs.FileOrder.{number_in_order}
 use Rattle.pcap_frames.specs.Frame.{FrameValue}
 use Rattle.pcap_frames.specs.Frame.{BeginsWithFrame, BeginsWithFrames, IsFrame, AreFrames, frame_count_limit}
-use Rattle.pcap_frames.specs.Capture.{IsCapture}
-use Rattle.pcap_frames.specs.Decided.{FilesDecided, FrontsDecided}
-use Rattle.pcap_frames.specs.CaptureFault.{HasFaultAfter}
-use Rattle.pcap_frames.specs.Header.{header_fault_at}
+use Rattle.pcap_frames.specs.Decided.{IsDecided}
+use Rattle.pcap_frames.specs.CaptureFormat.{classic}
+use Rattle.pcap_frames.specs.CaptureFault.{ShowsFault, HasFaultAfter}
+use Rattle.pcap_frames.specs.FrameReader.{Completes}
+use Rattle.pcap_frames.specs.Header.{header_fault}
 use Rattle.pcap_frames.specs.declared.fault.CaptureFault.{CaptureFault}
-use Rattle.pcap_frames.specs.declared.fault.FaultKind.TheVariants.{CutFrame, ShortHeader}
+use Rattle.pcap_frames.proofs.FileNumberLemmas.{number_in_order-in_four_file_bytes}
 use Rattle.pcap_frames.proofs.BeginsFrameLemmas.{BeginsWithFrames-length}
-use Rattle.pcap_frames.proofs.EndFaultLemmas.{bytes_show_no_end_fault}
+use Rattle.pcap_frames.proofs.EndFaultLemmas.{bytes_show_no_end_fault, header_shows_fault_near, frame_shows_fault_near}
 use Rattle.pcap_frames.proofs.FileSplitLemmas.{ShowsFault-longer_split_file}
-use Rattle.pcap_frames.proofs.FirstFaultLemmas.{reader_reaches_first_fault, capture_reaches_first_fault}
+use Rattle.pcap_frames.proofs.FirstFaultLemmas.{ReachesFirstFault, reader_reaches_first_fault, capture_reaches_first_fault}
 use Rattle.pcap_frames.proofs.FirstFaultLemmas.{frames_reach_first_fault, frames_before_first_fault_agree}
 use Rattle.pcap_frames.proofs.FirstFaultLemmas.{frames_before_first_fault_begin}
 use Rattle.pcap_frames.proofs.FirstFaultLemmas.{fronts_complete_to_first_fault, capture_or_first_fault}
@@ -39,12 +38,6 @@ AreCaptureFileBytes-take n xs bytes place = elim (cases_lt place n) [
 AreCaptureFileBytes-drop : (n : ℕ) (xs : List ℕ) → AreCaptureFileBytes xs → AreCaptureFileBytes (drop n xs)
 AreCaptureFileBytes-drop n xs bytes place = rw (get_or-drop n xs place 0) (bytes (n + place))
 
-AreCaptureFileBytes-bound : (order : FileOrder) (count place : ℕ) (bytes : List ℕ) → AreCaptureFileBytes bytes
-    → number_in_order order count place bytes < 256 ^ count
-unfolding number_in_order
-AreCaptureFileBytes-bound Big count place bytes are = big_from-lt place count bytes are
-AreCaptureFileBytes-bound Little count place bytes are = little_from-lt place count bytes are
-
 -- a frame that begins a file of bytes is a frame of a capture
 IsFrame-in_capture_file : (order : FileOrder) (bytes : List ℕ) (frame : FrameValue) → AreCaptureFileBytes bytes
     → BeginsWithFrame order bytes frame → IsFrame frame
@@ -53,7 +46,7 @@ IsFrame-in_capture_file order bytes frame are begins =
     let original : frame.original ≡ number_in_order order 4 12 bytes = ap (λ f. f.original) begins.is_frame in
     let head : frame.head ≡ take 42 (take (number_in_order order 4 8 bytes) (drop 16 bytes)) =
     ap (λ f. f.head) begins.is_frame in
-    let fits : number_in_order order 4 12 bytes < 256 ^ 4 = AreCaptureFileBytes-bound order 4 12 bytes are in record {
+    let fits : number_in_order order 4 12 bytes < 256 ^ 4 = number_in_order-in_four_file_bytes order 12 bytes in record {
       captured = begins.limit;
       original = omega (arith, fits);
       head =
@@ -80,28 +73,64 @@ AreFrames-in_capture_file order bytes (frame ∷ frames) rest are begins = (
       (AreCaptureFileBytes-drop (16 + frame.captured) bytes are) begins.1,
 )
 
-capture_file_has_valid_frames : (file : List ℕ) (frames : List FrameValue) → AreCaptureFileBytes file → IsCapture file frames
+capture_file_has_valid_frames : (front : List ℕ) (frames : List FrameValue) → AreCaptureFileBytes front → ReachesFirstFault front frames
     → AreFrames frames
-capture_file_has_valid_frames file frames are (order, splits) =
-    AreFrames-in_capture_file order (drop 24 file) frames [] (AreCaptureFileBytes-drop 24 file are) splits.begins
+capture_file_has_valid_frames front frames are (inl none) = subst AreFrames (sym none.no_frame) tt
+capture_file_has_valid_frames front frames are (inr here) =
+    AreFrames-in_capture_file here.order (drop 24 front) frames here.rest (AreCaptureFileBytes-drop 24 front are) here.splits.begins
+
+-- ---- the limits
+
+-- at most 16,777,216 frames
+capture_file_is_limited : (front : List ℕ) (frames : List FrameValue) → ReachesFirstFault front frames → length frames ≤ frame_count_limit
+capture_file_is_limited front frames (inl none) = omega (arith, ap length none.no_frame)
+capture_file_is_limited front frames (inr here) = let splits = here.splits in splits.limit
+
+-- fewer bytes than a magic show nothing
+capture_file_begins_without_frame : (front : List ℕ) (frames : List FrameValue) → length front < 4 → ReachesFirstFault front frames → frames ≡ []
+capture_file_begins_without_frame front frames short (inl none) = none.no_frame
+capture_file_begins_without_frame front frames short (inr here) =
+    let header = here.splits.header in absurd (omega (arith, short, header.whole))
+
+capture_file_begins_without_fault : (front : List ℕ) (frames : List FrameValue) (fault : CaptureFault) → length front < 4
+    → ShowsFault front frames fault → ⊥
+unfolding header_fault
+capture_file_begins_without_fault front frames fault short (inl shows) =
+    let shown = rw (lt-ltb (length front) 4 short) at shows.shown in cc
+capture_file_begins_without_fault front frames fault short (inr shows) =
+    let header = shows.splits.header in omega (arith, short, header.whole)
+
+-- each frame before a fault has a greatest length
+fault_place_in_capture_file : (file : List ℕ) (frames : List FrameValue) (fault : CaptureFault) → HasFaultAfter file frames fault
+    → fault.place < 2 ^ 64
+fault_place_in_capture_file file frames fault (inl (inl shows)) =
+    omega (arith, header_shows_fault_near file fault shows.shown)
+fault_place_in_capture_file file frames fault (inl (inr shows)) =
+    let splits = shows.splits in
+    let long = BeginsWithFrames-length shows.order (drop 24 file) frames shows.rest splits.begins in
+    let near = frame_shows_fault_near shows.order (length frames) (length file - length shows.rest) shows.rest fault shows.shown in
+    omega (arith, near, long, splits.limit, length-drop 24 file)
+fault_place_in_capture_file file frames fault (inr (inl in_header)) =
+    let at : fault.place ≡ length file = ap (λ (fault : CaptureFault). fault.place) in_header.is_fault in
+    omega (arith, at, in_header.short)
+fault_place_in_capture_file file frames fault (inr (inr in_frame)) =
+    let splits = in_frame.splits in
+    let long = BeginsWithFrames-length in_frame.order (drop 24 file) frames in_frame.rest splits.begins in
+    let at : fault.place ≡ length file - length in_frame.rest = ap (λ (fault : CaptureFault). fault.place) in_frame.is_fault in
+    omega (arith, at, long, splits.limit, length-drop 24 file)
 
 -- ---- the laws
 
--- a cut frame comes after at most 16,777,216 frames, each of which has a greatest length
-capture_file_is_cut_within_limits : (file : List ℕ) (frames : List FrameValue) (place : ℕ)
-    → HasFaultAfter file frames (header_fault_at CutFrame place) → (length frames ≤ frame_count_limit) × (place < 2 ^ 64)
-capture_file_is_cut_within_limits file frames place (inl shown) =
-    absurd (bytes_show_no_end_fault file frames (header_fault_at CutFrame place) shown tt)
-capture_file_is_cut_within_limits file frames place (inr (inl in_header)) =
-    let kind : CutFrame ≡ ShortHeader = ap (λ (fault : CaptureFault). fault.kind) in_header.is_fault in cc kind
-capture_file_is_cut_within_limits file frames place (inr (inr in_frame)) =
-    let splits = in_frame.splits in
-    let long = BeginsWithFrames-length in_frame.order (drop 24 file) frames in_frame.rest splits.begins in
-    let at : place ≡ length file - length in_frame.rest = ap (λ (fault : CaptureFault). fault.place) in_frame.is_fault in
-    (splits.limit, omega (arith, at, long, splits.limit, length-drop 24 file))
+-- the frames that a front completes, in the words of where bytes end
+capture_file_is_completed : (file : List ℕ) (frames : List FrameValue) → ReachesFirstFault file frames → Completes file frames
+capture_file_is_completed file frames reached =
+    let fed = fronts_complete_to_first_fault file in
+    let same = frames_before_first_fault_agree file frames fed.0 reached
+    (reader_reaches_first_fault fed.1.0 file fed.0 fed.1.1) in
+    subst (Completes file) same fed.1
 
-pub capture_files_are_decided : FilesDecided
-capture_files_are_decided = record {
+pub classic_captures_are_decided : IsDecided classic
+classic_captures_are_decided = record {
   either = λ file. let fed = fronts_complete_to_first_fault file in
       elim (capture_or_first_fault fed.1.0 file fed.0 fed.1.1)
       [ inl capture ↦ inl (fed.0, capture) | inr fault ↦ inr (fault.0, (fed.0, fault.1)) ];
@@ -111,12 +140,6 @@ capture_files_are_decided = record {
   one_fault = file_has_one_first_fault;
   one_before = λ file frames others fault other here there.
       frames_before_first_fault_agree file frames others (frames_reach_first_fault file frames fault here) (frames_reach_first_fault file others other there);
-  cut_is_limited = capture_file_is_cut_within_limits;
-  are_frames = capture_file_has_valid_frames;
-}
-
-pub capture_file_fronts_are_decided : FrontsDecided
-capture_file_fronts_are_decided = record {
   some = fronts_complete_to_first_fault;
   one = λ front frames others here there.
       frames_before_first_fault_agree front frames others (reader_reaches_first_fault here.0 front frames here.1)
@@ -124,11 +147,16 @@ capture_file_fronts_are_decided = record {
   longer = λ front more frames others here there.
       frames_before_first_fault_begin front more frames others (reader_reaches_first_fault here.0 front frames here.1)
       (reader_reaches_first_fault there.0 (front ++ more) others there.1);
-  of_capture = λ front more frames all here capture.
-      frames_before_first_fault_begin front more frames all (reader_reaches_first_fault here.0 front frames here.1)
-      (capture_reaches_first_fault (front ++ more) all capture);
-  before_fault = λ front more frames all fault here first.
-      frames_before_first_fault_begin front more frames all (reader_reaches_first_fault here.0 front frames here.1)
-      (frames_reach_first_fault (front ++ more) all fault first);
+  of_capture = λ file frames capture. capture_file_is_completed file frames (capture_reaches_first_fault file frames capture);
+  before_fault = λ file frames fault first.
+      capture_file_is_completed file frames (frames_reach_first_fault file frames fault first);
   shown = λ front more frames fault shows. inl (ShowsFault-longer_split_file front more frames fault shows);
+  no_end_fault = bytes_show_no_end_fault;
+  no_frame_first = λ front frames short here.
+      capture_file_begins_without_frame front frames short (reader_reaches_first_fault here.0 front frames here.1);
+  no_fault_first = capture_file_begins_without_fault;
+  limited = λ front frames here. capture_file_is_limited front frames (reader_reaches_first_fault here.0 front frames here.1);
+  place = fault_place_in_capture_file;
+  are_frames = λ front frames are here.
+      capture_file_has_valid_frames front frames are (reader_reaches_first_fault here.0 front frames here.1);
 }

@@ -13,10 +13,11 @@ use Rattle.pcap_frames.specs.Header.{header_fault_at}
 use Rattle.pcap_frames.specs.Frame.{frame_at, BeginsWithFrame, BeginsWithFrames, bytes_needed, frame_fault}
 use Rattle.pcap_frames.specs.Frame.{IsFrame, AreFrames}
 use Rattle.pcap_frames.specs.Capture.{SplitsCapture, IsCapture, EndsInHeader}
+use Rattle.pcap_frames.specs.CaptureFormat.{classic, HasFault}
 use Rattle.pcap_frames.specs.CaptureFault.{ShowsInHeader, ShowsInFrames, ShowsFault}
 use Rattle.pcap_frames.specs.Capture.{EndsInFrame, EndsInside}
-use Rattle.pcap_frames.specs.CaptureFault.{HasFaultAfter, HasCaptureFault}
-use Rattle.pcap_frames.proofs.CaptureFileLemmas.{capture_files_are_decided}
+use Rattle.pcap_frames.specs.CaptureFault.{HasFaultAfter}
+use Rattle.pcap_frames.proofs.CaptureFileLemmas.{classic_captures_are_decided}
 use Rattle.pcap_frames.specs.Lengths.{header_length, packet_header_length, frame_head_length, kept_length}
 use Rattle.pcap_frames.specs.Lengths.{most_captured}
 use Rattle.pcap_frames.specs.Frame.{frame_count_limit}
@@ -203,7 +204,7 @@ empty_header = record { none_shown = refl; short = omega arith; none_before = re
 pub empty_file_ends_inside : EndsInside [] [] (header_fault_at ShortHeader 0)
 empty_file_ends_inside = inl empty_header
 
-pub empty_file : HasCaptureFault [] (header_fault_at ShortHeader 0)
+pub empty_file : HasFault classic [] (header_fault_at ShortHeader 0)
 empty_file = ([], inr empty_file_ends_inside)
 
 -- a file with a whole header doesn't end inside its header
@@ -214,7 +215,7 @@ pub compressed_header : ShowsInHeader (0x1f ∷ 0x8b ∷ 8 ∷ 0 ∷ []) [] (hea
 unfolding number_in_order order_of_magic header_fault
 compressed_header = record { shown = refl; none_before = refl }
 
-pub compressed_file : HasCaptureFault (0x1f ∷ 0x8b ∷ 8 ∷ 0 ∷ []) (header_fault_at NotCapture 0)
+pub compressed_file : HasFault classic (0x1f ∷ 0x8b ∷ 8 ∷ 0 ∷ []) (header_fault_at NotCapture 0)
 compressed_file = ([], inl (inl compressed_header))
 
 -- the first eight bytes show a wrong version
@@ -245,10 +246,10 @@ fault_of_a_cut_file = inr (inr cut_frame)
 
 pub cut_file_is_no_capture : (frames : List FrameValue) → IsCapture cut_file frames → ⊥
 cut_file_is_no_capture frames is =
-    capture_files_are_decided.never_both cut_file frames (header_fault_at CutFrame 24) is ([], fault_of_a_cut_file)
+    classic_captures_are_decided.never_both cut_file frames (header_fault_at CutFrame 24) is ([], fault_of_a_cut_file)
 
-pub capture_has_no_fault : (fault : CaptureFault) → HasCaptureFault capture fault → ⊥
-capture_has_no_fault fault = capture_files_are_decided.never_both capture (frame ∷ []) fault header_and_frame
+pub capture_has_no_fault : (fault : CaptureFault) → HasFault classic capture fault → ⊥
+capture_has_no_fault fault = classic_captures_are_decided.never_both capture (frame ∷ []) fault header_and_frame
 
 -- the header of a frame of 262,145 captured bytes
 abbrev long_header : List ℕ
@@ -268,7 +269,7 @@ long_frame_behind_another = record {
   shown = refl;
 }
 
-pub long_frame : HasCaptureFault (capture ++ long_header) (header_fault_at LongFrame 43)
+pub long_frame : HasFault classic (capture ++ long_header) (header_fault_at LongFrame 43)
 long_frame = (frame ∷ [], inl (inr long_frame_behind_another))
 
 -- ---- what a visitor is shown

@@ -13,16 +13,17 @@ use Rattle.pcap_frames.specs.Header.{order_of_magic, header_fault, header_fault_
 use Rattle.pcap_frames.specs.Frame.{frame_at, bytes_needed, frame_fault}
 use Rattle.pcap_frames.specs.FrameReader.{FramePlace, ReaderState, InHeader, InFrames, AtFault, LacksMemory}
 use Rattle.pcap_frames.specs.FrameReader.{IsInHeader, IsBehind, Represents, Completes}
-use Rattle.pcap_frames.specs.FrameReader.{HasStopped, Advances}
+use Rattle.pcap_frames.specs.FrameReader.{frame_reader_stop}
 use Rattle.pcap_frames.specs.Front.{FrontValue}
 use Rattle.pcap_frames.specs.Part.{place_of_part, state_of_part, IsPartWithin}
 use Rattle.pcap_frames.specs.Part.{IsPartInStage}
-use Rattle.pcap_frames.specs.Reader.{frames_held, SplitsFrame, StepTakes, StepShowsFront}
-use Rattle.pcap_frames.specs.Reader.{StepLacksMemory}
+use Rattle.pcap_frames.specs.Reader.{frames_held, SplitsFrame}
+use Rattle.pcap_frames.specs.CaptureFormat.{classic}
 use Rattle.pcap_frames.specs.Visitor.{VisitorSees, RepresentSame}
-use Rattle.pcap_frames.specs.Feeding.{IsResultInState, IfHadMemory, FeedsReader, ShowsBeginning}
+use Rattle.pcap_frames.specs.Feeding.{HasStopped, IsResultAfter, IfHadMemory, Advances, FeedsReader, ShowsBeginning}
+use Rattle.pcap_frames.specs.Feeding.{StepTakes, StepShowsFront}
 use Rattle.pcap_frames.specs.Feeding.{IsResultOf, IsFinalResult}
-use Rattle.pcap_frames.proofs.CaptureFileLemmas.{capture_files_are_decided, capture_file_fronts_are_decided}
+use Rattle.pcap_frames.proofs.CaptureFileLemmas.{classic_captures_are_decided}
 use Rattle.pcap_frames.proofs.Examples.{header, frame_bytes, frame, capture, cut_file, header_and_more}
 use Rattle.pcap_frames.proofs.Examples.{header_a_frame_and_a_rest, whole_frame, frame_of_three_bytes}
 use Rattle.pcap_frames.proofs.Examples.{header_and_frame, compressed_header, fault_of_a_cut_file}
@@ -106,24 +107,24 @@ cut_file_completes_no_frame = (InFrames at, reader_represents_the_cut_file)
 pub cut_file_completes_not_its_frame : Completes cut_file (frame ∷ []) → ⊥
 cut_file_completes_not_its_frame completes =
     absurd (let same : frame ∷ []
-    ≡ [] = capture_file_fronts_are_decided.one cut_file [] (frame ∷ []) cut_file_completes_no_frame completes in cc)
+    ≡ [] = classic_captures_are_decided.one cut_file [] (frame ∷ []) cut_file_completes_no_frame completes in cc)
 
-pub reader_in_a_frame_goes_on : HasStopped (InFrames at) → ⊥
+pub reader_in_a_frame_goes_on : HasStopped (frame_reader_stop (InFrames at)) → ⊥
 reader_in_a_frame_goes_on stopped = stopped
 
-pub reader_in_a_frame_answers_ok : IsResultInState {T = ℕ} (InFrames at) (Ok 1)
+pub reader_in_a_frame_answers_ok : IsResultAfter {T = ℕ} (frame_reader_stop (InFrames at)) (Ok 1)
 reader_in_a_frame_answers_ok = refl
 
 -- a cut file shows no fault, since it may continue as a capture
-pub cut_file_is_not_refused : IsResultOf {T = ℕ} cut_file (Ok 1)
+pub cut_file_is_not_refused : IsResultOf {T = ℕ} classic cut_file (Ok 1)
 cut_file_is_not_refused frames fault shows =
-    capture_files_are_decided.never_both capture (frame ∷ []) fault header_and_frame
-    (frames, capture_file_fronts_are_decided.shown cut_file (9 ∷ []) frames fault shows)
+    classic_captures_are_decided.never_both capture (frame ∷ []) fault header_and_frame
+    (frames, classic_captures_are_decided.shown cut_file (9 ∷ []) frames fault shows)
 
-pub cut_file_ends_with_a_fault : IsFinalResult cut_file [] (Err (Refused (header_fault_at CutFrame 24)))
+pub cut_file_ends_with_a_fault : IsFinalResult classic cut_file [] (Err (Refused (header_fault_at CutFrame 24)))
 cut_file_ends_with_a_fault = fault_of_a_cut_file
 
-pub capture_ends_with_its_count : IsFinalResult capture (frame ∷ []) (Ok 1)
+pub capture_ends_with_its_count : IsFinalResult classic capture (frame ∷ []) (Ok 1)
 capture_ends_with_its_count = (header_and_frame, refl)
 
 -- ---- a reader that was fed a file header without its last byte, and then this byte and a frame
@@ -180,19 +181,19 @@ capture_completes_the_frame = (InFrames behind_frame, reader_behind_the_frame)
 
 -- a reader in the header knows all its bytes
 in_header_advances : (new : ReaderState) (kept bytes : List ℕ) (given : List FrameValue)
-    → Represents new (kept ++ bytes) given → Advances (InHeader kept) new bytes given
+    → Represents new (kept ++ bytes) given → Advances Represents (InHeader kept) new bytes given
 in_header_advances new kept bytes given stands = record {
   reads = λ before frames part. subst (λ l. Represents new (l ++ bytes) (frames ++ given)) part.kept_is
       (subst (λ l. Represents new (kept ++ bytes) (l ++ given)) (sym part.no_frame) stands);
 }
 
-pub header_advances_by_its_last_byte : Advances (InHeader (take 23 header)) (InFrames before_frame) (0 ∷ []) []
+pub header_advances_by_its_last_byte : Advances Represents (InHeader (take 23 header)) (InFrames before_frame) (0 ∷ []) []
 header_advances_by_its_last_byte = in_header_advances _ _ _ _ header_alone_is_passed
 
-pub piece_completes_the_frame : Advances (InHeader (take 23 header)) (InFrames behind_frame) piece (frame ∷ [])
+pub piece_completes_the_frame : Advances Represents (InHeader (take 23 header)) (InFrames behind_frame) piece (frame ∷ [])
 piece_completes_the_frame = in_header_advances _ _ _ _ reader_behind_the_frame
 
-pub piece_is_fed : FeedsReader album [] (frame ∷ []) (InHeader (take 23 header)) (InFrames behind_frame) piece
+pub piece_is_fed : FeedsReader Represents album [] (frame ∷ []) (InHeader (take 23 header)) (InFrames behind_frame) piece
 piece_is_fed = record {
   given = frame ∷ [];
   advances = piece_completes_the_frame;
@@ -201,7 +202,7 @@ piece_is_fed = record {
 }
 
 -- if memory ran out, an album without the frame saw a front of the frames
-pub album_saw_a_beginning : ShowsBeginning album [] [] (InHeader (take 23 header)) piece
+pub album_saw_a_beginning : ShowsBeginning classic Represents album [] [] (InHeader (take 23 header)) piece
 album_saw_a_beginning = record {
   given = [];
   are_frames = tt;
@@ -211,7 +212,7 @@ album_saw_a_beginning = record {
 
 -- ---- steps of that reader
 
-pub header_is_taken : StepTakes (InHeader (take 23 header)) (InFrames before_frame) piece frame_bytes []
+pub header_is_taken : StepTakes Represents (InHeader (take 23 header)) (InFrames before_frame) piece frame_bytes []
 header_is_taken = record {
   front = 0 ∷ [];
   joined = refl;
@@ -230,21 +231,12 @@ frame_is_split_off = record {
   frame_is = refl;
 }
 
-pub header_shows_no_frame : StepShowsFront album [] [] (InHeader (take 23 header)) (InFrames before_frame) piece frame_bytes
+pub header_shows_no_frame : StepShowsFront Represents album [] [] (InHeader (take 23 header)) (InFrames before_frame) piece frame_bytes
 header_shows_no_frame = record {
   given = [];
   takes = header_is_taken;
   are_frames = tt;
   sees = λ before held. held ∙ sym (append-nil before);
-}
-
-pub album_without_room : StepLacksMemory album [] [] (InHeader (take 23 header)) piece
-album_without_room = record {
-  after = InFrames behind_frame;
-  rest = [];
-  frame = frame;
-  takes = record { front = piece; joined = refl; some = omega arith; advances = piece_completes_the_frame };
-  alike = record { forth = λ frames is. is; back = λ frames is. is };
 }
 
 -- a frame that was completed by another piece
@@ -259,20 +251,20 @@ no_frame_was_held = refl
 
 -- ---- a reader that was fed a compressed file
 
-pub compressed_file_is_refused : IsResultOf {T = ℕ} (0x1f ∷ 0x8b ∷ 8 ∷ 0 ∷ []) (Err (Refused (header_fault_at NotCapture 0)))
+pub compressed_file_is_refused : IsResultOf {T = ℕ} classic (0x1f ∷ 0x8b ∷ 8 ∷ 0 ∷ []) (Err (Refused (header_fault_at NotCapture 0)))
 compressed_file_is_refused = ([], inl compressed_header)
 
 pub reader_of_a_compressed_file : Represents (AtFault (header_fault_at NotCapture 0)) (0x1f ∷ 0x8b ∷ 8 ∷ 0 ∷ []) []
 reader_of_a_compressed_file = inl compressed_header
 
-pub reader_at_a_fault_has_stopped : HasStopped (AtFault (header_fault_at NotCapture 0))
+pub reader_at_a_fault_has_stopped : HasStopped (frame_reader_stop (AtFault (header_fault_at NotCapture 0)))
 reader_at_a_fault_has_stopped = tt
 
-pub reader_at_a_fault_answers_it : IsResultInState {T = ℕ} (AtFault (header_fault_at NotCapture 0))
+pub reader_at_a_fault_answers_it : IsResultAfter {T = ℕ} (frame_reader_stop (AtFault (header_fault_at NotCapture 0)))
     (Err (Refused (header_fault_at NotCapture 0)))
 reader_at_a_fault_answers_it = refl
 
-pub reader_at_a_fault_answers_nothing_else : IsResultInState {T = ℕ} (AtFault (header_fault_at NotCapture 0)) (Ok 1) → ⊥
+pub reader_at_a_fault_answers_nothing_else : IsResultAfter {T = ℕ} (frame_reader_stop (AtFault (header_fault_at NotCapture 0))) (Ok 1) → ⊥
 reader_at_a_fault_answers_nothing_else answer = cc
 
 -- ---- out of memory

@@ -1,7 +1,7 @@
 -- Every file is a capture or has one first fault, and every front of a file completes one list of frames.
 use Rattle.std.proofs.Common.{ℕ, zero, suc, ◌≡◌, ◌+◌, ◌-◌, ◌≤◌, ◌<◌, ltb, eqb, cond, Option, Some, None, List, []}
 use Rattle.std.proofs.Common.{◌∷◌, ◌++◌, length, take, drop, refl, sym, ap, ◌∙◌, arith, length-append, length-drop}
-use Rattle.std.proofs.Common.{subst, inl, inr, ◌⊎◌, append-nil, unwrap_or, Result, Ok, Err}
+use Rattle.std.proofs.Common.{subst, inl, inr, ◌⊎◌, append-nil, unwrap_or}
 use Rattle.std.proofs.lemmas.Bool.{ltb-true, lt-ltb, eqb-true, cases_Bool, cases_lt}
 use Rattle.std.proofs.lemmas.List.{nil_from_length}
 use Rattle.pcap_frames.specs.declared.file_order.FileOrder.{FileOrder}
@@ -12,11 +12,10 @@ use Rattle.pcap_frames.specs.Frame.{FrameValue}
 use Rattle.pcap_frames.specs.Header.{IsHeader, header_fault, header_fault_at}
 use Rattle.pcap_frames.specs.Frame.{frame_at, BeginsWithFrame, BeginsWithFrames, bytes_needed, frame_fault}
 use Rattle.pcap_frames.specs.Capture.{SplitsCapture, IsCapture}
-use Rattle.pcap_frames.specs.CaptureFault.{ShowsFault, HasFaultAfter, HasCaptureFault}
-use Rattle.pcap_frames.specs.declared.fault.FeedFault.{FeedFault}
+use Rattle.pcap_frames.specs.CaptureFormat.{classic, HasFault}
+use Rattle.pcap_frames.specs.CaptureFault.{ShowsFault, HasFaultAfter}
 use Rattle.pcap_frames.specs.FrameReader.{FramePlace, ReaderState, InHeader, InFrames, AtFault, LacksMemory}
-use Rattle.pcap_frames.specs.FrameReader.{IsInHeader, IsBehind, Represents, Completes}
-use Rattle.pcap_frames.specs.Feeding.{IsResultInState, IsResultOf}
+use Rattle.pcap_frames.specs.FrameReader.{IsInHeader, IsBehind, Represents, Completes, frame_reader_stop}
 use Rattle.pcap_frames.proofs.FileHeaderLemmas.{file_header_shows_no_fault, file_header_is_whole}
 use Rattle.pcap_frames.proofs.FileHeaderLemmas.{IsHeader-in_longer_file}
 use Rattle.pcap_frames.proofs.BeginsFrameLemmas.{bytes_needed-where_frame_begins}
@@ -260,18 +259,15 @@ behind_shows_no_first_fault at bytes frames others fault stands (inr shows) =
     let shown = rw (one.0, one.1, same, ← stands.count_is, place) at shows.shown in
     let none = stands.none_shown in cc
 
--- a reader that goes on represents bytes that show no fault, and one at a fault represents bytes that show it
-pub answer_tells_first_fault : {T : Type 0} (state : ReaderState) (bytes : List ℕ) (frames : List FrameValue)
-    (result : Result T FeedFault) → Represents state bytes frames → IsResultInState state result
-    → IsResultOf bytes result
-answer_tells_first_fault (InHeader kept) bytes frames (Ok x) stands answer = λ others fault.
+-- a reader that goes on represents bytes that show no fault
+pub reader_that_goes_on_shows_no_first_fault : (state : ReaderState) (bytes : List ℕ) (frames others : List FrameValue) (fault : CaptureFault)
+    → Represents state bytes frames → frame_reader_stop state ≡ None → ShowsFault bytes others fault → ⊥
+reader_that_goes_on_shows_no_first_fault (InHeader kept) bytes frames others fault stands goes =
     part_shows_no_first_fault kept bytes frames others fault stands
-answer_tells_first_fault (InHeader kept) bytes frames (Err x) stands answer = absurd cc
-answer_tells_first_fault (InFrames at) bytes frames (Ok x) stands answer = λ others fault.
+reader_that_goes_on_shows_no_first_fault (InFrames at) bytes frames others fault stands goes =
     behind_shows_no_first_fault at bytes frames others fault stands
-answer_tells_first_fault (InFrames at) bytes frames (Err x) stands answer = absurd cc
-answer_tells_first_fault (AtFault fault) bytes frames result stands answer = subst (IsResultOf bytes) (sym answer) (frames, stands)
-answer_tells_first_fault LacksMemory bytes frames result stands answer = absurd stands
+reader_that_goes_on_shows_no_first_fault (AtFault shown) bytes frames others fault stands goes = absurd cc
+reader_that_goes_on_shows_no_first_fault LacksMemory bytes frames others fault stands goes = absurd stands
 
 -- ---- existence
 
@@ -443,7 +439,7 @@ frames_reach_first_fault file frames fault first = first_fault_is_reached file f
 
 -- a capture has no fault
 pub capture_has_no_first_fault : (file : List ℕ) (frames : List FrameValue) (fault : CaptureFault) → IsCapture file frames
-    → HasCaptureFault file fault → ⊥
+    → HasFault classic file fault → ⊥
 capture_has_no_first_fault file frames fault capture (before, first) =
     let same =
     one_first_fault_or_none file frames before None (Some fault) (capture_first_fault_is_none file frames capture)
@@ -451,7 +447,7 @@ capture_has_no_first_fault file frames fault capture (before, first) =
     cc
 
 -- a file has one first fault
-pub file_has_one_first_fault : (file : List ℕ) (fault other : CaptureFault) → HasCaptureFault file fault → HasCaptureFault file other → other ≡ fault
+pub file_has_one_first_fault : (file : List ℕ) (fault other : CaptureFault) → HasFault classic file fault → HasFault classic file other → other ≡ fault
 file_has_one_first_fault file fault other (before, first) (before_too, first_too) =
     let same =
     one_first_fault_or_none file before before_too (Some fault) (Some other) (faulty_file_has_first_fault file before fault first)

@@ -6,6 +6,7 @@ pub mod ReaderStepLemmas
 pub mod FirstFaultLemmas
 pub mod FrameHeadLemmas
 pub mod FedPieceLemmas
+pub mod FrameReaderLemmas
 pub mod CaptureFileLemmas
 pub mod EndFaultLemmas
 pub mod SourceReadLemmas

@@ -1,7 +1,7 @@
 -- What each step of a reader leaves.
 use Rattle.std.proofs.Common.{ℕ, ◌≡◌, ◌+◌, ◌-◌, ◌≤◌, ◌<◌, true, false, ltb, eqb, min, Some, None, List, [], ◌∷◌}
 use Rattle.std.proofs.Common.{◌++◌, length, take, drop, refl, sym, ap, ◌∙◌, arith, length-append, length-take}
-use Rattle.std.proofs.Common.{subst, inl, inr, append-nil, append_assoc}
+use Rattle.std.proofs.Common.{subst, inl, inr, ◌⊎◌, append-nil}
 use Rattle.std.proofs.lemmas.Bool.{ltb-false, lt-ltb, le-ltb, eqb-false, eq-eqb, cases_Bool, cases_lt}
 use Rattle.std.proofs.lemmas.List.{take_all, take-take, take-append-le, drop-take, drop_all, nil_from_length}
 use Rattle.pcap_frames.specs.declared.file_order.FileOrder.{FileOrder}
@@ -12,8 +12,15 @@ use Rattle.pcap_frames.specs.Header.{IsHeader, order_of_magic, header_fault}
 use Rattle.pcap_frames.specs.Frame.{frame_at, BeginsWithFrame, BeginsWithFrames, bytes_needed, frame_fault}
 use Rattle.pcap_frames.specs.CaptureFault.{ShowsFault}
 use Rattle.pcap_frames.specs.FrameReader.{FramePlace, ReaderState, InHeader, InFrames, AtFault, LacksMemory}
-use Rattle.pcap_frames.specs.FrameReader.{IsBehind, Represents, Advances}
-use Rattle.pcap_frames.specs.Reader.{SplitsFrame, StepTakes}
+use Rattle.pcap_frames.specs.FrameReader.{IsBehind, Represents, frame_reader_stop}
+use Rattle.pcap_frames.specs.Feeding.{Advances, StepTakes}
+use Rattle.pcap_frames.specs.Reader.{SplitsFrame}
+use Rattle.pcap_frames.specs.Part.{state_of_part}
+use Rattle.pcap_frames.specs.declared.fault.FeedFault.{FeedFault}
+use Rattle.pcap_frames.specs.declared.fault.FeedFault.TheVariants.{Refused, OutOfMemory}
+use Rattle.pcap_frames.specs.declared.reader.part.FramePart.{FramePart}
+use Rattle.pcap_frames.specs.declared.reader.part.Stage.{Stage}
+use Rattle.pcap_frames.specs.declared.reader.part.Stage.TheVariants as stage
 use Rattle.pcap_frames.proofs.FileNumberLemmas.{number_in_order-in_file_front, number_in_order-in_longer_file}
 use Rattle.pcap_frames.proofs.FileHeaderLemmas.{file_header_of_magic_order}
 use Rattle.pcap_frames.proofs.BeginsFrameLemmas.{BeginsWithFrames-more, frame_that_begins_needs_header}
@@ -165,7 +172,7 @@ reader_step_keeps_all kept front now is fits = is ∙ take_all 58 (kept ++ front
 
 -- still less than a header
 pub reader_step_in_header : (kept front now : List ℕ) → now ≡ take 58 (kept ++ front) → length kept + length front < 24
-    → header_fault now ≡ None → Advances (InHeader kept) (InHeader now) front []
+    → header_fault now ≡ None → Advances Represents (InHeader kept) (InHeader now) front []
 reader_step_in_header kept front now is short none =
     let all : now ≡ kept ++ front = reader_step_keeps_all kept front now is (omega arith) in
     record {
@@ -181,7 +188,7 @@ reader_step_in_header kept front now is short none =
 -- the header shows a fault
 pub reader_step_to_header_fault : (kept front now : List ℕ) (fault : CaptureFault) → now ≡ take 58 (kept ++ front)
     → length kept + length front ≤ 24 → header_fault now ≡ Some fault
-    → Advances (InHeader kept) (AtFault fault) front []
+    → Advances Represents (InHeader kept) (AtFault fault) front []
 reader_step_to_header_fault kept front now fault is fits shown =
     let all : now ≡ kept ++ front = reader_step_keeps_all kept front now is fits in
     record {
@@ -198,7 +205,7 @@ reader_step_first_place order = record { order = order; count = 0; place = 24; k
 -- the header is whole
 pub reader_step_ends_header : (kept front now : List ℕ) (order : FileOrder) → now ≡ take 58 (kept ++ front)
     → length kept + length front ≡ 24 → header_fault now ≡ None → order_of_magic now ≡ Some order
-    → Advances (InHeader kept) (InFrames (reader_step_first_place order)) front []
+    → Advances Represents (InHeader kept) (InFrames (reader_step_first_place order)) front []
 reader_step_ends_header kept front now order is whole none magic =
     let all : now ≡ kept ++ front = reader_step_keeps_all kept front now is (omega arith) in
     record {
@@ -236,7 +243,7 @@ reader_step_keeps_more at before front now frames stands is =
 -- more of a frame arrived, and it isn't whole
 reader_step_part_so_far : (at : FramePlace) (front now : List ℕ) → now ≡ take 58 (at.kept ++ front)
     → frame_fault at.order at.count at.place now ≡ None → at.came + length front < bytes_needed at.order now
-    → Advances (InFrames at) (InFrames (record at { kept = now; came = at.came + length front })) front []
+    → Advances Represents (InFrames at) (InFrames (record at { kept = now; came = at.came + length front })) front []
 reader_step_part_so_far at front now is none cut = record {
   reads = λ before frames stands.
       let same : now ≡ take 58 (stands.rest ++ front) = reader_step_keeps_more at before front now frames stands is in
@@ -267,14 +274,14 @@ reader_step_part_so_far at front now is none cut = record {
 pub reader_step_in_frame : (at : FramePlace) (front now : List ℕ) (total : ℕ) → now ≡ take 58 (at.kept ++ front)
     → total ≡ at.came + length front → frame_fault at.order at.count at.place now ≡ None
     → total < bytes_needed at.order now
-    → Advances (InFrames at) (InFrames (record at { kept = now; came = total })) front []
+    → Advances Represents (InFrames at) (InFrames (record at { kept = now; came = total })) front []
 reader_step_in_frame at front now total is sum none cut =
-    subst (λ n. Advances (InFrames at) (InFrames (record at { kept = now; came = n })) front []) (sym sum)
+    subst (λ n. Advances Represents (InFrames at) (InFrames (record at { kept = now; came = n })) front []) (sym sum)
     (reader_step_part_so_far at front now is none (omega arith))
 
 -- the rest shows a fault
 pub reader_step_to_frame_fault : (at : FramePlace) (front now : List ℕ) (fault : CaptureFault) → now ≡ take 58 (at.kept ++ front)
-    → frame_fault at.order at.count at.place now ≡ Some fault → Advances (InFrames at) (AtFault fault) front []
+    → frame_fault at.order at.count at.place now ≡ Some fault → Advances Represents (InFrames at) (AtFault fault) front []
 reader_step_to_frame_fault at front now fault is shown = record {
   reads = λ before frames stands.
       let same : now ≡ take 58 (stands.rest ++ front) = reader_step_keeps_more at before front now frames stands is in
@@ -338,7 +345,7 @@ reader_step_one_frame at before front frames stands begins size room =
 reader_step_whole_so_far : (at : FramePlace) (front now : List ℕ) → now ≡ take 58 (at.kept ++ front)
     → frame_fault at.order at.count at.place now ≡ None → 16 ≤ at.came + length front
     → at.came + length front ≡ bytes_needed at.order now
-    → Advances (InFrames at) (InFrames (reader_step_next_place at (at.came + length front))) front (frame_at at.order now ∷ [])
+    → Advances Represents (InFrames at) (InFrames (reader_step_next_place at (at.came + length front))) front (frame_at at.order now ∷ [])
 reader_step_whole_so_far at front now is none header size = record {
   reads = λ before frames stands.
       let same : now ≡ take 58 (stands.rest ++ front) = reader_step_keeps_more at before front now frames stands is in
@@ -370,16 +377,16 @@ reader_step_whole_so_far at front now is none header size = record {
 pub reader_step_ends_frame : (at : FramePlace) (front now : List ℕ) (total size : ℕ) → now ≡ take 58 (at.kept ++ front)
     → total ≡ at.came + length front → frame_fault at.order at.count at.place now ≡ None
     → total ≡ bytes_needed at.order now → size ≡ bytes_needed at.order now
-    → Advances (InFrames at) (InFrames (reader_step_next_place at size)) front (frame_at at.order now ∷ [])
+    → Advances Represents (InFrames at) (InFrames (reader_step_next_place at size)) front (frame_at at.order now ∷ [])
 reader_step_ends_frame at front now total size is sum none whole is_size =
-    subst (λ n. Advances (InFrames at) (InFrames (reader_step_next_place at n)) front (frame_at at.order now ∷ []))
+    subst (λ n. Advances Represents (InFrames at) (InFrames (reader_step_next_place at n)) front (frame_at at.order now ∷ []))
     (sym sum ∙ whole ∙ sym is_size)
     (reader_step_whole_so_far at front now is none (omega (arith, frame_that_begins_needs_header at.order now)) (sym sum ∙ whole))
 
 -- the whole frame is in the piece, and no byte of it arrived before
 reader_step_frame_in_piece : (at : FramePlace) (front : List ℕ) → at.came ≡ 0 → at.kept ≡ [] → at.count < 16777216
     → 16 ≤ length front → number_in_order at.order 4 8 front ≤ 262144 → length front ≡ 16 + number_in_order at.order 4 8 front
-    → Advances (InFrames at) (InFrames (reader_step_next_place at (length front))) front (frame_at at.order front ∷ [])
+    → Advances Represents (InFrames at) (InFrames (reader_step_next_place at (length front))) front (frame_at at.order front ∷ [])
 reader_step_frame_in_piece at front none empty room past fits whole = record {
   reads = λ before frames stands.
       let nothing : stands.rest ≡ [] = nil_from_length stands.rest (sym stands.came_is ∙ none) in
@@ -400,7 +407,7 @@ reader_step_frame_in_piece at front none empty room past fits whole = record {
 pub reader_step_frame_at_front : (at : FramePlace) (piece rest : List ℕ) (frame : FrameValue) (size : ℕ)
     → SplitsFrame at.order piece rest frame → at.came ≡ 0 → at.kept ≡ [] → at.count < 16777216
     → size ≡ length piece - length rest
-    → StepTakes (InFrames at) (InFrames (record at { count = at.count + 1; place = at.place + size })) piece rest
+    → StepTakes Represents (InFrames at) (InFrames (record at { count = at.count + 1; place = at.place + size })) piece rest
     (frame ∷ [])
 reader_step_frame_at_front at piece rest frame size splits none empty room is_size =
     let front_is : length splits.front ≡ size =
@@ -408,7 +415,7 @@ reader_step_frame_at_front at piece rest frame size splits none empty room is_si
     let step = reader_step_frame_in_piece at splits.front none empty room splits.header splits.limit splits.whole in
     let kept =
     subst (λ l.
-    Advances (InFrames at)
+    Advances Represents (InFrames at)
     (InFrames (record {
       order = at.order;
       count = at.count + 1;
@@ -418,7 +425,7 @@ reader_step_frame_at_front at piece rest frame size splits none empty room is_si
     })) splits.front (frame_at at.order splits.front ∷ [])) (sym empty) step in
     let came =
     subst (λ n.
-    Advances (InFrames at)
+    Advances Represents (InFrames at)
     (InFrames (record {
       order = at.order;
       count = at.count + 1;
@@ -426,7 +433,7 @@ reader_step_frame_at_front at piece rest frame size splits none empty room is_si
       kept = at.kept;
       came = n;
     })) splits.front (frame_at at.order splits.front ∷ [])) (sym none) kept in
-    let shown = subst (λ f. Advances (InFrames at)
+    let shown = subst (λ f. Advances Represents (InFrames at)
     (InFrames (record at { count = at.count + 1; place = at.place + length splits.front })) splits.front (f ∷ []))
     (sym splits.frame_is) came in record {
       front = splits.front;
@@ -434,14 +441,14 @@ reader_step_frame_at_front at piece rest frame size splits none empty room is_si
       some = omega (arith, splits.header);
       advances =
           subst (λ n.
-          Advances (InFrames at) (InFrames (record at { count = at.count + 1; place = at.place + n }))
+          Advances Represents (InFrames at) (InFrames (record at { count = at.count + 1; place = at.place + n }))
           splits.front (frame ∷ [])) front_is shown;
     }
 
--- ---- steps of a reader that has stopped, and steps one after another
+-- ---- steps of a reader that has stopped
 
 -- a fault stays
-pub reader_step_at_fault : (fault : CaptureFault) (front : List ℕ) → Advances (AtFault fault) (AtFault fault) front []
+pub reader_step_at_fault : (fault : CaptureFault) (front : List ℕ) → Advances Represents (AtFault fault) (AtFault fault) front []
 reader_step_at_fault fault front = record {
   reads = λ before frames stands.
       subst (λ l. ShowsFault (before ++ front) l fault) (sym (append-nil frames))
@@ -449,24 +456,34 @@ reader_step_at_fault fault front = record {
 }
 
 -- a reader without memory represents no bytes
-pub reader_step_without_memory : (front : List ℕ) → Advances LacksMemory LacksMemory front []
+pub reader_step_without_memory : (front : List ℕ) → Advances Represents LacksMemory LacksMemory front []
 reader_step_without_memory front = record { reads = λ before frames stands. absurd stands }
 
--- no bytes complete no frames
-pub Advances-no_step : (state : ReaderState) → Advances state state [] []
-Advances-no_step state = record {
-  reads = λ before frames stands.
-      subst (λ l. Represents state l (frames ++ [])) (sym (append-nil before))
-      (subst (Represents state before) (sym (append-nil frames)) stands);
-}
+-- a reader that has stopped takes all bytes
+pub stopped_reader_step_takes_all : (state : ReaderState) (fault : FeedFault) (piece rest : List ℕ) → frame_reader_stop state ≡ Some fault
+    → 0 < length piece → rest ≡ [] → StepTakes Represents state state piece rest []
+stopped_reader_step_takes_all (InHeader kept) fault piece rest stopped some none = absurd cc
+stopped_reader_step_takes_all (InFrames at) fault piece rest stopped some none = absurd cc
+stopped_reader_step_takes_all (AtFault shown) fault piece rest stopped some none =
+    record {
+      front = piece;
+      joined = sym (append-nil piece) ∙ ap (λ l. piece ++ l) (sym none);
+      some = some;
+      advances = reader_step_at_fault shown piece;
+    }
+stopped_reader_step_takes_all LacksMemory fault piece rest stopped some none =
+    record {
+      front = piece;
+      joined = sym (append-nil piece) ∙ ap (λ l. piece ++ l) (sym none);
+      some = some;
+      advances = reader_step_without_memory piece;
+    }
 
--- one step after another
-pub Advances-two_steps : (old mid new : ReaderState) (front more : List ℕ) (given others : List FrameValue)
-    → Advances old mid front given → Advances mid new more others
-    → Advances old new (front ++ more) (given ++ others)
-Advances-two_steps old mid new front more given others first second = record {
-  reads = λ before frames stands.
-      subst (λ l. Represents new l (frames ++ (given ++ others))) (append_assoc before front more)
-      (subst (Represents new ((before ++ front) ++ more)) (append_assoc frames given others)
-      (second.reads (before ++ front) (frames ++ given) (first.reads before frames stands)));
-}
+-- a reader in the stage at a fault or out of memory has stopped
+pub reader_step_stage_has_stopped : (now : Stage) (part : FramePart)
+    → ((fault : CaptureFault) × (now ≡ stage.AtFault fault)) ⊎ (now ≡ stage.LacksMemory)
+    → (fault : FeedFault) × (frame_reader_stop (state_of_part now part) ≡ Some fault)
+reader_step_stage_has_stopped now part (inl (fault, is)) =
+    (Refused fault, subst (λ s. frame_reader_stop (state_of_part s part) ≡ Some (Refused fault)) (sym is) refl)
+reader_step_stage_has_stopped now part (inr is) =
+    (OutOfMemory, subst (λ s. frame_reader_stop (state_of_part s part) ≡ Some OutOfMemory) (sym is) refl)

@@ -36,7 +36,3 @@ IsEndFault shown = ⊥
 -- this is the file's first fault, and these are the frames before it
 abbrev pub HasFaultAfter : List ℕ → List FrameValue → CaptureFault → Type 0
 HasFaultAfter file frames fault = ShowsFault file frames fault ⊎ EndsInside file frames fault
-
--- this is the file's first fault
-abbrev pub HasCaptureFault : List ℕ → CaptureFault → Type 0
-HasCaptureFault file fault = (frames : List FrameValue) × HasFaultAfter file frames fault

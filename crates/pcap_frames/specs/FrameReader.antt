@@ -1,8 +1,10 @@
 -- What a reader keeps between two pieces of a file.
-use Rattle.std.specs.Prelude.{⊤, ℕ, ◌≡◌, ◌+◌, ◌<◌, None, List, [], length, take, ◌++◌}
+use Rattle.std.specs.Prelude.{ℕ, ◌≡◌, ◌+◌, ◌<◌, Option, Some, None, List, [], length, take}
 use Rattle.pcap_frames.specs.Lengths.{header_length, kept_length}
 use Rattle.pcap_frames.specs.declared.file_order.FileOrder.{FileOrder}
 use Rattle.pcap_frames.specs.declared.fault.CaptureFault.{CaptureFault}
+use Rattle.pcap_frames.specs.declared.fault.FeedFault.{FeedFault}
+use Rattle.pcap_frames.specs.declared.fault.FeedFault.TheVariants.{Refused, OutOfMemory}
 use Rattle.pcap_frames.specs.Frame.{FrameValue}
 use Rattle.pcap_frames.specs.Header.{header_fault}
 use Rattle.pcap_frames.specs.Frame.{frame_fault, bytes_needed}
@@ -54,14 +56,16 @@ Represents LacksMemory bytes frames = ⊥
 abbrev pub Completes : List ℕ → List FrameValue → Type 0
 Completes bytes frames = (state : ReaderState) × Represents state bytes frames
 
--- a reader that takes no more bytes
-abbrev pub HasStopped : ReaderState → Type 0
-HasStopped (InHeader kept) = ⊥
-HasStopped (InFrames at) = ⊥
-HasStopped (AtFault fault) = ⊤
-HasStopped LacksMemory = ⊤
+-- why a reader in this state takes no more bytes, if it has stopped
+abbrev pub frame_reader_stop : ReaderState → Option FeedFault
+frame_reader_stop (InHeader kept) = None
+frame_reader_stop (InFrames at) = None
+frame_reader_stop (AtFault fault) = Some (Refused fault)
+frame_reader_stop LacksMemory = Some OutOfMemory
 
--- whatever bytes the reader represented, it now represents them followed by these bytes, which complete these frames
-pub record Advances (old new : ReaderState) (bytes : List ℕ) (given : List FrameValue) : Type 0 where
-  pub reads : (before : List ℕ) (frames : List FrameValue) → Represents old before frames
-      → Represents new (before ++ bytes) (frames ++ given)
+-- how many bytes a reader in this state was fed, while it goes on
+abbrev pub frame_reader_extent : ReaderState → ℕ
+frame_reader_extent (InHeader kept) = length kept
+frame_reader_extent (InFrames at) = at.place + at.came
+frame_reader_extent (AtFault fault) = 0
+frame_reader_extent LacksMemory = 0

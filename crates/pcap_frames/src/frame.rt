@@ -15,3 +15,25 @@ pub struct Frame<'a> {
     pub ghost head_length: { length head.now ≡ min head_size captured },
     pub ghost captured_limit: { captured ≤ most_captured },
 }
+
+impl<'a> Frame<'a> {
+    ghost use Rattle.std.specs.Prelude.{take};
+    ghost use Rattle.pcap_frames.specs.Frame.{frame_content, IsFrame};
+
+    /// The frame of this many captured bytes, of which these are the first 42 or more, or all.
+    #[tactic(auto, using(crate::proofs::FrameHeadLemmas::frame_head_of_front))]
+    pub fn of_captured(bytes: &'a [u8], captured: u32, original: u32) -> Frame<'a>
+        requires limit { captured ≤ most_captured }
+        requires head { min head_size captured ≤ length bytes.now }
+        ensures content { frame_content result
+            ≡ record { head = take head_size (take captured bytes.now); captured = captured; original = original } }
+        ensures is_frame { IsFrame (frame_content result) }
+    {
+        let (head, _) = bytes.split_at((captured as usize).min(42));
+        Frame {
+            head,
+            captured,
+            original,
+        }
+    }
+}

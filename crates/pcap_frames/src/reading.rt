@@ -1,10 +1,11 @@
 //! Reading a capture from a source.
 
-ghost use Rattle.std.specs.Prelude.{◌≡◌, ℕ, ◌≤◌, ◌<◌, List, length, IfSome, IsErrOf};
+ghost use Rattle.std.specs.Prelude.{◌≡◌, ℕ, ◌≤◌, ◌<◌, List, [], ◌++◌, length, IfSome, IsErrOf};
 ghost use Rattle.outside_io.specs.{FaultRose};
+ghost use Rattle.pcap_frames.specs.CaptureFormat.{classic};
 ghost use Rattle.pcap_frames.specs.Reading.{IsSeen, IsReadingOf};
 
-use crate::{FrameReader, FrameVisitor, ReadRefusal};
+use crate::{CaptureReader, FrameReader, FrameVisitor, ReadRefusal};
 use outside_io::Source;
 
 /// Reads a capture to the end of the source through the buffer, and shows the visitor its frames. Returns the number
@@ -23,17 +24,45 @@ pub fn read_frames<S: Source, V: FrameVisitor>(
     requires { 0 < length buffer.old }
 
     // What the visitor saw: the frames of the capture, those before the fault, or some of them.
-    ensures seen { IsSeen V.represents visitor.old visitor.new (S.left source.old) (S.left source.new) result }
+    ensures seen { IsSeen classic [] V.represents visitor.old visitor.new (S.left source.old) (S.left source.new) result }
 
     ensures room { length buffer.new ≡ length buffer.old }
 
     // When each result is returned.
-    ensures exact { IfSome (S.left source.old) (λ file. IsReadingOf file result) }
+    ensures exact { IfSome (S.left source.old) (λ file. IsReadingOf classic file result) }
     ensures later { S.faults source.old ≤ S.faults source.new }
     ensures fault { IsErrOf result ReadRefusal.ReadFault → FaultRose (S.faults source.old) (S.faults source.new) }
     ensures told { (IsErrOf result ReadRefusal.ReadFault → ⊥) → S.faults source.new ≡ S.faults source.old }
 {
-    let mut reader = FrameReader::new();
+    read_with(FrameReader::new(), &[], source, visitor, buffer)
+}
+
+/// Reads on to the end of a source with a reader that was fed no bytes, which is first fed these bytes: they were read
+/// before, and the file is these bytes and then the source. Returns and shows the visitor what `read_frames` does, by the
+/// reader's format.
+pub fn read_with<R: CaptureReader, S: Source, V: FrameVisitor>(
+    mut reader: R,
+    first: &[u8],
+    source: &mut S,
+    visitor: &mut V,
+    buffer: &mut [u8],
+) -> Result<u64, ReadRefusal>
+    requires unfed { R.represents reader [] [] }
+    requires room { 0 < length buffer.old }
+
+    // What the visitor saw: the frames of the capture, those before the fault, or some of them.
+    ensures seen { IsSeen R.format first.now V.represents visitor.old visitor.new (S.left source.old) (S.left source.new) result }
+
+    ensures room { length buffer.new ≡ length buffer.old }
+
+    // When each result is returned.
+    ensures exact { IfSome (S.left source.old) (λ rest. IsReadingOf R.format (first.now ++ rest) result) }
+    ensures later { S.faults source.old ≤ S.faults source.new }
+    ensures fault { IsErrOf result ReadRefusal.ReadFault → FaultRose (S.faults source.old) (S.faults source.new) }
+    ensures told { (IsErrOf result ReadRefusal.ReadFault → ⊥) → S.faults source.new ≡ S.faults source.old }
+{
+    R::laws();
+    reader.feed(first, visitor)?;
     loop {
         let count = source.read(buffer)?;
         if count == 0 {

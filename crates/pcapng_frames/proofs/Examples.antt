@@ -12,9 +12,10 @@ use Rattle.pcapng_frames.specs.Block.{Section, Interface, Packet, BlockValue, bl
 use Rattle.pcapng_frames.specs.Section.{SectionPlace, before_blocks, after_block, after_blocks, frames_of_blocks}
 use Rattle.pcapng_frames.specs.Verdict.{tested, verdict_of, block_verdict}
 use Rattle.pcapng_frames.specs.NgCapture.{BeginsWithBlock, BeginsWithBlocks, SplitsBlocks, IsNgCapture, CompletesBlocks, ShowsNgFault, EndsInBlock}
-use Rattle.pcapng_frames.specs.NgCapture.{HasNgFaultAfter, HasNgFault}
+use Rattle.pcap_frames.specs.{HasFault}
+use Rattle.pcapng_frames.specs.NgCapture.{HasNgFaultAfter, pcapng}
 use Rattle.pcapng_frames.proofs.BlockSplitLemmas.{split_block_stays, split_blocks_stay, split_blocks_then}
-use Rattle.pcapng_frames.proofs.NgFileLemmas.{ng_files_decided, ng_file_fronts_decided}
+use Rattle.pcapng_frames.proofs.NgFileLemmas.{ng_captures_decided}
 
 -- a section header in little-endian order, version 1.0, with a section length that is not stated
 abbrev pub header_block : List ℕ
@@ -266,7 +267,7 @@ ends_in_the_packet = record {
   is_fault = refl;
 }
 
-pub cut_capture : HasNgFault (header_block ++ (interface_block ++ take 52 packet_block)) (header_fault_at CutBlock 48)
+pub cut_capture : HasFault pcapng (header_block ++ (interface_block ++ take 52 packet_block)) (header_fault_at CutBlock 48)
 cut_capture = ([], inr ends_in_the_packet)
 
 -- the first four bytes alone, and no bytes
@@ -281,7 +282,7 @@ section_type_alone = record {
   is_fault = refl;
 }
 
-pub empty_file : HasNgFault [] (header_fault_at CutBlock 0)
+pub empty_file : HasFault pcapng [] (header_fault_at CutBlock 0)
 unfolding verdict_of
 empty_file = (
   [],
@@ -311,7 +312,7 @@ pub other_tail : HasNgFaultAfter (header_block ++ (interface_block ++ (take 64 p
 other_tail = inl shows_other_tail
 
 pub capture_completes_its_frame : CompletesBlocks ng_capture (packet ∷ [])
-capture_completes_its_frame = ng_file_fronts_decided.of_capture ng_capture (packet ∷ []) capture_of_a_packet
+capture_completes_its_frame = ng_captures_decided.of_capture ng_capture (packet ∷ []) capture_of_a_packet
 
-pub capture_has_no_fault : (fault : CaptureFault) → HasNgFault ng_capture fault → ⊥
-capture_has_no_fault fault = ng_files_decided.never_both ng_capture (packet ∷ []) fault capture_of_a_packet
+pub capture_has_no_fault : (fault : CaptureFault) → HasFault pcapng ng_capture fault → ⊥
+capture_has_no_fault fault = ng_captures_decided.never_both ng_capture (packet ∷ []) fault capture_of_a_packet

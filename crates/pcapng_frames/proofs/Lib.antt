@@ -3,8 +3,12 @@ pub mod VerdictLemmas
 pub mod WholeBlockLemmas
 pub mod BlockSplitLemmas
 pub mod NgFileLemmas
+pub mod NgLimitLemmas
 pub mod Examples
-pub mod PacketHeadLemmas
 pub mod KeptVerdictLemmas
 pub mod NgStepLemmas
-pub mod NgFedLemmas
+pub mod NgReaderLemmas
+mod EitherFormatLemmas
+mod FirstReadLemmas
+mod EitherReadingLemmas
+mod ExamplesOfEitherFormat

@@ -3,7 +3,7 @@ use Rattle.std.proofs.Common.{ℕ, ◌≡◌, ◌≤◌, Bool, List, [], ◌∷�
 use Rattle.std.proofs.lemmas.Bool.{cases_Bool, cases_lt}
 use Rattle.std.proofs.lemmas.List.{nil_from_length}
 use Rattle.outside_io.specs.{IsBeginning}
-use Rattle.pcap_frames.specs.{number_in_order, FrameValue, AreFrames, header_fault_at}
+use Rattle.pcap_frames.specs.{number_in_order, FrameValue, AreFrames, header_fault_at, IsDecided}
 use Rattle.pcap_frames.specs.declared.fault.CaptureFault.{CaptureFault}
 use Rattle.pcap_frames.specs.declared.fault.FaultKind.TheVariants.{CutBlock}
 use Rattle.pcapng_frames.specs.declared.block.BlockKind.{BlockKind}
@@ -14,13 +14,14 @@ use Rattle.pcapng_frames.specs.Block.{BlockValue, block_kind, block_order, block
 use Rattle.pcapng_frames.specs.Section.{SectionPlace, before_blocks, after_block, after_blocks, frames_of_blocks, frames_of_content, is_ethernet}
 use Rattle.pcapng_frames.specs.Verdict.{block_verdict}
 use Rattle.pcapng_frames.specs.NgCapture.{BeginsWithBlocks, SplitsBlocks, IsNgCapture, CompletesBlocks, ShowsNgFault, EndsInBlock}
-use Rattle.pcapng_frames.specs.NgCapture.{HasNgFaultAfter}
-use Rattle.pcapng_frames.specs.Decided.{NgFilesDecided, NgFrontsDecided}
+use Rattle.pcapng_frames.specs.NgCapture.{HasNgFaultAfter, pcapng}
 use Rattle.pcapng_frames.proofs.VerdictLemmas.{VerdictTells, verdict_stays, verdict_fits, verdict_tells, verdict_on_nothing}
 use Rattle.pcapng_frames.proofs.VerdictLemmas.{verdict_waits_or_is_whole, verdict_is_wrong_or_whole, verdict_is_wrong_or_waits, verdict_is_one_kind}
 use Rattle.pcapng_frames.proofs.VerdictLemmas.{verdict_is_one}
 use Rattle.pcapng_frames.proofs.WholeBlockLemmas.{AreWholeBlockBytes, AreWholeBlockBytes-drop, IsFrame-in_whole_block}
 use Rattle.pcapng_frames.proofs.BlockSplitLemmas.{split_blocks_stay, frames_of_split_blocks, last_block_split_begins, last_block_split_is_one, last_block_split}
+use Rattle.pcapng_frames.proofs.NgLimitLemmas.{blocks_show_no_end_limit, ng_front_begins_without_frame, ng_front_begins_without_fault}
+use Rattle.pcapng_frames.proofs.NgLimitLemmas.{ng_frames_are_limited, ng_fault_place_is_limited}
 
 -- ---- what completes the front of a file
 
@@ -289,8 +290,8 @@ ng_file_has_valid_frames file frames are here =
 
 -- ---- the laws
 
-pub ng_files_decided : NgFilesDecided
-ng_files_decided = record {
+pub ng_captures_decided : IsDecided pcapng
+ng_captures_decided = record {
   either = λ file. let front = ng_file_has_front file in elim (ng_file_is_decided file front.0 front.1) [
     | inl capture ↦ inl (front.0, capture)
     | inr fault ↦ inr (fault.0, (front.0, fault.1))
@@ -301,15 +302,16 @@ ng_files_decided = record {
   one_fault = λ file fault other here there. ng_file_has_one_fault file here.0 there.0 fault other here.1 there.1;
   one_before = λ file frames others fault other here there.
       ng_file_front_is_one file frames others (ng_file_of_fault file frames fault here) (ng_file_of_fault file others other there);
-  are_frames = ng_file_has_valid_frames;
-}
-
-pub ng_file_fronts_decided : NgFrontsDecided
-ng_file_fronts_decided = record {
   some = ng_file_has_front;
   one = ng_file_front_is_one;
   longer = ng_file_front_begins;
   of_capture = ng_file_of_capture;
   before_fault = ng_file_of_fault;
   shown = λ front more frames fault shows. inl (ng_file_shows_still front more frames fault shows);
+  no_end_fault = blocks_show_no_end_limit;
+  no_frame_first = ng_front_begins_without_frame;
+  no_fault_first = ng_front_begins_without_fault;
+  limited = ng_frames_are_limited;
+  place = ng_fault_place_is_limited;
+  are_frames = ng_file_has_valid_frames;
 }

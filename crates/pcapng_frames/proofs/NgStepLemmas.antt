@@ -1,11 +1,10 @@
 -- What each step of a reader of a pcapng capture leaves.
 use Rattle.std.proofs.Common.{◌-◌, length-take, ℕ, ◌≡◌, ◌+◌, ◌≤◌, ◌<◌, Bool, true, false, min, List, [], ◌∷◌, ◌++◌, length, take, drop}
-use Rattle.std.proofs.Common.{refl, sym, ap, ◌∙◌, arith, length-append, subst, inl, inr, ◌⊎◌, append-nil, append_assoc}
+use Rattle.std.proofs.Common.{refl, sym, ap, ◌∙◌, arith, length-append, subst, inl, inr, ◌⊎◌, append-nil}
 use Rattle.std.proofs.lemmas.Bool.{lt-ltb, le-ltb, cases_lt}
 use Rattle.std.proofs.lemmas.List.{drop_all, nil_from_length, take-append-drop}
-use Rattle.pcap_frames.specs.{FrameValue, number_in_order, header_fault_at}
+use Rattle.pcap_frames.specs.{FrameValue, number_in_order, header_fault_at, Advances, StepTakes}
 use Rattle.pcap_frames.specs.declared.file_order.FileOrder.{FileOrder}
-use Rattle.pcap_frames.specs.declared.fault.CaptureFault.{CaptureFault}
 use Rattle.pcap_frames.specs.declared.fault.FaultKind.{FaultKind}
 use Rattle.pcap_frames.specs.declared.fault.FaultKind.TheVariants.{CutBlock}
 use Rattle.pcapng_frames.specs.declared.block.BlockKind.{BlockKind}
@@ -16,14 +15,13 @@ use Rattle.pcapng_frames.specs.Section.{SectionPlace, before_blocks, after_block
 use Rattle.pcapng_frames.specs.Verdict.{verdict_of, block_verdict}
 use Rattle.pcapng_frames.specs.NgCapture.{BeginsWithBlock, BeginsWithBlocks, SplitsBlocks, IsNgCapture, ShowsNgFault, HasNgFaultAfter}
 use Rattle.pcapng_frames.specs.Kept.{KeptValue, kept_of, kept_and, kept_verdict}
-use Rattle.pcapng_frames.specs.NgReader.{BlockPlace, NgReaderState, InBlocks, AtFault, LacksMemory, IsInBlock, NgRepresents, NgAdvances}
-use Rattle.pcapng_frames.specs.NgPart.{block_needs, gives_frame, SplitsPiece, NgStepTakes}
+use Rattle.pcapng_frames.specs.NgReader.{BlockPlace, InBlocks, AtFault, IsInBlock, NgRepresents}
+use Rattle.pcapng_frames.specs.NgPart.{block_needs, gives_frame, SplitsPiece}
 use Rattle.pcapng_frames.proofs.VerdictLemmas.{VerdictTells, PacketVerdictTells, verdict_fits, verdict_tells, verdict_on_nothing}
 use Rattle.pcapng_frames.proofs.WholeBlockLemmas.{whole_block_is_long, block_at-of_whole_block_front}
 use Rattle.pcapng_frames.proofs.BlockSplitLemmas.{split_blocks_stay, split_blocks_and_one, after_split_blocks, frames_of_split_blocks, split_blocks_count}
 use Rattle.pcapng_frames.proofs.KeptVerdictLemmas.{kept_verdict_is, kept_of-in_longer_kept_verdict, block_length-of_kept_verdict}
 use Rattle.pcapng_frames.proofs.KeptVerdictLemmas.{block_length-of_longer_kept_verdict}
-use Rattle.pcapng_frames.proofs.NgFileLemmas.{ng_file_shows_still}
 
 -- ---- what is kept after a front of the piece
 
@@ -71,7 +69,7 @@ ng_step_keeps at rest front kept is needs =
 -- still less than a whole block
 pub ng_step_waits : (at : BlockPlace) (front : List ℕ) → kept_verdict at.section (kept_and at.kept front) ≡ Waits
     → at.kept.came + length front ≤ block_needs at.section.order at.kept.came at.kept.first
-    → NgAdvances (InBlocks at) (InBlocks (record at { kept = kept_and at.kept front })) front []
+    → Advances NgRepresents (InBlocks at) (InBlocks (record at { kept = kept_and at.kept front })) front []
 ng_step_waits at front waits needs = record {
   reads = λ before frames stands.
       let keeps = ng_step_keeps at.section stands.rest front at.kept stands.kept_is needs in
@@ -93,7 +91,7 @@ ng_step_waits at front waits needs = record {
 pub ng_step_to_fault : (at : BlockPlace) (front : List ℕ) (kind : FaultKind)
     → kept_verdict at.section (kept_and at.kept front) ≡ IsWrong kind
     → at.kept.came + length front ≤ block_needs at.section.order at.kept.came at.kept.first
-    → NgAdvances (InBlocks at) (AtFault (header_fault_at kind at.section.place)) front []
+    → Advances NgRepresents (InBlocks at) (AtFault (header_fault_at kind at.section.place)) front []
 ng_step_to_fault at front kind wrong needs = record {
   reads = λ before frames stands.
       let keeps = ng_step_keeps at.section stands.rest front at.kept stands.kept_is needs in
@@ -157,7 +155,7 @@ pub ng_step_ends_block : (at : BlockPlace) (front : List ℕ) (given : List Fram
     → kept_verdict at.section (kept_and at.kept front) ≡ IsWhole
     → at.kept.came + length front ≤ block_needs at.section.order at.kept.came at.kept.first
     → given ≡ frames_of_content at.section.interfaces (block_at at.section.order (take 70 (at.kept.first ++ front))).content
-    → NgAdvances (InBlocks at) (InBlocks (ng_step_next_place at (take 70 (at.kept.first ++ front)) given)) front given
+    → Advances NgRepresents (InBlocks at) (InBlocks (ng_step_next_place at (take 70 (at.kept.first ++ front)) given)) front given
 ng_step_ends_block at front given whole needs given_is = record {
   reads = λ before frames stands.
       let keeps = ng_step_keeps at.section stands.rest front at.kept stands.kept_is needs in
@@ -191,7 +189,7 @@ pub ng_step_block_in_piece : (at new : BlockPlace) (piece block rest : List ℕ)
       frames = at.frames + length given;
       kept = at.kept;
     } → given ≡ frames_of_content at.section.interfaces (block_at at.section.order block).content
-    → NgStepTakes (InBlocks at) (InBlocks new) piece rest given
+    → StepTakes NgRepresents (InBlocks at) (InBlocks new) piece rest given
 ng_step_block_in_piece at new piece block rest given splits none whole new_is given_is = record {
   front = block;
   joined = splits.joined;
@@ -228,38 +226,7 @@ ng_step_block_in_piece at new piece block rest given splits none whole new_is gi
   };
 }
 
--- ---- steps of a reader that has stopped, and steps one after another
-
--- a fault stays
-pub ng_step_at_fault : (fault : CaptureFault) (front : List ℕ) → NgAdvances (AtFault fault) (AtFault fault) front []
-ng_step_at_fault fault front = record {
-  reads = λ before frames stands.
-      subst (λ l. ShowsNgFault (before ++ front) l fault) (sym (append-nil frames))
-      (ng_file_shows_still before front frames fault stands);
-}
-
--- a reader without memory represents no bytes
-pub ng_step_without_memory : (front : List ℕ) → NgAdvances LacksMemory LacksMemory front []
-ng_step_without_memory front = record { reads = λ before frames stands. absurd stands }
-
--- no bytes complete no frames
-pub NgAdvances-no_ng_step : (state : NgReaderState) → NgAdvances state state [] []
-NgAdvances-no_ng_step state = record {
-  reads = λ before frames stands.
-      subst (λ l. NgRepresents state l (frames ++ [])) (sym (append-nil before))
-      (subst (NgRepresents state before) (sym (append-nil frames)) stands);
-}
-
--- one step after another
-pub NgAdvances-two_ng_steps : (old mid new : NgReaderState) (front more : List ℕ) (given others : List FrameValue)
-    → NgAdvances old mid front given → NgAdvances mid new more others
-    → NgAdvances old new (front ++ more) (given ++ others)
-NgAdvances-two_ng_steps old mid new front more given others first second = record {
-  reads = λ before frames stands.
-      subst (λ l. NgRepresents new l (frames ++ (given ++ others))) (append_assoc before front more)
-      (subst (NgRepresents new ((before ++ front) ++ more)) (append_assoc frames given others)
-      (second.reads (before ++ front) (frames ++ given) (first.reads before frames stands)));
-}
+-- ---- the first step
 
 -- a new reader represents no bytes
 pub ng_reader_before_first_step : IsInBlock (record { section = before_blocks; frames = 0; kept = kept_of [] }) [] []
@@ -285,15 +252,15 @@ ng_step_verdict at kept came first last came_is first_is last_is =
 pub ng_step_still_waits : (at : BlockPlace) (now : KeptValue) (front : List ℕ) → now ≡ kept_and at.kept front
     → kept_verdict at.section now ≡ Waits
     → at.kept.came + length front ≤ block_needs at.section.order at.kept.came at.kept.first
-    → NgAdvances (InBlocks at) (InBlocks (record at { kept = now })) front []
+    → Advances NgRepresents (InBlocks at) (InBlocks (record at { kept = now })) front []
 ng_step_still_waits at now front is waits needs =
-    subst (λ (k : KeptValue). NgAdvances (InBlocks at) (InBlocks (record at { kept = k })) front []) (sym is)
+    subst (λ (k : KeptValue). Advances NgRepresents (InBlocks at) (InBlocks (record at { kept = k })) front []) (sym is)
     (ng_step_waits at front (subst (λ k. kept_verdict at.section k ≡ Waits) is waits) needs)
 
 pub ng_step_shows_fault : (at : BlockPlace) (now : KeptValue) (front : List ℕ) (kind : FaultKind) → now ≡ kept_and at.kept front
     → kept_verdict at.section now ≡ IsWrong kind
     → at.kept.came + length front ≤ block_needs at.section.order at.kept.came at.kept.first
-    → NgAdvances (InBlocks at) (AtFault (header_fault_at kind at.section.place)) front []
+    → Advances NgRepresents (InBlocks at) (AtFault (header_fault_at kind at.section.place)) front []
 ng_step_shows_fault at now front kind is wrong needs =
     ng_step_to_fault at front kind (subst (λ k. kept_verdict at.section k ≡ IsWrong kind) is wrong) needs
 
@@ -302,10 +269,10 @@ pub ng_step_is_whole : (at new : BlockPlace) (now : KeptValue) (front : List ℕ
     → at.kept.came + length front ≤ block_needs at.section.order at.kept.came at.kept.first
     → new ≡ ng_step_next_place at now.first given
     → given ≡ frames_of_content at.section.interfaces (block_at at.section.order now.first).content
-    → NgAdvances (InBlocks at) (InBlocks new) front given
+    → Advances NgRepresents (InBlocks at) (InBlocks new) front given
 ng_step_is_whole at new now front given is whole needs new_is given_is =
     let first : now.first ≡ take 70 (at.kept.first ++ front) = ap (λ (k : KeptValue). k.first) is in
-    subst (λ p. NgAdvances (InBlocks at) (InBlocks p) front given)
+    subst (λ p. Advances NgRepresents (InBlocks at) (InBlocks p) front given)
     (sym (new_is ∙ ap (λ l. ng_step_next_place at l given) first))
     (ng_step_ends_block at front given (subst (λ k. kept_verdict at.section k ≡ IsWhole) is whole) needs
     (given_is ∙ ap (λ l. frames_of_content at.section.interfaces (block_at at.section.order l).content) first))

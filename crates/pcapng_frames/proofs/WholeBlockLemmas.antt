@@ -3,10 +3,8 @@ use Rattle.std.proofs.Common.{ℕ, ◌≡◌, ◌+◌, ◌≤◌, ◌<◌, ◌^�
 use Rattle.std.proofs.Common.{length-take, length-drop, get_or, inl, inr}
 use Rattle.std.proofs.lemmas.Bool.{cases_lt}
 use Rattle.std.proofs.lemmas.List.{take_all, take-take, take-append-le, drop-append-le, drop-take, get_or-take, get_or-drop, get_or_past}
-use Rattle.byteorder.specs.Numbers.{big_from-lt, little_from-lt}
 use Rattle.pcap_frames.specs.{number_in_order, IsFrame}
 use Rattle.pcap_frames.specs.declared.file_order.FileOrder.{FileOrder}
-use Rattle.pcap_frames.specs.declared.file_order.FileOrder.TheVariants.{Big, Little}
 use Rattle.pcapng_frames.specs.declared.block.BlockKind.{BlockKind}
 use Rattle.pcapng_frames.specs.declared.block.BlockKind.TheVariants.{SectionHeader, InterfaceDescription, EnhancedPacket, Other}
 use Rattle.pcapng_frames.specs.declared.verdict.Verdict.TheVariants.{IsWhole}
@@ -15,6 +13,7 @@ use Rattle.pcapng_frames.specs.Block.{block_content, block_at}
 use Rattle.pcapng_frames.specs.Section.{SectionPlace}
 use Rattle.pcapng_frames.specs.Verdict.{block_verdict}
 use Rattle.pcapng_frames.proofs.BlockNumberLemmas.{number_in_order-of_longer_block, order_of_section-of_longer_block}
+use Rattle.pcapng_frames.proofs.BlockNumberLemmas.{number_in_order-of_four_block_bytes}
 use Rattle.pcapng_frames.proofs.BlockNumberLemmas.{number_in_order-of_block_front, order_of_section-of_block_front}
 use Rattle.pcapng_frames.proofs.VerdictLemmas.{VerdictFits, VerdictTells, PacketVerdictTells, verdict_size, verdict_fits, verdict_tells}
 
@@ -139,17 +138,11 @@ AreWholeBlockBytes-take n xs bytes place = elim (cases_lt place n) [
 pub AreWholeBlockBytes-drop : (n : ℕ) (xs : List ℕ) → AreWholeBlockBytes xs → AreWholeBlockBytes (drop n xs)
 AreWholeBlockBytes-drop n xs bytes place = rw (get_or-drop n xs place 0) (bytes (n + place))
 
-whole_block_number_bound : (order : FileOrder) (count place : ℕ) (bytes : List ℕ) → AreWholeBlockBytes bytes
-    → number_in_order order count place bytes < 256 ^ count
-unfolding number_in_order
-whole_block_number_bound Big count place bytes are = big_from-lt place count bytes are
-whole_block_number_bound Little count place bytes are = little_from-lt place count bytes are
-
 -- the frame of a packet of bytes is a frame of a capture
 pub IsFrame-in_whole_block : (order : FileOrder) (size interfaces : ℕ) (bytes : List ℕ) → AreWholeBlockBytes bytes
     → size ≤ length bytes → PacketVerdictTells order size interfaces bytes → IsFrame (packet_frame order bytes)
 IsFrame-in_whole_block order size interfaces bytes are there tells =
-    let fits : number_in_order order 4 24 bytes < 256 ^ 4 = whole_block_number_bound order 4 24 bytes are in record {
+    let fits : number_in_order order 4 24 bytes < 256 ^ 4 = number_in_order-of_four_block_bytes order 24 bytes in record {
       captured = tells.limit;
       original = omega (arith, fits);
       head =

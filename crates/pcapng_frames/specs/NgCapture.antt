@@ -1,6 +1,6 @@
 -- A pcapng capture, its frames and its first fault.
 use Rattle.std.specs.Prelude.{ℕ, ◌≡◌, ◌<◌, ◌⊎◌, List, [], ◌∷◌, length, drop}
-use Rattle.pcap_frames.specs.{FrameValue, header_fault_at}
+use Rattle.pcap_frames.specs.{FrameValue, header_fault_at, Format}
 use Rattle.pcap_frames.specs.declared.fault.CaptureFault.{CaptureFault}
 use Rattle.pcap_frames.specs.declared.fault.FaultKind.TheVariants.{CutBlock}
 use Rattle.pcapng_frames.specs.declared.verdict.Verdict.TheVariants.{Waits, IsWrong, IsWhole}
@@ -59,6 +59,11 @@ pub record EndsInBlock (file : List ℕ) (frames : List FrameValue) (fault : Cap
 abbrev pub HasNgFaultAfter : List ℕ → List FrameValue → CaptureFault → Type 0
 HasNgFaultAfter file frames fault = ShowsNgFault file frames fault ⊎ EndsInBlock file frames fault
 
--- this is the file's first fault
-abbrev pub HasNgFault : List ℕ → CaptureFault → Type 0
-HasNgFault file fault = (frames : List FrameValue) × HasNgFaultAfter file frames fault
+-- the pcapng format
+abbrev pub pcapng : Format
+pcapng = record {
+  is_capture = IsNgCapture;
+  completes = CompletesBlocks;
+  shows_fault = ShowsNgFault;
+  has_fault_after = HasNgFaultAfter;
+}

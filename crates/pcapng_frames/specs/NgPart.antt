@@ -1,7 +1,7 @@
 -- The state of a reader, made from its parts, and what one step of it does, which no public contract cites.
-use Rattle.std.specs.Prelude.{⊤, ℕ, ◌≡◌, ◌*◌, ◌^◌, ◌<◌, ◌≤◌, nat_lt, if◌then◌else◌, Bool, false, Option, None, Some, List, [], ◌∷◌, ◌++◌, length}
+use Rattle.std.specs.Prelude.{⊤, ℕ, ◌≡◌, ◌*◌, ◌^◌, ◌≤◌, nat_lt, if◌then◌else◌, Bool, false, Option, None, Some, List, [], ◌∷◌, ◌++◌, length}
 use Rattle.pcap_frames.specs.declared.frame.Frame.{Frame}
-use Rattle.pcap_frames.specs.{FrameValue, frame_content, AreFrames, VisitorSees}
+use Rattle.pcap_frames.specs.{FrameValue, frame_content}
 use Rattle.pcap_frames.specs.declared.file_order.FileOrder.{FileOrder}
 use Rattle.pcapng_frames.specs.declared.reader.section.SectionState.{SectionState}
 use Rattle.pcapng_frames.specs.declared.reader.packet.HeldPacket.{HeldPacket}
@@ -12,7 +12,7 @@ use Rattle.pcapng_frames.specs.declared.verdict.Verdict.TheVariants.{Waits}
 use Rattle.pcapng_frames.specs.Block.{block_count_limit, BlockContent, Section, Interface, Packet, Nothing, block_length, packet_frame}
 use Rattle.pcapng_frames.specs.Section.{SectionPlace, is_ethernet}
 use Rattle.pcapng_frames.specs.Kept.{kept_verdict}
-use Rattle.pcapng_frames.specs.NgReader.{BlockPlace, NgReaderState, InBlocks, AtFault, LacksMemory, NgAdvances}
+use Rattle.pcapng_frames.specs.NgReader.{BlockPlace, NgReaderState, InBlocks, AtFault, LacksMemory}
 
 -- what the blocks so far leave, as a value
 abbrev pub section_place : SectionState → SectionPlace
@@ -76,18 +76,3 @@ pub record SplitsPiece (order : FileOrder) (piece block rest : List ℕ) : Type 
   pub joined : piece ≡ block ++ rest
   pub some : 12 ≤ length block
   pub size : length block ≡ block_length order block
-
--- the reader took a front of the piece, at least one byte, which completes these frames; this rest remains
-pub record NgStepTakes (old new : NgReaderState) (piece rest : List ℕ) (given : List FrameValue) : Type 0 where
-  pub front : List ℕ
-  pub joined : piece ≡ front ++ rest
-  pub some : 0 < length front
-  pub advances : NgAdvances old new front given
-
--- the reader took a front of the piece, and the visitor saw the frames that it completes
-pub record NgStepShows {V : Type 0} (represents : V → List FrameValue → Type 0) (seen saw : V)
-    (old new : NgReaderState) (piece rest : List ℕ) : Type 0 where
-  pub given : List FrameValue
-  pub takes : NgStepTakes old new piece rest given
-  pub are_frames : AreFrames given
-  pub sees : VisitorSees represents seen saw given

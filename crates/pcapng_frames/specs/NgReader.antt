@@ -1,7 +1,9 @@
 -- What a reader of a pcapng capture keeps between two pieces of a file.
-use Rattle.std.specs.Prelude.{⊤, ℕ, ◌≡◌, List, length, ◌++◌}
+use Rattle.std.specs.Prelude.{ℕ, ◌≡◌, ◌+◌, Option, None, Some, List, length}
 use Rattle.pcap_frames.specs.{FrameValue}
 use Rattle.pcap_frames.specs.declared.fault.CaptureFault.{CaptureFault}
+use Rattle.pcap_frames.specs.declared.fault.FeedFault.{FeedFault}
+use Rattle.pcap_frames.specs.declared.fault.FeedFault.TheVariants.{Refused, OutOfMemory}
 use Rattle.pcapng_frames.specs.declared.verdict.Verdict.TheVariants.{Waits}
 use Rattle.pcapng_frames.specs.Block.{BlockValue}
 use Rattle.pcapng_frames.specs.Section.{SectionPlace, before_blocks, after_blocks}
@@ -37,13 +39,14 @@ NgRepresents (InBlocks at) bytes frames = IsInBlock at bytes frames
 NgRepresents (AtFault fault) bytes frames = ShowsNgFault bytes frames fault
 NgRepresents LacksMemory bytes frames = ⊥
 
--- a reader that takes no more bytes
-abbrev pub HasNgStopped : NgReaderState → Type 0
-HasNgStopped (InBlocks at) = ⊥
-HasNgStopped (AtFault fault) = ⊤
-HasNgStopped LacksMemory = ⊤
+-- why a reader in this state takes no more bytes, if it has stopped
+abbrev pub ng_reader_stop : NgReaderState → Option FeedFault
+ng_reader_stop (InBlocks at) = None
+ng_reader_stop (AtFault fault) = Some (Refused fault)
+ng_reader_stop LacksMemory = Some OutOfMemory
 
--- whatever bytes the reader represented, it now represents them followed by these bytes, which complete these frames
-pub record NgAdvances (old new : NgReaderState) (bytes : List ℕ) (given : List FrameValue) : Type 0 where
-  pub reads : (before : List ℕ) (frames : List FrameValue) → NgRepresents old before frames
-      → NgRepresents new (before ++ bytes) (frames ++ given)
+-- how many bytes a reader in this state was fed, while it goes on
+abbrev pub ng_reader_extent : NgReaderState → ℕ
+ng_reader_extent (InBlocks at) = SectionPlace.place at.section + KeptValue.came at.kept
+ng_reader_extent (AtFault fault) = 0
+ng_reader_extent LacksMemory = 0

@@ -6,6 +6,9 @@ ghost use Rattle.pcapng_frames.specs.Verdict.{is_no_section};
 
 use pcap_frames::FileOrder;
 
+/// The type of a section header, with which each pcapng capture begins. It is the same in either byte order.
+pub(crate) const SECTION_HEADER: u32 = 0x0a0d_0d0a;
+
 /// The byte-order magic of a section header.
 const MAGIC: u32 = 0x1a2b_3c4d;
 
@@ -27,7 +30,7 @@ impl BlockKind {
     pub(crate) fn of_type(number: u32) -> BlockKind
         ensures { result ≡ kind_of_type number }
     {
-        if number == 0x0a0d_0d0a {
+        if number == SECTION_HEADER {
             return BlockKind::SectionHeader;
         }
         if number == 1 {

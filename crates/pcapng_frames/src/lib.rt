@@ -5,7 +5,9 @@
 mod block;
 mod laws;
 mod reader;
+mod reading;
 mod verdict;
 
-pub use laws::{ng_files_are_decided, ng_fronts_are_decided};
+pub use laws::{any_captures_are_decided, ng_captures_are_decided};
 pub use reader::NgReader;
+pub use reading::read_any;

@@ -28,6 +28,7 @@ pub(crate) enum Verdict {
 }
 
 /// What the bytes that arrived of the block after some others show: so many came, these first, and these last.
+#[inline(always)]
 #[tactic(auto, unfolding(crate::specs::Verdict::verdict_of))]
 pub(crate) fn verdict_of(section: &SectionState, came: u64, bytes: &[u8], last: &[u8]) -> Verdict
     requires first { min 28 came ≤ length bytes.now }
@@ -58,6 +59,7 @@ pub(crate) fn verdict_of(section: &SectionState, came: u64, bytes: &[u8], last: 
 }
 
 /// What the bytes of a block of this kind show, in a section of this byte order and so many interfaces.
+#[inline(always)]
 fn kind_verdict(
     kind: BlockKind,
     order: FileOrder,
@@ -109,6 +111,7 @@ fn section_verdict(order: FileOrder, came: u64, bytes: &[u8], last: &[u8]) -> Ve
 }
 
 /// What the bytes of an enhanced packet show.
+#[inline(always)]
 fn packet_verdict(
     order: FileOrder,
     interfaces: usize,
@@ -170,6 +173,7 @@ fn plain_verdict(order: FileOrder, least: u32, came: u64, bytes: &[u8], last: &[
 }
 
 /// What the last four bytes show once all of a block came.
+#[inline(always)]
 fn tail_verdict(order: FileOrder, size: u32, came: u64, last: &[u8]) -> Verdict
     requires { 4 ≤ length last.now }
     ensures { result ≡ tests.tail_tested came order size last.now }

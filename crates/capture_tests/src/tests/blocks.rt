@@ -1,12 +1,12 @@
 //! The frames of a pcapng capture, or its first fault.
 
-use pcap_frames::{CaptureFault, FaultKind, FeedFault, Frame, FrameVisitor};
+use pcap_frames::{CaptureFault, CaptureReader, FaultKind, FeedFault, Frame, FrameVisitor};
 use pcapng_frames::NgReader;
 use std::alloc::{AllocError, Global};
 use std::test::Fail;
 
 /// A capture of one packet from 10.1.2.3 to 20.1.2.3, 100 bytes long on the wire, on an Ethernet interface.
-const ONE_PACKET: [u8; 116] = [
+pub(super) const ONE_PACKET: [u8; 116] = [
     0x0a, 0x0d, 0x0d, 0x0a, 28, 0, 0, 0, // a section header and its length
     0x4d, 0x3c, 0x2b, 0x1a, // byte-order magic, little-endian
     1, 0, 0, 0, // version 1.0
@@ -33,7 +33,7 @@ const ONE_PACKET: [u8; 116] = [
 
 /// The same in the other byte order, with an interface of another link type first, a packet of each, and a block that is
 /// passed over.
-const BIG_SECTION: [u8; 168] = [
+pub(super) const BIG_SECTION: [u8; 168] = [
     0x0a, 0x0d, 0x0d, 0x0a, 0, 0, 0, 28, // a section header and its length
     0x1a, 0x2b, 0x3c, 0x4d, // byte-order magic, big-endian
     0, 1, 0, 2, // version 1.2
@@ -70,21 +70,21 @@ const BIG_SECTION: [u8; 168] = [
 
 /// What a visitor saw of a frame: its first two bytes, and its lengths.
 #[derive(Clone, Copy, PartialEq, Eq)]
-struct SeenFrame {
-    first: u8,
-    last: u8,
-    captured: u32,
-    original: u32,
+pub(super) struct SeenFrame {
+    pub(super) first: u8,
+    pub(super) last: u8,
+    pub(super) captured: u32,
+    pub(super) original: u32,
 }
 
-const PACKET: SeenFrame = SeenFrame {
+pub(super) const PACKET: SeenFrame = SeenFrame {
     first: 2,
     last: 3,
     captured: 34,
     original: 100,
 };
 
-const BIG_PACKET: SeenFrame = SeenFrame {
+pub(super) const BIG_PACKET: SeenFrame = SeenFrame {
     first: 9,
     last: 2,
     captured: 8,
@@ -93,13 +93,13 @@ const BIG_PACKET: SeenFrame = SeenFrame {
 
 /// A visitor that keeps what it saw of the frames, up to a number of them.
 #[derive(Drop)]
-struct Album {
-    frames: Vec<SeenFrame>,
+pub(super) struct Album {
+    pub(super) frames: Vec<SeenFrame>,
     room: usize,
 }
 
 impl Album {
-    fn new(alloc: Global, room: usize) -> Album {
+    pub(super) fn new(alloc: Global, room: usize) -> Album {
         Album {
             frames: Vec::new(alloc),
             room,

@@ -4,7 +4,8 @@ ghost use Rattle.std.specs.Prelude.{◌<◌, length};
 
 use outside_io::{MemorySource, Source};
 use pcap_frames::{
-    CaptureFault, FaultKind, FeedFault, Frame, FrameReader, FrameVisitor, ReadRefusal, read_frames,
+    CaptureFault, CaptureReader, FaultKind, FeedFault, Frame, FrameReader, FrameVisitor,
+    ReadRefusal, read_frames,
 };
 use std::alloc::{AllocError, Global};
 use std::fmt::Display;

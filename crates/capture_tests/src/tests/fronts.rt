@@ -7,7 +7,7 @@ use std::alloc::{AllocError, Global};
 use std::test::Fail;
 
 // Two frames of 34 captured bytes, each an IPv4 packet.
-const TWO_FRAMES: [u8; 124] = [
+pub(super) const TWO_FRAMES: [u8; 124] = [
     0xd4, 0xc3, 0xb2, 0xa1, 2, 0, 4, 0, // magic, version 2.4
     0, 0, 0, 0, 0, 0, 0, 0, // time zone, accuracy
     0, 0, 4, 0, 1, 0, 0, 0, // snapshot length, Ethernet
@@ -23,7 +23,7 @@ const TWO_FRAMES: [u8; 124] = [
 
 // What is read of a capture.
 #[derive(Clone, Copy, PartialEq, Eq)]
-enum Outcome {
+pub(super) enum Outcome {
     // The numbers of frames and of records, and the place of the cut.
     Taken(u64, usize, Option<u64>),
     // The first fault and its place.
@@ -49,7 +49,7 @@ fn read(
 }
 
 // A source of any kind keeps what is known of one in memory out of the proof.
-fn read_all<S: Source>(alloc: Global, source: &mut S, front: bool) -> Outcome {
+pub(super) fn read_all<S: Source>(alloc: Global, source: &mut S, front: bool) -> Outcome {
     match read_records(alloc, source, Weigh::Bytes, front) {
         Ok(records) => Outcome::Taken(records.frames, records.list.len(), records.cut),
         Err(ReadRefusal::Capture(fault)) => Outcome::Refused(fault.kind, fault.place),

@@ -1,6 +1,6 @@
 //! What the bytes at the front of a frame say.
 
-ghost use Rattle.std.specs.Prelude.{◌≡◌, ℕ, ◌+◌, ◌<◌, ◌≤◌, length, min, take, drop, slice_index, IfSome};
+ghost use Rattle.std.specs.Prelude.{◌≡◌, ◌+◌, ◌≤◌, length, min, IfSome};
 ghost use Rattle.pcap_frames.specs.FileOrder.{number_in_order};
 ghost use Rattle.pcap_frames.specs.Frame.{frame_content};
 ghost use Rattle.pcap_frames.specs.Frame.{frame_at, bytes_needed, frame_fault, IsFrame};
@@ -26,25 +26,7 @@ pub(crate) fn frame_at(order: FileOrder, bytes: &[u8]) -> Frame<'_>
 {
     let captured = order.u32_at(bytes, 8);
     let original = order.u32_at(bytes, 12);
-    Frame {
-        head: head_of(bytes, captured),
-        captured,
-        original,
-    }
-}
-
-/// The first 42 of this many captured bytes after the frame header.
-#[tactic(auto, using(crate::proofs::FrameHeadLemmas::frame_head_of_front))]
-fn head_of(bytes: &[u8], captured: u32) -> &[u8]
-    requires header { packet_header_length ≤ length bytes.now }
-    requires head { packet_header_length + min frame_head_length captured ≤ length bytes.now }
-    ensures value { result.now ≡ take frame_head_length (take captured (drop packet_header_length bytes.now)) }
-    ensures length { length result.now ≡ min frame_head_length captured }
-    ensures bytes { (place : ℕ) → slice_index result.now place < 256 }
-{
-    let (_, behind) = bytes.split_at(16);
-    let (head, _) = behind.split_at((captured as usize).min(42));
-    head
+    Frame::of_captured(&bytes[16..], captured, original)
 }
 
 /// The frame at the front of the bytes and the rest after it, if the whole frame is there.

@@ -4,16 +4,15 @@ ghost use Rattle.std.specs.Prelude.{◌≡◌, ◌+◌, ◌≤◌, length, min};
 ghost use Rattle.pcap_frames.specs.FileOrder.{number_in_order};
 ghost use Rattle.pcap_frames.specs.Lengths.{packet_header_length, frame_head_length, most_captured};
 
-use crate::Frame;
 use crate::file_order::FileOrder;
 use crate::reader::framing::frame_at;
-use crate::reader::front::FrontBytes;
+use crate::{FirstBytes, Frame};
 
 /// The header and head of a whole frame, as kept by the reader.
 #[derive(Drop)]
 pub(crate) struct HeldFrame {
     pub(crate) order: FileOrder,
-    pub(crate) kept: FrontBytes,
+    pub(crate) kept: FirstBytes<58>,
     pub ghost header: { packet_header_length ≤ length kept.first },
     pub ghost limit: { number_in_order order 4 8 kept.first ≤ most_captured },
     pub ghost head: { packet_header_length + min frame_head_length (number_in_order order 4 8 kept.first) ≤ length kept.first },

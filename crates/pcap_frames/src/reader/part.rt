@@ -3,8 +3,8 @@
 ghost use Rattle.std.specs.Prelude.{◌≡◌, ℕ, ◌+◌, ◌*◌, ◌<◌, ◌≤◌, List, [], ◌∷◌, ◌++◌, length, take, IfSome, IfNone};
 ghost use Rattle.pcap_frames.specs.Frame.{frame_content};
 ghost use Rattle.pcap_frames.specs.Frame.{IsFrame, bytes_needed};
-ghost use Rattle.pcap_frames.specs.FrameReader.{Advances};
-ghost use Rattle.pcap_frames.specs.Reader.{StepTakes, frames_held};
+ghost use Rattle.pcap_frames.specs.Feeding.{Advances, StepTakes};
+ghost use Rattle.pcap_frames.specs.Reader.{frames_held};
 ghost use Rattle.pcap_frames.specs.FrameReader as state;
 ghost use Rattle.pcap_frames.specs.Part.{state_of_part, IsPartInStage, IsPartWithin};
 ghost use Rattle.pcap_frames.specs.Part.{place_of_part};
@@ -15,9 +15,8 @@ ghost use Rattle.pcap_frames.specs.Frame.{frame_count_limit};
 use crate::file_order::FileOrder;
 use crate::header::{header_fault, magic_order};
 use crate::reader::framing::{MOST_FRAMES, frame_fault, needed, whole_at};
-use crate::reader::front::FrontBytes;
 use crate::reader::held::HeldFrame;
-use crate::{CaptureFault, Frame};
+use crate::{CaptureFault, FirstBytes, Frame};
 use std::mem;
 
 /// What comes next.
@@ -39,7 +38,7 @@ pub(crate) struct FramePart {
     pub(crate) order: FileOrder,
     pub(crate) count: u32,
     pub(crate) place: u64,
-    pub(crate) kept: FrontBytes,
+    pub(crate) kept: FirstBytes<58>,
 }
 
 /// The result of a step: the next stage, the frame that the step completed, and the remaining bytes of the piece.
@@ -59,7 +58,7 @@ impl FramePart {
             order: FileOrder::Big,
             count: 0,
             place: 24,
-            kept: FrontBytes::new(),
+            kept: FirstBytes::new(),
         }
     }
 
@@ -68,7 +67,7 @@ impl FramePart {
         requires has_bytes { 0 < length piece.now }
         requires sound { IsPartInStage stage self.old }
         ensures sound { IsPartInStage result.stage self.new }
-        ensures takes { StepTakes (state_of_part stage self.old) (state_of_part result.stage self.new) piece.now
+        ensures takes { StepTakes state.Represents (state_of_part stage self.old) (state_of_part result.stage self.new) piece.now
             result.rest.now (frames_held result.held) }
     {
         match stage {
@@ -83,7 +82,7 @@ impl FramePart {
         requires has_bytes { 0 < length piece.now }
         requires sound { self.old.kept.came < header_length }
         ensures sound { IsPartInStage result.stage self.new }
-        ensures takes { StepTakes (state.InHeader self.old.kept.first) (state_of_part result.stage self.new) piece.now result.rest.now [] }
+        ensures takes { StepTakes state.Represents (state.InHeader self.old.kept.first) (state_of_part result.stage self.new) piece.now result.rest.now [] }
         ensures no_frame { frames_held result.held ≡ [] }
     {
         let count = (24 - self.kept.came() as usize).min(piece.len());
@@ -103,7 +102,7 @@ impl FramePart {
         ensures sound { IsPartInStage result self.new }
         ensures advances { (kept front : List ℕ) → self.old.kept.first ≡ take kept_length (kept ++ front)
             → length kept + length front ≡ self.old.kept.came
-            → Advances (state.InHeader kept) (state_of_part result self.new) front [] }
+            → Advances state.Represents (state.InHeader kept) (state_of_part result self.new) front [] }
     {
         let header = self.kept.first();
         if let Some(fault) = header_fault(header) {
@@ -118,7 +117,7 @@ impl FramePart {
         self.order = order;
         self.count = 0;
         self.place = 24;
-        self.kept = FrontBytes::new();
+        self.kept = FirstBytes::new();
         Stage::Frames
     }
 
@@ -126,7 +125,7 @@ impl FramePart {
     pub(crate) fn whole_frame<'a>(&mut self, piece: &'a [u8]) -> Option<(Frame<'a>, &'a [u8])>
         requires { IsPartWithin self.old }
         ensures sound { IsPartWithin self.new }
-        ensures takes { IfSome result (λ found. StepTakes (state.InFrames (place_of_part self.old))
+        ensures takes { IfSome result (λ found. StepTakes state.Represents (state.InFrames (place_of_part self.old))
             (state.InFrames (place_of_part self.new))
             piece.now found.1.now (frame_content found.0 ∷ [])) }
         ensures is_frame { IfSome result (λ found. IsFrame (frame_content found.0)) }
@@ -146,10 +145,10 @@ impl FramePart {
         requires has_bytes { 0 < length piece.now }
         requires sound { IsPartWithin self.old }
         ensures sound { IsPartInStage result.stage self.new }
-        ensures takes { StepTakes (state.InFrames (place_of_part self.old)) (state_of_part result.stage self.new)
+        ensures takes { StepTakes state.Represents (state.InFrames (place_of_part self.old)) (state_of_part result.stage self.new)
             piece.now result.rest.now (frames_held result.held) }
     {
-        let left = needed(self.order, self.kept.first()) - self.kept.came() as u64;
+        let left = needed(self.order, self.kept.first()) - self.kept.came();
         let count = (left as usize).min(piece.len());
         let (front, rest) = piece.split_at(count);
         self.kept.add(front);
@@ -165,7 +164,7 @@ impl FramePart {
         ensures sound { IsPartInStage result.0 self.new }
         ensures advances { (kept front : List ℕ) (came : ℕ) → self.old.kept.first ≡ take kept_length (kept ++ front)
             → self.old.kept.came ≡ came + length front
-            → Advances (state.InFrames (record (place_of_part self.old) { kept = kept; came = came }))
+            → Advances state.Represents (state.InFrames (record (place_of_part self.old) { kept = kept; came = came }))
             (state_of_part result.0 self.new) front (frames_held result.1) }
     {
         let bytes = self.kept.first();
@@ -173,12 +172,12 @@ impl FramePart {
             return (Stage::AtFault(fault), None);
         }
         let size = needed(self.order, bytes);
-        if (self.kept.came() as u64) < size {
+        if self.kept.came() < size {
             return (Stage::Frames, None);
         }
         self.count += 1;
         self.place += size;
-        let kept = mem::replace(&mut self.kept, FrontBytes::new());
+        let kept = mem::replace(&mut self.kept, FirstBytes::new());
         let held = HeldFrame {
             order: self.order,
             kept,

@@ -3,24 +3,23 @@
 ghost use Rattle.std.specs.Prelude.{◌≡◌, ◌+◌, ◌^◌, ◌<◌, ◌≤◌, ◌++◌, length, min, take, drop};
 ghost use Rattle.pcapng_frames.specs.Kept.{kept_length, kept_and};
 
+use pcap_frames::FirstBytes;
 use std::marker::Model;
 
 /// The first 70 of the bytes that arrived, the last four, and how many arrived. 70 bytes hold the fields of a packet
 /// and the head of its frame.
 #[derive(Drop)]
 pub(crate) struct KeptBytes {
-    bytes: [u8; 70],
+    front: FirstBytes<70>,
     last: [u8; 4],
-    came: u64,
 }
 
 impl Model for KeptBytes {
-    ghost use Rattle.std.specs.Prelude.{take};
     ghost use Rattle.pcapng_frames.specs.Kept.{KeptValue};
 
     ghost Value = { KeptValue };
 
-    ghost view = { λ k. record { first = take k.came k.bytes; last = k.last; came = k.came } };
+    ghost view = { λ k. record { first = k.front.first; last = k.last; came = k.front.came } };
 }
 
 impl KeptBytes {
@@ -32,9 +31,8 @@ impl KeptBytes {
         ensures { result ≡ kept_of [] }
     {
         KeptBytes {
-            bytes: [0; 70],
+            front: FirstBytes::new(),
             last: [0; 4],
-            came: 0,
         }
     }
 
@@ -43,7 +41,7 @@ impl KeptBytes {
         ensures count { result ≡ self.now.came }
         ensures length { length self.now.first ≡ min kept_length self.now.came }
     {
-        self.came
+        self.front.came()
     }
 
     /// The first 70 of the bytes that arrived.
@@ -51,7 +49,7 @@ impl KeptBytes {
         ensures bytes { result.now ≡ self.now.first }
         ensures length { length result.now ≡ min kept_length self.now.came }
     {
-        &self.bytes[..(self.came as usize).min(70)]
+        self.front.first()
     }
 
     /// The last four of the bytes that arrived, after zeros if there are fewer.
@@ -69,22 +67,9 @@ impl KeptBytes {
         ensures last { self.new.last ≡ drop (length more.now) (self.old.last ++ more.now) }
         ensures came { self.new.came ≡ self.old.came + length more.now }
     {
-        let from = (self.came as usize).min(70);
-        copy_to_place(&mut self.bytes, from, more);
+        self.front.add(more);
         shift_in(&mut self.last, more);
-        self.came += more.len() as u64;
     }
-}
-
-/// Copies bytes to the offset `place`, as many as fit.
-fn copy_to_place(bytes: &mut [u8], place: usize, more: &[u8])
-    requires { place ≤ length bytes.old }
-    ensures length { length bytes.new ≡ length bytes.old }
-    ensures front { take (place + length more.now) bytes.new ≡ take (length bytes.old) (take place bytes.old ++ more.now) }
-{
-    let count = more.len().min(bytes.len() - place);
-    let (front, _) = more.split_at(count);
-    bytes[place..place + count].copy_from_slice(front);
 }
 
 /// Puts bytes behind the last four, and keeps the last four of them all.
@@ -97,8 +82,8 @@ fn shift_in(last: &mut [u8; 4], more: &[u8])
         last.copy_from_slice(end);
         return;
     }
-    let mut joined = [0; 8];
-    copy_to_place(&mut joined, 0, &last[..]);
-    copy_to_place(&mut joined, 4, more);
-    last.copy_from_slice(&joined[count..count + 4]);
+    let mut joined = FirstBytes::<8>::new();
+    joined.add(&last[..]);
+    joined.add(more);
+    last.copy_from_slice(&joined.first()[count..count + 4]);
 }

@@ -1,6 +1,6 @@
 //! The frame of a whole packet.
 
-ghost use Rattle.std.specs.Prelude.{◌≡◌, ℕ, ◌+◌, ◌<◌, ◌≤◌, length, min, take, drop, slice_index};
+ghost use Rattle.std.specs.Prelude.{◌≡◌, ◌+◌, ◌≤◌, length, min};
 ghost use Rattle.pcap_frames.specs.{number_in_order, frame_head_length, most_captured, frame_content, IsFrame};
 ghost use Rattle.pcapng_frames.specs.Block.{packet_data_place, packet_frame};
 
@@ -37,23 +37,6 @@ pub(crate) fn frame_at(order: FileOrder, bytes: &[u8]) -> Frame<'_>
 {
     let captured = order.u32_at(bytes, 20);
     let original = order.u32_at(bytes, 24);
-    Frame {
-        head: head_of(bytes, captured),
-        captured,
-        original,
-    }
-}
-
-/// The first 42 of this many captured bytes of a packet.
-#[tactic(auto, using(crate::proofs::PacketHeadLemmas::packet_head_of_front))]
-fn head_of(bytes: &[u8], captured: u32) -> &[u8]
-    requires header { packet_data_place ≤ length bytes.now }
-    requires head { packet_data_place + min frame_head_length captured ≤ length bytes.now }
-    ensures value { result.now ≡ take frame_head_length (take captured (drop packet_data_place bytes.now)) }
-    ensures length { length result.now ≡ min frame_head_length captured }
-    ensures bytes { (place : ℕ) → slice_index result.now place < 256 }
-{
     let (_, behind) = bytes.split_at(28);
-    let (head, _) = behind.split_at((captured as usize).min(42));
-    head
+    Frame::of_captured(behind, captured, original)
 }

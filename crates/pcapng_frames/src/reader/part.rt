@@ -3,15 +3,14 @@
 ghost use Rattle.std.specs.Prelude.{◌≡◌, ℕ, ◌+◌, ◌^◌, ◌<◌, ◌≤◌, List, [], length, true, IfOk, IfSome, IfNone};
 ghost use Rattle.pcapng_frames.specs.declared.verdict.Verdict.TheVariants as verdicts;
 ghost use Rattle.pcapng_frames.specs.Block.{block_at, block_length};
-ghost use Rattle.pcap_frames.specs.{FrameValue, AreFrames, header_fault_at};
+ghost use Rattle.pcap_frames.specs.{FrameValue, AreFrames, header_fault_at, Advances, StepTakes, IsFinalResult};
 ghost use Rattle.pcap_frames.specs.declared.fault.FaultKind.TheVariants.{CutBlock};
 ghost use Rattle.pcap_frames.specs.declared.fault.FeedFault.TheVariants.{Refused};
-ghost use Rattle.pcapng_frames.specs.NgFeeding.{IsNgFinalResult};
+ghost use Rattle.pcapng_frames.specs.NgCapture.{pcapng};
 ghost use Rattle.pcapng_frames.specs.Kept.{KeptValue, kept_of, kept_and, kept_verdict};
 ghost use Rattle.pcapng_frames.specs.NgReader as state;
-ghost use Rattle.pcapng_frames.specs.NgReader.{NgAdvances};
 ghost use Rattle.pcapng_frames.specs.NgPart.{section_place, place_of_part, state_of_part, IsPartInStage, IsPartWithin};
-ghost use Rattle.pcapng_frames.specs.NgPart.{IsSectionWithin, block_needs, NgStepTakes, frames_held, frames_shown, SplitsPiece};
+ghost use Rattle.pcapng_frames.specs.NgPart.{IsSectionWithin, block_needs, frames_held, frames_shown, SplitsPiece};
 ghost use Rattle.pcapng_frames.specs.Verdict.{block_verdict};
 ghost use Rattle.pcapng_frames.specs.Section.{before_blocks, after_block, frames_of_content};
 
@@ -86,7 +85,7 @@ impl BlockPart {
         requires has_bytes { 0 < length piece.now }
         requires sound { IsPartInStage stage self.old }
         ensures sound { IfOk result (λ taken. IsPartInStage taken.left.stage self.new) }
-        ensures takes { IfOk result (λ taken. NgStepTakes (state_of_part stage self.old) (state_of_part taken.left.stage self.new) piece.now
+        ensures takes { IfOk result (λ taken. StepTakes state.NgRepresents (state_of_part stage self.old) (state_of_part taken.left.stage self.new) piece.now
             taken.rest.now (frames_held taken.left.held)) }
     {
         match stage {
@@ -97,13 +96,14 @@ impl BlockPart {
 
     /// Takes the block at the front of the piece, if no byte of it arrived before and the whole block is there without a
     /// fault. The only error is that memory runs out.
+    #[inline(always)]
     pub(crate) fn whole_block<'a>(
         &mut self,
         piece: &'a [u8],
     ) -> Result<Option<Whole<'a>>, AllocError>
         requires { IsPartWithin self.old }
         ensures sound { IfOk result (λ _. IsPartWithin self.new) }
-        ensures takes { IfOk result (λ found. IfSome found (λ whole. NgStepTakes (state.InBlocks (place_of_part self.old))
+        ensures takes { IfOk result (λ found. IfSome found (λ whole. StepTakes state.NgRepresents (state.InBlocks (place_of_part self.old))
             (state.InBlocks (place_of_part self.new)) piece.now whole.rest.now (frames_shown whole.frame))) }
         ensures are_frames { IfOk result (λ found. IfSome found (λ whole. AreFrames (frames_shown whole.frame))) }
         ensures none { IfOk result (λ found. IfNone found (self.new ≡ self.old)) }
@@ -122,6 +122,7 @@ impl BlockPart {
     }
 
     /// Whether these bytes, as many as the length of the block says, are a whole block without a fault.
+    #[inline(always)]
     fn is_whole(&self, block: &[u8]) -> bool
         requires some { 12 ≤ length block.now }
         requires size { length block.now ≡ block_length self.now.section.order block.now }
@@ -133,6 +134,7 @@ impl BlockPart {
     }
 
     /// Goes past a whole block of the piece, and gives its frame if it is a packet of an Ethernet interface.
+    #[inline(always)]
     fn pass_block<'a>(&mut self, block: &'a [u8]) -> Result<Option<Frame<'a>>, AllocError>
         requires within { IsPartWithin self.old }
         requires none { self.old.kept.came ≡ 0 }
@@ -176,7 +178,7 @@ impl BlockPart {
         requires has_bytes { 0 < length piece.now }
         requires sound { IsPartWithin self.old }
         ensures sound { IfOk result (λ taken. IsPartInStage taken.left.stage self.new) }
-        ensures takes { IfOk result (λ taken. NgStepTakes (state.InBlocks (place_of_part self.old)) (state_of_part taken.left.stage self.new)
+        ensures takes { IfOk result (λ taken. StepTakes state.NgRepresents (state.InBlocks (place_of_part self.old)) (state_of_part taken.left.stage self.new)
             piece.now taken.rest.now (frames_held taken.left.held)) }
     {
         let left = self.needed() - self.kept.came();
@@ -194,7 +196,7 @@ impl BlockPart {
         ensures sound { IfOk result (λ left. IsPartInStage left.stage self.new) }
         ensures advances { IfOk result (λ left. (kept : KeptValue) (front : List ℕ) → self.old.kept ≡ kept_and kept front
             → kept.came + length front ≤ block_needs self.old.section.order kept.came kept.first
-            → NgAdvances (state.InBlocks (record (place_of_part self.old) { kept = kept })) (state_of_part left.stage self.new) front
+            → Advances state.NgRepresents (state.InBlocks (record (place_of_part self.old) { kept = kept })) (state_of_part left.stage self.new) front
             (frames_held left.held)) }
     {
         let verdict = verdict_of(
@@ -228,7 +230,7 @@ impl BlockPart {
     /// Ends the file, and returns the number of frames, unless the file ends inside a block or before the first one.
     pub(crate) fn end(&self) -> Result<u64, FeedFault>
         ensures { (file : List ℕ) (frames : List FrameValue) → state.IsInBlock (place_of_part self.now) file frames
-            → IsNgFinalResult file frames result }
+            → IsFinalResult pcapng file frames result }
     {
         if self.kept.came() > 0 {
             return Err(self.cut());

@@ -38,6 +38,7 @@ impl SectionState {
 
     /// Goes past a whole block, whose first bytes these are. Returns whether it is a packet of an Ethernet interface.
     /// The only error is that memory runs out.
+    #[inline(always)]
     pub(crate) fn end_block(&mut self, bytes: &[u8]) -> Result<bool, AllocError>
         requires within { IsSectionWithin self.old }
         requires room { self.old.count < block_count_limit }

@@ -30,6 +30,13 @@ returns-then-came-size-clause-advances c = λ kept front came is total.
     (sym c.first-bytes.ensures.bytes) ∙ sym c.frame_fault.ensures ∙ c.in_default.is)
     (omega arith)
 
+pub overflow_add-self-2 : goal.overflow_add-self-2
+overflow_add-self-2 c =
+    let bound =
+    bytes_needed-reader_step_bound c.args.self.now.order c.args.self.now.count c.args.self.now.place c.first-bytes.result.now
+    (sym c.frame_fault.ensures ∙ c.in_default.is) in
+    omega (arith, bound, c.needed-size.ensures, c.requires.count, c.requires.place)
+
 pub invariant_of-held : goal.invariant_of-held
 invariant_of-held c =
     let kept = ap (λ k. k.first) c.replace-kept.ensures.value in
