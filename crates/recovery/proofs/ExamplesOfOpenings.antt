@@ -1,6 +1,6 @@
--- Worked examples of openings and refusals, most by computing.
-use Rattle.std.proofs.Common.{◌≡◌, ℕ, ◌+◌, List, [], ◌∷◌, None, Some, refl, ap, inl, arith}
-use Rattle.std.specs.Prelude.{slice_index}
+-- Worked examples of readings, openings and refusals, most by computing.
+use Rattle.std.proofs.Common.{◌≡◌, ℕ, ◌+◌, true, false, List, [], ◌∷◌, None, Some, refl, ap, inl, ⊎_elim, arith}
+use Rattle.std.specs.Prelude.{Ok, Err, slice_index}
 use Rattle.prefix_lattice.specs.{RecordValue}
 use Rattle.prefix_lattice.specs.declared.grain.Grain.TheVariants.{Byte, Nibble}
 use Rattle.shard_state.specs.{CutValue, SnapshotValue, empty_snapshot, no_entries}
@@ -11,18 +11,21 @@ use Rattle.checkpoint.specs.declared.fault.DecodeFault.TheVariants as decode
 use Rattle.checkpoint.specs.declared.header.StoreHeader.{StoreHeader}
 use Rattle.checkpoint.specs.declared.settings.StoreSettings.{StoreSettings}
 use Rattle.checkpoint.specs.declared.version.Version.TheVariants.{First}
-use Rattle.checkpoint.specs.{AreSettings, SavedValue, StoreHolds, VersionTakes, header_bytes, lists_digest, written_header}
+use Rattle.checkpoint.specs.{AreSettings, HasNewest, SavedValue, StoreHolds, VersionTakes}
+use Rattle.checkpoint.specs.{header_bytes, lists_digest, stored_header, written_header}
 use Rattle.checkpoint.specs.{greatest_sequence, saver_of}
-use Rattle.recovery.specs.declared.fault.OpenFault.TheVariants.{DiskFault, NotFormatted, OtherSettings, Damaged}
-use Rattle.recovery.specs.declared.fault.OpenFault.TheVariants.{OutOfMemory}
+use Rattle.recovery.specs.declared.fault.OpenFault.TheVariants as opening
+use Rattle.recovery.specs.declared.store_fault.StoreFault.TheVariants.{DiskFault, NotFormatted, OtherSettings, Damaged}
+use Rattle.recovery.specs.declared.store_fault.StoreFault.TheVariants.{OutOfMemory}
 use Rattle.recovery.specs.declared.opened.Opened.{Opened}
-use Rattle.recovery.specs.OpenFault.{begin_fault, body_fault, decode_fault}
-use Rattle.recovery.specs.Reopening.{HasHeader, IsDamaged, IsFirstDamaged, ContinuesList}
-use Rattle.recovery.specs.Reopening.{ContinuesLists, ContinuesFrom, RefusesOpening}
+use Rattle.recovery.specs.OpenFault.{IsShownByBytes, open_fault}
+use Rattle.recovery.specs.StoreFault.{begin_fault, body_fault, decode_fault}
+use Rattle.recovery.specs.Reading.{HasHeader, IsDamaged, IsFirstDamaged, MustRead, MustRefuse, ReadsAs, RefusesReading, WasStopped}
+use Rattle.recovery.specs.Reading.{has_open_gate}
+use Rattle.recovery.specs.Reopening.{ContinuesFrom, ContinuesList, ContinuesLists, RefusesNewest, RefusesOpening}
 use Rattle.recovery.specs.Reopening.{MatchesLists, OpensToBase, IsBaseFor, CanGoOn}
 use Rattle.recovery.specs.Reopening.{base_positions, greatest_opened}
-use Rattle.recovery.specs.Reopening.{IsShownByBytes}
-use Rattle.recovery.specs.Found.{IsFrontFault, IsBodyFault, IsFoundFault}
+use Rattle.recovery.specs.Found.{IsFrontFault, IsBodyFault}
 use Rattle.recovery.specs.Found.{IsListFault, MatchesDigest, HoldsFound, ShowsHeader}
 use Rattle.recovery.specs.Found.{base_in_parts}
 use Rattle.recovery.proofs.OpenSlotLemmas.{store_open_slot_is_sound}
@@ -124,26 +127,68 @@ module _ (any : StoreSettings) where
   pub last_save_does_not : ContinuesFrom (saved greatest_sequence) (list ∷ []) → ⊥
   last_save_does_not continues = omega (arith, continues.early)
 
-  pub short_bytes_are_refused : RefusesOpening (settings 1) (list ∷ []) (0 ∷ []) NotFormatted
+  pub short_bytes_are_refused : RefusesReading (settings 1) (0 ∷ []) NotFormatted
   short_bytes_are_refused = short_bytes_have_no_header
 
-  pub other_settings_are_refused : RefusesOpening (settings 2) (list ∷ []) (store 0 0) (OtherSettings (settings 1) (settings 2))
+  pub other_settings_are_refused : RefusesReading (settings 2) (store 0 0) (OtherSettings (settings 1) (settings 2))
   other_settings_are_refused = (
     header_of_one_shard,
     refl,
     λ same. let shards : 1 ≡ 2 = ap (λ (s : StoreSettings). s.shards) same in omega (arith, shards),
   )
 
-  pub broken_slot_is_refused : RefusesOpening (settings 1) (list ∷ []) (store 1 1) (Damaged 0)
-  broken_slot_is_refused =
-      inl (
-        record { long = omega arith; is_header = record { settings = are_settings; taken = tt }; spelled = refl },
-        first_gate_is_first_damaged,
-      )
+  pub broken_slot_is_refused : RefusesReading (settings 1) (store 1 1) (Damaged 0)
+  broken_slot_is_refused = (
+    record { long = omega arith; is_header = record { settings = are_settings; taken = tt }; spelled = refl },
+    first_gate_is_first_damaged,
+  )
+
+  -- what can't be read isn't opened, over any lists
+  pub short_bytes_are_not_opened : RefusesOpening (settings 1) (list ∷ []) (0 ∷ []) opening.NotFormatted
+  short_bytes_are_not_opened = inl (NotFormatted, refl, short_bytes_are_refused)
+
+  pub broken_slot_is_not_opened : RefusesOpening (settings 1) (list ∷ []) (store 1 1) (opening.Damaged 0)
+  broken_slot_is_not_opened = inl (Damaged 0, refl, broken_slot_is_refused)
+
+  pub fault_of_settings_is_one_of_opening : open_fault (OtherSettings (settings 1) (settings 2)) ≡ opening.OtherSettings (settings 1) (settings 2)
+  fault_of_settings_is_one_of_opening = refl
 
   -- a store with no gate open opens to no base, at position 0
   pub formatted_store_holds_nothing : StoreHolds header (store 0 0) None None
   formatted_store_holds_nothing = record { long = omega arith; header = refl; taken = tt; first_slot = refl; second_slot = refl }
+
+  -- it reads as nothing, and its gates show so
+  pub formatted_store_reads_as_nothing : ReadsAs (settings 1) (store 0 0) None
+  formatted_store_reads_as_nothing = (None, None, formatted_store_holds_nothing, refl)
+
+  pub formatted_store_has_no_open_gate : has_open_gate (store 0 0) ≡ false
+  formatted_store_has_no_open_gate = refl
+
+  pub second_gate_may_be_open : has_open_gate (store 0 1) ≡ true
+  second_gate_may_be_open = refl
+
+  pub damage_is_shown : IsShownByBytes (open_fault (Damaged 0))
+  damage_is_shown = record { not_of_disk = λ same. cc same; not_of_memory = λ same. cc same }
+
+  -- so it isn't refused for a fault that bytes show
+  pub formatted_store_must_be_read : MustRead (settings 1) (store 0 0) (Err NotFormatted) → ⊥
+  formatted_store_must_be_read must =
+      ⊎_elim (λ stopped. ⊎_elim (λ is. cc is) (λ is. cc is) stopped) (λ is. is) (must None formatted_store_reads_as_nothing)
+
+  pub broken_slot_must_be_refused : MustRefuse (settings 1) (store 1 1) (Ok None) → ⊥
+  broken_slot_must_be_refused must =
+      ⊎_elim (λ stopped. ⊎_elim (λ is. cc is) (λ is. cc is) stopped) (λ is. cc is) (must (Damaged 0) damage_is_shown broken_slot_is_refused)
+
+  pub disk_fault_stops_a_reading : WasStopped (Err DiskFault)
+  disk_fault_stops_a_reading = inl refl
+
+  -- a newest slot with another digest than that of the lists
+  pub other_digest_is_refused : (other : List ℕ) (image : List ℕ)
+      → HasNewest (stored_header (settings 1) image) 0 (record { sequence = 1; digest = other; cut = cut }) image
+      → (other ≡ lists_digest (stored_header (settings 1) image) (list ∷ []) → ⊥)
+      → RefusesNewest (settings 1) (list ∷ []) image
+      (opening.OtherCapture other (lists_digest (stored_header (settings 1) image) (list ∷ [])))
+  other_digest_is_refused other image has differ = (0, _, has, refl, refl, differ)
 
   pub formatted_store_opens_to_no_base : OpensToBase (settings 1) (list ∷ []) (store 0 0) None
   formatted_store_opens_to_no_base = (None, (None, None, formatted_store_holds_nothing, refl), tt, refl)
@@ -192,10 +237,7 @@ module _ (any : StoreSettings) where
     early = omega arith;
   }
 
-  pub damage_is_shown : IsShownByBytes (Damaged 0)
-  damage_is_shown = record { not_of_disk = λ same. cc same; not_of_memory = λ same. cc same }
-
-  pub disk_fault_is_not_shown : IsShownByBytes DiskFault → ⊥
+  pub disk_fault_is_not_shown : IsShownByBytes (open_fault DiskFault) → ⊥
   disk_fault_is_not_shown shown = shown.not_of_disk refl
 
   -- faults of the parts
@@ -214,10 +256,10 @@ module _ (any : StoreSettings) where
   pub slot_0_is_refused : IsBodyFault (settings 1) 0 (store 1 0) (Damaged 0)
   slot_0_is_refused = (refl, open_gate_is_damaged)
 
-  pub memory_may_run_out : IsFoundFault (settings 1) (store 0 0) OutOfMemory
+  pub memory_may_run_out : RefusesReading (settings 1) (store 0 0) OutOfMemory
   memory_may_run_out = tt
 
-  pub nothing_is_no_fault_of_lists : (slot : ℕ) → IsListFault (list ∷ []) [] None (Damaged slot) → ⊥
+  pub nothing_is_no_fault_of_lists : (slot : ℕ) → IsListFault (list ∷ []) [] None (opening.Damaged slot) → ⊥
   nothing_is_no_fault_of_lists slot is = cc is.1
 
   pub first_save_is_of_its_digest : MatchesDigest (list ∷ []) [] (saved 1)

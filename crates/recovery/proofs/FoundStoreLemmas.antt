@@ -1,6 +1,6 @@
 -- The newest slot of a store, and what it opens to.
-use Rattle.std.proofs.Common.{◌≡◌, ℕ, Bool, true, false, nat_lt, if◌then◌else◌, List, Option, None, Some, IfSome}
-use Rattle.std.proofs.Common.{refl, sym, ap, subst, ◌∙◌, inr, arith}
+use Rattle.std.proofs.Common.{◌≡◌, ℕ, Bool, true, false, nat_lt, if◌then◌else◌, List, Option, None, Some, IfSome, option_map}
+use Rattle.std.proofs.Common.{refl, sym, ap, subst, ◌∙◌, arith}
 use Rattle.prefix_lattice.specs.{RecordValue}
 use Rattle.shard_state.specs.{CutValue}
 use Rattle.slot_disk.specs.{IsStoreOfKnown, KnownSlotsState}
@@ -9,13 +9,15 @@ use Rattle.checkpoint.specs.declared.header.StoreHeader.{StoreHeader}
 use Rattle.checkpoint.specs.declared.settings.StoreSettings.{StoreSettings}
 use Rattle.checkpoint.specs.{HasNewest, IsSafeSaver, SavedValue, SaverState, SlotHolds}
 use Rattle.checkpoint.specs.{header_bytes, header_digest, lists_digest, newest_in, stored_header}
-use Rattle.checkpoint.specs.{newest_slot_in, store_positions, store_sequence, saved_in, saver_of}
-use Rattle.recovery.specs.Reopening.{HasHeader, IsDamaged, RefusesOpening, OpensToBase, base_positions}
-use Rattle.recovery.specs.Found.{HoldsFound, IsBodyFault, IsFoundFault, ShowsHeader}
+use Rattle.checkpoint.specs.{newest_slot_in, store_positions, store_sequence, saved_in, saved_value, saver_of}
+use Rattle.recovery.specs.Reading.{HasHeader, IsDamaged, ReadsAs, RefusesReading}
+use Rattle.recovery.specs.Reopening.{RefusesNewest, OpensToBase, base_positions}
+use Rattle.recovery.specs.Found.{HoldsFound, IsBodyFault, ShowsHeader}
 use Rattle.recovery.specs.Found.{IsListFault, MatchesDigest, base_in_parts}
 use Rattle.recovery.specs.declared.fault.OpenFault.{OpenFault}
-use Rattle.recovery.specs.declared.fault.OpenFault.TheVariants.{DiskFault, NotFormatted, OtherSettings, Damaged}
-use Rattle.recovery.specs.declared.fault.OpenFault.TheVariants.{OtherCapture, OutOfMemory}
+use Rattle.recovery.specs.declared.fault.OpenFault.TheVariants as opening
+use Rattle.recovery.specs.declared.store_fault.StoreFault.{StoreFault}
+use Rattle.recovery.specs.declared.store_fault.StoreFault.TheVariants as reading
 use Rattle.recovery.proofs.OpenSlotLemmas.{open_slot_is_not_damaged}
 
 -- the header that the bytes show is there
@@ -24,14 +26,13 @@ pub found_store_has_header : (settings : StoreSettings) (header : StoreHeader) (
 found_store_has_header settings header image shows = subst (λ (h : StoreHeader). HasHeader h image) (sym shows.1) shows.0
 
 -- a fault of slot 0
-pub found_store_fault_at_zero : (settings : StoreSettings) (image : List ℕ) (fault : OpenFault)
-    → HasHeader (stored_header settings image) image → IsBodyFault settings 0 image fault → IsFoundFault settings image fault
-found_store_fault_at_zero settings image DiskFault has is = tt
-found_store_fault_at_zero settings image OutOfMemory has is = tt
-found_store_fault_at_zero settings image NotFormatted has is = absurd is
-found_store_fault_at_zero settings image (OtherSettings stored asked) has is = absurd is
-found_store_fault_at_zero settings image (OtherCapture stored asked) has is = absurd is
-found_store_fault_at_zero settings image (Damaged slot) has is = (
+pub found_store_fault_at_zero : (settings : StoreSettings) (image : List ℕ) (fault : StoreFault)
+    → HasHeader (stored_header settings image) image → IsBodyFault settings 0 image fault → RefusesReading settings image fault
+found_store_fault_at_zero settings image reading.DiskFault has is = tt
+found_store_fault_at_zero settings image reading.OutOfMemory has is = tt
+found_store_fault_at_zero settings image reading.NotFormatted has is = absurd is
+found_store_fault_at_zero settings image (reading.OtherSettings stored asked) has is = absurd is
+found_store_fault_at_zero settings image (reading.Damaged slot) has is = (
   has,
   record {
     within = omega (arith, is.0);
@@ -41,15 +42,14 @@ found_store_fault_at_zero settings image (Damaged slot) has is = (
 )
 
 -- a fault of slot 1, where slot 0 is sound
-pub found_store_fault_at_one : (settings : StoreSettings) (image : List ℕ) (fault : OpenFault)
+pub found_store_fault_at_one : (settings : StoreSettings) (image : List ℕ) (fault : StoreFault)
     → HasHeader (stored_header settings image) image → (held : Option SavedValue) → SlotHolds settings 0 image held → IsBodyFault settings 1 image fault
-    → IsFoundFault settings image fault
-found_store_fault_at_one settings image DiskFault has held holds is = tt
-found_store_fault_at_one settings image OutOfMemory has held holds is = tt
-found_store_fault_at_one settings image NotFormatted has held holds is = absurd is
-found_store_fault_at_one settings image (OtherSettings stored asked) has held holds is = absurd is
-found_store_fault_at_one settings image (OtherCapture stored asked) has held holds is = absurd is
-found_store_fault_at_one settings image (Damaged slot) has held holds is = (
+    → RefusesReading settings image fault
+found_store_fault_at_one settings image reading.DiskFault has held holds is = tt
+found_store_fault_at_one settings image reading.OutOfMemory has held holds is = tt
+found_store_fault_at_one settings image reading.NotFormatted has held holds is = absurd is
+found_store_fault_at_one settings image (reading.OtherSettings stored asked) has held holds is = absurd is
+found_store_fault_at_one settings image (reading.Damaged slot) has held holds is = (
   has,
   record {
     within = omega (arith, is.0);
@@ -84,14 +84,14 @@ found_store_has_digest settings header lists image bytes digest shows spelled ma
 pub list_fault_of_found_store : (settings : StoreSettings) (lists : List (List RecordValue)) (image digest : List ℕ) (found : Option Newest) (fault : OpenFault)
     → HoldsFound (stored_header settings image) found image → digest ≡ lists_digest (stored_header settings image) lists
     → IsListFault lists digest found fault
-    → RefusesOpening settings lists image fault
-list_fault_of_found_store settings lists image digest found DiskFault holds of is = absurd is
-list_fault_of_found_store settings lists image digest found OutOfMemory holds of is = absurd is
-list_fault_of_found_store settings lists image digest found NotFormatted holds of is = absurd is
-list_fault_of_found_store settings lists image digest found (OtherSettings stored asked) holds of is = absurd is
-list_fault_of_found_store settings lists image digest found (Damaged slot) holds of is =
-    inr (saved_in is.0, found_store_has_newest (stored_header settings image) image found is.0 slot holds is.1 is.2, is.3 ∙ of, is.4)
-list_fault_of_found_store settings lists image digest found (OtherCapture stored asked) holds of is =
+    → RefusesNewest settings lists image fault
+list_fault_of_found_store settings lists image digest found opening.DiskFault holds of is = absurd is
+list_fault_of_found_store settings lists image digest found opening.OutOfMemory holds of is = absurd is
+list_fault_of_found_store settings lists image digest found opening.NotFormatted holds of is = absurd is
+list_fault_of_found_store settings lists image digest found (opening.OtherSettings stored asked) holds of is = absurd is
+list_fault_of_found_store settings lists image digest found (opening.Damaged slot) holds of is =
+    (saved_in is.0, found_store_has_newest (stored_header settings image) image found is.0 slot holds is.1 is.2, is.3 ∙ of, is.4)
+list_fault_of_found_store settings lists image digest found (opening.OtherCapture stored asked) holds of is =
     (is.0.slot, saved_in is.0, found_store_has_newest (stored_header settings image) image found is.0 is.0.slot holds is.1 refl, is.2, is.3 ∙ of, is.4)
 
 -- what a store opens to whose newest slot was found
@@ -158,3 +158,13 @@ found_store_saver_stands header slots digest (Some last) possible image holds st
   };
   only = store.only;
 }
+
+-- what a store reads as whose newest slot was found
+pub found_store_reads : (settings : StoreSettings) (header : StoreHeader) (image : List ℕ) (found : Option Newest)
+    → ShowsHeader settings header image → HoldsFound header found image
+    → ReadsAs settings image (option_map saved_value (option_map (λ (last : Newest). last.saved) found))
+found_store_reads settings header image None shows holds =
+    let here = subst (λ (h : StoreHeader). HoldsFound h None image) (sym shows.1) holds in (here.0, here.1, here.2, sym here.3)
+found_store_reads settings header image (Some last) shows holds =
+    let here = subst (λ (h : StoreHeader). HoldsFound h (Some last) image) (sym shows.1) holds in
+    (here.0, here.1, here.2, sym here.3)

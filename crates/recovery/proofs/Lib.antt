@@ -1,5 +1,6 @@
 pub mod ZippedListLemmas
 pub mod OpenSlotLemmas
+pub mod ReadingLemmas
 pub mod DecidedLemmas
 pub mod FoundStoreLemmas
 pub mod BelongingStoreLemmas

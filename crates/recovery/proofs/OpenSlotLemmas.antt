@@ -8,8 +8,8 @@ use Rattle.checkpoint.specs.declared.settings.StoreSettings.{StoreSettings}
 use Rattle.checkpoint.specs.{IsBody, SavedValue, SlotHolds, StoreHolds, span_of}
 use Rattle.checkpoint.specs.declared.fault.DecodeFault.{DecodeFault}
 use Rattle.checkpoint.specs.declared.fault.DecodeFault.TheVariants as decode
-use Rattle.recovery.specs.OpenFault.{decode_fault}
-use Rattle.recovery.specs.Reopening.{IsDamaged}
+use Rattle.recovery.specs.StoreFault.{decode_fault}
+use Rattle.recovery.specs.Reading.{IsDamaged}
 use Rattle.recovery.specs.Found.{IsBodyFault}
 use Rattle.checkpoint.specs.{settings_shape}
 

@@ -6,39 +6,28 @@ use Rattle.checkpoint.specs.declared.newest.Newest.{Newest}
 use Rattle.checkpoint.specs.declared.header.StoreHeader.{StoreHeader}
 use Rattle.checkpoint.specs.declared.settings.StoreSettings.{StoreSettings}
 use Rattle.checkpoint.specs.{SavedValue, StoreHolds, newest_in, newest_slot_in, saved_in, stored_header}
-use Rattle.recovery.specs.Reopening.{HasHeader, IsDamaged, IsFirstDamaged, ContinuesFrom}
+use Rattle.recovery.specs.Reading.{HasHeader, IsDamaged, RefusesReading}
+use Rattle.recovery.specs.Reopening.{ContinuesFrom}
 use Rattle.recovery.specs.declared.fault.OpenFault.{OpenFault}
-use Rattle.recovery.specs.declared.fault.OpenFault.TheVariants.{DiskFault, NotFormatted, OtherSettings, Damaged}
-use Rattle.recovery.specs.declared.fault.OpenFault.TheVariants.{OtherCapture, OutOfMemory}
+use Rattle.recovery.specs.declared.fault.OpenFault.TheVariants as opening
+use Rattle.recovery.specs.declared.store_fault.StoreFault.{StoreFault}
+use Rattle.recovery.specs.declared.store_fault.StoreFault.TheVariants as reading
 
 -- the gates and the header are refused for this fault
-abbrev pub IsFrontFault : StoreSettings → List ℕ → OpenFault → Type 0
-IsFrontFault settings image DiskFault = ⊤
-IsFrontFault settings image NotFormatted = (header : StoreHeader) → HasHeader header image → ⊥
-IsFrontFault settings image (OtherSettings stored asked) =
-    HasHeader (stored_header stored image) image × (asked ≡ settings) × (stored ≢ settings)
-IsFrontFault settings image (Damaged slot) = ⊥
-IsFrontFault settings image (OtherCapture stored asked) = ⊥
-IsFrontFault settings image OutOfMemory = ⊥
+abbrev pub IsFrontFault : StoreSettings → List ℕ → StoreFault → Type 0
+IsFrontFault settings image reading.DiskFault = ⊤
+IsFrontFault settings image reading.NotFormatted = RefusesReading settings image reading.NotFormatted
+IsFrontFault settings image (reading.OtherSettings stored asked) = RefusesReading settings image (reading.OtherSettings stored asked)
+IsFrontFault settings image (reading.Damaged slot) = ⊥
+IsFrontFault settings image reading.OutOfMemory = ⊥
 
 -- a slot is refused for this fault
-abbrev pub IsBodyFault : StoreSettings → ℕ → List ℕ → OpenFault → Type 0
-IsBodyFault settings slot image DiskFault = ⊤
-IsBodyFault settings slot image NotFormatted = ⊥
-IsBodyFault settings slot image (OtherSettings stored asked) = ⊥
-IsBodyFault settings slot image (Damaged at) = (at ≡ slot) × IsDamaged settings slot image
-IsBodyFault settings slot image (OtherCapture stored asked) = ⊥
-IsBodyFault settings slot image OutOfMemory = ⊤
-
--- the store is refused for this fault, whatever was dealt
-abbrev pub IsFoundFault : StoreSettings → List ℕ → OpenFault → Type 0
-IsFoundFault settings image DiskFault = ⊤
-IsFoundFault settings image NotFormatted = (header : StoreHeader) → HasHeader header image → ⊥
-IsFoundFault settings image (OtherSettings stored asked) =
-    HasHeader (stored_header stored image) image × (asked ≡ settings) × (stored ≢ settings)
-IsFoundFault settings image (Damaged slot) = HasHeader (stored_header settings image) image × IsFirstDamaged settings slot image
-IsFoundFault settings image (OtherCapture stored asked) = ⊥
-IsFoundFault settings image OutOfMemory = ⊤
+abbrev pub IsBodyFault : StoreSettings → ℕ → List ℕ → StoreFault → Type 0
+IsBodyFault settings slot image reading.DiskFault = ⊤
+IsBodyFault settings slot image reading.NotFormatted = ⊥
+IsBodyFault settings slot image (reading.OtherSettings stored asked) = ⊥
+IsBodyFault settings slot image (reading.Damaged at) = (at ≡ slot) × IsDamaged settings slot image
+IsBodyFault settings slot image reading.OutOfMemory = ⊤
 
 -- what is saved has this digest, and may be continued from over the lists
 pub record MatchesDigest (lists : List (List RecordValue)) (digest : List ℕ) (saved : SavedValue) : Type 0 where
@@ -47,15 +36,15 @@ pub record MatchesDigest (lists : List (List RecordValue)) (digest : List ℕ) (
 
 -- the newest slot is refused for this fault, over lists with this digest
 abbrev pub IsListFault : List (List RecordValue) → List ℕ → Option Newest → OpenFault → Type 0
-IsListFault lists digest found DiskFault = ⊥
-IsListFault lists digest found NotFormatted = ⊥
-IsListFault lists digest found (OtherSettings stored asked) = ⊥
-IsListFault lists digest found (Damaged slot) =
+IsListFault lists digest found opening.DiskFault = ⊥
+IsListFault lists digest found opening.NotFormatted = ⊥
+IsListFault lists digest found (opening.OtherSettings stored asked) = ⊥
+IsListFault lists digest found (opening.Damaged slot) =
     (last : Newest) × (found ≡ Some last) × (slot ≡ last.slot) × (last.saved.digest ≡ digest)
     × (ContinuesFrom (saved_in last) lists → ⊥)
-IsListFault lists digest found (OtherCapture stored asked) =
+IsListFault lists digest found (opening.OtherCapture stored asked) =
     (last : Newest) × (found ≡ Some last) × (stored ≡ last.saved.digest) × (asked ≡ digest) × (stored ≢ asked)
-IsListFault lists digest found OutOfMemory = ⊥
+IsListFault lists digest found opening.OutOfMemory = ⊥
 
 -- the bytes have this header, and it is the one that they show under the settings
 abbrev pub ShowsHeader : StoreSettings → StoreHeader → List ℕ → Type 0

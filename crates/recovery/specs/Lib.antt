@@ -1,9 +1,13 @@
+pub mod OpenFault
+pub mod Reading
 pub mod Reopening
 -- within the crate
-pub mod OpenFault
+pub mod StoreFault
 pub mod Found
 -- the face: what contracts of other crates cite
+pub use Rattle.recovery.specs.OpenFault.{IsShownByBytes, open_fault}
+pub use Rattle.recovery.specs.Reading.{BelongingRead, HaveOneReading, MustRead, MustRefuse, ReadsAs, RefusesReading, has_open_gate}
 pub use Rattle.recovery.specs.Reopening.{CanGoOn, ContinuesList, ContinuesLists, IsBaseFor}
 pub use Rattle.recovery.specs.Reopening.{RefusesOpening, OpensToBase}
 pub use Rattle.recovery.specs.Reopening.{base_positions, greatest_opened}
-pub use Rattle.recovery.specs.Reopening.{BelongingOpen, IsShownByBytes, AreDecided}
+pub use Rattle.recovery.specs.Reopening.{BelongingOpen, AreDecided}

@@ -1,26 +1,19 @@
--- Which fault of opening a fault of a part is, which no public contract cites.
-use Rattle.std.specs.Prelude.{ℕ}
-use Rattle.slot_disk.specs.declared.fault.BeginFault.{BeginFault}
-use Rattle.slot_disk.specs.declared.fault.BeginFault.TheVariants as begin
-use Rattle.slot_disk.specs.declared.fault.BodyFault.{BodyFault}
-use Rattle.slot_disk.specs.declared.fault.BodyFault.TheVariants as body
-use Rattle.checkpoint.specs.declared.fault.DecodeFault.{DecodeFault}
-use Rattle.checkpoint.specs.declared.fault.DecodeFault.TheVariants as decode
+-- Faults of opening: which of them a fault of reading is, and which of them bytes show.
+use Rattle.std.specs.Prelude.{◌≢◌}
 use Rattle.recovery.specs.declared.fault.OpenFault.{OpenFault}
-use Rattle.recovery.specs.declared.fault.OpenFault.TheVariants.{DiskFault, NotFormatted, Damaged, OutOfMemory}
+use Rattle.recovery.specs.declared.fault.OpenFault.TheVariants as opening
+use Rattle.recovery.specs.declared.store_fault.StoreFault.{StoreFault}
+use Rattle.recovery.specs.declared.store_fault.StoreFault.TheVariants as reading
 
--- that of a store that wasn't begun
-abbrev pub begin_fault : BeginFault → OpenFault
-begin_fault begin.DiskFault = DiskFault
-begin_fault begin.TooShort = NotFormatted
+-- the fault of opening that a fault of reading is
+abbrev pub open_fault : StoreFault → OpenFault
+open_fault reading.DiskFault = opening.DiskFault
+open_fault reading.NotFormatted = opening.NotFormatted
+open_fault (reading.OtherSettings stored asked) = opening.OtherSettings stored asked
+open_fault (reading.Damaged slot) = opening.Damaged slot
+open_fault reading.OutOfMemory = opening.OutOfMemory
 
--- that of a body that wasn't read
-abbrev pub body_fault : BodyFault → ℕ → OpenFault
-body_fault body.DiskFault slot = DiskFault
-body_fault body.Damaged slot = Damaged slot
-body_fault body.OutOfMemory slot = OutOfMemory
-
--- that of a body that wasn't decoded
-abbrev pub decode_fault : DecodeFault → ℕ → OpenFault
-decode_fault decode.Damaged slot = Damaged slot
-decode_fault decode.OutOfMemory slot = OutOfMemory
+-- a fault that bytes show: none of the disk, and not that memory ran out
+pub record IsShownByBytes (fault : OpenFault) : Type 0 where
+  pub not_of_disk : fault ≢ opening.DiskFault
+  pub not_of_memory : fault ≢ opening.OutOfMemory

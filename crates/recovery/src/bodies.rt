@@ -8,8 +8,8 @@ ghost use Rattle.checkpoint.specs.{AreSettings, IsSaved, SlotHolds, saved_value}
 ghost use Rattle.recovery.specs.Found.{IsBodyFault};
 ghost use Rattle.checkpoint.specs.{settings_shape};
 
-use crate::OpenFault;
-use crate::fault::{fault_of_body, fault_of_decode};
+use crate::StoreFault;
+use crate::store_fault::{fault_of_body, fault_of_decode};
 use checkpoint::{Saved, StoreSettings, decode, span};
 use slot_disk::{Disk, Slots};
 use std::alloc::Global;
@@ -21,7 +21,7 @@ pub(crate) fn read_slot<D: Disk>(
     slots: &Slots,
     settings: &StoreSettings,
     slot: u8,
-) -> Result<Option<Saved>, OpenFault>
+) -> Result<Option<Saved>, StoreFault>
     requires slot { slot < 2 }
     requires settings { AreSettings settings.now }
     ensures gate { IfOk result (λ held. is_some held ≡ known_slot_open slots.now slot) }
@@ -33,8 +33,8 @@ pub(crate) fn read_slot<D: Disk>(
     ensures unchanged { IsUnchangedAt D.reads D.image_now disk.old disk.new }
     ensures any_moment { CrashLeaves D.moment D.image_since disk.old disk.new (D.image_now disk.old) }
     ensures later { D.faults disk.old ≤ D.faults disk.new }
-    ensures fault { IsErrOf result OpenFault.DiskFault → FaultRose (D.faults disk.old) (D.faults disk.new) }
-    ensures no_fault { (IsErrOf result OpenFault.DiskFault → ⊥) → D.faults disk.new ≡ D.faults disk.old }
+    ensures fault { IsErrOf result StoreFault.DiskFault → FaultRose (D.faults disk.old) (D.faults disk.new) }
+    ensures no_fault { (IsErrOf result StoreFault.DiskFault → ⊥) → D.faults disk.new ≡ D.faults disk.old }
 {
     if !slots.gate(slot) {
         return Ok(None);

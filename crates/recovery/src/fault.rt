@@ -1,11 +1,11 @@
 //! Why a store was not opened.
 
 ghost use Rattle.std.specs.Prelude.{◌≡◌};
-ghost use Rattle.recovery.specs.OpenFault.{begin_fault, body_fault, decode_fault};
+ghost use Rattle.recovery.specs.OpenFault.{open_fault};
 ghost use Rattle.recovery.specs.declared.fault.OpenFault.TheVariants.{OutOfMemory};
 
-use checkpoint::{DecodeFault, StoreSettings};
-use slot_disk::{BeginFault, BodyFault};
+use crate::StoreFault;
+use checkpoint::StoreSettings;
 use std::alloc::AllocError;
 use thiserror::Error;
 
@@ -45,13 +45,18 @@ pub enum OpenFault {
     OutOfMemory,
 }
 
-impl From<BeginFault> for OpenFault {
-    ghost from_gives = { λ begin fault. fault ≡ begin_fault begin };
+impl From<StoreFault> for OpenFault {
+    ghost from_gives = { λ reading fault. fault ≡ open_fault reading };
 
-    fn from(fault: BeginFault) -> OpenFault {
+    fn from(fault: StoreFault) -> OpenFault {
         match fault {
-            BeginFault::DiskFault => OpenFault::DiskFault,
-            BeginFault::TooShort => OpenFault::NotFormatted,
+            StoreFault::DiskFault => OpenFault::DiskFault,
+            StoreFault::NotFormatted => OpenFault::NotFormatted,
+            StoreFault::OtherSettings { stored, asked } => {
+                OpenFault::OtherSettings { stored, asked }
+            }
+            StoreFault::Damaged(slot) => OpenFault::Damaged(slot),
+            StoreFault::OutOfMemory => OpenFault::OutOfMemory,
         }
     }
 }
@@ -61,26 +66,5 @@ impl From<AllocError> for OpenFault {
 
     fn from(_: AllocError) -> OpenFault {
         OpenFault::OutOfMemory
-    }
-}
-
-/// Why a store was not opened whose slot has a body that wasn't read.
-pub(crate) fn fault_of_body(fault: BodyFault, slot: u8) -> OpenFault
-    ensures { result ≡ body_fault fault slot }
-{
-    match fault {
-        BodyFault::DiskFault => OpenFault::DiskFault,
-        BodyFault::Damaged => OpenFault::Damaged(slot),
-        BodyFault::OutOfMemory => OpenFault::OutOfMemory,
-    }
-}
-
-/// Why a store was not opened whose slot has a body that wasn't decoded.
-pub(crate) fn fault_of_decode(fault: DecodeFault, slot: u8) -> OpenFault
-    ensures { result ≡ decode_fault fault slot }
-{
-    match fault {
-        DecodeFault::Damaged => OpenFault::Damaged(slot),
-        DecodeFault::OutOfMemory => OpenFault::OutOfMemory,
     }
 }

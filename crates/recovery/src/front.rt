@@ -6,7 +6,7 @@ ghost use Rattle.slot_disk.specs.{IfImageKnown, CrashLeaves, MatchesKnown};
 ghost use Rattle.checkpoint.specs.{IsHeader, header_bytes};
 ghost use Rattle.recovery.specs.Found.{IsFrontFault, ShowsHeader};
 
-use crate::OpenFault;
+use crate::StoreFault;
 use checkpoint::{StoreHeader, StoreSettings, read_header, stores_show_their_header};
 use slot_disk::{Disk, Slots};
 
@@ -21,7 +21,7 @@ pub(crate) struct Front {
 pub(crate) fn open_front<D: Disk>(
     disk: &mut D,
     settings: &StoreSettings,
-) -> Result<Front, OpenFault>
+) -> Result<Front, StoreFault>
     ensures stands { IfOk result (λ front. MatchesKnown (D.reads disk.new) (D.image_now disk.new) front.slots) }
     ensures is_header { IfOk result (λ front. IsHeader front.header) }
     ensures settings { IfOk result (λ front. front.header.settings ≡ settings.now) }
@@ -31,16 +31,16 @@ pub(crate) fn open_front<D: Disk>(
     ensures reads { D.reads disk.new ≡ D.reads disk.old }
     ensures any_moment { CrashLeaves D.moment D.image_since disk.old disk.new (D.image_now disk.old) }
     ensures later { D.faults disk.old ≤ D.faults disk.new }
-    ensures fault { IsErrOf result OpenFault.DiskFault → FaultRose (D.faults disk.old) (D.faults disk.new) }
-    ensures no_fault { (IsErrOf result OpenFault.DiskFault → ⊥) → D.faults disk.new ≡ D.faults disk.old }
+    ensures fault { IsErrOf result StoreFault.DiskFault → FaultRose (D.faults disk.old) (D.faults disk.new) }
+    ensures no_fault { (IsErrOf result StoreFault.DiskFault → ⊥) → D.faults disk.new ≡ D.faults disk.old }
 {
     stores_show_their_header();
     let slots = Slots::begin(disk)?;
     let Some(header) = read_header(slots.header()) else {
-        return Err(OpenFault::NotFormatted);
+        return Err(StoreFault::NotFormatted);
     };
     if !are_same(&header.settings, settings) {
-        return Err(OpenFault::OtherSettings {
+        return Err(StoreFault::OtherSettings {
             stored: header.settings,
             asked: *settings,
         });

@@ -1,16 +1,15 @@
 //! Opens a store.
 
-ghost use Rattle.std.specs.Prelude.{◌≡◌, ◌≤◌, ◌<◌, ℕ, length, option_map, IfErr, IfOk, IfSome, IsErrOf, Some};
+ghost use Rattle.std.specs.Prelude.{◌≡◌, ◌≤◌, ℕ, length, IfErr, IfOk, IsErrOf};
 ghost use Rattle.outside_io.specs.{FaultRose};
-ghost use Rattle.slot_disk.specs.{IfImageKnown, CrashLeaves, MatchesKnown};
-ghost use Rattle.checkpoint.specs.{AreSettings, IsHeader, IsNewestSave, DiskMatches, header_bytes, saved_in};
-ghost use Rattle.recovery.specs.Reopening.{CanGoOn, RefusesOpening, OpensToBase, base_positions};
-ghost use Rattle.recovery.specs.Found.{HoldsFound, IsFoundFault, ShowsHeader, base_in_parts};
+ghost use Rattle.slot_disk.specs.{IfImageKnown, CrashLeaves};
+ghost use Rattle.checkpoint.specs.{AreSettings, DiskMatches};
+ghost use Rattle.recovery.specs.Reopening.{CanGoOn, RefusesOpening, OpensToBase};
+ghost use Rattle.recovery.specs.Found.{base_in_parts};
 
 use crate::belonging::check_newest;
-use crate::bodies::read_slot;
-use crate::front::{Front, open_front};
-use crate::newest::newest_of;
+use crate::front::Front;
+use crate::reading::find_newest;
 use crate::{OpenFault, Opened};
 use checkpoint::{Newest, Saver, StoreSettings, digest_of};
 use deal_rules::Dealt;
@@ -55,43 +54,6 @@ pub fn reopen<D: Disk>(
         base: into_base(found.newest),
         positions,
         saver,
-    })
-}
-
-/// The gates and the header of a store, and its newest slot.
-#[derive(Drop)]
-pub(crate) struct Found {
-    pub(crate) front: Front,
-    pub(crate) newest: Option<Newest>,
-}
-
-// Finds the newest slot of a store of these settings.
-fn find_newest<D: Disk>(
-    alloc: Global,
-    disk: &mut D,
-    settings: &StoreSettings,
-) -> Result<Found, OpenFault>
-    requires { AreSettings settings.now }
-    ensures stands { IfOk result (λ found. MatchesKnown (D.reads disk.new) (D.image_now disk.new) found.front.slots) }
-    ensures is_header { IfOk result (λ found. IsHeader found.front.header) }
-    ensures settings { IfOk result (λ found. found.front.header.settings ≡ settings.now) }
-    ensures spelled { IfOk result (λ found. found.front.slots.header ≡ header_bytes found.front.header) }
-    ensures shows { IfOk result (λ found. IfImageKnown (D.reads disk.old) (ShowsHeader settings.now found.front.header)) }
-    ensures newest { IfOk result (λ found. IsNewestSave settings.now found.front.slots found.newest) }
-    ensures holds { IfOk result (λ found. IfImageKnown (D.reads disk.old) (HoldsFound found.front.header found.newest)) }
-    ensures refused { IfErr result (λ fault. IfImageKnown (D.reads disk.old) (λ image. IsFoundFault settings.now image fault)) }
-    ensures reads { D.reads disk.new ≡ D.reads disk.old }
-    ensures any_moment { CrashLeaves D.moment D.image_since disk.old disk.new (D.image_now disk.old) }
-    ensures later { D.faults disk.old ≤ D.faults disk.new }
-    ensures fault { IsErrOf result OpenFault.DiskFault → FaultRose (D.faults disk.old) (D.faults disk.new) }
-    ensures no_fault { (IsErrOf result OpenFault.DiskFault → ⊥) → D.faults disk.new ≡ D.faults disk.old }
-{
-    let front = open_front(disk, settings)?;
-    let first = read_slot(alloc, disk, &front.slots, settings, 0)?;
-    let second = read_slot(alloc, disk, &front.slots, settings, 1)?;
-    Ok(Found {
-        front,
-        newest: newest_of(first, second),
     })
 }
 

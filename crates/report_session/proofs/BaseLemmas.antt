@@ -1,10 +1,11 @@
 -- What a run goes on from.
 use Rattle.std.proofs.Common.{◌≡◌, ◌∙◌, ◌≤◌, ◌+◌, ℕ, true, false, List, Option, None, Some}
-use Rattle.std.proofs.Common.{refl, sym, ap, subst, arith, length, map, replicate, inr}
+use Rattle.std.proofs.Common.{refl, sym, ap, subst, arith, length, map, replicate, inl, inr}
 use Rattle.std.proofs.lemmas.Bool.{false≢true}
 use Rattle.slot_disk.specs.{IfImageKnown}
 use Rattle.checkpoint.specs.declared.settings.StoreSettings.{StoreSettings}
 use Rattle.recovery.specs.declared.fault.OpenFault.TheVariants as opening
+use Rattle.recovery.specs.declared.store_fault.StoreFault.TheVariants as reading
 use Rattle.recovery.specs.declared.opened.Opened.{Opened}
 use Rattle.command_words.specs.{AreLimited}
 use Rattle.std.specs.Prelude.{IfSome, is_some}
@@ -119,7 +120,7 @@ no_base settings lists store faults status is = record {
   fault = opening.OutOfMemory;
   status_is = is;
   used = inr refl;
-  refused = λ image known. tt;
+  refused = λ image known. inl (reading.OutOfMemory, refl, tt);
   rose = λ same. cc same;
   kept = λ other. refl;
 }

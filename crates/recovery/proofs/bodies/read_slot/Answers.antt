@@ -2,7 +2,7 @@ use Rattle.std.proofs.Common.{◌≡◌, ◌∙◌, ap, sym, subst, true, ℕ, S
 use Rattle.slot_disk.specs.{known_slot_open, shown_in, slot_body}
 use Rattle.checkpoint.specs.{IsBody, span_of, saved_value}
 use Rattle.recovery.specs.Found.{IsBodyFault}
-use Rattle.recovery.specs.declared.fault.OpenFault.{OpenFault}
+use Rattle.recovery.specs.declared.store_fault.StoreFault.{StoreFault}
 use Rattle.recovery.proofs.OpenSlotLemmas.{open_slot_is_damaged, open_slot_is_known, open_slot_shows_stored}
 use Rattle.recovery.proofs.OpenSlotLemmas.{open_slot_fault_without_body}
 use Rattle.checkpoint.specs.{settings_shape}
@@ -26,7 +26,7 @@ returns-clause-refused g c = λ image is slots.
     let gate : known_slot_open c.args.slots.now c.args.slot ≡ true = search rules in
     let stored : slot_body (span_of c.args.settings.now) c.args.slot image ≡ Some c.in-Ok.body.items =
     subst (λ (n : ℕ). slot_body n c.args.slot image ≡ Some c.in-Ok.body.items) c.span.ensures.span (c.in-Ok.ensures.body image is) in
-    subst (λ (f : OpenFault). IsBodyFault c.args.settings.now c.args.slot image f) (sym c.fault_of_decode.ensures)
+    subst (λ (f : StoreFault). IsBodyFault c.args.settings.now c.args.slot image f) (sym c.fault_of_decode.ensures)
     (open_slot_fault_without_body c.args.settings.now c.args.slot image c.in-Err-decode.fault
     (λ same. open_slot_is_damaged c.args.settings.now c.args.slot image c.in-Ok.body.items
     (open_slot_is_known c.args.slots.now c.args.slot image c.requires.slot slots gate) stored

@@ -1,7 +1,7 @@
 use Rattle.std.proofs.Common.{◌≢◌, ◌∙◌, ap, refl, subst, sym, rules}
 use Rattle.slot_disk.specs.{KnownSlotsState}
 use Rattle.checkpoint.specs.declared.header.StoreHeader.{StoreHeader}
-use Rattle.recovery.specs.Reopening.{HasHeader}
+use Rattle.recovery.specs.Reading.{HasHeader}
 use Rattle.recovery.proofs.front.open_front.Goals as goal
 
 pub returns-then-not-are_same-clause-refused : goal.returns-then-not-are_same-clause-refused

@@ -1,4 +1,4 @@
-use Rattle.std.proofs.Common.{◌≡◌, ◌∙◌, ℕ, List, Option, ap, sym, subst, rules}
+use Rattle.std.proofs.Common.{◌≡◌, ◌∙◌, ℕ, List, Option, inr, ap, sym, subst, rules}
 use Rattle.std.proofs.lemmas.Result.{err_from_is_err_and}
 use Rattle.shard_state.specs.{CutValue}
 use Rattle.checkpoint.specs.declared.header.StoreHeader.{StoreHeader}
@@ -15,12 +15,12 @@ returns-in_err-check_newest-clause-refused g c =
     let p = err_from_is_err_and c.from_residual-in_err-check_newest.result c.from_residual-in_err-check_newest.ensures.1 in
     rw (p.1, p.2) (λ image is.
     let shows = c.in_ok-found.ensures.shows image is in
-    list_fault_of_found_store c.args.settings.now c.args.dealt.now image c.digest_of-digest.result c.in_ok-found.found.newest
+    inr (list_fault_of_found_store c.args.settings.now c.args.dealt.now image c.digest_of-digest.result c.in_ok-found.found.newest
     c.in_err-check_newest.field-0.0
     (subst (λ (h : StoreHeader). HoldsFound h c.in_ok-found.found.newest image) (sym shows.1) (c.in_ok-found.ensures.holds image is))
     (found_store_has_digest c.args.settings.now c.in_ok-found.found.front.header c.args.dealt.now image c.header.result.now
     c.digest_of-digest.result shows (c.header.ensures ∙ c.in_ok-found.ensures.spelled) c.digest_of-digest.ensures)
-    c.in_err-check_newest.ensures.refused)
+    c.in_err-check_newest.ensures.refused))
 
 pub returns-clause-opens : goal.returns-clause-opens
 returns-clause-opens g c = λ image is.

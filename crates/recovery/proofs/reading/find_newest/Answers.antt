@@ -2,7 +2,7 @@ use Rattle.std.proofs.Common.{◌∙◌}
 use Rattle.std.proofs.lemmas.Result.{err_from_is_err_and}
 use Rattle.slot_disk.specs.{CrashLeaves-trans, CrashLeaves-weaker, MatchesKnown-unchanged}
 use Rattle.recovery.proofs.FoundStoreLemmas.{found_store_fault_at_zero, found_store_fault_at_one, found_store_has_header}
-use Rattle.recovery.proofs.reopening.find_newest.Goals as goal
+use Rattle.recovery.proofs.reading.find_newest.Goals as goal
 
 pub returns-in_err-first-clause-refused : goal.returns-in_err-first-clause-refused
 returns-in_err-first-clause-refused g c =
