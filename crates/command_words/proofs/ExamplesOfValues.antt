@@ -17,7 +17,7 @@ use Rattle.command_words.specs.Settings.{SettingValues, settings_in, store_setti
 use Rattle.command_words.specs.Settings.{SetsWeigh, SetsDeal, SetsStore, SetsGrain, SetsFront, GrainFits}
 use Rattle.command_words.specs.Settings.{weigh_word, deal_word, front_word}
 use Rattle.command_words.specs.Settings.{SetsAll, HaveWideShare, AreLimited, GivesNumber}
-use Rattle.command_words.specs.Settings.{GivesTraffic, AreForTraffic}
+use Rattle.command_words.specs.Settings.{GivesTraffic, AreForTraffic, grain_told}
 use Rattle.command_words.specs.Options.{block_limit, workers_limit, callers_limit}
 use Rattle.command_words.specs.Options.{rounds_limit}
 use Rattle.command_words.specs.Values.{AreGood, AreGoodBefore, HaveFitGrain, HaveUnfitGrain, IsFirstBad}
@@ -26,7 +26,7 @@ use Rattle.command_words.specs.Given.{IsBadNumber, IsBadChoice, SetsGiven}
 use Rattle.command_words.specs.declared.command_word.CommandWord.TheVariants as command
 use Rattle.command_words.specs.declared.opt.Opt.{Opt}
 use Rattle.command_words.specs.declared.opt.Opt.TheVariants.{Seed, Frames, Weigh, Shards, Capacity, Phi, Deal}
-use Rattle.command_words.specs.declared.opt.Opt.TheVariants.{Block, Workers, Callers, Rounds, Bits, Front}
+use Rattle.command_words.specs.declared.opt.Opt.TheVariants.{Block, Workers, Callers, Rounds, Bits, Front, Limit}
 use Rattle.command_words.specs.declared.settings.Settings.{Settings}
 use Rattle.command_words.specs.declared.words_kind.WordsKind.TheVariants.{BadNumber, OutOfLimits, BadChoice}
 use Rattle.command_words.proofs.TextSearchLemmas.{text_search_finds_contained, text_search_finds_none}
@@ -117,6 +117,7 @@ good_before_shards Callers before = absurd (omega (arith, before))
 good_before_shards Rounds before = absurd (omega (arith, before))
 good_before_shards Bits before = absurd (omega (arith, before))
 good_before_shards Front before = absurd (omega (arith, before))
+good_before_shards Limit before = absurd (omega (arith, before))
 
 pub shards_are_the_first_bad : IsFirstBad IsOutside two_bad_values Shards
 shards_are_the_first_bad = record {
@@ -329,11 +330,12 @@ traffic_is_good Callers = tt
 traffic_is_good Rounds = tt
 traffic_is_good Bits = tt
 traffic_is_good Front = tt
+traffic_is_good Limit = tt
 
 pub nothing_gives_the_defaults : SetsGiven (settings_in command.Report []) (store_setting [])
-    (record { seed = 0; frames = 1; settings = defaults })
+    (record { seed = 0; frames = 1; settings = defaults; limit = 1; some_limit = omega arith })
 nothing_gives_the_defaults =
-    record { seed_set = refl; frames_set = refl; settings_set = nothing_sets_the_defaults }
+    record { seed_set = refl; frames_set = refl; settings_set = nothing_sets_the_defaults; limit_set = refl }
 
 -- ---- the grain
 
@@ -434,6 +436,7 @@ good_before_the_grain Callers before = tt
 good_before_the_grain Rounds before = tt
 good_before_the_grain Bits before = absurd (omega (arith, before))
 good_before_the_grain Front before = absurd (omega (arith, before))
+good_before_the_grain Limit before = absurd (omega (arith, before))
 
 pub values_before_the_grain_are_good : AreGoodBefore large_tables_by_half_bytes (place_of Bits)
 values_before_the_grain_are_good = record { good = good_before_the_grain; fits = λ behind. absurd (omega (arith, behind)) }
@@ -460,21 +463,6 @@ front_is_not_the_fault_behind_the_grain fault = no_fit_grain_for_tables_of_1025 
 
 -- ---- captures that end inside a frame
 
-pub front_is_looked_at_last : (other : Opt) → place_of Front < place_of other → ⊥
-front_is_looked_at_last Seed behind = omega (arith, behind)
-front_is_looked_at_last Frames behind = omega (arith, behind)
-front_is_looked_at_last Weigh behind = omega (arith, behind)
-front_is_looked_at_last Shards behind = omega (arith, behind)
-front_is_looked_at_last Capacity behind = omega (arith, behind)
-front_is_looked_at_last Phi behind = omega (arith, behind)
-front_is_looked_at_last Deal behind = omega (arith, behind)
-front_is_looked_at_last Block behind = omega (arith, behind)
-front_is_looked_at_last Workers behind = omega (arith, behind)
-front_is_looked_at_last Callers behind = omega (arith, behind)
-front_is_looked_at_last Rounds behind = omega (arith, behind)
-front_is_looked_at_last Bits behind = omega (arith, behind)
-front_is_looked_at_last Front behind = omega (arith, behind)
-
 pub words_for_the_front : kind_of Front ≡ choice (front_word false) (front_word true ∷ [])
 words_for_the_front = refl
 
@@ -486,3 +474,40 @@ front_by_its_word = refl
 
 pub no_front_by_maybe : IsNoChoice (kind_of Front) (codes "maybe")
 no_front_by_maybe = text_search_finds_none (codes "no" ∷ codes "yes" ∷ []) (codes "maybe") refl
+
+-- ---- the limit of a watch
+
+pub limit_is_looked_at_last : (other : Opt) → place_of Limit < place_of other → ⊥
+limit_is_looked_at_last Seed behind = omega (arith, behind)
+limit_is_looked_at_last Frames behind = omega (arith, behind)
+limit_is_looked_at_last Weigh behind = omega (arith, behind)
+limit_is_looked_at_last Shards behind = omega (arith, behind)
+limit_is_looked_at_last Capacity behind = omega (arith, behind)
+limit_is_looked_at_last Phi behind = omega (arith, behind)
+limit_is_looked_at_last Deal behind = omega (arith, behind)
+limit_is_looked_at_last Block behind = omega (arith, behind)
+limit_is_looked_at_last Workers behind = omega (arith, behind)
+limit_is_looked_at_last Callers behind = omega (arith, behind)
+limit_is_looked_at_last Rounds behind = omega (arith, behind)
+limit_is_looked_at_last Bits behind = omega (arith, behind)
+limit_is_looked_at_last Front behind = omega (arith, behind)
+limit_is_looked_at_last Limit behind = omega (arith, behind)
+
+pub greatest_limit_is_good : IsGood Limit (Some (codes "18446744073709551615"))
+unfolding digits
+greatest_limit_is_good =
+    (18446744073709551615, record { spelled = refl; bounded = omega arith }, (omega arith, omega arith))
+
+pub no_limit_of_0 : IsOutside (kind_of Limit) (codes "0")
+unfolding digits
+no_limit_of_0 = (0, record { spelled = refl; bounded = omega arith }, inl (omega arith))
+
+-- a grain is told by the text of its number alone
+pub grain_told_by_4 : grain_told (Some (codes "4")) ≡ Nibble
+grain_told_by_4 = refl
+
+pub grain_told_by_04 : grain_told (Some (codes "04")) ≡ Byte
+grain_told_by_04 = refl
+
+pub grain_told_by_default : grain_told None ≡ Byte
+grain_told_by_default = refl

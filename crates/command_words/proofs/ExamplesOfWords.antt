@@ -25,12 +25,12 @@ use Rattle.command_words.specs.Command.{HasSides, AskToWeigh, AskToReport, AskTo
 use Rattle.command_words.specs.Command.{AskToAudit, AskForCommand, IsLimitedCommand}
 use Rattle.command_words.specs.Command.{AskToMake, AskToDemo}
 use Rattle.command_words.specs.Values.{AreGood}
-use Rattle.command_words.specs.Command.{HasPositionals, IsBounded}
+use Rattle.command_words.specs.Command.{HasGoodPrefix, IsBounded}
 use Rattle.command_words.specs.WordsRefusal.{HasBadPrefix, HasBadValue, HasNarrowTables, HasWordsFault}
 use Rattle.command_words.specs.Options.{place_of, IsGood}
 use Rattle.command_words.specs.declared.command.Command.TheVariants as command
 use Rattle.command_words.specs.declared.command_word.CommandWord.{CommandWord}
-use Rattle.command_words.specs.declared.command_word.CommandWord.TheVariants.{Weigh, Report, Format, Audit, Make, Demo}
+use Rattle.command_words.specs.declared.command_word.CommandWord.TheVariants.{Weigh, Report, Format, Audit, Make, Demo, Watch}
 use Rattle.command_words.specs.declared.opt.Opt.{Opt}
 use Rattle.command_words.specs.declared.opt.Opt.TheVariants as opt
 use Rattle.command_words.specs.declared.settings.Settings.{Settings}
@@ -61,7 +61,7 @@ weigh_line = codes "weigh" ∷ words
 pub words_of_a_command : AreWords weigh_line Weigh arguments
 words_of_a_command = record { behind = words; begun = refl; well_formed = words_of_weigh }
 
-pub sides_of_the_prefix : HasSides arguments (codes "10.0.0.0/8") (codes "20.0.0.0/8")
+pub sides_of_the_prefix : HasSides Weigh arguments (codes "10.0.0.0/8") (codes "20.0.0.0/8")
 sides_of_the_prefix = refl
 
 -- 10.0.0.0/8 20.0.0.0/8
@@ -106,11 +106,17 @@ asks_for_a_weight = record {
 pub asks_for_the_command : AskForCommand weigh_line (command.Weigh prefix by_packets)
 asks_for_the_command = asks_for_a_weight
 
-pub good_positionals : HasPositionals Weigh arguments
-good_positionals = (codes "10.0.0.0/8", codes "20.0.0.0/8", sides_of_the_prefix, (prefix, prefix_is_spelled))
+pub good_prefix_of_weigh : HasGoodPrefix Weigh arguments
+good_prefix_of_weigh = record {
+  source = codes "10.0.0.0/8";
+  dest = codes "20.0.0.0/8";
+  sides = sides_of_the_prefix;
+  prefix = prefix;
+  spelled = prefix_is_spelled;
+}
 
-pub report_has_no_positionals : HasPositionals Report []
-report_has_no_positionals = tt
+pub report_has_no_prefix : HasGoodPrefix Report []
+report_has_no_prefix = tt
 
 -- `weigh` has a capture, and no store
 pub capture_that_is_named : NamesPaths weigh_line (record { capture = codes "a.pcap"; report = []; store = [] })
@@ -368,6 +374,7 @@ way_is_no_command Format = text_search_tells_apart (codes "way") (codes "format"
 way_is_no_command Audit = text_search_tells_apart (codes "way") (codes "audit") refl
 way_is_no_command Make = text_search_tells_apart (codes "way") (codes "make") refl
 way_is_no_command Demo = text_search_tells_apart (codes "way") (codes "demo") refl
+way_is_no_command Watch = text_search_tells_apart (codes "way") (codes "watch") refl
 
 pub unknown_command : HasWordsFault (codes "way" ∷ []) UnknownCommand
 unknown_command = (codes "way", [], refl, way_is_no_command)
@@ -399,6 +406,7 @@ loose_words_are_spelled = (
 pub bits_past_the_length : HasBadPrefix (codes "weigh" ∷ loose_words) (LooseBits Source)
 unfolding digits
 bits_past_the_length = record {
+  command = Weigh;
   arguments = loose_arguments;
   are_words = record {
     behind = loose_words;
@@ -503,6 +511,7 @@ good_before_bits opt.Callers before = tt
 good_before_bits opt.Rounds before = tt
 good_before_bits opt.Bits before = absurd (omega (arith, before))
 good_before_bits opt.Front before = absurd (omega (arith, before))
+good_before_bits opt.Limit before = absurd (omega (arith, before))
 
 pub five_bits_are_the_fault : HasWordsFault (codes "report" ∷ codes "--bits=5" ∷ []) (OutOfLimits opt.Bits)
 five_bits_are_the_fault = record {
@@ -511,7 +520,7 @@ five_bits_are_the_fault = record {
   are_words =
       one_option_of_report (codes "bits") (codes "5") (text_search_shows_name (codes "bits") refl)
       (λ same. omega (arith, same)) (option_of Report (codes "bits") refl);
-  positionals = tt;
+  good_prefix = tt;
   has_fault =
       inl (record {
         before = record { good = good_before_bits; fits = λ behind. absurd (omega (arith, behind)) };
@@ -562,6 +571,7 @@ good_before_front opt.Callers before = tt
 good_before_front opt.Rounds before = tt
 good_before_front opt.Bits before = tt
 good_before_front opt.Front before = absurd (omega (arith, before))
+good_before_front opt.Limit before = absurd (omega (arith, before))
 
 pub maybe_is_the_fault : HasWordsFault (codes "report" ∷ codes "--front=maybe" ∷ []) (BadChoice opt.Front)
 maybe_is_the_fault = record {
@@ -570,7 +580,7 @@ maybe_is_the_fault = record {
   are_words =
       one_option_of_report (codes "front") (codes "maybe") (text_search_shows_name (codes "front") refl)
       (λ same. omega (arith, same)) (option_of Report (codes "front") refl);
-  positionals = tt;
+  good_prefix = tt;
   has_fault = record {
     before = record {
       good = good_before_front;
@@ -615,13 +625,14 @@ good_before_shards opt.Callers before = tt
 good_before_shards opt.Rounds before = tt
 good_before_shards opt.Bits before = tt
 good_before_shards opt.Front before = tt
+good_before_shards opt.Limit before = tt
 
 pub more_shards_than_there_may_be : HasBadValue (codes "report" ∷ codes "--shards=17" ∷ []) (OutOfLimits opt.Shards)
 more_shards_than_there_may_be = record {
   command = Report;
   arguments = many_shards;
   are_words = words_for_many_shards;
-  positionals = tt;
+  good_prefix = tt;
   has_fault =
       inl (record {
         before = record { good = good_before_shards; fits = λ behind. absurd (omega (arith, behind)) };
@@ -691,6 +702,7 @@ narrow_values_are_good opt.Callers = tt
 narrow_values_are_good opt.Rounds = tt
 narrow_values_are_good opt.Bits = tt
 narrow_values_are_good opt.Front = tt
+narrow_values_are_good opt.Limit = tt
 
 pub tables_are_too_narrow : HasNarrowTables (codes "report" ∷ narrow_words)
 unfolding digits
@@ -820,13 +832,14 @@ good_before_frames opt.Callers before = tt
 good_before_frames opt.Rounds before = tt
 good_before_frames opt.Bits before = tt
 good_before_frames opt.Front before = tt
+good_before_frames opt.Limit before = tt
 
 pub no_frame_is_the_fault : HasWordsFault (codes "make" ∷ codes "7" ∷ codes "0" ∷ []) (OutOfLimits opt.Frames)
 no_frame_is_the_fault = record {
   command = Make;
   arguments = no_frame;
   are_words = two_numbers Make (codes "0") (λ same. omega (arith, same)) refl refl;
-  positionals = tt;
+  good_prefix = tt;
   has_fault =
       inl (record {
         before = record { good = good_before_frames; fits = λ behind. absurd (omega (arith, behind)) };

@@ -13,9 +13,12 @@ pub mod OneValueFaultLemmas
 pub mod GivenLemmas
 pub mod OneMeaningLemmas
 pub mod MatchLemmas
+pub mod LeadingOptionLemmas
+pub mod OptionFaultLemmas
 pub mod FirstWordLemmas
 pub mod LimitLemmas
 pub mod Examples
 pub mod ExamplesOfValues
 pub mod ExamplesOfWords
+pub mod ExamplesOfWatch
 pub mod ExamplesOfParser

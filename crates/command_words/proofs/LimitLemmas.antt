@@ -2,6 +2,8 @@
 use Rattle.std.proofs.Common.{◌≡◌, ◌<◌, ◌≤◌, ◌^◌, ℕ, List, Option, Some, None, false, codes, refl, sym, subst, arith}
 use Rattle.std.specs.List.{list_any}
 use Rattle.std.specs.Str.{bytes_eq}
+use Rattle.prefix_lattice.specs.{IsPrefix, PrefixValue, SpellsPrefix}
+use Rattle.prefix_lattice.specs.declared.grain.Grain.{Grain}
 use Rattle.prefix_lattice.specs.declared.grain.Grain.TheVariants.{Byte}
 use Rattle.command_words.specs.Arguments.{ArgumentText, Argument, AreOfForm}
 use Rattle.command_words.specs.FormNames.{form_of}
@@ -12,10 +14,10 @@ use Rattle.command_words.specs.Settings.{GivesTraffic, AreLimited}
 use Rattle.command_words.specs.Settings.{AreForTraffic}
 use Rattle.command_words.specs.Command.{AskForCommand, IsLimitedCommand}
 use Rattle.command_words.specs.declared.command.Command.{Command}
-use Rattle.command_words.specs.declared.command.Command.TheVariants.{Weigh, Report, Format, Audit, Make, Demo}
+use Rattle.command_words.specs.declared.command.Command.TheVariants.{Weigh, Report, Format, Audit, Make, Demo, Watch}
 use Rattle.command_words.specs.declared.opt.Opt.{Opt}
 use Rattle.command_words.specs.declared.opt.Opt.TheVariants.{Seed, Frames, Shards, Capacity, Phi, Block, Workers}
-use Rattle.command_words.specs.declared.opt.Opt.TheVariants.{Callers, Rounds, Bits}
+use Rattle.command_words.specs.declared.opt.Opt.TheVariants.{Callers, Rounds, Bits, Limit}
 use Rattle.command_words.specs.declared.settings.Settings.{Settings}
 use Rattle.command_words.specs.declared.command_word.CommandWord.{CommandWord}
 use Rattle.command_words.specs.declared.command_word.CommandWord.TheVariants.{Weigh as WeighWord}
@@ -94,17 +96,22 @@ settings_without_bits_are_in_limits word arguments settings of_form apart lacks 
     one_value_sets_one_grain None settings.grain Byte
     (subst (λ told. SetsGrain told settings.grain) (not_given_outside_form word arguments Bits of_form apart lacks) set.grain) refl
 
+-- a prefix that two texts spell is of its grain
+spelled_prefix_is_in_limits : {grain : Grain} {source dest : ArgumentText} {prefix : PrefixValue} → SpellsPrefix grain source dest prefix
+    → IsPrefix grain prefix
+spelled_prefix_is_in_limits spelled = record {
+  source = spelled.source.leading;
+  dest = spelled.dest.leading;
+  source_steps = spelled.source.steps;
+  dest_steps = spelled.dest.steps;
+}
+
 -- so the settings of what is asked for are
 pub asked_command_is_in_limits : (words : List ArgumentText) (command : Command) → AskForCommand words command → IsLimitedCommand command
 asked_command_is_in_limits words (Weigh prefix settings) asked = (
   set_settings_are_in_limits _ _ settings asked.set,
   settings_without_bits_are_in_limits WeighWord asked.arguments settings asked.are_words.well_formed.of_form refl refl asked.set,
-  record {
-    source = asked.spelled.source.leading;
-    dest = asked.spelled.dest.leading;
-    source_steps = asked.spelled.source.steps;
-    dest_steps = asked.spelled.dest.steps;
-  },
+  spelled_prefix_is_in_limits asked.spelled,
 )
 asked_command_is_in_limits words (Report settings) asked = (set_settings_are_in_limits _ _ settings asked.set, asked.wide)
 asked_command_is_in_limits words (Format settings) asked = set_settings_are_in_limits _ _ settings asked.set
@@ -112,3 +119,8 @@ asked_command_is_in_limits words (Audit settings) asked = (set_settings_are_in_l
 asked_command_is_in_limits words (Make seed frames) asked = given_traffic_is_in_limits _ seed frames asked.made
 asked_command_is_in_limits words (Demo seed frames settings) asked =
     (given_traffic_is_in_limits _ seed frames asked.made, set_settings_are_in_limits _ _ settings asked.set, asked.wide)
+asked_command_is_in_limits words (Watch rule grain) asked = (
+  rule.some,
+  given_number_has_limit Limit _ rule.limit asked.limit_given,
+  spelled_prefix_is_in_limits asked.spelled,
+)

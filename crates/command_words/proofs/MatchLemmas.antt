@@ -1,34 +1,40 @@
 -- What `clap` finds in words is what the words say.
 use Rattle.std.proofs.Common.{◌≡◌, ◌<◌, ◌≤◌, ℕ, zero, suc, List, [], ◌∷◌, length, Option, Some, None, Bor, refl, sym}
 use Rattle.std.proofs.Common.{ap}
-use Rattle.std.proofs.Common.{ap₂, ◌∙◌, subst, arith, codes, slice_index_or}
+use Rattle.std.proofs.Common.{ap₂, ◌∙◌, subst, arith, codes, slice_index_or, Bool, true, false, true≢false}
+use Rattle.std.specs.Str.{bytes_eq}
+use Rattle.prefix_lattice.specs.{SpellsPrefix}
+use Rattle.watch_rules.specs.declared.rule.Rule.{Rule}
 use Rattle.std.proofs.Math.Path.{fun_ext}
 use Rattle.std.specs.Prelude.{slice_get, Contains, IsSome, unwrap_or}
 use Rattle.clap.specs.Words.{found_of, first_value}
 use Rattle.clap.specs.declared.parser.matches.ArgMatches.{ArgMatches}
 use Rattle.command_words.specs.Arguments.{ArgumentText, Argument, ArgumentForm, positionals_in}
-use Rattle.command_words.specs.Arguments.{value_of}
+use Rattle.command_words.specs.Arguments.{positional, option, value_of, named, names_in}
 use Rattle.command_words.specs.Scanning.{text_at}
 use Rattle.command_words.specs.FormNames.{form_of}
 use Rattle.command_words.specs.Options.{name_of}
-use Rattle.command_words.specs.Settings.{settings_in, store_setting, SetsNumber, SetsAll}
+use Rattle.command_words.specs.Settings.{SettingValues, settings_in, store_setting, SetsNumber, SetsAll, SetsGrain, grain_told}
 use Rattle.command_words.specs.Settings.{GivesNumber, GivesTraffic}
 use Rattle.command_words.specs.Settings.{HaveWideShare}
-use Rattle.command_words.specs.Given.{SetsGiven}
+use Rattle.command_words.specs.Given.{SetsGiven, IsBadPrefix}
 use Rattle.command_words.specs.Matches.{AreMatchesOf, MatchWords, values_in, store_in}
 use Rattle.command_words.specs.PathTexts.{NamesPath}
 use Rattle.command_words.specs.Values.{AreGood, HasValueFault}
-use Rattle.command_words.specs.Command.{HasSides, HasPositionals}
+use Rattle.command_words.specs.Command.{HasSides, HasGoodPrefix, prefix_grain, whole_side}
 use Rattle.command_words.specs.WordsRefusal.{HasWordsFault}
-use Rattle.command_words.specs.Command.{AskToMake, AskToDemo, IsBounded}
+use Rattle.command_words.specs.Command.{AskToMake, AskToDemo, AskToWatch, IsBounded}
 use Rattle.command_words.specs.declared.command_word.CommandWord.{CommandWord}
-use Rattle.command_words.specs.declared.command_word.CommandWord.TheVariants.{Weigh, Report, Format, Audit, Make, Demo}
+use Rattle.command_words.specs.declared.command_word.CommandWord.TheVariants.{Weigh, Report, Format, Audit, Make, Demo, Watch}
 use Rattle.command_words.specs.declared.opt.Opt.{Opt}
 use Rattle.command_words.specs.declared.settings.Settings.{Settings}
-use Rattle.command_words.specs.declared.values.Given.{Given}
+use Rattle.command_words.specs.declared.given.Given.{Given}
 use Rattle.command_words.specs.declared.words_kind.WordsKind.{WordsKind}
-use Rattle.command_words.specs.declared.words_kind.WordsKind.TheVariants.{BadNumber, OutOfLimits, BadChoice, Bound}
+use Rattle.command_words.specs.declared.words_kind.WordsKind.TheVariants.{BadNumber, OutOfLimits, BadChoice, Bound, BadPrefix}
+use Rattle.command_words.specs.declared.opt.Opt.TheVariants.{Bits, Limit}
 use Rattle.command_words.specs.declared.opt.Opt.TheVariants as opt
+use Rattle.command_words.proofs.MatchRowLemmas.{match_row_name_is_same}
+use Rattle.command_words.proofs.OneValueFaultLemmas.{grain_of_one_value_is_told}
 
 -- the first byte of a name; the name of a positional begins with a capital letter, which is at most 90
 abbrev pub match_name_first_byte : ArgumentText → ℕ
@@ -53,6 +59,7 @@ match_name_is_no_positional Format name small has = omega (arith, has.1)
 match_name_is_no_positional Audit name small has = omega (arith, has.1)
 match_name_is_no_positional Make name small has = small_match_name_is_neither (codes "SEED") (codes "FRAMES") name small has (omega arith) (omega arith)
 match_name_is_no_positional Demo name small has = small_match_name_is_neither (codes "SEED") (codes "FRAMES") name small has (omega arith) (omega arith)
+match_name_is_no_positional Watch name small has = omega (arith, has.1)
 
 -- the values that matches hold are those of the arguments
 pub matches_tell_values : (word : CommandWord) (arguments : List Argument) (matches : ArgMatches)
@@ -96,7 +103,7 @@ matches_tell_settings word arguments matches settings told set =
 
 -- the first fault of the values that matches hold is the fault of the words, if their positionals are good
 pub matches_tell_fault : (words : List ArgumentText) (word : CommandWord) (matches : ArgMatches)
-    (tells : MatchWords words word matches) (kind : WordsKind) → HasPositionals word tells.arguments
+    (tells : MatchWords words word matches) (kind : WordsKind) → HasGoodPrefix word tells.arguments
     → HasValueFault (values_in matches) kind → HasWordsFault words kind
 matches_tell_fault words word matches tells kind good has =
     go kind
@@ -107,24 +114,39 @@ matches_tell_fault words word matches tells kind good has =
       command = word;
       arguments = tells.arguments;
       are_words = tells.are_words;
-      positionals = good;
+      good_prefix = good;
       has_fault = fault;
     }
     go (OutOfLimits at) fault = record {
       command = word;
       arguments = tells.arguments;
       are_words = tells.are_words;
-      positionals = good;
+      good_prefix = good;
       has_fault = fault;
     }
     go (BadChoice at) fault = record {
       command = word;
       arguments = tells.arguments;
       are_words = tells.are_words;
-      positionals = good;
+      good_prefix = good;
       has_fault = fault;
     }
     go _ fault = absurd fault
+
+-- a fault of the two sides that the arguments have is the fault of the words
+pub matches_tell_bad_prefix : (words : List ArgumentText) (word : CommandWord) (matches : ArgMatches)
+    (tells : MatchWords words word matches) (source dest : ArgumentText) (kind : WordsKind) → HasSides word tells.arguments source dest
+    → IsBadPrefix (prefix_grain word tells.arguments) source dest kind → HasWordsFault words kind
+matches_tell_bad_prefix words word matches tells source dest (BadPrefix fault) sides has = record {
+  command = word;
+  arguments = tells.arguments;
+  are_words = tells.are_words;
+  source = source;
+  dest = dest;
+  sides = sides;
+  has_fault = has;
+}
+matches_tell_bad_prefix words word matches tells source dest _ sides has = absurd has
 
 -- if matches give settings whose tables are too small for their share, that is the fault of the words
 pub matches_tell_narrow_settings : (words : List ArgumentText) (word : CommandWord) (matches : ArgMatches)
@@ -240,13 +262,84 @@ pub matches_found_are_sides : (words : List ArgumentText) (matches : ArgMatches)
     (found_source found_dest : Option (Bor ArgumentText)) (source dest : Bor ArgumentText)
     → text_at found_source ≡ first_value (found_of matches) (codes "SRC")
     → text_at found_dest ≡ first_value (found_of matches) (codes "DST")
-    → found_source ≡ Some source → found_dest ≡ Some dest → (source_text dest_text : ArgumentText)
-    → source_text ≡ source.now → dest_text ≡ dest.now
-    → HasSides tells.arguments source_text dest_text
-matches_found_are_sides words matches tells found_source found_dest source dest source_is dest_is source_found dest_found
-    source_text dest_text same_source same_dest =
+    → found_source ≡ Some source → found_dest ≡ Some dest → HasSides Weigh tells.arguments source.now dest.now
+matches_found_are_sides words matches tells found_source found_dest source dest source_is dest_is source_found dest_found =
     let told = matches_tell_sides tells.arguments matches tells.are_words.well_formed.of_form.as_many tells.told in
     told.are
     ∙ ap₂ (λ s d. s ∷ d ∷ [])
-    (sym (same_source ∙ match_found_is_told found_source _ told.first source source_is told.first_told source_found))
-    (sym (same_dest ∙ match_found_is_told found_dest _ told.second dest dest_is told.second_told dest_found))
+    (sym (match_found_is_told found_source _ told.first source source_is told.first_told source_found))
+    (sym (match_found_is_told found_dest _ told.second dest dest_is told.second_told dest_found))
+
+-- the sides of the prefix of a rule that are read from matches are those that the arguments give
+pub matches_tell_sides_of_rule : (words : List ArgumentText) (matches : ArgMatches) (tells : MatchWords words Watch matches)
+    (source dest : ArgumentText) → source ≡ unwrap_or (first_value (found_of matches) (codes "src")) whole_side
+    → dest ≡ unwrap_or (first_value (found_of matches) (codes "dst")) whole_side → HasSides Watch tells.arguments source dest
+matches_tell_sides_of_rule words matches tells source dest source_is dest_is = (
+  source_is
+      ∙ ap (λ value. unwrap_or value whole_side)
+      (matches_tell_path Watch tells.arguments matches (codes "src") tells.told (omega arith)),
+  dest_is
+      ∙ ap (λ value. unwrap_or value whole_side)
+      (matches_tell_path Watch tells.arguments matches (codes "dst") tells.told (omega arith)),
+)
+
+-- and so is the grain by which they are checked
+pub matches_tell_grain : (words : List ArgumentText) (matches : ArgMatches) (tells : MatchWords words Watch matches)
+    → grain_told (values_in matches Bits) ≡ prefix_grain Watch tells.arguments
+matches_tell_grain words matches tells =
+    ap (λ values. grain_told (values Bits)) (matches_tell_values Watch tells.arguments matches tells.told)
+
+-- an option that a form requires has a value
+match_of_required_option : (arguments : List Argument) (name : ArgumentText) → Contains (names_in arguments) name
+    → (text : ArgumentText) × (value_of name (named [] arguments) ≡ Some text)
+match_of_required_option [] name has = absurd (omega (arith, has.1))
+match_of_required_option (positional text ∷ arguments) name has = match_of_required_option arguments name has
+match_of_required_option (option other value ∷ arguments) name has =
+    go (match_of_required_option arguments name) (bytes_eq other name) refl
+  where
+    behind : bytes_eq other name ≡ false → (place : ℕ) → place < suc (length (names_in arguments))
+        → slice_index_or (other ∷ names_in arguments) place name ≡ name → Contains (names_in arguments) name
+    behind is zero below same = absurd (true≢false (sym (match_row_name_is_same other) ∙ ap (bytes_eq other) same ∙ is))
+    behind is (suc place) below same = (place, omega (arith, below), same)
+
+    go : (Contains (names_in arguments) name → (text : ArgumentText) × (value_of name (named [] arguments) ≡ Some text))
+        → (b : Bool) → bytes_eq other name ≡ b
+        → (text : ArgumentText) × (value_of name (named [] (option other value ∷ arguments)) ≡ Some text)
+    go rest true is = (value, rw is refl)
+    go rest false is =
+        let found = rest (behind is has.0 has.1 has.2) in (found.0, rw is found.1)
+
+-- the words of `watch` ask for the alarms of a rule
+pub matches_tell_watch : (words : List ArgumentText) (matches : ArgMatches) (tells : MatchWords words Watch matches)
+    (given : Given) (source dest : ArgumentText) (rule : Rule) → HasSides Watch tells.arguments source dest
+    → SpellsPrefix (prefix_grain Watch tells.arguments) source dest rule.prefix → given.limit ≡ rule.limit
+    → SetsGiven (values_in matches) (store_in matches) given → AskToWatch words rule given.settings.grain
+matches_tell_watch words matches tells given source dest rule sides spelled same sets = record {
+  arguments = tells.arguments;
+  are_words = tells.are_words;
+  source = source;
+  dest = dest;
+  sides = sides;
+  spelled =
+      subst (λ grain. SpellsPrefix grain source dest rule.prefix)
+      (grain_of_one_value_is_told (values Bits) given.settings.grain grain_set) spelled;
+  limit_given =
+      subst (GivesNumber Limit (values Limit)) same
+      (match_sets_given_number Limit (values Limit) text.0 given.limit text.1
+      (subst (λ v. SetsNumber Limit (v Limit) given.limit) same_values sets.limit_set));
+  grain_set = grain_set;
+}
+  where
+    values : SettingValues
+    values = settings_in Watch tells.arguments
+
+    same_values : values_in matches ≡ values
+    same_values = matches_tell_values Watch tells.arguments matches tells.told
+
+    grain_set : SetsGrain (values Bits) given.settings.grain
+    grain_set = subst (λ v. SetsGrain (v Bits) given.settings.grain) same_values sets.settings_set.grain
+
+    text : (text : ArgumentText) × (values Limit ≡ Some text)
+    text =
+        match_of_required_option tells.arguments (codes "limit")
+        (tells.are_words.well_formed.of_form.complete 1 [] (omega arith))

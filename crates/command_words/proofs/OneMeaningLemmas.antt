@@ -1,9 +1,10 @@
 -- Words ask for at most one command, or have at most one fault, and never both.
 use Rattle.std.proofs.Common.{◌≡◌, ◌≢◌, ◌⊎◌, inl, inr, ◌==◌, cond, Option, List, [], ◌∷◌, Ok}
 use Rattle.std.proofs.Common.{Err}
-use Rattle.std.proofs.Common.{Result, refl, sym, ap, ap₂, ◌∙◌, subst}
+use Rattle.std.proofs.Common.{Result, refl, sym, ap, ap₂, ◌∙◌, subst, arith}
 use Rattle.std.specs.Result.{IfOk, IsOk}
 use Rattle.prefix_lattice.specs.{PrefixValue, SpellsPrefix, HasPrefixFault}
+use Rattle.prefix_lattice.specs.declared.grain.Grain.{Grain}
 use Rattle.prefix_lattice.specs.declared.grain.Grain.TheVariants.{Byte}
 use Rattle.prefix_lattice.specs.declared.prefix_fault.PrefixFault.{PrefixFault}
 use Rattle.command_words.specs.Arguments.{ArgumentText, Argument, SpellAll, AreWellFormed}
@@ -11,16 +12,17 @@ use Rattle.command_words.specs.FormNames.{word_of, form_of, AreWords}
 use Rattle.command_words.specs.Given.{SetsGiven}
 use Rattle.command_words.specs.Settings.{SettingValues, SetsAll}
 use Rattle.command_words.specs.Settings.{settings_in, store_setting, HaveWideShare}
-use Rattle.command_words.specs.Command.{AskForCommand, HasSides, HasPositionals}
+use Rattle.command_words.specs.Command.{AskForCommand, HasSides, prefix_grain, HasGoodPrefix}
 use Rattle.command_words.specs.Values.{HasValueFault}
-use Rattle.command_words.specs.WordsRefusal.{HasBadValue, HasWordsFault}
+use Rattle.command_words.specs.WordsRefusal.{HasBadPrefix, HasBadValue, HasWordsFault}
 use Rattle.command_words.specs.Values.{AreGood}
 use Rattle.command_words.specs.Command.{IsBounded}
 use Rattle.command_words.specs.declared.command.Command.{Command}
 use Rattle.command_words.specs.declared.command_word.CommandWord.{CommandWord}
-use Rattle.command_words.specs.declared.command_word.CommandWord.TheVariants.{Weigh, Report, Format, Audit, Make, Demo}
+use Rattle.command_words.specs.declared.opt.Opt.TheVariants.{Bits}
+use Rattle.command_words.specs.declared.command_word.CommandWord.TheVariants.{Weigh, Report, Format, Audit, Make, Demo, Watch}
 use Rattle.command_words.specs.declared.settings.Settings.{Settings}
-use Rattle.command_words.specs.declared.values.Given.{Given}
+use Rattle.command_words.specs.declared.given.Given.{Given}
 use Rattle.command_words.specs.declared.words_kind.WordsKind.{WordsKind}
 use Rattle.command_words.specs.declared.words_kind.WordsKind.TheVariants.{NoCommand, UnknownCommand, Refused}
 use Rattle.command_words.specs.declared.words_kind.WordsKind.TheVariants.{BadPrefix, BadNumber, OutOfLimits}
@@ -28,32 +30,33 @@ use Rattle.command_words.specs.declared.words_kind.WordsKind.TheVariants.{BadCho
 use Rattle.command_words.specs.declared.words_kind.WordsRefusal.{WordsRefusal}
 use Rattle.command_words.specs.declared.words_kind.WordsRefusal.TheVariants.{Bad, OutOfMemory}
 use Rattle.command_words.proofs.GivenLemmas.{given_settings_alone, default_given_settings, settings_given}
-use Rattle.command_words.proofs.GivenLemmas.{make_is_given_no_settings, traffic_given}
+use Rattle.command_words.proofs.GivenLemmas.{make_is_given_no_settings, traffic_given, watch_given}
 use Rattle.command_words.proofs.GivenLemmas.{given_by_good_values}
 use Rattle.command_words.proofs.OneReadingLemmas.{one_reading_of_head, one_reading_of_rest, one_reading_of_empty_list}
 use Rattle.command_words.proofs.OneReadingLemmas.{one_reading}
 use Rattle.command_words.proofs.OneValueFaultLemmas.{one_value_fault, no_value_fault}
-use Rattle.command_words.proofs.OneValueFaultLemmas.{values_give_one_thing}
+use Rattle.command_words.proofs.OneValueFaultLemmas.{values_give_one_thing, grain_of_one_value_is_told}
 use Rattle.command_words.specs.declared.command.Command.TheVariants as command
 
 -- the texts of a prefix have at most one meaning: a prefix or a fault
 pub record PrefixHasOneMeaning : Type 0 where
-  pub one_prefix : (source dest : ArgumentText) (prefix other : PrefixValue) → SpellsPrefix Byte source dest prefix
-      → SpellsPrefix Byte source dest other → prefix ≡ other
-  pub no_fault : (source dest : ArgumentText) (prefix : PrefixValue) (fault : PrefixFault) → SpellsPrefix Byte source dest prefix
-      → HasPrefixFault Byte source dest fault → ⊥
-  pub one_fault : (source dest : ArgumentText) (fault other : PrefixFault) → HasPrefixFault Byte source dest fault
-      → HasPrefixFault Byte source dest other → fault ≡ other
+  pub one_prefix : (grain : Grain) (source dest : ArgumentText) (prefix other : PrefixValue)
+      → SpellsPrefix grain source dest prefix → SpellsPrefix grain source dest other → prefix ≡ other
+  pub no_fault : (grain : Grain) (source dest : ArgumentText) (prefix : PrefixValue) (fault : PrefixFault)
+      → SpellsPrefix grain source dest prefix → HasPrefixFault grain source dest fault → ⊥
+  pub one_fault : (grain : Grain) (source dest : ArgumentText) (fault other : PrefixFault)
+      → HasPrefixFault grain source dest fault → HasPrefixFault grain source dest other → fault ≡ other
 
 -- what words mean: a command that they ask for, or a fault
 abbrev MeaningOfWords : Type 0
 MeaningOfWords = Result Command WordsKind
 
--- the command whose name begins with the first byte of a text, `report` if no other does
+-- the command whose name begins with the first two bytes of a text, `report` if no other does
 abbrev meaning_by_command_word : ArgumentText → CommandWord
 meaning_by_command_word [] = Report
-meaning_by_command_word (first ∷ rest) =
-    cond (first == 119) Weigh (cond (first == 102) Format
+meaning_by_command_word (first ∷ []) = Report
+meaning_by_command_word (first ∷ second ∷ rest) =
+    cond (first == 119) (cond (second == 97) Watch Weigh) (cond (first == 102) Format
     (cond (first == 97) Audit (cond (first == 109) Make (cond (first == 100) Demo Report))))
 
 meaning_by_command_word-own : (word : CommandWord) → meaning_by_command_word (word_of word) ≡ word
@@ -63,13 +66,14 @@ meaning_by_command_word-own Format = refl
 meaning_by_command_word-own Audit = refl
 meaning_by_command_word-own Make = refl
 meaning_by_command_word-own Demo = refl
+meaning_by_command_word-own Watch = refl
 
 -- commands of the same name are the same command
 command_word_has_one_meaning : (word other : CommandWord) → word_of word ≡ word_of other → word ≡ other
 command_word_has_one_meaning word other same = sym (meaning_by_command_word-own word) ∙ ap meaning_by_command_word same ∙ meaning_by_command_word-own other
 
 -- words are those of at most one command, and spell at most one list of arguments
-command_line_has_one_meaning : (words : List ArgumentText) (word other : CommandWord) (arguments more : List Argument)
+pub command_line_has_one_meaning : (words : List ArgumentText) (word other : CommandWord) (arguments more : List Argument)
     → AreWords words word arguments → AreWords words other more
     → (word ≡ other) × (arguments ≡ more)
 command_line_has_one_meaning words word other arguments more one two =
@@ -127,48 +131,68 @@ make_command_meaning given = command.Make given.seed given.frames
 abbrev demo_command_meaning : Given → Command
 demo_command_meaning given = command.Demo given.seed given.frames given.settings
 
--- what the arguments of `weigh` mean
-data WeighHasMeaning (arguments : List Argument) (outcome : MeaningOfWords) : Type 0 where
-  badly : (source dest : ArgumentText) (fault : PrefixFault) → HasSides arguments source dest
-      → HasPrefixFault Byte source dest fault → outcome ≡ Err (BadPrefix fault)
-      → WeighHasMeaning arguments outcome
+abbrev watch_command_meaning : PrefixValue → Given → Command
+watch_command_meaning prefix given =
+    command.Watch (record { prefix = prefix; limit = given.limit; some = given.some_limit }) given.settings.grain
+
+-- what the arguments of a command that takes a prefix mean
+data PrefixedHasMeaning (word : CommandWord) (asked : PrefixValue → Given → Command) (arguments : List Argument)
+    (outcome : MeaningOfWords) : Type 0 where
+  badly : (source dest : ArgumentText) (fault : PrefixFault) → HasSides word arguments source dest
+      → HasPrefixFault (prefix_grain word arguments) source dest fault → outcome ≡ Err (BadPrefix fault)
+      → PrefixedHasMeaning word asked arguments outcome
   well : (source dest : ArgumentText) (prefix : PrefixValue) (read : Result Given WordsKind)
-      → HasSides arguments source dest → SpellsPrefix Byte source dest prefix
-      → IsMeaningOfCommandValues Weigh arguments read → outcome ≡ command_meaning_of_values (weigh_command_meaning prefix) read
-      → WeighHasMeaning arguments outcome
+      → HasSides word arguments source dest → SpellsPrefix (prefix_grain word arguments) source dest prefix
+      → IsMeaningOfCommandValues word arguments read → outcome ≡ command_meaning_of_values (asked prefix) read
+      → PrefixedHasMeaning word asked arguments outcome
+
+-- the two sides are the same two texts
+sides_have_one_meaning : (word : CommandWord) (arguments : List Argument) (source dest other more : ArgumentText)
+    → HasSides word arguments source dest → HasSides word arguments other more → (source ≡ other) × (dest ≡ more)
+sides_have_one_meaning Weigh arguments source dest other more one two =
+    let same = sym one ∙ two in (
+      one_reading_of_head _ _ _ _ same,
+      one_reading_of_head _ _ _ _ (one_reading_of_rest _ _ _ _ same),
+    )
+sides_have_one_meaning Watch arguments source dest other more one two = (one.0 ∙ sym two.0, one.1 ∙ sym two.1)
+sides_have_one_meaning _ arguments source dest other more one two = absurd one
 
 -- what holds for the two sides holds for the same two texts
-meaning_of_same_sides : (P : ArgumentText → ArgumentText → Type 0) (arguments : List Argument) (source dest other more : ArgumentText)
-    → HasSides arguments source dest → HasSides arguments other more
+meaning_of_same_sides : (P : ArgumentText → ArgumentText → Type 0) (word : CommandWord) (arguments : List Argument)
+    (source dest other more : ArgumentText) → HasSides word arguments source dest → HasSides word arguments other more
     → P other more → P source dest
-meaning_of_same_sides P arguments source dest other more one two holds =
-    let same = sym one ∙ two in
-    subst (λ s. P s dest) (sym (one_reading_of_head _ _ _ _ same))
-    (subst (λ d. P other d) (sym (one_reading_of_head _ _ _ _ (one_reading_of_rest _ _ _ _ same))) holds)
+meaning_of_same_sides P word arguments source dest other more one two holds =
+    let same = sides_have_one_meaning word arguments source dest other more one two in
+    subst (λ s. P s dest) (sym same.0) (subst (λ d. P other d) (sym same.1) holds)
 
--- the arguments of `weigh` have one meaning
-weigh_has_one_meaning : PrefixHasOneMeaning → (arguments : List Argument) (outcome other : MeaningOfWords)
-    → WeighHasMeaning arguments outcome → WeighHasMeaning arguments other → outcome ≡ other
-weigh_has_one_meaning reading arguments outcome other (badly source dest fault sides has is)
+-- the arguments of such a command have one meaning
+prefixed_has_one_meaning : PrefixHasOneMeaning → (word : CommandWord) (asked : PrefixValue → Given → Command)
+    (arguments : List Argument) (outcome other : MeaningOfWords) → PrefixedHasMeaning word asked arguments outcome
+    → PrefixedHasMeaning word asked arguments other → outcome ≡ other
+prefixed_has_one_meaning reading word asked arguments outcome other (badly source dest fault sides has is)
     (badly source' dest' fault' sides' has' is') =
+    let grain = prefix_grain word arguments in
     let same =
-    reading.one_fault source dest fault fault' has
-    (meaning_of_same_sides (λ s d. HasPrefixFault Byte s d fault') arguments source dest source' dest' sides sides' has') in
+    reading.one_fault grain source dest fault fault' has
+    (meaning_of_same_sides (λ s d. HasPrefixFault grain s d fault') word arguments source dest source' dest' sides sides' has') in
     is ∙ ap (λ f. Err (BadPrefix f)) same ∙ sym is'
-weigh_has_one_meaning reading arguments outcome other (badly source dest fault sides has is)
+prefixed_has_one_meaning reading word asked arguments outcome other (badly source dest fault sides has is)
     (well source' dest' prefix' read' sides' spelled' told' is') =
-    absurd (reading.no_fault source dest prefix' fault
-    (meaning_of_same_sides (λ s d. SpellsPrefix Byte s d prefix') arguments source dest source' dest' sides sides' spelled') has)
-weigh_has_one_meaning reading arguments outcome other (well source dest prefix read sides spelled told is)
+    let grain = prefix_grain word arguments in
+    absurd (reading.no_fault grain source dest prefix' fault
+    (meaning_of_same_sides (λ s d. SpellsPrefix grain s d prefix') word arguments source dest source' dest' sides sides' spelled') has)
+prefixed_has_one_meaning reading word asked arguments outcome other (well source dest prefix read sides spelled told is)
     (badly source' dest' fault' sides' has' is') =
-    absurd (reading.no_fault source dest prefix fault' spelled
-    (meaning_of_same_sides (λ s d. HasPrefixFault Byte s d fault') arguments source dest source' dest' sides sides' has'))
-weigh_has_one_meaning reading arguments outcome other (well source dest prefix read sides spelled told is)
+    let grain = prefix_grain word arguments in
+    absurd (reading.no_fault grain source dest prefix fault' spelled
+    (meaning_of_same_sides (λ s d. HasPrefixFault grain s d fault') word arguments source dest source' dest' sides sides' has'))
+prefixed_has_one_meaning reading word asked arguments outcome other (well source dest prefix read sides spelled told is)
     (well source' dest' prefix' read' sides' spelled' told' is') =
+    let grain = prefix_grain word arguments in
     let same =
-    reading.one_prefix source dest prefix prefix' spelled
-    (meaning_of_same_sides (λ s d. SpellsPrefix Byte s d prefix') arguments source dest source' dest' sides sides' spelled') in
-    is ∙ ap₂ (λ p r. command_meaning_of_values (weigh_command_meaning p) r) same (one_meaning_of_argument_values Weigh arguments read read' told told')
+    reading.one_prefix grain source dest prefix prefix' spelled
+    (meaning_of_same_sides (λ s d. SpellsPrefix grain s d prefix') word arguments source dest source' dest' sides sides' spelled') in
+    is ∙ ap₂ (λ p r. command_meaning_of_values (asked p) r) same (one_meaning_of_argument_values word arguments read read' told told')
     ∙ sym is'
 
 -- what a command whose share is bounded means, once its values are read
@@ -217,18 +241,19 @@ unbounded_has_one_meaning word asked arguments outcome other one two =
 
 -- what the arguments of a command mean
 abbrev ArgumentsHaveMeaning : CommandWord → List Argument → MeaningOfWords → Type 0
-ArgumentsHaveMeaning Weigh arguments outcome = WeighHasMeaning arguments outcome
+ArgumentsHaveMeaning Weigh arguments outcome = PrefixedHasMeaning Weigh weigh_command_meaning arguments outcome
 ArgumentsHaveMeaning Report arguments outcome = BoundedHasMeaning Report report_command_meaning arguments outcome
 ArgumentsHaveMeaning Format arguments outcome = UnboundedHasMeaning Format format_command_meaning arguments outcome
 ArgumentsHaveMeaning Audit arguments outcome = BoundedHasMeaning Audit audit_command_meaning arguments outcome
 ArgumentsHaveMeaning Make arguments outcome = UnboundedHasMeaning Make make_command_meaning arguments outcome
 ArgumentsHaveMeaning Demo arguments outcome = BoundedHasMeaning Demo demo_command_meaning arguments outcome
+ArgumentsHaveMeaning Watch arguments outcome = PrefixedHasMeaning Watch watch_command_meaning arguments outcome
 
 arguments_have_one_meaning : PrefixHasOneMeaning → (word : CommandWord) (arguments : List Argument) (outcome other : MeaningOfWords)
     → ArgumentsHaveMeaning word arguments outcome → ArgumentsHaveMeaning word arguments other
     → outcome ≡ other
 arguments_have_one_meaning reading Weigh arguments outcome other one two =
-    weigh_has_one_meaning reading arguments outcome other one two
+    prefixed_has_one_meaning reading Weigh weigh_command_meaning arguments outcome other one two
 arguments_have_one_meaning reading Report arguments outcome other one two =
     bounded_has_one_meaning Report report_command_meaning arguments outcome other one two
 arguments_have_one_meaning reading Format arguments outcome other one two =
@@ -239,6 +264,8 @@ arguments_have_one_meaning reading Make arguments outcome other one two =
     unbounded_has_one_meaning Make make_command_meaning arguments outcome other one two
 arguments_have_one_meaning reading Demo arguments outcome other one two =
     bounded_has_one_meaning Demo demo_command_meaning arguments outcome other one two
+arguments_have_one_meaning reading Watch arguments outcome other one two =
+    prefixed_has_one_meaning reading Watch watch_command_meaning arguments outcome other one two
 
 -- what words mean, by the first test that decides it
 data WordsHaveMeaning (words : List ArgumentText) (outcome : MeaningOfWords) : Type 0 where
@@ -262,7 +289,7 @@ unknown_word_has_no_meaning : (words : List ArgumentText) (first : ArgumentText)
 unknown_word_has_no_meaning words first behind others word are is_no_word begun = is_no_word word (one_reading_of_head _ _ _ _ (sym are ∙ begun))
 
 -- words that are refused are not well-formed words of a command
-refused_words_lack_meaning : (words behind : List ArgumentText) (word other : CommandWord) (arguments : List Argument)
+pub refused_words_lack_meaning : (words behind : List ArgumentText) (word other : CommandWord) (arguments : List Argument)
     → words ≡ word_of word ∷ behind
     → ((arguments : List Argument) → AreWellFormed (form_of word) behind arguments → ⊥)
     → AreWords words other arguments → ⊥
@@ -321,14 +348,28 @@ asked_command_is_meaning words (command.Weigh prefix settings) asks =
     told Weigh asks.arguments asks.are_words
     (well asks.source asks.dest prefix (Ok (given_settings_alone settings)) asks.sides asks.spelled
     (settings_given Weigh asks.arguments settings
-    (record { no_seed = refl; no_frames = refl; seed_unknown = refl; frames_unknown = refl })
+    (record {
+      no_seed = refl;
+      no_frames = refl;
+      seed_unknown = refl;
+      frames_unknown = refl;
+      no_limit = refl;
+      limit_unknown = refl;
+    })
     asks.are_words.well_formed.of_form asks.set) refl)
 asked_command_is_meaning words (command.Report settings) asks =
     told Report asks.arguments asks.are_words record {
       read = Ok (given_settings_alone settings);
       told =
           settings_given Report asks.arguments settings
-          (record { no_seed = refl; no_frames = refl; seed_unknown = refl; frames_unknown = refl })
+          (record {
+            no_seed = refl;
+            no_frames = refl;
+            seed_unknown = refl;
+            frames_unknown = refl;
+            no_limit = refl;
+            limit_unknown = refl;
+          })
           asks.are_words.well_formed.of_form asks.set;
       comes_to = inl (asks.wide, refl);
     }
@@ -337,7 +378,14 @@ asked_command_is_meaning words (command.Format settings) asks =
       read = Ok (given_settings_alone settings);
       told =
           settings_given Format asks.arguments settings
-          (record { no_seed = refl; no_frames = refl; seed_unknown = refl; frames_unknown = refl })
+          (record {
+            no_seed = refl;
+            no_frames = refl;
+            seed_unknown = refl;
+            frames_unknown = refl;
+            no_limit = refl;
+            limit_unknown = refl;
+          })
           asks.are_words.well_formed.of_form asks.set;
       comes_to = refl;
     }
@@ -346,42 +394,63 @@ asked_command_is_meaning words (command.Audit settings) asks =
       read = Ok (given_settings_alone settings);
       told =
           settings_given Audit asks.arguments settings
-          (record { no_seed = refl; no_frames = refl; seed_unknown = refl; frames_unknown = refl })
+          (record {
+            no_seed = refl;
+            no_frames = refl;
+            seed_unknown = refl;
+            frames_unknown = refl;
+            no_limit = refl;
+            limit_unknown = refl;
+          })
           asks.are_words.well_formed.of_form asks.set;
       comes_to = inl (asks.wide, refl);
     }
 asked_command_is_meaning words (command.Make seed frames) asks =
     told Make asks.arguments asks.are_words record {
-      read = Ok (record { seed = seed; frames = frames; settings = default_given_settings });
+      read =
+          Ok (record { seed = seed; frames = frames; settings = default_given_settings Byte; limit = 1; some_limit = omega arith });
       told =
-          traffic_given (settings_in Make asks.arguments) (store_setting asks.arguments) seed frames default_given_settings
-          asks.made (make_is_given_no_settings asks.arguments asks.are_words.well_formed.of_form);
+          traffic_given Make asks.arguments seed frames (default_given_settings Byte) refl refl
+          asks.are_words.well_formed.of_form asks.made
+          (make_is_given_no_settings asks.arguments asks.are_words.well_formed.of_form);
       comes_to = refl;
     }
 asked_command_is_meaning words (command.Demo seed frames settings) asks =
     told Demo asks.arguments asks.are_words record {
-      read = Ok (record { seed = seed; frames = frames; settings = settings });
+      read = Ok (record { seed = seed; frames = frames; settings = settings; limit = 1; some_limit = omega arith });
       told =
-          traffic_given (settings_in Demo asks.arguments) (store_setting asks.arguments) seed frames settings asks.made
+          traffic_given Demo asks.arguments seed frames settings refl refl asks.are_words.well_formed.of_form asks.made
           asks.set;
       comes_to = inl (asks.wide, refl);
     }
+asked_command_is_meaning words (command.Watch rule grain) asks =
+    told Watch asks.arguments asks.are_words
+    (well asks.source asks.dest rule.prefix
+    (Ok (record { seed = 0; frames = 1; settings = default_given_settings grain; limit = rule.limit; some_limit = rule.some }))
+    asks.sides
+    (subst (λ g. SpellsPrefix g asks.source asks.dest rule.prefix)
+    (sym (grain_of_one_value_is_told (settings_in Watch asks.arguments Bits) grain asks.grain_set)) asks.spelled)
+    (watch_given asks.arguments rule.limit rule.some grain asks.are_words.well_formed.of_form asks.limit_given asks.grain_set)
+    refl)
 
 -- the first fault of the values is what arguments mean
 bad_value_is_argument_meaning : (word : CommandWord) (arguments : List Argument) (kind : WordsKind)
-    → HasPositionals word arguments → HasValueFault (settings_in word arguments) kind
+    → HasGoodPrefix word arguments → HasValueFault (settings_in word arguments) kind
     → ArgumentsHaveMeaning word arguments (Err kind)
-bad_value_is_argument_meaning Weigh arguments kind good has = well good.0 good.1 good.3.0 (Err kind) good.2 good.3.1 has refl
+bad_value_is_argument_meaning Weigh arguments kind good has =
+    well good.source good.dest good.prefix (Err kind) good.sides good.spelled has refl
 bad_value_is_argument_meaning Report arguments kind good has = record { read = Err kind; told = has; comes_to = refl }
 bad_value_is_argument_meaning Format arguments kind good has = record { read = Err kind; told = has; comes_to = refl }
 bad_value_is_argument_meaning Audit arguments kind good has = record { read = Err kind; told = has; comes_to = refl }
 bad_value_is_argument_meaning Make arguments kind good has = record { read = Err kind; told = has; comes_to = refl }
 bad_value_is_argument_meaning Demo arguments kind good has = record { read = Err kind; told = has; comes_to = refl }
+bad_value_is_argument_meaning Watch arguments kind good has =
+    well good.source good.dest good.prefix (Err kind) good.sides good.spelled has refl
 
 bad_value_is_meaning : (words : List ArgumentText) (kind : WordsKind) → HasBadValue words kind → WordsHaveMeaning words (Err kind)
 bad_value_is_meaning words kind has =
     told has.command has.arguments has.are_words
-    (bad_value_is_argument_meaning has.command has.arguments kind has.positionals has.has_fault)
+    (bad_value_is_argument_meaning has.command has.arguments kind has.good_prefix has.has_fault)
 
 -- that its tables are too small for its share is what the arguments of a bounded command mean
 narrow_is_bounded_meaning : (word : CommandWord) (asked : Given → Command) (arguments : List Argument) (settings : Settings)
@@ -407,6 +476,19 @@ narrow_is_argument_meaning Audit arguments settings bounded good set narrow =
 narrow_is_argument_meaning Make arguments settings bounded good set narrow = absurd bounded
 narrow_is_argument_meaning Demo arguments settings bounded good set narrow =
     narrow_is_bounded_meaning Demo demo_command_meaning arguments settings good set narrow
+narrow_is_argument_meaning Watch arguments settings bounded good set narrow = absurd bounded
+
+-- a fault of the prefix is what words mean
+bad_prefix_is_meaning : (words : List ArgumentText) (fault : PrefixFault) → HasBadPrefix words fault
+    → WordsHaveMeaning words (Err (BadPrefix fault))
+bad_prefix_is_meaning words fault has = go has.command has.are_words has.sides has.has_fault
+  where
+    go : (word : CommandWord) → AreWords words word has.arguments → HasSides word has.arguments has.source has.dest
+        → HasPrefixFault (prefix_grain word has.arguments) has.source has.dest fault
+        → WordsHaveMeaning words (Err (BadPrefix fault))
+    go Weigh are_words sides fails = told Weigh has.arguments are_words (badly has.source has.dest fault sides fails refl)
+    go Watch are_words sides fails = told Watch has.arguments are_words (badly has.source has.dest fault sides fails refl)
+    go _ are_words sides fails = absurd sides
 
 -- the fault of words is what they mean
 words_fault_is_meaning : (words : List ArgumentText) (kind : WordsKind) → HasWordsFault words kind → WordsHaveMeaning words (Err kind)
@@ -414,7 +496,7 @@ words_fault_is_meaning words NoCommand has = nothing has refl
 words_fault_is_meaning words UnknownCommand has = unknown has.0 has.1 has.2 has.3 refl
 words_fault_is_meaning words Refused has = refused has.0 has.1 has.2 has.3 refl
 words_fault_is_meaning words (BadPrefix fault) has =
-    told Weigh has.arguments has.are_words (badly has.source has.dest fault has.sides has.has_fault refl)
+    bad_prefix_is_meaning words fault has
 words_fault_is_meaning words (BadNumber opt) has = bad_value_is_meaning words (BadNumber opt) has
 words_fault_is_meaning words (OutOfLimits opt) has = bad_value_is_meaning words (OutOfLimits opt) has
 words_fault_is_meaning words (BadChoice opt) has = bad_value_is_meaning words (BadChoice opt) has
@@ -460,6 +542,20 @@ asked_command_meaning_is_read reading words (Ok other) ok bad asked asks = inl (
 asked_command_meaning_is_read reading words (Err (Bad kind)) ok bad asked asks =
     absurd (asked_meaning_is_faultless reading words asked kind asks (bad kind refl))
 asked_command_meaning_is_read reading words (Err OutOfMemory) ok bad asked asks = inr refl
+
+-- and so does one of the settings of a report
+pub asked_report_meaning_is_read : PrefixHasOneMeaning → (words : List ArgumentText) (read : Result Settings WordsRefusal)
+    → IfOk read (λ settings. AskForCommand words (command.Report settings))
+    → ((kind : WordsKind) → read ≡ Err (Bad kind) → HasWordsFault words kind) → (settings : Settings)
+    → AskForCommand words (command.Report settings) → (read ≡ Ok settings) ⊎ (read ≡ Err OutOfMemory)
+asked_report_meaning_is_read reading words (Ok other) ok bad settings asks =
+    inl (ap Ok (same_settings other settings (asked_meaning_is_one_command reading words (command.Report other) (command.Report settings) ok asks)))
+  where
+    same_settings : (other settings : Settings) → Path Command (command.Report other) (command.Report settings) → other ≡ settings
+    same_settings other settings same = cc
+asked_report_meaning_is_read reading words (Err (Bad kind)) ok bad settings asks =
+    absurd (asked_meaning_is_faultless reading words (command.Report settings) kind asks (bad kind refl))
+asked_report_meaning_is_read reading words (Err OutOfMemory) ok bad settings asks = inr refl
 
 -- a sound reader accepts all words that ask for a command, unless memory runs out
 pub asked_command_meaning_is_accepted : {T : Type 0} → PrefixHasOneMeaning → (words : List ArgumentText) (read : Result T WordsRefusal)

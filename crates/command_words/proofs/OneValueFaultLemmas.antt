@@ -4,6 +4,8 @@ use Rattle.std.proofs.Common.{arith}
 use Rattle.std.specs.Prelude.{◌∷◌, Contains}
 use Rattle.std.proofs.lemmas.Bool.{cases_lt}
 use Rattle.std.proofs.lemmas.Fmt.{decimal_injective}
+use Rattle.std.specs.Coded.{le_prop}
+use Rattle.std.specs.Fmt.{digits}
 use Rattle.prefix_lattice.specs.{grain_bits}
 use Rattle.prefix_lattice.specs.declared.grain.Grain.{Grain}
 use Rattle.prefix_lattice.specs.declared.grain.Grain.TheVariants.{Byte, Nibble}
@@ -14,13 +16,13 @@ use Rattle.command_words.specs.Options.{OptionKind, number, few_numbers, choice,
 use Rattle.command_words.specs.Options.{IsDefault, IsGoodText, IsGood}
 use Rattle.command_words.specs.Options.{IsNoNumber, IsNoChoice, IsOutside}
 use Rattle.command_words.specs.Settings.{SettingValues, SetsNumber, SetsWeigh, SetsDeal}
-use Rattle.command_words.specs.Settings.{SetsStore, SetsAll, SetsGrain, SetsFront, GrainFits}
+use Rattle.command_words.specs.Settings.{SetsStore, SetsAll, SetsGrain, SetsFront, GrainFits, grain_told}
 use Rattle.command_words.specs.Settings.{weigh_word, deal_word, front_word}
-use Rattle.command_words.specs.Values.{AreGood, HaveFitGrain, HaveUnfitGrain, IsFirstBad, HasValueFault}
+use Rattle.command_words.specs.Values.{AreGood, AreGoodBefore, HaveFitGrain, HaveUnfitGrain, IsFirstBad, HasValueFault}
 use Rattle.command_words.specs.Given.{SetsGiven}
 use Rattle.command_words.specs.declared.opt.Opt.{Opt}
 use Rattle.command_words.specs.declared.settings.Settings.{Settings}
-use Rattle.command_words.specs.declared.values.Given.{Given}
+use Rattle.command_words.specs.declared.given.Given.{Given}
 use Rattle.command_words.specs.declared.words_kind.WordsKind.{WordsKind}
 use Rattle.command_words.specs.declared.words_kind.WordsKind.TheVariants.{BadNumber, OutOfLimits, BadChoice}
 use Rattle.command_words.proofs.ValueLemmas.{value_check_tells_option, numeric_value_is_good, weigh_value_is_good}
@@ -200,28 +202,34 @@ one_value_fault values (BadChoice at) (BadChoice place) one two =
 one_value_fault values (BadChoice at) _ one two = absurd two
 one_value_fault values _ other one two = absurd one
 
+-- a value that is set is good, if the last one is
+set_value_is_good : (values : SettingValues) (path : Option ArgumentText) (seed frames : ℕ) (settings : Settings)
+    → SetsNumber opt.Seed (values opt.Seed) seed → SetsNumber opt.Frames (values opt.Frames) frames → SetsAll values path settings
+    → (at : Opt) → (place_of at ≡ place_of opt.Limit → IsGood opt.Limit (values opt.Limit)) → IsGood at (values at)
+set_value_is_good values path seed frames settings seed_set frames_set set = go
+  where
+    go : (at : Opt) → (place_of at ≡ place_of opt.Limit → IsGood opt.Limit (values opt.Limit)) → IsGood at (values at)
+    go opt.Seed last = numeric_value_is_good opt.Seed (values opt.Seed) seed seed_set
+    go opt.Frames last = numeric_value_is_good opt.Frames (values opt.Frames) frames frames_set
+    go opt.Weigh last = weigh_value_is_good (values opt.Weigh) settings.weigh set.weigh
+    go opt.Shards last = numeric_value_is_good opt.Shards (values opt.Shards) settings.shards set.shards
+    go opt.Capacity last = numeric_value_is_good opt.Capacity (values opt.Capacity) settings.capacity set.capacity
+    go opt.Phi last = numeric_value_is_good opt.Phi (values opt.Phi) settings.phi set.phi
+    go opt.Deal last = deal_value_is_good (values opt.Deal) settings.deal set.deal
+    go opt.Block last = numeric_value_is_good opt.Block (values opt.Block) settings.block set.block
+    go opt.Workers last = numeric_value_is_good opt.Workers (values opt.Workers) settings.workers set.workers
+    go opt.Callers last = numeric_value_is_good opt.Callers (values opt.Callers) settings.callers set.callers
+    go opt.Rounds last = numeric_value_is_good opt.Rounds (values opt.Rounds) settings.rounds set.rounds
+    go opt.Bits last = numeric_value_is_good opt.Bits (values opt.Bits) (grain_bits settings.grain) set.grain
+    go opt.Front last = front_value_is_good (values opt.Front) settings.front set.front
+    go opt.Limit last = last refl
+
 -- values that give something are all good
 pub given_values_have_no_fault : (values : SettingValues) (path : Option ArgumentText) (given : Given) → SetsGiven values path given
     → AreGood values
-given_values_have_no_fault values path given gives = go gives.settings_set
-  where
-    settings : Settings
-    settings = given.settings
-
-    go : SetsAll values path settings → AreGood values
-    go set opt.Seed = numeric_value_is_good opt.Seed (values opt.Seed) given.seed gives.seed_set
-    go set opt.Frames = numeric_value_is_good opt.Frames (values opt.Frames) given.frames gives.frames_set
-    go set opt.Weigh = weigh_value_is_good (values opt.Weigh) settings.weigh set.weigh
-    go set opt.Shards = numeric_value_is_good opt.Shards (values opt.Shards) settings.shards set.shards
-    go set opt.Capacity = numeric_value_is_good opt.Capacity (values opt.Capacity) settings.capacity set.capacity
-    go set opt.Phi = numeric_value_is_good opt.Phi (values opt.Phi) settings.phi set.phi
-    go set opt.Deal = deal_value_is_good (values opt.Deal) settings.deal set.deal
-    go set opt.Block = numeric_value_is_good opt.Block (values opt.Block) settings.block set.block
-    go set opt.Workers = numeric_value_is_good opt.Workers (values opt.Workers) settings.workers set.workers
-    go set opt.Callers = numeric_value_is_good opt.Callers (values opt.Callers) settings.callers set.callers
-    go set opt.Rounds = numeric_value_is_good opt.Rounds (values opt.Rounds) settings.rounds set.rounds
-    go set opt.Bits = numeric_value_is_good opt.Bits (values opt.Bits) (grain_bits settings.grain) set.grain
-    go set opt.Front = front_value_is_good (values opt.Front) settings.front set.front
+given_values_have_no_fault values path given gives at =
+    set_value_is_good values path given.seed given.frames given.settings gives.seed_set gives.frames_set gives.settings_set at
+    (λ last. numeric_value_is_good opt.Limit (values opt.Limit) given.limit gives.limit_set)
 
 -- a missing value sets one number at most
 one_value_by_default : (kind : OptionKind) (value other : ℕ) → IsDefault kind value → IsDefault kind other → value ≡ other
@@ -280,6 +288,14 @@ one_value_sets_one_grain told grain other one two =
     one_value_per_grain_bits grain other
     (one_value_sets_one_number opt.Bits told (grain_bits grain) (grain_bits other) one two)
 
+-- a grain that is set is the one that is told
+pub grain_of_one_value_is_told : (told : Option ArgumentText) (grain : Grain) → SetsGrain told grain → grain_told told ≡ grain
+unfolding digits
+grain_of_one_value_is_told None Byte set = refl
+grain_of_one_value_is_told None Nibble set = absurd (omega (arith, set))
+grain_of_one_value_is_told (Some text) Byte set = subst (λ t. grain_told (Some t) ≡ Byte) (sym set.0.spelled) refl
+grain_of_one_value_is_told (Some text) Nibble set = subst (λ t. grain_told (Some t) ≡ Nibble) (sym set.0.spelled) refl
+
 -- if one grain and one capacity that values set fit, the grain that they set fits
 pub grain_of_one_value_fits : (values : SettingValues) (grain : Grain) (capacity : ℕ) → SetsGrain (values opt.Bits) grain
     → SetsNumber opt.Capacity (values opt.Capacity) capacity → GrainFits grain capacity → HaveFitGrain values
@@ -287,6 +303,17 @@ grain_of_one_value_fits values grain capacity grain_set capacity_set fits other 
     subst (λ g. GrainFits g more) (one_value_sets_one_grain (values opt.Bits) grain other grain_set other_set)
     (subst (λ n. GrainFits grain n)
     (one_value_sets_one_number opt.Capacity (values opt.Capacity) capacity more capacity_set more_set) fits)
+
+-- if what comes before the limit is set, it is good
+pub values_before_limit_have_no_fault : (values : SettingValues) (path : Option ArgumentText) (seed frames : ℕ) (settings : Settings)
+    → SetsNumber opt.Seed (values opt.Seed) seed → SetsNumber opt.Frames (values opt.Frames) frames → SetsAll values path settings
+    → AreGoodBefore values (place_of opt.Limit)
+values_before_limit_have_no_fault values path seed frames settings seed_set frames_set set = record {
+  good = λ other before.
+      set_value_is_good values path seed frames settings seed_set frames_set set other
+      (λ last. absurd (omega (arith, before, last)));
+  fits = λ behind. grain_of_one_value_fits values settings.grain settings.capacity set.grain set.capacity set.fits;
+}
 
 -- values that give something have no fault
 pub no_value_fault : (values : SettingValues) (path : Option ArgumentText) (given : Given) (kind : WordsKind) → SetsGiven values path given
@@ -330,9 +357,20 @@ values_set_one_settings values path settings other one two =
 pub values_give_one_thing : (values : SettingValues) (path : Option ArgumentText) (given other : Given) → SetsGiven values path given
     → SetsGiven values path other → given ≡ other
 values_give_one_thing values path given other one two =
-    λ i. record {
+    subst (λ (limit : ℕ). (some : 1 ≤ limit) → given ≡ of other.seed other.frames other.settings limit some)
+    (one_value_sets_one_number opt.Limit (values opt.Limit) given.limit other.limit one.limit_set two.limit_set)
+    same_limit other.some_limit
+  where
+    of : (seed frames : ℕ) (settings : Settings) (limit : ℕ) → 1 ≤ limit → Given
+    of seed frames settings limit some =
+        record { seed = seed; frames = frames; settings = settings; limit = limit; some_limit = some }
+
+    same_limit : (some : 1 ≤ given.limit) → given ≡ of other.seed other.frames other.settings given.limit some
+    same_limit some = λ i. record {
       seed = one_value_sets_one_number opt.Seed (values opt.Seed) given.seed other.seed one.seed_set two.seed_set i;
       frames =
           one_value_sets_one_number opt.Frames (values opt.Frames) given.frames other.frames one.frames_set two.frames_set i;
       settings = values_set_one_settings values path given.settings other.settings one.settings_set two.settings_set i;
+      limit = given.limit;
+      some_limit = le_prop given.some_limit some i;
     }

@@ -21,7 +21,7 @@ use Rattle.command_words.specs.FormNames.{form_of, word_of}
 use Rattle.command_words.specs.Matches.{AreMatchesOf}
 use Rattle.command_words.specs.Parsing.{parser_for}
 use Rattle.command_words.specs.declared.command_word.CommandWord.{CommandWord}
-use Rattle.command_words.specs.declared.command_word.CommandWord.TheVariants.{Weigh, Report, Format, Audit, Make, Demo}
+use Rattle.command_words.specs.declared.command_word.CommandWord.TheVariants.{Weigh, Report, Format, Audit, Make, Demo, Watch}
 use Rattle.command_words.proofs.ParserNameLemmas.{AreNoParserOptionNames, IsNoParserOptionName, ParserPlacesNames}
 use Rattle.command_words.proofs.ParserNameLemmas.{arguments_fit_parser_names}
 use Rattle.command_words.proofs.OneReadingLemmas.{one_reading_of_empty_list}
@@ -88,6 +88,7 @@ parser_demands_nothing Format = record { empty = refl; passes = refl; valid = λ
 parser_demands_nothing Audit = record { empty = refl; passes = refl; valid = λ rows. refl }
 parser_demands_nothing Make = record { empty = refl; passes = refl; valid = λ rows. refl }
 parser_demands_nothing Demo = record { empty = refl; passes = refl; valid = λ rows. refl }
+parser_demands_nothing Watch = record { empty = refl; passes = refl; valid = λ rows. refl }
 
 -- two texts that differ in a byte
 parser_texts_are_apart : (text other : ArgumentText) → bytes_eq text other ≡ false → text ≢ other
@@ -155,6 +156,10 @@ parser_knows_each_option Demo =
       k _ _ refl refl,
       (k _ _ refl refl, (k _ _ refl refl, (k _ _ refl refl, (k _ _ refl refl, (k _ _ refl refl, (k _ _ refl refl, tt)))))),
     )
+parser_knows_each_option Watch =
+    let k = parser_knows_found_option (parser_shape Watch) in
+    All-from_recursion (WalkKnowsOption (parser_shape Watch)) (form_of Watch).options
+    (k _ _ refl refl, (k _ _ refl refl, (k _ _ refl refl, (k _ _ refl refl, (k _ _ refl refl, tt)))))
 
 parser_has_positional_places : (command : CommandWord) → ParserPlacesNames (parser_shape command) 1 (form_of command).positionals
 parser_has_positional_places Weigh = (record { placed = refl; known = refl }, (record { placed = refl; known = refl }, tt))
@@ -163,6 +168,7 @@ parser_has_positional_places Format = tt
 parser_has_positional_places Audit = tt
 parser_has_positional_places Make = (record { placed = refl; known = refl }, (record { placed = refl; known = refl }, tt))
 parser_has_positional_places Demo = (record { placed = refl; known = refl }, (record { placed = refl; known = refl }, tt))
+parser_has_positional_places Watch = tt
 
 -- a name that differs from all options of `weigh` is not that of an option
 no_option_of_weigh_parser : (id : ArgumentText) → bytes_eq id (codes "capture") ≡ false → bytes_eq id (codes "weigh") ≡ false
@@ -210,6 +216,7 @@ no_options_of_parser Demo =
       no_option_of_demo_parser _ refl refl refl refl refl refl refl,
       (no_option_of_demo_parser _ refl refl refl refl refl refl refl, tt),
     )
+no_options_of_parser Watch = All-nil (IsNoParserOptionName (form_of Watch).options)
 
 empty_parser_texts_are_apart : AllPairs {X = ArgumentText} (λ a b. a ≢ b) []
 empty_parser_texts_are_apart = λ earlier later default before within. absurd (omega arith)
@@ -227,6 +234,7 @@ parser_positionals_are_apart Format = empty_parser_texts_are_apart
 parser_positionals_are_apart Audit = empty_parser_texts_are_apart
 parser_positionals_are_apart Make = two_parser_texts_are_apart (codes "SEED") (codes "FRAMES") refl
 parser_positionals_are_apart Demo = two_parser_texts_are_apart (codes "SEED") (codes "FRAMES") refl
+parser_positionals_are_apart Watch = empty_parser_texts_are_apart
 
 -- well-formed words bring the walk to the rows of their arguments
 module _ (command : CommandWord) (words : List ArgumentText) (arguments : List Argument)
@@ -271,6 +279,10 @@ parser_takes_well_formed Demo words arguments well_formed =
     let reached = parser_reaches_form_rows Demo words arguments well_formed in
     rw (parser_never_stops (parser_shape Demo) (parser_demands_nothing Demo) words _ _ reached)
     (parser_level_passes (parser_shape Demo) (parser_demands_nothing Demo) words _ _ reached)
+parser_takes_well_formed Watch words arguments well_formed =
+    let reached = parser_reaches_form_rows Watch words arguments well_formed in
+    rw (parser_never_stops (parser_shape Watch) (parser_demands_nothing Watch) words _ _ reached)
+    (parser_level_passes (parser_shape Watch) (parser_demands_nothing Watch) words _ _ reached)
 
 -- and finds the rows of their arguments
 pub parser_finds_well_formed : (command : CommandWord) (words : List ArgumentText) (arguments : List Argument)
@@ -288,6 +300,8 @@ parser_finds_well_formed Make words arguments well_formed =
     parser_reaches_rows (parser_shape Make) (parser_demands_nothing Make) words _ _ (parser_reaches_form_rows Make words arguments well_formed)
 parser_finds_well_formed Demo words arguments well_formed =
     parser_reaches_rows (parser_shape Demo) (parser_demands_nothing Demo) words _ _ (parser_reaches_form_rows Demo words arguments well_formed)
+parser_finds_well_formed Watch words arguments well_formed =
+    parser_reaches_rows (parser_shape Watch) (parser_demands_nothing Watch) words _ _ (parser_reaches_form_rows Watch words arguments well_formed)
 
 -- the parser is one of which `clap` says what it finds
 pub simple_parser : (command : CommandWord) → is_simple (parser command) ≡ true
@@ -297,6 +311,7 @@ simple_parser Format = refl
 simple_parser Audit = refl
 simple_parser Make = refl
 simple_parser Demo = refl
+simple_parser Watch = refl
 
 -- ---- what the matches hold
 

@@ -27,7 +27,8 @@ value_checked_at place =
     if place == 0 then opt.Seed else if place == 1 then opt.Frames else if place == 2 then opt.Weigh else
     if place == 3 then opt.Shards else if place == 4 then opt.Capacity else if place == 5 then opt.Phi else
     if place == 6 then opt.Deal else if place == 7 then opt.Block else if place == 8 then opt.Workers else
-    if place == 9 then opt.Callers else if place == 10 then opt.Rounds else if place == 11 then opt.Bits else opt.Front
+    if place == 9 then opt.Callers else if place == 10 then opt.Rounds else if place == 11 then opt.Bits else
+    if place == 12 then opt.Front else opt.Limit
 
 value_checked_at-own : (opt : Opt) → value_checked_at (place_of opt) ≡ opt
 value_checked_at-own opt.Seed = refl
@@ -43,6 +44,7 @@ value_checked_at-own opt.Callers = refl
 value_checked_at-own opt.Rounds = refl
 value_checked_at-own opt.Bits = refl
 value_checked_at-own opt.Front = refl
+value_checked_at-own opt.Limit = refl
 
 -- options with equal indexes are equal
 pub value_check_tells_option : (opt other : Opt) → place_of opt ≡ place_of other → opt ≡ other

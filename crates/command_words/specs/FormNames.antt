@@ -2,7 +2,7 @@
 use Rattle.std.specs.Prelude.{◌≡◌, List, [], ◌∷◌, codes}
 use Rattle.command_words.specs.Arguments.{ArgumentText, Argument, ArgumentForm, AreWellFormed}
 use Rattle.command_words.specs.declared.command_word.CommandWord.{CommandWord}
-use Rattle.command_words.specs.declared.command_word.CommandWord.TheVariants.{Weigh, Report, Format, Audit, Make, Demo}
+use Rattle.command_words.specs.declared.command_word.CommandWord.TheVariants.{Weigh, Report, Format, Audit, Make, Demo, Watch}
 
 -- the name of a command, which is the first word of the command line
 abbrev pub word_of : CommandWord → ArgumentText
@@ -12,6 +12,7 @@ word_of Format = codes "format"
 word_of Audit = codes "audit"
 word_of Make = codes "make"
 word_of Demo = codes "demo"
+word_of Watch = codes "watch"
 
 -- the positionals and options that each command takes
 abbrev pub form_of : CommandWord → ArgumentForm
@@ -46,6 +47,11 @@ form_of Demo = record {
       codes "shards" ∷ codes "capacity" ∷ codes "phi" ∷ codes "deal" ∷ codes "block" ∷ codes "workers"
       ∷ codes "bits" ∷ [];
   required = [];
+}
+form_of Watch = record {
+  positionals = [];
+  options = codes "report" ∷ codes "limit" ∷ codes "src" ∷ codes "dst" ∷ codes "bits" ∷ [];
+  required = codes "report" ∷ codes "limit" ∷ [];
 }
 
 -- the words are a command's name followed by well-formed words that spell these arguments

@@ -6,6 +6,7 @@ pub mod Command
 pub mod WordsRefusal
 pub mod Values
 pub mod PathTexts
+pub mod Names
 -- within the crate
 pub mod Scanning
 pub mod Given
@@ -17,4 +18,7 @@ pub use Rattle.command_words.specs.Command.{AskForCommand, IsLimitedCommand}
 pub use Rattle.command_words.specs.WordsRefusal.{HasWordsFault}
 pub use Rattle.command_words.specs.PathTexts.{NamesPaths}
 pub use Rattle.command_words.specs.Arguments.{argument_texts}
+pub use Rattle.command_words.specs.Names.{AreOptionsThenNames, AskForReport, HasReportFault, IsFaultOfOptions, IsNamedOption}
+pub use Rattle.command_words.specs.Names.{options_alone, report_options}
+pub use Rattle.command_words.specs.Options.{name_of}
 pub use Rattle.command_words.specs.PathTexts.{NamesPaths}

@@ -4,7 +4,7 @@ use Rattle.std.specs.Prelude.{None}
 use Rattle.command_words.specs.Arguments.{ArgumentText}
 use Rattle.command_words.specs.declared.opt.Opt.{Opt}
 use Rattle.command_words.specs.declared.opt.Opt.TheVariants.{Seed, Frames, Weigh, Shards, Capacity, Phi, Deal}
-use Rattle.command_words.specs.declared.opt.Opt.TheVariants.{Block, Workers, Callers, Rounds, Bits, Front}
+use Rattle.command_words.specs.declared.opt.Opt.TheVariants.{Block, Workers, Callers, Rounds, Bits, Front, Limit}
 use Rattle.prefix_lattice.specs.{shard_limit, grain_bits}
 use Rattle.prefix_lattice.specs.declared.grain.Grain.TheVariants.{Byte, Nibble}
 
@@ -47,6 +47,10 @@ callers_limit = 8
 abbrev pub rounds_limit : ℕ
 rounds_limit = 32
 
+-- the greatest limit of a watch, which may be any number of 64 bits but 0
+abbrev pub greatest_limit : ℕ
+greatest_limit = 2 ^ 64 - 1
+
 -- what the command line says of an option or a positional: its name, its index in the order in which values are checked,
 -- and what its value may be, with the default
 pub record OptionRow : Type 0 where
@@ -54,7 +58,7 @@ pub record OptionRow : Type 0 where
   pub place : ℕ
   pub kind : OptionKind
 
--- the options and positionals, a row each: SEED and FRAMES are never missing where a command has them
+-- the options and positionals, a row each: SEED, FRAMES and the limit are never missing where a command has them
 abbrev pub row_of : Opt → OptionRow
 row_of Seed = record { name = codes "SEED"; place = 0; kind = number 0 seed_limit 0 }
 row_of Frames = record { name = codes "FRAMES"; place = 1; kind = number 1 frames_limit 1 }
@@ -69,6 +73,7 @@ row_of Callers = record { name = codes "callers"; place = 9; kind = number 0 cal
 row_of Rounds = record { name = codes "rounds"; place = 10; kind = number 0 rounds_limit 0 }
 row_of Bits = record { name = codes "bits"; place = 11; kind = few_numbers (grain_bits Byte) (grain_bits Nibble ∷ []) }
 row_of Front = record { name = codes "front"; place = 12; kind = choice (codes "no") (codes "yes" ∷ []) }
+row_of Limit = record { name = codes "limit"; place = 13; kind = number 1 greatest_limit 1 }
 
 -- the name of an option or a positional
 abbrev pub name_of : Opt → ArgumentText

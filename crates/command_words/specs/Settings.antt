@@ -1,5 +1,6 @@
 -- The settings that the options of a command line give, and the traffic that its positionals name.
-use Rattle.std.specs.Prelude.{ℕ, ◌≡◌, ◌*◌, ◌^◌, ◌<◌, ◌≤◌, Bool, true, false, List, codes, Option, Some, None}
+use Rattle.std.specs.Prelude.{ℕ, ◌≡◌, ◌*◌, ◌^◌, ◌<◌, ◌≤◌, Bool, true, false, List, codes, Option, Some, None, if◌then◌else◌}
+use Rattle.std.specs.Str.{bytes_eq}
 use Rattle.frame_records.specs.declared.weigh.Weigh.{Weigh}
 use Rattle.frame_records.specs.declared.weigh.Weigh.TheVariants as weighing
 use Rattle.deal_rules.specs.declared.deal_kind.DealKind.{DealKind}
@@ -20,6 +21,7 @@ use Rattle.command_words.specs.declared.opt.Opt.TheVariants.{Block, Workers, Cal
 use Rattle.command_words.specs.declared.settings.Settings.{Settings}
 use Rattle.prefix_lattice.specs.{shard_limit, grain_bits}
 use Rattle.prefix_lattice.specs.declared.grain.Grain.{Grain}
+use Rattle.prefix_lattice.specs.declared.grain.Grain.TheVariants.{Byte, Nibble}
 use Rattle.prefix_lattice.specs.{most_grain_capacity}
 
 -- the value of each option or positional that is present
@@ -79,6 +81,11 @@ SetsStore (Some path) store = store ≡ true
 abbrev pub SetsGrain : Option ArgumentText → Grain → Type 0
 SetsGrain told grain = SetsNumber Bits told (grain_bits grain)
 
+-- the grain that an unchecked value of the option tells: half bytes for `4`, and whole bytes for any other or none
+abbrev pub grain_told : Option ArgumentText → Grain
+grain_told None = Byte
+grain_told (Some text) = if bytes_eq text (codes "4") then Nibble else Byte
+
 -- tables of this capacity can be kept by this grain
 abbrev pub GrainFits : Grain → ℕ → Type 0
 GrainFits grain capacity = capacity ≤ most_grain_capacity grain
@@ -99,7 +106,7 @@ pub record SetsAll (values : SettingValues) (path : Option ArgumentText) (settin
   pub store : SetsStore path settings.store
   pub fits : GrainFits settings.grain settings.capacity
 
--- the number that a positional gives: its value, within its limits
+-- the number that a positional or a required option gives: its value, within its limits
 abbrev pub GivesNumber : Opt → Option ArgumentText → ℕ → Type 0
 GivesNumber opt None value = ⊥
 GivesNumber opt (Some text) value = IsNumber text value × IsAllowed (kind_of opt) value

@@ -1,35 +1,34 @@
 -- The first fault of the arguments of a command line.
 use Rattle.std.specs.Prelude.{◌≡◌, ◌≢◌, List, [], ◌∷◌}
 use Rattle.prefix_lattice.specs.{HasPrefixFault}
-use Rattle.prefix_lattice.specs.declared.grain.Grain.TheVariants.{Byte}
 use Rattle.prefix_lattice.specs.declared.prefix_fault.PrefixFault.{PrefixFault}
 use Rattle.command_words.specs.Arguments.{ArgumentText, Argument, AreWellFormed}
 use Rattle.command_words.specs.FormNames.{word_of, form_of, AreWords}
 use Rattle.command_words.specs.Settings.{settings_in, store_setting, SetsAll, HaveWideShare}
 use Rattle.command_words.specs.declared.command_word.CommandWord.{CommandWord}
-use Rattle.command_words.specs.declared.command_word.CommandWord.TheVariants.{Weigh}
 use Rattle.command_words.specs.declared.settings.Settings.{Settings}
 use Rattle.command_words.specs.declared.words_kind.WordsKind.{WordsKind}
 use Rattle.command_words.specs.declared.words_kind.WordsKind.TheVariants.{NoCommand, UnknownCommand, Refused, BadPrefix}
 use Rattle.command_words.specs.declared.words_kind.WordsKind.TheVariants.{BadNumber, OutOfLimits, BadChoice, Bound}
-use Rattle.command_words.specs.Command.{HasSides, HasPositionals, IsBounded}
+use Rattle.command_words.specs.Command.{HasSides, prefix_grain, HasGoodPrefix, IsBounded}
 use Rattle.command_words.specs.Values.{AreGood, HasValueFault}
 
--- the positionals of `weigh` have this fault
+-- the two sides of the prefix that the command takes have this fault
 pub record HasBadPrefix (words : List ArgumentText) (fault : PrefixFault) : Type 0 where
+  pub command : CommandWord
   pub arguments : List Argument
-  pub are_words : AreWords words Weigh arguments
+  pub are_words : AreWords words command arguments
   pub source : ArgumentText
   pub dest : ArgumentText
-  pub sides : HasSides arguments source dest
-  pub has_fault : HasPrefixFault Byte source dest fault
+  pub sides : HasSides command arguments source dest
+  pub has_fault : HasPrefixFault (prefix_grain command arguments) source dest fault
 
--- the arguments are well formed, their positionals are good, and this is the first fault of their values
+-- the arguments are well formed, the prefix that the command takes is good, and this is the first fault of their values
 pub record HasBadValue (words : List ArgumentText) (kind : WordsKind) : Type 0 where
   pub command : CommandWord
   pub arguments : List Argument
   pub are_words : AreWords words command arguments
-  pub positionals : HasPositionals command arguments
+  pub good_prefix : HasGoodPrefix command arguments
   pub has_fault : HasValueFault (settings_in command arguments) kind
 
 -- each value is good, the grain fits, and the tables are too small for the share, though the command needs them to be

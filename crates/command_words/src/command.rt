@@ -1,7 +1,8 @@
 //! What a command line asks for.
 
 use crate::Settings;
-use prefix_lattice::Prefix;
+use prefix_lattice::{Grain, Prefix};
+use watch_rules::Rule;
 
 /// A command with its settings, defaults filled in.
 #[derive(Clone, Copy, Debug, PartialEq, Eq)]
@@ -27,5 +28,11 @@ pub enum Command {
         seed: u64,
         frames: u32,
         settings: Settings,
+    },
+    /// `watch`: an alarm for each prefix that the reports of a session's text show to be over the limit of a rule.
+    Watch {
+        rule: Rule,
+        /// By how many bits the prefixes of the text may keep more of an address.
+        grain: Grain,
     },
 }

@@ -16,6 +16,7 @@ pub enum CommandWord {
     Audit,
     Make,
     Demo,
+    Watch,
 }
 
 static NONE: [&str; 0] = [];
@@ -45,6 +46,10 @@ static DEMO_OPTIONS: [&str; 7] = [
     "shards", "capacity", "phi", "deal", "block", "workers", "bits",
 ];
 
+static WATCH_OPTIONS: [&str; 5] = ["report", "limit", "src", "dst", "bits"];
+
+static WATCH_REQUIRED: [&str; 2] = ["report", "limit"];
+
 impl CommandWord {
     /// The command of this name, if there is one.
     pub fn of(word: &str) -> Option<CommandWord>
@@ -58,6 +63,7 @@ impl CommandWord {
             "audit" => Some(CommandWord::Audit),
             "make" => Some(CommandWord::Make),
             "demo" => Some(CommandWord::Demo),
+            "watch" => Some(CommandWord::Watch),
             _ => None,
         }
     }
@@ -73,6 +79,7 @@ impl CommandWord {
             CommandWord::Audit => "audit",
             CommandWord::Make => "make",
             CommandWord::Demo => "demo",
+            CommandWord::Watch => "watch",
         }
     }
 
@@ -110,6 +117,11 @@ impl CommandWord {
                 positionals: MADE_POSITIONALS.as_slice(),
                 options: DEMO_OPTIONS.as_slice(),
                 required: NONE.as_slice(),
+            },
+            CommandWord::Watch => FormNames {
+                positionals: NONE.as_slice(),
+                options: WATCH_OPTIONS.as_slice(),
+                required: WATCH_REQUIRED.as_slice(),
             },
         }
     }

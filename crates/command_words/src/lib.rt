@@ -4,7 +4,9 @@
 mod command;
 mod command_word;
 mod form_names;
+mod given;
 mod laws;
+mod names;
 mod opt;
 mod parsing;
 mod path_texts;
@@ -16,8 +18,9 @@ mod words_kind;
 
 pub use command::Command;
 pub use laws::arguments_ask_for_one_command;
+pub use names::options_before_names;
 pub use opt::Opt;
 pub use path_texts::{PathTexts, paths};
-pub use reading::read_words;
+pub use reading::{read_words, report_settings};
 pub use settings::Settings;
 pub use words_kind::{WordsKind, WordsRefusal};

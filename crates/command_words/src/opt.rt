@@ -34,6 +34,8 @@ pub enum Opt {
     Bits,
     /// Whether a capture that ends inside a frame is taken up to that frame: `no` or `yes`.
     Front,
+    /// The least weight at which a watch raises an alarm, 1 to 2^64 - 1.
+    Limit,
 }
 
 impl Opt {
@@ -55,6 +57,7 @@ impl Opt {
             Opt::Rounds => "rounds",
             Opt::Bits => "bits",
             Opt::Front => "front",
+            Opt::Limit => "limit",
         }
     }
 }

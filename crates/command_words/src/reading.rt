@@ -1,29 +1,36 @@
 //! Reading the arguments of a command line.
 
-ghost use Rattle.std.specs.Prelude.{◌≡◌, ◌⊎◌, List, Ok, Err, IfOk, IfErr};
-ghost use Rattle.command_words.specs.Arguments.{ArgumentText};
+ghost use Rattle.std.specs.Prelude.{◌≡◌, ◌⊎◌, List, All, Contains, Ok, Err, IfOk, IfErr, unwrap_or};
+ghost use Rattle.clap.specs.Words.{found_of, first_value};
+ghost use Rattle.prefix_lattice.specs.{SpellsPrefix};
+ghost use Rattle.command_words.specs.Arguments.{Argument, ArgumentText, AreWellFormed};
 ghost use Rattle.command_words.specs.Matches.{MatchWords};
 ghost use Rattle.command_words.specs.Settings.{HaveWideShare};
 ghost use Rattle.command_words.specs.Arguments.{argument_texts};
-ghost use Rattle.command_words.specs.Command.{AskForCommand, IsLimitedCommand};
+ghost use Rattle.command_words.specs.Command.{AskForCommand, IsLimitedCommand, whole_side};
+ghost use Rattle.command_words.specs.Given.{IsBadPrefix};
+ghost use Rattle.command_words.specs.Names.{AskForReport, HasReportFault, IsFaultOfOptions, options_alone, report_options};
 ghost use Rattle.command_words.specs.WordsRefusal.{HasWordsFault};
 ghost use Rattle.command_words.specs.declared.command.Command.{Command};
-ghost use Rattle.command_words.specs.declared.command.Command.TheVariants.{Demo as DemoOf};
+ghost use Rattle.command_words.specs.declared.command.Command.TheVariants.{Demo as DemoOf, Report as ReportOf};
 ghost use Rattle.command_words.specs.declared.command_word.CommandWord.{CommandWord};
 ghost use Rattle.command_words.specs.declared.command_word.CommandWord.TheVariants.{Weigh, Report, Format, Audit, Make};
-ghost use Rattle.command_words.specs.declared.command_word.CommandWord.TheVariants.{Demo};
+ghost use Rattle.command_words.specs.declared.command_word.CommandWord.TheVariants.{Demo, Watch};
 ghost use Rattle.command_words.specs.declared.words_kind.WordsKind.{WordsKind};
 ghost use Rattle.command_words.specs.declared.words_kind.WordsKind.TheVariants.{Bound};
+ghost use Rattle.command_words.specs.declared.settings.Settings.{Settings};
 ghost use Rattle.command_words.specs.declared.words_kind.WordsRefusal.TheVariants.{Bad, OutOfMemory};
 
 use crate::command_word::CommandWord;
+use crate::given::Given;
 use crate::parsing::parse;
 use crate::scanning::are_well_formed;
-use crate::values::{Given, bounded, given_of, settings_of};
-use crate::{Command, WordsKind, WordsRefusal};
+use crate::values::{bounded, given_of, settings_of, told_grain};
+use crate::{Command, Settings, WordsKind, WordsRefusal};
 use clap::ArgMatches;
 use prefix_lattice::{Grain, Prefix, prefix_texts_have_one_reading};
 use std::alloc::Global;
+use watch_rules::Rule;
 
 /// A command line: the name of its command, the command that it asks for, and what `clap` found in it.
 #[derive(Drop)]
@@ -40,7 +47,8 @@ pub(crate) struct CommandLine<'a> {
 /// Arguments that ask for no command are refused for their first fault: the command, then the form of the
 /// arguments, then the prefix, then the values in the order of `Opt`, each as a number before its limits, then
 /// for `report`, `audit` and `demo` the bound on `phi` times the capacity. Half bytes that don't fit the capacity are
-/// outside the limits of `Opt::Bits`.
+/// outside the limits of `Opt::Bits`. The lengths of the prefix of `watch` are those of half bytes if `--bits` has the
+/// value `4`, else those of whole bytes.
 pub fn read_words(alloc: Global, words: &[&str]) -> Result<Command, WordsRefusal>
     ensures ok { IfOk result (AskForCommand (argument_texts words.now)) }
     ensures limited { IfOk result IsLimitedCommand }
@@ -99,6 +107,7 @@ fn command_of(word: CommandWord, matches: &ArgMatches<'_>) -> Result<Command, Wo
         CommandWord::Audit => audit_command(matches),
         CommandWord::Make => make_command(matches),
         CommandWord::Demo => demo_command(matches),
+        CommandWord::Watch => watch_command(matches),
     }
 }
 
@@ -110,10 +119,7 @@ fn weigh_command(matches: &ArgMatches<'_>) -> Result<Command, WordsKind>
 {
     let source = matches.get_str("SRC").unwrap();
     let dest = matches.get_str("DST").unwrap();
-    let prefix = match Prefix::parse(Grain::Byte, source.as_bytes(), dest.as_bytes()) {
-        Ok(prefix) => prefix,
-        Err(fault) => return Err(WordsKind::BadPrefix(fault)),
-    };
+    let prefix = prefix_of(Grain::Byte, source, dest)?;
     let settings = settings_of(matches)?;
     Ok(Command::Weigh { prefix, settings })
 }
@@ -123,7 +129,43 @@ fn report_command(matches: &ArgMatches<'_>) -> Result<Command, WordsKind>
     ensures ok { (words : List ArgumentText) → MatchWords words Report matches.now → IfOk result (AskForCommand words) }
     ensures err { (words : List ArgumentText) → MatchWords words Report matches.now → IfErr result (HasWordsFault words) }
 {
-    Ok(Command::Report(bounded(settings_of(matches)?)?))
+    Ok(Command::Report(report_settings_of(matches)?))
+}
+
+/// The settings that `report` has with these words after its name: options of it alone. They are refused as `read_words`
+/// refuses the whole command line.
+pub fn report_settings(alloc: Global, behind: &[&str]) -> Result<Settings, WordsRefusal>
+    ensures ok { IfOk result (AskForReport (argument_texts behind.now)) }
+    ensures limited { IfOk result (λ settings. IsLimitedCommand (ReportOf settings)) }
+    ensures bad { (kind : WordsKind) → result ≡ Err (Bad kind) → HasReportFault (argument_texts behind.now) kind }
+    ensures complete { (settings : Settings) → AskForReport (argument_texts behind.now) settings → (result ≡ Ok settings) ⊎ (result ≡ Err OutOfMemory) }
+    ensures exact { (kind : WordsKind) → HasReportFault (argument_texts behind.now) kind → (result ≡ Err (Bad kind)) ⊎ (result ≡ Err OutOfMemory) }
+    ensures named { (options : List ArgumentText) (arguments : List Argument) → All (Contains report_options) options
+        → AreWellFormed (options_alone options) (argument_texts behind.now) arguments → (kind : WordsKind) → result ≡ Err (Bad kind)
+        → IsFaultOfOptions options kind }
+{
+    prefix_texts_have_one_reading();
+    settings_behind_report(alloc, behind)
+}
+
+// The settings that `report` has with these words after its name, or what is wrong with them.
+fn settings_behind_report(alloc: Global, behind: &[&str]) -> Result<Settings, WordsRefusal>
+    ensures ok { IfOk result (AskForReport (argument_texts behind.now)) }
+    ensures bad { (kind : WordsKind) → result ≡ Err (Bad kind) → HasReportFault (argument_texts behind.now) kind }
+{
+    if !are_well_formed(&CommandWord::Report.form(), behind) {
+        return Err(WordsRefusal::Bad(WordsKind::Refused));
+    }
+    let matches = parse(alloc, CommandWord::Report, behind)?;
+    Ok(report_settings_of(&matches)?)
+}
+
+// The settings that arguments that begin with `report` give.
+fn report_settings_of(matches: &ArgMatches<'_>) -> Result<Settings, WordsKind>
+    ensures ok { (words : List ArgumentText) → MatchWords words Report matches.now → IfOk result (λ settings. AskForCommand words (ReportOf settings)) }
+    ensures err { (words : List ArgumentText) → MatchWords words Report matches.now → IfErr result (HasWordsFault words) }
+{
+    bounded(settings_of(matches)?)
 }
 
 // The command asked for by arguments that begin with `format`. Its tables may be too small for the default share.
@@ -173,4 +215,41 @@ fn demo_of(given: Given) -> Result<Command, WordsKind>
         frames: given.frames,
         settings: bounded(given.settings)?,
     })
+}
+
+// The command asked for by arguments that begin with `watch`.
+fn watch_command(matches: &ArgMatches<'_>) -> Result<Command, WordsKind>
+    requires { (words : List ArgumentText) × MatchWords words Watch matches.now }
+    ensures ok { (words : List ArgumentText) → MatchWords words Watch matches.now → IfOk result (AskForCommand words) }
+    ensures err { (words : List ArgumentText) → MatchWords words Watch matches.now → IfErr result (HasWordsFault words) }
+{
+    let source = side_of(matches, "src");
+    let dest = side_of(matches, "dst");
+    let prefix = prefix_of(told_grain(matches), source, dest)?;
+    let given = given_of(matches)?;
+    Ok(Command::Watch {
+        rule: Rule {
+            prefix,
+            limit: given.limit,
+        },
+        grain: given.settings.grain,
+    })
+}
+
+// One side of the prefix of a rule: the value of the option, or all addresses.
+fn side_of<'a>(matches: &ArgMatches<'a>, name: &str) -> &'a str
+    ensures { result.now ≡ unwrap_or (first_value (found_of matches.now) name.now) whole_side }
+{
+    matches.get_str(name).unwrap_or("0.0.0.0/0")
+}
+
+// The prefix that two texts spell.
+fn prefix_of(grain: Grain, source: &str, dest: &str) -> Result<Prefix, WordsKind>
+    ensures ok { IfOk result (SpellsPrefix grain source.now dest.now) }
+    ensures err { IfErr result (IsBadPrefix grain source.now dest.now) }
+{
+    match Prefix::parse(grain, source.as_bytes(), dest.as_bytes()) {
+        Ok(prefix) => Ok(prefix),
+        Err(fault) => Err(WordsKind::BadPrefix(fault)),
+    }
 }

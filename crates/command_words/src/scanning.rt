@@ -66,13 +66,13 @@ fn stands(words: &[&str], name: &str) -> bool
     false
 }
 
-// The argument at the front of words.
+/// The argument at the front of words.
 #[derive(Clone, Copy)]
-struct Front<'a> {
+pub(crate) struct Front<'a> {
     // How many words spell the argument.
-    words: usize,
+    pub(crate) words: usize,
     // The name of its option, or `None` for a positional.
-    option: Option<&'a str>,
+    pub(crate) option: Option<&'a str>,
 }
 
 impl Front<'_> {
@@ -87,8 +87,8 @@ impl Front<'_> {
     }
 }
 
-// The argument that the first words spell, if they spell one.
-fn front_of<'a>(words: &[&'a str]) -> Option<Front<'a>>
+/// The argument that the first words spell, if they spell one.
+pub(crate) fn front_of<'a>(words: &[&'a str]) -> Option<Front<'a>>
     ensures fits { IfSome result (λ front. (0 < front.words) × (front.words ≤ length words.now)) }
     ensures some { IfSome result (λ front. (argument : Argument)
         × BeginWith (argument_texts words.now) argument (argument_texts (drop front.words words.now))
@@ -115,8 +115,8 @@ fn front_of<'a>(words: &[&'a str]) -> Option<Front<'a>>
     })
 }
 
-// Whether a text can be a positional or a value.
-fn is_value(text: &str) -> bool
+/// Whether a text can be a positional or a value.
+pub(crate) fn is_value(text: &str) -> bool
     ensures { IsTrue result ↔ IsValue text.now }
 {
     !text.is_empty() && !text.starts_with('-')

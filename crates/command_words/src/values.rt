@@ -1,16 +1,17 @@
 //! The settings that the values of options give.
 
-ghost use Rattle.std.specs.Prelude.{◌≡◌, ◌↔◌, IfOk, IfErr, IsTrue};
+ghost use Rattle.std.specs.Prelude.{◌≡◌, ◌≤◌, ◌↔◌, IfOk, IfErr, IsTrue};
 ghost use Rattle.command_words.specs.Scanning.{text_at};
 ghost use Rattle.command_words.specs.Options.{kind_of, number, place_of};
-ghost use Rattle.command_words.specs.Settings.{GrainFits, SetsDeal, SetsFront, SetsGrain, SetsNumber, SetsAll};
+ghost use Rattle.command_words.specs.Settings.{GrainFits, SetsDeal, SetsFront, SetsGrain, SetsNumber, SetsAll, grain_told};
 ghost use Rattle.command_words.specs.Settings.{SetsStore, SetsWeigh, HaveWideShare};
 ghost use Rattle.command_words.specs.Matches.{store_in, values_in};
 ghost use Rattle.command_words.specs.Values.{AreGood, AreGoodBefore, HasValueFault};
 ghost use Rattle.command_words.specs.Given.{IsBadChoice, IsBadNumber, SetsGiven, SetsRunning};
 ghost use Rattle.command_words.specs.declared.words_kind.WordsKind.TheVariants.{BadChoice, Bound, OutOfLimits};
-ghost use Rattle.command_words.specs.declared.opt.Opt.TheVariants.{Seed, Weigh as ByWeigh, Deal, Block, Bits, Front};
+ghost use Rattle.command_words.specs.declared.opt.Opt.TheVariants.{Seed, Weigh as ByWeigh, Deal, Block, Bits, Front, Limit};
 
+use crate::given::Given;
 use crate::{Opt, Settings, WordsKind};
 use clap::ArgMatches;
 use deal_rules::DealKind;
@@ -88,14 +89,6 @@ const ROUNDS: Numeric = Numeric {
     default: 0,
 };
 
-/// What options and positionals give, with defaults filled in. A command uses what its form has.
-#[derive(Drop)]
-pub(crate) struct Given {
-    pub(crate) seed: u64,
-    pub(crate) frames: u32,
-    pub(crate) settings: Settings,
-}
-
 // What threads do while records are folded.
 #[derive(Drop)]
 struct Running {
@@ -125,11 +118,23 @@ pub(crate) fn given_of(matches: &ArgMatches<'_>) -> Result<Given, WordsKind>
     let seed = seed_of(text_of(matches, Opt::Seed))?;
     let frames = FRAMES.read(text_of(matches, Opt::Frames))?;
     let settings = options_of(matches)?;
+    let limit = limit_of(text_of(matches, Opt::Limit))?;
     Ok(Given {
         seed,
         frames,
         settings,
+        limit,
     })
+}
+
+/// The grain by which the lengths of a prefix are checked, before any value is: half bytes only for the value `4`.
+pub(crate) fn told_grain(matches: &ArgMatches<'_>) -> Grain
+    ensures { result ≡ grain_told (values_in matches.now Bits) }
+{
+    match text_of(matches, Opt::Bits) {
+        Some("4") => Grain::Nibble,
+        _ => Grain::Byte,
+    }
 }
 
 // The settings that the options give, or the fault of the first wrong value. The values before them are good.
@@ -256,6 +261,22 @@ fn seed_of(text: Option<&str>) -> Result<u64, WordsKind>
     match number_of(text.as_bytes()) {
         Some(seed) => Ok(seed),
         None => Err(WordsKind::BadNumber(Opt::Seed)),
+    }
+}
+
+// The limit of a watch, which may be any number of 64 bits but 0. It is never missing where a command has it.
+fn limit_of(text: Option<&str>) -> Result<u64, WordsKind>
+    ensures ok { IfOk result (SetsNumber Limit (text_at text.entry)) }
+    ensures some { IfOk result (λ limit. 1 ≤ limit) }
+    ensures err { IfErr result (IsBadNumber Limit (text_at text.entry)) }
+{
+    let Some(text) = text else {
+        return Ok(1);
+    };
+    match number_of(text.as_bytes()) {
+        Some(0) => Err(WordsKind::OutOfLimits(Opt::Limit)),
+        Some(limit) => Ok(limit),
+        None => Err(WordsKind::BadNumber(Opt::Limit)),
     }
 }
 

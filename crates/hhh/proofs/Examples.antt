@@ -1,8 +1,8 @@
--- Worked examples of the shards that records go to.
+-- Worked examples of the shards that records go to, and of severities.
 use Rattle.std.proofs.Common.{◌≡◌, refl}
 use Rattle.prefix_lattice.specs.{RecordValue}
 use Rattle.deal_rules.specs.declared.deal_kind.DealKind.TheVariants.{RoundRobin, BySource, Free}
-use Rattle.hhh.specs.Rules.{rule_shard}
+use Rattle.hhh.specs.Rules.{rule_shard, severity}
 
 -- 100 bytes from 10.1.2.3 to 20.1.2.2
 abbrev packet : RecordValue
@@ -18,3 +18,13 @@ shard_of_a_source = refl
 -- the lowest bits of the two addresses are 11 and 10
 pub shard_of_both_addresses : rule_shard Free 5 packet 4 ≡ 1
 shard_of_both_addresses = refl
+
+-- a low of 250 holds the limit 100 twice, whatever the high
+pub severity_of_two_and_a_half : severity 250 900 100 ≡ 2
+severity_of_two_and_a_half = refl
+
+pub severity_of_the_limit_itself : severity 100 100 100 ≡ 1
+severity_of_the_limit_itself = refl
+
+pub severity_is_at_most_7 : severity 5000 5000 100 ≡ 7
+severity_is_at_most_7 = refl

@@ -13,14 +13,16 @@ use Rattle.report_text.specs.{HasReadFault, longest_session}
 use Rattle.report_text.specs.declared.session.Session.{Session}
 use Rattle.report_text.specs.declared.session_fault.SessionFault.{SessionFault}
 use Rattle.report_text.specs.declared.session_fault.SessionFault.TheVariants as session
+use Rattle.report_text.specs.declared.session_fault.TextFault.{TextFault}
 use Rattle.report_text.specs.declared.session_fault.TextFault.TheVariants.{BadLine, MissingEnd, TooLong}
+use Rattle.command_words.specs.declared.command.Command.{Command}
 use Rattle.command_words.specs.declared.command.Command.TheVariants.{Audit}
 use Rattle.command_words.specs.declared.settings.Settings.{Settings}
 use Rattle.hhh_engine.specs.Answer.{IsUnfinished}
 use Rattle.session_audit.specs.{AreAudited, IsAuditText, IsSoundAudit, IsUnsoundAudit, IsAuditingAnswer, Says}
-use Rattle.hhh_engine.specs.Reading.{AreAuditing, HasNoAudit}
+use Rattle.hhh_engine.specs.Reading.{AreAuditing, HasNoAudit, HasNoWatch}
 use Rattle.hhh_engine.specs.Tasks.{audit_task}
-use Rattle.hhh_engine.specs.Ending.{course, Ends, SourceFaults}
+use Rattle.hhh_engine.specs.Ending.{course, Ends, SourceFaults, TextRefused}
 use Rattle.hhh_engine.specs.Inputs.{InputBytes, HoldsOfAudit, inputs}
 use Rattle.dealt_capture.specs.{IsCaptureFile, DealingRules}
 use Rattle.run_status.specs.{status_of_session}
@@ -31,10 +33,11 @@ use Rattle.run_status.specs.declared.status.Status.TheVariants.{Done, BadWords, 
 use Rattle.run_status.specs.declared.status.Status.TheVariants.{DiskFault, NotFormatted, Damaged, OtherSettings}
 use Rattle.run_status.specs.declared.status.Status.TheVariants.{OtherCapture, AuditNo, BadReport, OutOfMemory}
 use Rattle.hhh_engine.proofs.CaptureReportLemmas.{capture_report_if_known}
+use Rattle.hhh_engine.specs.Rules.{RunRules}
 use Rattle.hhh_engine.specs.Commands.{CommandEnds}
 use Rattle.hhh_engine.specs.TopCall.{Streams, faults_after, faults_before, run_inputs}
 use Rattle.report_session.specs.{IsAsBefore}
-use Rattle.hhh_engine.proofs.StatusLemmas.{status_beside_disk}
+use Rattle.hhh_engine.proofs.StatusLemmas.{status_as_named_command, status_beside_disk}
 use Rattle.prefix_lattice.specs.declared.grain.Grain.{Grain}
 
 -- what follows of the inputs of an audit that may be known
@@ -46,13 +49,13 @@ audit_end_inputs_imply_more settings read P Q follows has =
     (λ file holds. (holds.0, capture_report_if_known read.text (P file) (Q file) (follows file) holds.1)) has
 
 -- the fault of the bytes that were read is one of the text itself
-audit_end_text_is_faulty : (grain : Grain) (text left : Option (List ℕ)) (bytes : List ℕ) (fault : SessionFault) → Consumes text left bytes
+text_end_is_faulty : (grain : Grain) (text left : Option (List ℕ)) (bytes : List ℕ) (fault : SessionFault) → Consumes text left bytes
     → (length bytes ≤ longest_session → IsAtEnd left) → HasReadFault grain bytes fault
     → (longest_session < length bytes → fault ≡ session.Text TooLong)
     → IfSome text (λ whole. HasReadFault grain whole fault)
-audit_end_text_is_faulty grain None left bytes fault consumed at_end has too_long = tt
-audit_end_text_is_faulty grain (Some whole) None bytes fault consumed at_end has too_long = absurd consumed
-audit_end_text_is_faulty grain (Some whole) (Some rest) bytes fault consumed at_end has too_long =
+text_end_is_faulty grain None left bytes fault consumed at_end has too_long = tt
+text_end_is_faulty grain (Some whole) None bytes fault consumed at_end has too_long = absurd consumed
+text_end_is_faulty grain (Some whole) (Some rest) bytes fault consumed at_end has too_long =
     ⊎_elim
     (λ (long : longest_session < length bytes).
     subst (HasReadFault grain whole) (sym (too_long long))
@@ -62,36 +65,47 @@ audit_end_text_is_faulty grain (Some whole) (Some rest) bytes fault consumed at_
     (sym (consumed ∙ ap (λ r. bytes ++ r) (at_end short) ∙ append-nil bytes)) has)
     (cases_lt longest_session (length bytes))
 
+-- the text of a session was refused
+text_is_refused_at_end : (grain : Grain) (read : InputBytes) (bytes : List ℕ) (fault : TextFault)
+    → Consumes read.text read.text_left bytes → length bytes ≤ longest_session + 1
+    → (length bytes ≤ longest_session → IsAtEnd read.text_left) → HasReadFault grain bytes (session.Text fault)
+    → (longest_session < length bytes → session.Text fault ≡ session.Text TooLong) → TextRefused grain read fault
+text_is_refused_at_end grain read bytes TooLong consumed limit at_end has too_long = record {
+  first_fault = text_end_is_faulty grain read.text read.text_left bytes (session.Text TooLong) consumed at_end has too_long;
+  read_to_limit = record { front = bytes; consumed = consumed; limit = omega (arith, limit, has) };
+}
+text_is_refused_at_end grain read bytes (BadLine line) consumed limit at_end has too_long = record {
+  first_fault = text_end_is_faulty grain read.text read.text_left bytes (session.Text (BadLine line)) consumed at_end has too_long;
+  read_to_limit = at_end has.0;
+}
+text_is_refused_at_end grain read bytes (MissingEnd line) consumed limit at_end has too_long = record {
+  first_fault = text_end_is_faulty grain read.text read.text_left bytes (session.Text (MissingEnd line)) consumed at_end has too_long;
+  read_to_limit = at_end has.0;
+}
+
 -- why the inputs of an audit were not accepted: the text of a session was refused
-pub audit_ends_at_refused_text : (settings : Settings) (capture capture_left text text_left store : Option (List ℕ)) (before now : SourceFaults)
-    (bytes : List ℕ) (fault : SessionFault) → IsAtEnd capture_left → IfSome capture (IsCaptureFile settings.front)
-    → Consumes text text_left bytes → length bytes ≤ longest_session + 1
-    → (length bytes ≤ longest_session → IsAtEnd text_left) → HasReadFault settings.grain bytes fault
+pub audit_ends_at_refused_text : (settings : Settings) (read : InputBytes) (before now : SourceFaults) (bytes : List ℕ)
+    (fault : SessionFault) → IsAtEnd read.capture_left → IfSome read.capture (IsCaptureFile settings.front)
+    → Consumes read.text read.text_left bytes → length bytes ≤ longest_session + 1
+    → (length bytes ≤ longest_session → IsAtEnd read.text_left) → HasReadFault settings.grain bytes fault
     → (longest_session < length bytes → fault ≡ session.Text TooLong)
-    → HasNoAudit settings (inputs capture capture_left text text_left store) before now (status_of_session fault)
-audit_ends_at_refused_text settings capture capture_left text text_left store before now bytes (session.Text TooLong) read is_capture consumed
-    limit at_end has too_long = record {
-      read_to_end = read;
-      accepted = is_capture;
-      first_fault = audit_end_text_is_faulty settings.grain text text_left bytes (session.Text TooLong) consumed at_end has too_long;
-      read_to_limit = record { front = bytes; consumed = consumed; limit = omega (arith, limit, has) };
-    }
-audit_ends_at_refused_text settings capture capture_left text text_left store before now bytes (session.Text (BadLine line)) read is_capture
-    consumed limit at_end has too_long = record {
-      read_to_end = read;
-      accepted = is_capture;
-      first_fault = audit_end_text_is_faulty settings.grain text text_left bytes (session.Text (BadLine line)) consumed at_end has too_long;
-      read_to_limit = at_end has.0;
-    }
-audit_ends_at_refused_text settings capture capture_left text text_left store before now bytes (session.Text (MissingEnd line)) read is_capture
-    consumed limit at_end has too_long = record {
-      read_to_end = read;
-      accepted = is_capture;
-      first_fault = audit_end_text_is_faulty settings.grain text text_left bytes (session.Text (MissingEnd line)) consumed at_end has too_long;
-      read_to_limit = at_end has.0;
-    }
-audit_ends_at_refused_text settings capture capture_left text text_left store before now bytes session.OutOfMemory read is_capture consumed
-    limit at_end has too_long = tt
+    → HasNoAudit settings read before now (status_of_session fault)
+audit_ends_at_refused_text settings read before now bytes (session.Text fault) at_capture_end is_capture consumed limit at_end has too_long = record {
+  read_to_end = at_capture_end;
+  accepted = is_capture;
+  refused = text_is_refused_at_end settings.grain read bytes fault consumed limit at_end has too_long;
+}
+audit_ends_at_refused_text settings read before now bytes session.OutOfMemory at_capture_end is_capture consumed limit at_end has too_long = tt
+
+-- and the same of a watch
+pub watch_ends_at_refused_text : (grain : Grain) (read : InputBytes) (before now : ℕ) (bytes : List ℕ) (fault : SessionFault)
+    → Consumes read.text read.text_left bytes → length bytes ≤ longest_session + 1
+    → (length bytes ≤ longest_session → IsAtEnd read.text_left) → HasReadFault grain bytes fault
+    → (longest_session < length bytes → fault ≡ session.Text TooLong)
+    → HasNoWatch grain read before now (status_of_session fault)
+watch_ends_at_refused_text grain read before now bytes (session.Text fault) consumed limit at_end has too_long =
+    text_is_refused_at_end grain read bytes fault consumed limit at_end has too_long
+watch_ends_at_refused_text grain read before now bytes session.OutOfMemory consumed limit at_end has too_long = tt
 
 -- how an audit ended
 abbrev pub EndsAudit : {K : Type 0} → Settings → DealingRules → InputBytes → (read_before read_now : SourceFaults)
@@ -284,13 +298,15 @@ audit_ends_as_written settings rules given read_before read_now sink written old
     audit_ends_in_written_text settings rules given read_before read_now sink written old new write_before write_now audited.dealt
     audited.session answer.text.items answer.status are says capture_read text_read same appended same_sink
 
--- how an audit ended, as a command with a disk that is untouched
+-- how a command that is an audit ended, with a disk that is untouched
 pub audit_ends_as : {S T K D : Type 0} (s : SourceOf S) (t : SourceOf T) (k : SinkOf K) (d : DiskOf D) (old new : Streams S T K D)
-    (rules : DealingRules) (settings : Settings) (status : Status) → new.disk ≡ old.disk → IsAsBefore d old.disk new.disk
-    → EndsAudit settings rules (run_inputs s t k d old new) (faults_before s t k d old new) (faults_after s t k d old new) old.sink new.sink
-    (k.taken old.sink) (k.taken new.sink) (k.faults old.sink) (k.faults new.sink) status
-    → CommandEnds s t k d old new rules (Audit settings) status
-audit_ends_as s t k d old new rules settings status same before ends =
-    status_beside_disk (audit_task settings rules (run_inputs s t k d old new) (k.taken old.sink) (k.taken new.sink))
+    (rules : RunRules) (command : Command) (settings : Settings) (status : Status) → command ≡ Audit settings → new.disk ≡ old.disk
+    → IsAsBefore d old.disk new.disk
+    → EndsAudit settings rules.dealing (run_inputs s t k d old new) (faults_before s t k d old new) (faults_after s t k d old new)
+    old.sink new.sink (k.taken old.sink) (k.taken new.sink) (k.faults old.sink) (k.faults new.sink) status
+    → CommandEnds s t k d old new rules command status
+audit_ends_as s t k d old new rules command settings status is same before ends =
+    status_as_named_command s t k d old new rules command (Audit settings) status is
+    (status_beside_disk (audit_task settings rules.dealing (run_inputs s t k d old new) (k.taken old.sink) (k.taken new.sink))
     (course k (s.left old.capture) (faults_before s t k d old new) (faults_after s t k d old new) old.sink new.sink)
-    (new.disk ≡ old.disk) (IsAsBefore d old.disk new.disk) status (λ failed. failed) same before ends
+    (new.disk ≡ old.disk) (IsAsBefore d old.disk new.disk) status (λ failed. failed) same before ends)

@@ -1,4 +1,4 @@
--- How an audit can end.
+-- How an audit or a watch can end by what the text of its session says.
 use Rattle.std.proofs.Common.{◌≡◌, ◌⊎◌, ◌≤◌, ℕ, List, length, All, Some, IfSome}
 use Rattle.std.proofs.Common.{inl, inr, refl, ap, ap₂, subst, ⊎_elim}
 use Rattle.prefix_lattice.specs.{RecordValue}
@@ -10,13 +10,16 @@ use Rattle.report_text.specs.declared.session_fault.TextFault.{TextFault}
 use Rattle.exact_audit.specs.declared.verdict.Verdict.{Verdict}
 use Rattle.command_words.specs.{AskForCommand}
 use Rattle.command_words.specs.declared.command.Command.{Command}
-use Rattle.command_words.specs.declared.command.Command.TheVariants.{Weigh, Report as ToReport, Format, Audit, Make}
+use Rattle.command_words.specs.declared.command.Command.TheVariants.{Weigh, Report as ToReport, Format, Audit, Watch, Make}
 use Rattle.command_words.specs.declared.command.Command.TheVariants.{Demo}
 use Rattle.command_words.specs.declared.settings.Settings.{Settings}
 use Rattle.session_audit.specs.{AreAudited, IsAuditText, IsFirstUnsound, IsAuditedSound, IsSoundAudit}
 use Rattle.session_audit.specs.{IsUnsoundAudit}
 use Rattle.hhh_engine.specs.Answer.{IsUnfinished}
-use Rattle.hhh_engine.specs.Ending.{AuditFinds}
+use Rattle.hhh_engine.specs.Ending.{SessionFinds, SessionRefused}
+use Rattle.session_watch.specs.{IsWatchOf}
+use Rattle.watch_rules.specs.declared.rule.Rule.{Rule}
+use Rattle.pcap_frames.specs.declared.fault.CaptureFault.{CaptureFault}
 use Rattle.hhh_engine.specs.Inputs.{InputBytes, HoldsOfAudit, WereRead}
 use Rattle.dealt_capture.specs.{IsCaptureFile, DealingRules}
 use Rattle.run_status.specs.declared.status.Status.{Status}
@@ -27,8 +30,9 @@ use Rattle.hhh_engine.proofs.StatusLemmas.{CaptureStatusIsFaultless, SessionStat
 use Rattle.outside_io.specs.declared.source.Source.{Ghosts as SourceOf}
 use Rattle.outside_io.specs.declared.sink.Sink.{Ghosts as SinkOf}
 use Rattle.slot_disk.specs.declared.disk.Disk.{Ghosts as DiskOf}
+use Rattle.hhh_engine.specs.Rules.{RunRules}
 use Rattle.hhh_engine.specs.Commands.{CommandEnds}
-use Rattle.hhh_engine.specs.TopCall.{FindsUnsound, LeavesUnwritten, RefusesText, Streams, run_inputs}
+use Rattle.hhh_engine.specs.TopCall.{FindsUnsound, RefusesText, Streams, run_inputs}
 use Rattle.prefix_lattice.specs.declared.grain.Grain.{Grain}
 
 -- a text has one fault at most
@@ -61,7 +65,7 @@ audit_finding_excludes_bad_text no_fault settings rules file bytes answer fault 
 
 -- a run, whose command ended so
 module _ {S T K D : Type 0} (s : SourceOf S) (t : SourceOf T) (k : SinkOf K) (d : DiskOf D) (old new : Streams S T K D)
-    (rules : DealingRules) where
+    (rules : RunRules) where
   -- its inputs, and how a command of it ends
   abbrev given : InputBytes
   given = run_inputs s t k d old new
@@ -77,7 +81,7 @@ module _ {S T K D : Type 0} (s : SourceOf S) (t : SourceOf T) (k : SinkOf K) (d 
       → (status ≡ BadReport fault) ⊎ ((status ≡ ReadFault) ⊎ (status ≡ OutOfMemory))
   audit_finding_is_text_fault never_both one_fault no_fault settings Done file bytes fault is_file capture is_text has ends =
       let is =
-      audit_finding_of_known_inputs settings given file bytes (λ f t. IsSoundAudit settings rules f t ends.1.text) is_file is_text ends.1.is_text in
+      audit_finding_of_known_inputs settings given file bytes (λ f t. IsSoundAudit settings rules.dealing f t ends.1.text) is_file is_text ends.1.is_text in
       absurd (no_fault settings.grain bytes is.session fault is.audited.is_session is.audited.not_long has)
   audit_finding_is_text_fault never_both one_fault no_fault settings (BadWords kind) file bytes fault is_file capture is_text has ends =
       absurd ends
@@ -88,9 +92,9 @@ module _ {S T K D : Type 0} (s : SourceOf S) (t : SourceOf T) (k : SinkOf K) (d 
       inr (inl refl)
   audit_finding_is_text_fault never_both one_fault no_fault settings WriteFault file bytes fault is_file capture is_text has ends =
       let is =
-      audit_finding_of_known_inputs settings given file bytes (λ f t. IsUnfinished (IsAuditText settings rules f t) ends.1.text) is_file is_text
+      audit_finding_of_known_inputs settings given file bytes (λ f t. IsUnfinished (IsAuditText settings rules.dealing f t) ends.1.text) is_file is_text
       ends.1.is_text in
-      absurd (audit_finding_excludes_bad_text no_fault settings rules file bytes is.text fault has is.is_text)
+      absurd (audit_finding_excludes_bad_text no_fault settings rules.dealing file bytes is.text fault has is.is_text)
   audit_finding_is_text_fault never_both one_fault no_fault settings DiskFault file bytes fault is_file capture is_text has ends =
       absurd ends.3
   audit_finding_is_text_fault never_both one_fault no_fault settings NotFormatted file bytes fault is_file capture is_text has ends =
@@ -103,11 +107,11 @@ module _ {S T K D : Type 0} (s : SourceOf S) (t : SourceOf T) (k : SinkOf K) (d 
       absurd ends.0
   audit_finding_is_text_fault never_both one_fault no_fault settings (AuditNo report verdict) file bytes fault is_file capture is_text has ends =
       let is =
-      audit_finding_of_known_inputs settings given file bytes (λ f t. IsUnsoundAudit settings rules f t report verdict) is_file is_text ends.1.0 in
+      audit_finding_of_known_inputs settings given file bytes (λ f t. IsUnsoundAudit settings rules.dealing f t report verdict) is_file is_text ends.1.0 in
       absurd (no_fault settings.grain bytes is.session fault is.audited.is_session is.audited.not_long has)
   audit_finding_is_text_fault never_both one_fault no_fault settings (BadReport wrong) file bytes fault is_file capture is_text has ends =
       inl (ap BadReport (one_fault settings.grain bytes wrong fault
-      (status_of_known_file given.text bytes (λ t. HasSessionFault settings.grain t wrong) is_text ends.0.first_fault) has))
+      (status_of_known_file given.text bytes (λ t. HasSessionFault settings.grain t wrong) is_text ends.0.refused.first_fault) has))
   audit_finding_is_text_fault never_both one_fault no_fault settings OutOfMemory file bytes fault is_file capture is_text has ends =
       inr (inr refl)
 
@@ -118,14 +122,14 @@ module _ {S T K D : Type 0} (s : SourceOf S) (t : SourceOf T) (k : SinkOf K) (d 
       (report : ℕ) (verdict : Verdict)
       → given.capture ≡ Some file → IsCaptureFile settings.front file → given.text ≡ Some bytes → IsSessionText settings.grain bytes known
       → length bytes ≤ longest_session
-      → ((lists : List (List RecordValue)) (session : Session) → AreAudited settings rules file bytes lists session
+      → ((lists : List (List RecordValue)) (session : Session) → AreAudited settings rules.dealing file bytes lists session
       → IsFirstUnsound settings lists session.reports report verdict)
       → Ended (Audit settings) status
       → (status ≡ AuditNo report verdict) ⊎ ((status ≡ ReadFault) ⊎ ((status ≡ WriteFault) ⊎ (status ≡ OutOfMemory)))
   audit_finding_is_first_unsound never_both no_fault one settings Done file bytes known report verdict is_file capture is_text is_session
       not_long first ends =
       let is =
-      audit_finding_of_known_inputs settings given file bytes (λ f t. IsSoundAudit settings rules f t ends.1.text) is_file is_text ends.1.is_text in
+      audit_finding_of_known_inputs settings given file bytes (λ f t. IsSoundAudit settings rules.dealing f t ends.1.text) is_file is_text ends.1.is_text in
       absurd (one.never_both settings is.lists is.session.reports report verdict (first is.lists is.session is.audited) is.sound)
   audit_finding_is_first_unsound never_both no_fault one settings (BadWords kind) file bytes known report verdict is_file capture is_text is_session
       not_long first ends =
@@ -158,14 +162,14 @@ module _ {S T K D : Type 0} (s : SourceOf S) (t : SourceOf T) (k : SinkOf K) (d 
   audit_finding_is_first_unsound never_both no_fault one settings (AuditNo other_report other)
       file bytes known report verdict is_file capture is_text is_session not_long first ends =
       let is =
-      audit_finding_of_known_inputs settings given file bytes (λ f t. IsUnsoundAudit settings rules f t other_report other) is_file is_text ends.1.0 in
+      audit_finding_of_known_inputs settings given file bytes (λ f t. IsUnsoundAudit settings rules.dealing f t other_report other) is_file is_text ends.1.0 in
       let same = one.one_first settings is.lists is.session.reports report other_report verdict other
       (first is.lists is.session is.audited) is.first in
       inl (ap₂ AuditNo same.0 same.1)
   audit_finding_is_first_unsound never_both no_fault one settings (BadReport wrong) file bytes known report verdict is_file capture is_text is_session
       not_long first ends =
       absurd (no_fault settings.grain bytes known wrong is_session not_long
-      (status_of_known_file given.text bytes (λ t. HasSessionFault settings.grain t wrong) is_text ends.0.first_fault))
+      (status_of_known_file given.text bytes (λ t. HasSessionFault settings.grain t wrong) is_text ends.0.refused.first_fault))
   audit_finding_is_first_unsound never_both no_fault one settings OutOfMemory file bytes known report verdict is_file capture is_text is_session
       not_long first ends =
       inr (inr (inr refl))
@@ -173,11 +177,12 @@ module _ {S T K D : Type 0} (s : SourceOf S) (t : SourceOf T) (k : SinkOf K) (d 
   -- what an audit that ended so found
   audit_finding_for_command : (words : List (List ℕ)) (command : Command) (report : ℕ) (verdict : Verdict)
       → AskForCommand words command → WereRead command given
-      → AuditFinds command rules given (k.taken old.sink) (k.taken new.sink) (AuditNo report verdict)
+      → SessionFinds command rules.dealing given (k.taken old.sink) (k.taken new.sink) (AuditNo report verdict)
       → FindsUnsound s t k d old new words rules report verdict
   audit_finding_for_command words (Weigh prefix settings) report verdict asked read finds = absurd finds
   audit_finding_for_command words (ToReport settings) report verdict asked read finds = absurd finds
   audit_finding_for_command words (Format settings) report verdict asked read finds = absurd finds
+  audit_finding_for_command words (Watch rule grain) report verdict asked read finds = absurd finds
   audit_finding_for_command words (Make seed frames) report verdict asked read finds = absurd finds
   audit_finding_for_command words (Demo seed frames settings) report verdict asked read finds = absurd finds
   audit_finding_for_command words (Audit settings) report verdict asked read finds = record {
@@ -195,25 +200,56 @@ module _ {S T K D : Type 0} (s : SourceOf S) (t : SourceOf T) (k : SinkOf K) (d 
       let now = subst (Ended command) is ends in
       audit_finding_for_command words command report verdict asked now.0 now.1
 
-  -- the text of a session that was refused
-  audit_finding_refuses_text : (words : List (List ℕ)) (command : Command) (fault : TextFault) → AskForCommand words command
-      → AuditFinds command rules given (k.taken old.sink) (k.taken new.sink) (BadReport fault)
-      → LeavesUnwritten s t k d old new → RefusesText s t k d old new words fault
-  audit_finding_refuses_text words (Weigh prefix settings) fault asked finds nothing = absurd finds
-  audit_finding_refuses_text words (ToReport settings) fault asked finds nothing = absurd finds
-  audit_finding_refuses_text words (Format settings) fault asked finds nothing = absurd finds
-  audit_finding_refuses_text words (Make seed frames) fault asked finds nothing = absurd finds
-  audit_finding_refuses_text words (Demo seed frames settings) fault asked finds nothing = absurd finds
-  audit_finding_refuses_text words (Audit settings) fault asked finds nothing = record {
-    settings = settings;
-    asked = asked;
-    refusal = finds;
-    nothing = nothing;
-  }
+  -- a watch of a text with a fault is refused for it, unless a source fails or memory runs out
+  pub watch_finding_is_text_fault : AuditFindingHasOneFault → SessionStatusIsFaultless
+      → (rule : Rule) (grain : Grain) (status : Status) (bytes : List ℕ) (fault : TextFault)
+      → ((other : CaptureFault) → status ≡ BadCapture other → ⊥)
+      → given.text ≡ Some bytes → HasSessionFault grain bytes fault → Ended (Watch rule grain) status
+      → (status ≡ BadReport fault) ⊎ ((status ≡ ReadFault) ⊎ (status ≡ OutOfMemory))
+  watch_finding_is_text_fault one_fault no_fault rule grain Done bytes fault reads is_text has ends =
+      let is = status_of_known_file given.text bytes (λ t. IsWatchOf rules.judging rule grain t ends.1.text) is_text ends.1.is_text in
+      absurd (no_fault grain bytes is.session fault is.is_session is.not_long has)
+  watch_finding_is_text_fault one_fault no_fault rule grain (BadWords kind) bytes fault reads is_text has ends = absurd ends
+  watch_finding_is_text_fault one_fault no_fault rule grain (BadCapture other) bytes fault reads is_text has ends =
+      absurd (reads other refl)
+  watch_finding_is_text_fault one_fault no_fault rule grain ReadFault bytes fault reads is_text has ends = inr (inl refl)
+  watch_finding_is_text_fault one_fault no_fault rule grain WriteFault bytes fault reads is_text has ends =
+      let is =
+      status_of_known_file given.text bytes (λ t. IsUnfinished (IsWatchOf rules.judging rule grain t) ends.1.text) is_text ends.1.is_text in
+      absurd (no_fault grain bytes is.is_text.session fault is.is_text.is_session is.is_text.not_long has)
+  watch_finding_is_text_fault one_fault no_fault rule grain DiskFault bytes fault reads is_text has ends = absurd ends.3
+  watch_finding_is_text_fault one_fault no_fault rule grain NotFormatted bytes fault reads is_text has ends = absurd ends.0
+  watch_finding_is_text_fault one_fault no_fault rule grain (Damaged slot) bytes fault reads is_text has ends = absurd ends.0
+  watch_finding_is_text_fault one_fault no_fault rule grain (OtherSettings stored asked) bytes fault reads is_text has ends =
+      absurd ends.0
+  watch_finding_is_text_fault one_fault no_fault rule grain (OtherCapture stored asked) bytes fault reads is_text has ends =
+      absurd ends.0
+  watch_finding_is_text_fault one_fault no_fault rule grain (AuditNo report verdict) bytes fault reads is_text has ends =
+      absurd ends.1
+  watch_finding_is_text_fault one_fault no_fault rule grain (BadReport wrong) bytes fault reads is_text has ends =
+      inl (ap BadReport (one_fault grain bytes wrong fault
+      (status_of_known_file given.text bytes (λ t. HasSessionFault grain t wrong) is_text ends.0.first_fault) has))
+  watch_finding_is_text_fault one_fault no_fault rule grain OutOfMemory bytes fault reads is_text has ends = inr (inr refl)
 
-  pub audit_finding_refuses_by_status : (words : List (List ℕ)) (command : Command) (status : Status) (fault : TextFault)
+  -- the text of a session that was refused
+  session_finding_is_refusal : (command : Command) (fault : TextFault)
+      → SessionFinds command rules.dealing given (k.taken old.sink) (k.taken new.sink) (BadReport fault)
+      → SessionRefused command given fault
+  session_finding_is_refusal (Weigh prefix settings) fault finds = finds
+  session_finding_is_refusal (ToReport settings) fault finds = finds
+  session_finding_is_refusal (Format settings) fault finds = finds
+  session_finding_is_refusal (Audit settings) fault finds = finds
+  session_finding_is_refusal (Watch rule grain) fault finds = finds
+  session_finding_is_refusal (Make seed frames) fault finds = finds
+  session_finding_is_refusal (Demo seed frames settings) fault finds = finds
+
+  pub session_finding_refuses_by_status : (words : List (List ℕ)) (command : Command) (status : Status) (fault : TextFault)
       → AskForCommand words command → status ≡ BadReport fault → Ended command status
       → RefusesText s t k d old new words fault
-  audit_finding_refuses_by_status words command status fault asked is ends =
-      let now = subst (Ended command) is ends in
-      audit_finding_refuses_text words command fault asked now.0 (record { unwritten = now.1; untouched = now.2 })
+  session_finding_refuses_by_status words command status fault asked is ends =
+      let now = subst (Ended command) is ends in record {
+        command = command;
+        asked = asked;
+        refusal = session_finding_is_refusal command fault now.0;
+        nothing = record { unwritten = now.1; untouched = now.2 };
+      }

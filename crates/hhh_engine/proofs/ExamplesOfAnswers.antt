@@ -4,11 +4,11 @@ use Rattle.std.proofs.Common.{codes, arith, get_or, length, replicate, true, fal
 use Rattle.std.specs.Prelude.{⊤}
 use Rattle.std.proofs.lemmas.List.Elements.{All-nil}
 use Rattle.pcap_frames.specs.declared.fault.FaultKind.TheVariants.{ShortHeader}
-use Rattle.pcap_frames.specs.{header_fault, header_fault_at}
+use Rattle.pcap_frames.specs.{header_fault, header_fault_at, number_in_order}
 use Rattle.command_words.specs.{AskForCommand}
 use Rattle.command_words.specs.declared.command.Command.{Command}
 use Rattle.command_words.specs.declared.command.Command.TheVariants.{Weigh, Report as report_command, Format, Audit}
-use Rattle.command_words.specs.declared.command.Command.TheVariants.{Make, Demo}
+use Rattle.command_words.specs.declared.command.Command.TheVariants.{Watch, Make, Demo}
 use Rattle.command_words.specs.declared.words_kind.WordsKind.TheVariants.{NoCommand}
 use Rattle.hhh_engine.specs.Answer.{Answers, AnswersInPart, IsAnswer, IsAnswerInPart, IsWeighInPart}
 use Rattle.hhh_engine.specs.Answer.{IsUnfinished, formatted_answer}
@@ -43,12 +43,18 @@ use Rattle.hhh_engine.specs.Ending.{EndsEmpty}
 use Rattle.prefix_lattice.specs.{RecordValue}
 use Rattle.std.proofs.Common.{subst, sym}
 use Rattle.hhh_engine.specs.Inputs.{IsInputStore}
+use Rattle.hhh_engine.specs.Rules.{RunRules, run_rules}
+use Rattle.watch_rules.specs.{judged_by}
 
 abbrev words : List (List ℕ)
 words = codes "report" ∷ []
 
+-- records are dealt in turn, and each alarm has the least severity
+abbrev in_turn_and_mild : RunRules
+in_turn_and_mild = run_rules in_turn (judged_by (λ lo hi limit. 0))
+
 pub session_is_the_answer :
-    IsAnswer in_turn keeps_nothing (report_command settings) (inputs (Some header) (Some []) None None None) text
+    IsAnswer in_turn_and_mild keeps_nothing (report_command settings) (inputs (Some header) (Some []) None None None) text
 session_is_the_answer = session_over_the_header
 
 pub asks_for_a_report : AskForCommand words (report_command settings)
@@ -93,6 +99,7 @@ no_words_ask (Weigh prefix settings) asked = let begun = asked.are_words.begun i
 no_words_ask (report_command settings) asked = let begun = asked.are_words.begun in cc
 no_words_ask (Format settings) asked = let begun = asked.are_words.begun in cc
 no_words_ask (Audit settings) asked = let begun = asked.are_words.begun in cc
+no_words_ask (Watch rule grain) asked = let begun = asked.are_words.begun in cc
 no_words_ask (Make seed frames) asked = let begun = asked.are_words.begun in cc
 no_words_ask (Demo seed frames settings) asked = let begun = asked.are_words.begun in cc
 
@@ -151,7 +158,7 @@ one_byte_left read = cc read
 
 -- the text follows what the sink held
 pub session_was_written :
-    Answers in_turn keeps_nothing words (inputs (Some header) (Some []) None None None) (Some (codes "# "))
+    Answers in_turn_and_mild keeps_nothing words (inputs (Some header) (Some []) None None None) (Some (codes "# "))
     (Some (codes "# " ++ text))
 session_was_written = record {
   command = report_command settings;
@@ -162,7 +169,7 @@ session_was_written = record {
 
 -- a sink with room for 12 bytes took a part of the first line
 pub session_was_written_in_part :
-    AnswersInPart in_turn keeps_nothing words (inputs (Some header) (Some []) None None None) (Some []) (Some (codes "opened 0 0 0"))
+    AnswersInPart in_turn_and_mild keeps_nothing words (inputs (Some header) (Some []) None None None) (Some []) (Some (codes "opened 0 0 0"))
 session_was_written_in_part = record {
   command = report_command settings;
   asked = asks_for_a_report;
@@ -187,7 +194,7 @@ weight_in_part = record {
 }
 
 pub weight_in_part_is_an_answer_in_part :
-    IsAnswerInPart in_turn keeps_nothing (Weigh prefix settings) (inputs (Some file) (Some []) None None None) (codes "low 10")
+    IsAnswerInPart in_turn_and_mild keeps_nothing (Weigh prefix settings) (inputs (Some file) (Some []) None None None) (codes "low 10")
 weight_in_part_is_an_answer_in_part = weight_in_part
 
 -- `format` writes one line, whatever its inputs are
@@ -195,11 +202,11 @@ pub text_of_format : formatted_answer ≡ codes "formatted\n"
 text_of_format = refl
 
 pub format_answers_in_a_line :
-    IsAnswer in_turn keeps_nothing (Format settings) (inputs None None None None None) (codes "formatted\n")
+    IsAnswer in_turn_and_mild keeps_nothing (Format settings) (inputs None None None None None) (codes "formatted\n")
 format_answers_in_a_line = refl
 
 pub format_is_cut_short :
-    IsAnswerInPart in_turn keeps_nothing (Format settings) (inputs None None None None None) (codes "format")
+    IsAnswerInPart in_turn_and_mild keeps_nothing (Format settings) (inputs None None None None None) (codes "format")
 format_is_cut_short = record {
   text = formatted_answer;
   is_text = refl;
@@ -214,7 +221,7 @@ whole_text_is_not_cut_short short =
 
 -- no text comes of an empty file, nor where the source failed
 pub empty_file_has_no_text : HasNoText false (Some []) 0 0 (BadCapture (header_fault_at ShortHeader 0))
-unfolding header_fault
+unfolding header_fault number_in_order
 empty_file_has_no_text = record {
   first = ([], inr (inl (record { none_shown = refl; short = omega arith; none_before = refl; is_fault = refl })));
   no_front = λ asked. cc asked;
@@ -318,7 +325,7 @@ pub text_failed_too_early :
 text_failed_too_early failed =
     ⊎_elim
     (λ capture. omega (arith, capture.rose))
-    (λ text. let none : 1 ≡ 0 = ap (λ (bytes : List ℕ). length bytes) text.read_to_end in omega (arith, none)) failed
+    (λ text. let none : 1 ≡ 0 = ap (λ (bytes : List ℕ). length bytes) (text.read_to_end tt) in omega (arith, none)) failed
 
 -- the source of the text of a session may fail instead, as its count alone shows
 pub text_failed : SourceFaultsRose (faults_of_source 3 0) (faults_of_source 3 1)
@@ -334,7 +341,7 @@ wrote written sink_faults disk_faults = run_with (known [] 0) nothing (known wri
 abbrev began : (sink_faults disk_faults : ℕ) → Streams Known Known Known Known
 began sink_faults disk_faults = run_with (known header 0) nothing (known [] sink_faults) (known [] disk_faults)
 
-sessions_part : WritesPart source source sink disk (began 3 3) (wrote (codes "opened 0 0 0") 4 4) words in_turn
+sessions_part : WritesPart source source sink disk (began 3 3) (wrote (codes "opened 0 0 0") 4 4) words in_turn_and_mild
 sessions_part = record {
   command = report_command settings;
   asked = asks_for_a_report;
@@ -343,7 +350,7 @@ sessions_part = record {
 }
 
 pub sink_failed_in_the_session :
-    FailsToWrite source source sink disk (began 3 3) (wrote (codes "opened 0 0 0") 4 4) words in_turn
+    FailsToWrite source source sink disk (began 3 3) (wrote (codes "opened 0 0 0") 4 4) words in_turn_and_mild
 sink_failed_in_the_session = record { rose = omega arith; in_part = sessions_part }
 
 -- where nothing was written, the disk is as before
@@ -354,7 +361,7 @@ disk_changed_before_the_first_byte nothing =
     let same : Some (8 ∷ []) ≡ Some (7 ∷ []) = nothing.1.same_reads in cc same
 
 pub disk_failed_in_the_session :
-    FailsToStore source source sink disk (began 3 3) (wrote (codes "opened 0 0 0") 4 4) words in_turn
+    FailsToStore source source sink disk (began 3 3) (wrote (codes "opened 0 0 0") 4 4) words in_turn_and_mild
 disk_failed_in_the_session = record {
   command = report_command settings;
   asked = asks_for_a_report;
@@ -367,7 +374,7 @@ disk_failed_in_the_session = record {
 abbrev idle_run : (source_faults disk_faults : ℕ) → Status → Type 0
 idle_run source_faults disk_faults status =
     RunEnds source source sink disk (run_with nothing nothing nothing nothing)
-    (run_with (known [] source_faults) nothing nothing (known [] disk_faults)) [] in_turn status
+    (run_with (known [] source_faults) nothing nothing (known [] disk_faults)) [] in_turn_and_mild status
 
 -- it doesn't end with a read fault that no source had
 pub read_fault_of_no_source : idle_run 0 0 ReadFault → ⊥

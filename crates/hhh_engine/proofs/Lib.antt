@@ -6,6 +6,7 @@ pub mod MadeCaptureLemmas
 pub mod DemoLemmas
 pub mod AuditFindingLemmas
 pub mod AuditEndLemmas
+pub mod WatchEndLemmas
 pub mod SoundSessionLemmas
 pub mod RunEndLemmas
 pub mod StorePromiseLemmas

@@ -1,5 +1,5 @@
 -- Made captures are captures: the frames of each, which a reader takes from it.
-use Rattle.std.proofs.Common.{ℕ, zero, suc, ◌≡◌, ◌≤◌, ◌+◌, ◌*◌, List, [], ◌∷◌, ◌++◌}
+use Rattle.std.proofs.Common.{ℕ, zero, suc, ◌≡◌, ◌≤◌, ◌+◌, ◌*◌, ◌%◌, ◌^◌, List, [], ◌∷◌, ◌++◌}
 use Rattle.std.proofs.Common.{length, map, drop, refl, ap, arith}
 use Rattle.std.specs.Prelude.{nat_lt}
 use Rattle.std.specs.Int.{byte_at}
@@ -43,8 +43,8 @@ made_capture_value_between index source dest = record {
 -- the four bytes of a wire length, lowest first, are that length again
 made_capture_length_is_spelled : (index : ℕ)
     → wire_length index
-    ≡ byte_at 0 (wire_length index) + 256 * (byte_at 1 (wire_length index) + 256 * (byte_at 2 (wire_length index)
-    + 256 * (byte_at 3 (wire_length index) + 256 * 0)))
+    ≡ (byte_at 0 (wire_length index) + 256 * (byte_at 1 (wire_length index) + 256 * (byte_at 2 (wire_length index)
+    + 256 * (byte_at 3 (wire_length index) + 256 * 0)))) % 256 ^ 4
 made_capture_length_is_spelled index = omega arith
 
 -- over two addresses of four bytes the bytes of a made frame begin with that frame
@@ -120,6 +120,7 @@ made_capture_value_count seed count = length-map-range_with_len (made_capture_va
 -- the frames of a made capture are those made
 pub made_capture_has_values : (seed count : ℕ) → count ≤ most_frames
     → FileHasFrames (made_capture seed count) (made_capture_values seed 0 count)
+unfolding capture_header number_in_order
 made_capture_has_values seed count few = (
   Little,
   record {

@@ -10,14 +10,14 @@ use Rattle.report_text.specs.declared.session_fault.SessionFault.TheVariants as 
 use Rattle.hhh_report.specs.declared.reports.Reported.{Reported}
 use Rattle.command_words.specs.{AskForCommand}
 use Rattle.command_words.specs.declared.command.Command.{Command}
-use Rattle.command_words.specs.declared.command.Command.TheVariants.{Weigh, Report, Format, Audit, Make, Demo}
+use Rattle.command_words.specs.declared.command.Command.TheVariants.{Weigh, Report, Format, Audit, Watch, Make, Demo}
 use Rattle.command_words.specs.declared.settings.Settings.{Settings}
 use Rattle.session_audit.specs.{HasNoBytes, Says}
 use Rattle.hhh_engine.specs.Ending.{Task, course, Ends, DiskHappened, FailsAtSource, SourceFaults, EndsInOrder}
 use Rattle.hhh_engine.specs.Ending.{EndsAsBefore, faults_of_source}
 use Rattle.hhh_engine.specs.Inputs.{CommandUses, InputBytes, MayUseStore, UsesCapture}
 use Rattle.hhh_engine.specs.Inputs.{ReadsSession}
-use Rattle.dealt_capture.specs.{DealingRules}
+use Rattle.hhh_engine.specs.Rules.{RunRules}
 use Rattle.run_status.specs.{status_of_session}
 use Rattle.run_status.specs.declared.status.Status.{Status}
 use Rattle.run_status.specs.declared.status.Status.TheVariants.{Done, BadWords, BadCapture, ReadFault, WriteFault}
@@ -41,7 +41,7 @@ read_order_without_text Accepted read before now text text_read Done at_end is_c
 read_order_without_text Accepted read before now text text_read (BadWords kind) at_end is_capture same none = absurd none
 read_order_without_text Accepted read before now text text_read (BadCapture fault) at_end is_capture same none = absurd none
 read_order_without_text Accepted read before now text text_read ReadFault at_end is_capture same none =
-    inr (record { reads = is_capture; rose = none; capture_kept = same; read_to_end = at_end })
+    inr (record { reads = is_capture; rose = none; capture_kept = same; read_to_end = λ reads. at_end })
 read_order_without_text Accepted read before now text text_read WriteFault at_end is_capture same none = absurd none
 read_order_without_text Accepted read before now text text_read DiskFault at_end is_capture same none = absurd none
 read_order_without_text Accepted read before now text text_read NotFormatted at_end is_capture same none = absurd none
@@ -82,17 +82,17 @@ read_order_of_made_audit Accepted read before now text text_read settings lists 
 
 -- what a command reads may be said in other words
 read_order_in_other_terms : {T : Type 0} (Reads ReadsText Other OtherText : Type 0) (read : InputBytes)
-    (before now : SourceFaults) (text text_read : T) → (Reads → Other) → (ReadsText → OtherText)
+    (before now : SourceFaults) (text text_read : T) → (Reads → Other) → (Other → Reads) → (ReadsText → OtherText)
     → FailsAtSource Reads ReadsText read before now text text_read
     → FailsAtSource Other OtherText read before now text text_read
-read_order_in_other_terms Reads ReadsText Other OtherText read before now text text_read reads reads_text failed =
+read_order_in_other_terms Reads ReadsText Other OtherText read before now text text_read reads reads_back reads_text failed =
     ⊎_elim
     (λ is. inl (record { reads = reads is.reads; rose = is.rose; text_unread = is.text_unread }))
     (λ is. inr (record {
       reads = reads_text is.reads;
       rose = is.rose;
       capture_kept = is.capture_kept;
-      read_to_end = is.read_to_end;
+      read_to_end = λ other. is.read_to_end (reads_back other);
     })) failed
 
 -- how a command that reads a capture and no text ended: whatever the faults of a text's source are, its own rose
@@ -116,6 +116,30 @@ read_order_of_capture_alone task k capture before now other sink written (OtherC
 read_order_of_capture_alone task k capture before now other sink written (AuditNo report verdict) Reads ReadsText read text reads ends = tt
 read_order_of_capture_alone task k capture before now other sink written (BadReport fault) Reads ReadsText read text reads ends = tt
 read_order_of_capture_alone task k capture before now other sink written OutOfMemory Reads ReadsText read text reads ends = tt
+
+-- and one that reads the text of a session alone
+module _ {K T : Type 0} (task : Task) (k : SinkOf K) (capture : Option (List ℕ)) (other before now : ℕ) (sink written : K)
+    (Reads ReadsText : Type 0) (read : InputBytes) (text text_read : T) (none : Reads → ⊥) (reads : ReadsText) where
+  pub read_order_of_text_alone : (status : Status) → ((fault : CaptureFault) → status ≡ BadCapture fault → ⊥)
+      → Ends task (course k capture (faults_of_source 0 before) (faults_of_source 0 now) sink written) status
+      → EndsInOrder Reads ReadsText read (faults_of_source other before) (faults_of_source other now) text text_read status
+  read_order_of_text_alone Done no_capture ends = tt
+  read_order_of_text_alone (BadWords kind) no_capture ends = tt
+  read_order_of_text_alone (BadCapture fault) no_capture ends = absurd (no_capture fault refl)
+  read_order_of_text_alone ReadFault no_capture ends =
+      ⊎_elim
+      (λ (rose : FaultRose 0 0). absurd (omega (arith, rose)))
+      (λ (rose : FaultRose before now).
+      inr (record { reads = reads; rose = rose; capture_kept = refl; read_to_end = λ uses. absurd (none uses) })) ends.0
+  read_order_of_text_alone WriteFault no_capture ends = tt
+  read_order_of_text_alone DiskFault no_capture ends = tt
+  read_order_of_text_alone NotFormatted no_capture ends = tt
+  read_order_of_text_alone (Damaged slot) no_capture ends = tt
+  read_order_of_text_alone (OtherSettings stored asked) no_capture ends = tt
+  read_order_of_text_alone (OtherCapture stored asked) no_capture ends = tt
+  read_order_of_text_alone (AuditNo report verdict) no_capture ends = tt
+  read_order_of_text_alone (BadReport fault) no_capture ends = tt
+  read_order_of_text_alone OutOfMemory no_capture ends = tt
 
 -- and one that reads neither: it ends at no fault of them
 pub read_order_of_neither : {T : Type 0} (Reads ReadsText : Type 0) (read : InputBytes) (before now : SourceFaults) (text : T)
@@ -156,12 +180,13 @@ read_order_lets_use_store (Weigh prefix settings) Happened happened = absurd hap
 read_order_lets_use_store (Report settings) Happened happened = (tt, happened)
 read_order_lets_use_store (Format settings) Happened happened = (tt, happened)
 read_order_lets_use_store (Audit settings) Happened happened = absurd happened
+read_order_lets_use_store (Watch rule grain) Happened happened = absurd happened
 read_order_lets_use_store (Make seed frames) Happened happened = absurd happened
 read_order_lets_use_store (Demo seed frames settings) Happened happened = absurd happened
 
 -- a run, whose command ended so
 module _ {S T K D : Type 0} (s : SourceOf S) (t : SourceOf T) (k : SinkOf K) (d : DiskOf D) (old new : Streams S T K D)
-    (rules : DealingRules) where
+    (rules : RunRules) where
   -- its inputs, and how a command of it ends
   abbrev given : InputBytes
   given = run_inputs s t k d old new
@@ -188,14 +213,17 @@ module _ {S T K D : Type 0} (s : SourceOf S) (t : SourceOf T) (k : SinkOf K) (d 
 
   -- a source failed
   pub read_order_at_read_failure : (words : List (List ℕ)) (command : Command) (status : Status) → AskForCommand words command
-      → status ≡ ReadFault → EndedInOrder command status → Ended command status → FailsToRead s t k d old new words
-  read_order_at_read_failure words command status asked is stops ends =
+      → ((other : Command) → AskForCommand words other → command ≡ other) → status ≡ ReadFault → EndedInOrder command status
+      → Ended command status → FailsToRead s t k d old new words
+  read_order_at_read_failure words command status asked same is stops ends =
       let order = subst (EndedInOrder command) is stops in
       let ended = subst (Ended command) is ends in
       record {
         failed = read_order_in_other_terms (UsesCapture command) (ReadsSession given command) (CommandUses UsesCapture words)
             (CommandUses (ReadsSession given) words) given (faults_before s t k d old new) (faults_after s t k d old new) old.text new.text
-            (read_order_as_asked UsesCapture words command asked) (read_order_as_asked (ReadsSession given) words command asked) order;
+            (read_order_as_asked UsesCapture words command asked)
+            (λ uses. subst UsesCapture (sym (same uses.command uses.asked)) uses.uses)
+            (read_order_as_asked (ReadsSession given) words command asked) order;
         nothing = record { unwritten = ended.1; untouched = ended.2 };
       }
 

@@ -8,7 +8,7 @@ use Rattle.slot_disk.specs.declared.disk.Disk.{Ghosts as DiskOf}
 use Rattle.recovery.specs.{BelongingOpen, AreDecided}
 use Rattle.command_words.specs.{AskForCommand, HasWordsFault, IsLimitedCommand}
 use Rattle.command_words.specs.declared.command.Command.{Command}
-use Rattle.command_words.specs.declared.command.Command.TheVariants.{Weigh, Report, Format, Audit, Make, Demo}
+use Rattle.command_words.specs.declared.command.Command.TheVariants.{Weigh, Report, Format, Audit, Watch, Make, Demo}
 use Rattle.command_words.specs.declared.settings.Settings.{Settings}
 use Rattle.command_words.specs.declared.words_kind.WordsKind.{WordsKind}
 use Rattle.command_words.specs.declared.words_kind.WordsRefusal.{WordsRefusal}
@@ -19,7 +19,7 @@ use Rattle.frame_records.specs.{IsRefusedFile}
 use Rattle.hhh_engine.specs.Inputs.{UsesCapture, UsesSession, UsesStore, takes_front}
 use Rattle.hhh_engine.specs.TopCall.{RunEnds, Streams, faults_after, faults_before}
 use Rattle.report_session.specs.{IsAsBefore, saves_settings, IsAsBefore-untouched}
-use Rattle.dealt_capture.specs.{DealingRules}
+use Rattle.hhh_engine.specs.Rules.{RunRules}
 use Rattle.run_status.specs.{status_of_words}
 use Rattle.run_status.specs.declared.status.Status.{Status}
 use Rattle.run_status.specs.declared.status.Status.TheVariants.{Done, BadWords, BadCapture, ReadFault, WriteFault}
@@ -27,7 +27,7 @@ use Rattle.run_status.specs.declared.status.Status.TheVariants.{DiskFault, NotFo
 use Rattle.run_status.specs.declared.status.Status.TheVariants.{OtherCapture, AuditNo, BadReport, OutOfMemory}
 use Rattle.hhh_engine.proofs.AuditFindingLemmas.{AuditFindingHasOneFault, AuditFindingIsUnique}
 use Rattle.hhh_engine.proofs.AuditFindingLemmas.{audit_finding_by_status, audit_finding_is_first_unsound}
-use Rattle.hhh_engine.proofs.AuditFindingLemmas.{audit_finding_is_text_fault, audit_finding_refuses_by_status}
+use Rattle.hhh_engine.proofs.AuditFindingLemmas.{audit_finding_is_text_fault, session_finding_refuses_by_status, watch_finding_is_text_fault}
 use Rattle.hhh_engine.proofs.ReadOrderLemmas.{read_order_at_failed_disk, read_order_at_read_failure}
 use Rattle.hhh_engine.proofs.ReadOrderLemmas.{read_order_at_refused_capture}
 use Rattle.hhh_engine.proofs.SoundSessionLemmas.{sound_session_is_found}
@@ -52,7 +52,7 @@ RunDiskIsNow {D = D} d = (disk : D) (image : List ℕ) → d.image_since disk (d
 -- ---- arguments that were refused
 
 module _ {S T K D : Type 0} (s : SourceOf S) (t : SourceOf T) (k : SinkOf K) (d : DiskOf D) (old : Streams S T K D)
-    (rules : DealingRules) (arguments : List (List ℕ)) where
+    (rules : RunRules) (arguments : List (List ℕ)) where
   -- for a fault
   run_refuses_words : (kind : WordsKind) → HasWordsFault arguments kind
       → ((command : Command) → AskForCommand arguments command → ⊥)
@@ -71,6 +71,7 @@ module _ {S T K D : Type 0} (s : SourceOf S) (t : SourceOf T) (k : SinkOf K) (d 
     refuses_store = λ settings file image fault asks used known capture is_store shown refused. absurd (none (Report settings) asks);
     bad_text = λ fault is. cc is;
     refuses_text = λ settings file bytes fault asks is_file capture is_text refused. absurd (none (Audit settings) asks);
+    refuses_watched = λ rule grain bytes fault asks is_text refused. absurd (none (Watch rule grain) asks);
     audit_no = λ report verdict is. cc is;
     finds_unsound = λ settings file bytes known report verdict asks is_file capture is_text is_session not_long first.
         absurd (none (Audit settings) asks);
@@ -104,6 +105,7 @@ module _ {S T K D : Type 0} (s : SourceOf S) (t : SourceOf T) (k : SinkOf K) (d 
     refuses_store = λ settings file image fault asks used known capture is_store shown refused. inr (inr (inr refl));
     bad_text = λ fault is. cc is;
     refuses_text = λ settings file bytes fault asks is_file capture is_text refused. inr (inr refl);
+    refuses_watched = λ rule grain bytes fault asks is_text refused. inr (inr refl);
     audit_no = λ report verdict is. cc is;
     finds_unsound = λ settings file bytes known report verdict asks is_file capture is_text is_session not_long first.
         inr (inr (inr refl));
@@ -143,7 +145,7 @@ module _ {S T K D : Type 0} (s : SourceOf S) (t : SourceOf T) (k : SinkOf K) (d 
 -- ---- a command that was answered
 
 module _ {S T K D : Type 0} (s : SourceOf S) (t : SourceOf T) (k : SinkOf K) (d : DiskOf D) (old new : Streams S T K D)
-    (rules : DealingRules) where
+    (rules : RunRules) where
   -- a fault of a source, or of the sink, is never ignored
   run_reports_read_fault : (command : Command) (status : Status) → (status ≡ ReadFault → ⊥)
       → CommandEnds s t k d old new rules command status → faults_after s t k d old new ≡ faults_before s t k d old new
@@ -187,6 +189,7 @@ module _ {S T K D : Type 0} (s : SourceOf S) (t : SourceOf T) (k : SinkOf K) (d 
   run_is_as_before only_now (Format settings) as_before formats =
       IsAsBefore-untouched d old.disk new.disk only_now (formats settings refl).1
   run_is_as_before only_now (Audit settings) as_before formats = as_before
+  run_is_as_before only_now (Watch rule grain) as_before formats = as_before
   run_is_as_before only_now (Make seed frames) as_before formats = as_before
   run_is_as_before only_now (Demo seed frames settings) as_before formats = as_before
 
@@ -220,10 +223,15 @@ module _ {S T K D : Type 0} (s : SourceOf S) (t : SourceOf T) (k : SinkOf K) (d 
             status_is_store_refusal s t k d old new rules laws.never_both laws.decided settings status file image fault
             (subst IsLimitedCommand (same (Report settings) asks) limited).0 used known capture is_store shown refused
             (subst (λ c. Ended c status) (same (Report settings) asks) ends);
-        bad_text = λ fault is. audit_finding_refuses_by_status s t k d old new rules arguments command status fault asked is ends;
+        bad_text = λ fault is. session_finding_refuses_by_status s t k d old new rules arguments command status fault asked is ends;
         refuses_text = λ settings file bytes fault asks is_file capture is_text has.
             audit_finding_is_text_fault s t k d old new rules laws.never_both laws.one_text_fault laws.no_text_fault settings status file
             bytes fault is_file capture is_text has (subst (λ c. Ended c status) (same (Audit settings) asks) ends);
+        refuses_watched = λ rule grain bytes fault asks is_text has.
+            let one = same (Watch rule grain) asks in
+            watch_finding_is_text_fault s t k d old new rules laws.one_text_fault laws.no_text_fault rule grain status bytes fault
+            (λ other is. absurd (subst UsesCapture one (answers.reads other is))) is_text has
+            (subst (λ c. Ended c status) one ends);
         audit_no = λ report verdict is.
             audit_finding_by_status s t k d old new rules arguments command status report verdict asked is ends;
         finds_unsound = λ settings file bytes known report verdict asks is_file capture is_text is_session not_long first.
@@ -234,7 +242,7 @@ module _ {S T K D : Type 0} (s : SourceOf S) (t : SourceOf T) (k : SinkOf K) (d 
             sound_session_is_found s t k d old new rules laws.never_both laws.no_text_fault laws.one_verdict settings status file bytes
             known is_file capture is_text is_session not_long sound
             (subst (λ c. Ended c status) (same (Audit settings) asks) ends);
-        read_fault = λ is. read_order_at_read_failure s t k d old new rules arguments command status asked is answers.order ends;
+        read_fault = λ is. read_order_at_read_failure s t k d old new rules arguments command status asked same is answers.order ends;
         read_fault_reported = λ none. run_reports_read_fault command status none ends;
         write_fault = λ is.
             let ended = subst (Ended command) is ends in

@@ -9,6 +9,7 @@ use Rattle.command_words.specs.declared.command.Command.{Command}
 use Rattle.command_words.specs.declared.command.Command.TheVariants.{Report, Audit}
 use Rattle.command_words.specs.declared.settings.Settings.{Settings}
 use Rattle.dealt_capture.specs.{DealingRules}
+use Rattle.hhh_engine.specs.Rules.{RunRules}
 use Rattle.report_session.specs.{AreKeptOnDisk, BeginsWholeSession, IsSession, IsSessionInPart}
 use Rattle.report_session.specs.{SessionKeeping, WritesAnswer}
 use Rattle.hhh_engine.specs.Answer.{IsAnswer, IsAnswerInPart}
@@ -46,13 +47,13 @@ session_promise_of_whole settings rules keeping store file text is = (
 
 -- a run of `report`, where what is written of a session in part begins a whole one
 module _ {S T K D : Type 0} (s : SourceOf S) (t : SourceOf T) (k : SinkOf K) (d : DiskOf D) (old new : Streams S T K D)
-    (words : List (List ℕ)) (rules : DealingRules) (one : OneStoreCommand) (settings : Settings)
+    (words : List (List ℕ)) (rules : RunRules) (one : OneStoreCommand) (settings : Settings)
     (asked : AskForCommand words (Report settings))
     (begins_whole : (front : List ℕ)
-    → IsSessionInPart settings rules (AreKeptOnDisk d old.disk new.disk) (d.reads old.disk) (s.left old.capture) front
-    → BeginsWholeSession settings rules (d.reads old.disk) (s.left old.capture) front) where
+    → IsSessionInPart settings rules.dealing (AreKeptOnDisk d old.disk new.disk) (d.reads old.disk) (s.left old.capture) front
+    → BeginsWholeSession settings rules.dealing (d.reads old.disk) (s.left old.capture) front) where
   abbrev SessionPromised : Type 0
-  SessionPromised = (new.sink ≡ old.sink) ⊎ BeginsItsSession s k d old new settings rules
+  SessionPromised = (new.sink ≡ old.sink) ⊎ BeginsItsSession s k d old new settings rules.dealing
 
   session_promise_of_part : WritesPart s t k d old new words rules → SessionPromised
   session_promise_of_part part =
@@ -77,7 +78,7 @@ module _ {S T K D : Type 0} (s : SourceOf S) (t : SourceOf T) (k : SinkOf K) (d 
       inr (record {
         written = answer.text;
         appended = answer.written;
-        begins = session_promise_of_whole settings rules (AreKeptOnDisk d old.disk new.disk) (d.reads old.disk)
+        begins = session_promise_of_whole settings rules.dealing (AreKeptOnDisk d old.disk new.disk) (d.reads old.disk)
             (s.left old.capture) answer.text answer.is_text;
       })
 

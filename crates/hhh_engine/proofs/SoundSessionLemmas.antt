@@ -9,7 +9,8 @@ use Rattle.command_words.specs.declared.command.Command.TheVariants.{Audit}
 use Rattle.command_words.specs.declared.settings.Settings.{Settings}
 use Rattle.session_audit.specs.{AreAudited, IsAuditedSound, IsUnsoundAudit}
 use Rattle.hhh_engine.specs.Inputs.{InputBytes}
-use Rattle.dealt_capture.specs.{DealingRules, IsCaptureFile}
+use Rattle.dealt_capture.specs.{IsCaptureFile}
+use Rattle.hhh_engine.specs.Rules.{RunRules}
 use Rattle.run_status.specs.declared.status.Status.{Status}
 use Rattle.run_status.specs.declared.status.Status.TheVariants.{Done, BadWords, BadCapture, ReadFault, WriteFault}
 use Rattle.run_status.specs.declared.status.Status.TheVariants.{DiskFault, NotFormatted, Damaged, OtherSettings}
@@ -24,7 +25,7 @@ use Rattle.hhh_engine.specs.TopCall.{Streams, run_inputs}
 
 -- a run, whose command ended so
 module _ {S T K D : Type 0} (s : SourceOf S) (t : SourceOf T) (k : SinkOf K) (d : DiskOf D) (old new : Streams S T K D)
-    (rules : DealingRules) where
+    (rules : RunRules) where
   -- its inputs, and how a command of it ends
   abbrev given : InputBytes
   given = run_inputs s t k d old new
@@ -37,7 +38,7 @@ module _ {S T K D : Type 0} (s : SourceOf S) (t : SourceOf T) (k : SinkOf K) (d 
       → (settings : Settings) (status : Status) (file bytes : List ℕ) (known : Session)
       → given.capture ≡ Some file → IsCaptureFile settings.front file → given.text ≡ Some bytes → IsSessionText settings.grain bytes known
       → length bytes ≤ longest_session
-      → ((lists : List (List RecordValue)) (session : Session) → AreAudited settings rules file bytes lists session
+      → ((lists : List (List RecordValue)) (session : Session) → AreAudited settings rules.dealing file bytes lists session
       → All (IsAuditedSound settings lists) session.reports)
       → Ended (Audit settings) status
       → (status ≡ Done) ⊎ ((status ≡ ReadFault) ⊎ ((status ≡ WriteFault) ⊎ (status ≡ OutOfMemory)))
@@ -76,13 +77,13 @@ module _ {S T K D : Type 0} (s : SourceOf S) (t : SourceOf T) (k : SinkOf K) (d 
   sound_session_is_found never_both no_fault one settings (AuditNo report verdict) file bytes known is_file capture is_text
       is_session not_long sound ends =
       let is =
-      audit_finding_of_known_inputs settings given file bytes (λ f t. IsUnsoundAudit settings rules f t report verdict) is_file is_text ends.1.0 in
+      audit_finding_of_known_inputs settings given file bytes (λ f t. IsUnsoundAudit settings rules.dealing f t report verdict) is_file is_text ends.1.0 in
       absurd (one.never_both settings is.lists is.session.reports report verdict is.first (sound is.lists is.session is.audited))
   sound_session_is_found never_both no_fault one settings (BadReport wrong) file bytes known is_file capture is_text
       is_session not_long sound ends =
       absurd
       (no_fault settings.grain bytes known wrong is_session not_long
-      (status_of_known_file given.text bytes (λ t. HasSessionFault settings.grain t wrong) is_text ends.0.first_fault))
+      (status_of_known_file given.text bytes (λ t. HasSessionFault settings.grain t wrong) is_text ends.0.refused.first_fault))
   sound_session_is_found never_both no_fault one settings OutOfMemory file bytes known is_file capture is_text
       is_session not_long sound ends =
       inr (inr (inr refl))

@@ -15,7 +15,7 @@ use Rattle.recovery.specs.declared.fault.OpenFault.TheVariants as opening
 use Rattle.shard_state.specs.{CutValue}
 use Rattle.command_words.specs.{AreLimited, AskForCommand, IsLimitedCommand}
 use Rattle.command_words.specs.declared.command.Command.{Command}
-use Rattle.command_words.specs.declared.command.Command.TheVariants.{Weigh, Report, Format, Audit, Make, Demo}
+use Rattle.command_words.specs.declared.command.Command.TheVariants.{Weigh, Report, Format, Audit, Watch, Make, Demo}
 use Rattle.command_words.specs.declared.settings.Settings.{Settings}
 use Rattle.report_text.specs.{HasSessionFault, IsSessionText, longest_session}
 use Rattle.report_text.specs.declared.session.Session.{Session}
@@ -23,12 +23,13 @@ use Rattle.report_text.specs.declared.session_fault.TextFault.{TextFault}
 use Rattle.exact_audit.specs.declared.verdict.Verdict.{Verdict}
 use Rattle.session_audit.specs.{IsAuditText, IsSoundAudit, IsUnsoundAudit}
 use Rattle.hhh_engine.specs.Answer.{IsAnswer, IsAnswerInPart, IsUnfinished, IsWeighInPart}
-use Rattle.hhh_engine.specs.Ending.{Course, Task, Ends, AuditFinds, IsRefusedStore, DiskHappened}
+use Rattle.hhh_engine.specs.Ending.{Course, Task, Ends, SessionFinds, IsRefusedStore, DiskHappened}
 use Rattle.hhh_engine.specs.Ending.{SourceFaultsRose, Refuses, EndsRefusing}
 use Rattle.hhh_engine.specs.Ending.{EndsAnswered}
 use Rattle.hhh_engine.specs.Inputs.{CanBeAnswered, HasCapture, HasStore, UsesCapture}
 use Rattle.hhh_engine.specs.Inputs.{InputBytes, WereAccepted, WereRead, takes_front}
 use Rattle.dealt_capture.specs.{IsCaptureFile, AreDealtRecords, DealingRules}
+use Rattle.hhh_engine.specs.Rules.{RunRules}
 use Rattle.hhh_engine.specs.Commands.{CommandEnds}
 use Rattle.hhh_engine.specs.TopCall.{RefusesStore, Streams, faults_after, faults_before, run_inputs, run_keeping}
 use Rattle.report_session.specs.{IsAsBefore, saves_settings, GoesOnFrom}
@@ -59,37 +60,40 @@ pub status_of_known_file : (left : Option (List ℕ)) (file : List ℕ) (P : Lis
 status_of_known_file left file P known holds = subst (λ o. IfSome o P) known holds
 
 -- a command that reads a capture has a text over captures alone
-status_tells_capture : (rules : DealingRules) (keeping : SessionKeeping) (command : Command) (given : InputBytes)
+status_tells_capture : (rules : RunRules) (keeping : SessionKeeping) (command : Command) (given : InputBytes)
     (file text : List ℕ) → UsesCapture command → given.capture ≡ Some file
     → IsAnswer rules keeping command given text → IsCaptureFile (takes_front command) file
 status_tells_capture rules keeping (Weigh prefix settings) given file text reads known answer =
     let is = status_of_known_file given.capture file (λ f. IsWeightText prefix settings f text) known answer in
     (is.frames, is.cut, is.capture)
 status_tells_capture rules keeping (Report settings) given file text reads known answer =
-    let is = status_of_known_file given.capture file (λ f. AreDealtRecords settings rules f answer.records answer.lists) known answer.dealt in
+    let is = status_of_known_file given.capture file (λ f. AreDealtRecords settings rules.dealing f answer.records answer.lists) known answer.dealt in
     (is.frames, answer.records.cut, is.capture)
 status_tells_capture rules keeping (Format settings) given file text reads known answer = absurd reads
 status_tells_capture rules keeping (Audit settings) given file text reads known answer =
-    (status_of_known_file given.capture file (λ f. IsCaptureFile settings.front f × IfSome given.text (λ session. IsSoundAudit settings rules f session text))
+    (status_of_known_file given.capture file
+    (λ f. IsCaptureFile settings.front f × IfSome given.text (λ session. IsSoundAudit settings rules.dealing f session text))
     known answer).0
+status_tells_capture rules keeping (Watch rule grain) given file text reads known answer = absurd reads
 status_tells_capture rules keeping (Make seed frames) given file text reads known answer = absurd reads
 status_tells_capture rules keeping (Demo seed frames settings) given file text reads known answer = absurd reads
 
 -- and a part of a text
-status_tells_capture_in_part : (rules : DealingRules) (keeping : SessionKeeping) (command : Command) (given : InputBytes) (file front : List ℕ)
+status_tells_capture_in_part : (rules : RunRules) (keeping : SessionKeeping) (command : Command) (given : InputBytes) (file front : List ℕ)
     → UsesCapture command → given.capture ≡ Some file → IsAnswerInPart rules keeping command given front
     → IsCaptureFile (takes_front command) file
 status_tells_capture_in_part rules keeping (Weigh prefix settings) given file front reads known answer =
     let is = status_of_known_file given.capture file (λ f. IsWeighInPart prefix settings f front) known answer in
     (is.is_text.frames, is.is_text.cut, is.is_text.capture)
 status_tells_capture_in_part rules keeping (Report settings) given file front reads known answer =
-    let is = status_of_known_file given.capture file (λ f. AreDealtRecords settings rules f answer.records answer.lists) known answer.dealt in
+    let is = status_of_known_file given.capture file (λ f. AreDealtRecords settings rules.dealing f answer.records answer.lists) known answer.dealt in
     (is.frames, answer.records.cut, is.capture)
 status_tells_capture_in_part rules keeping (Format settings) given file front reads known answer = absurd reads
 status_tells_capture_in_part rules keeping (Audit settings) given file front reads known answer =
     (status_of_known_file given.capture file
-    (λ f. IsCaptureFile settings.front f × IfSome given.text (λ session. IsUnfinished (IsAuditText settings rules f session) front))
+    (λ f. IsCaptureFile settings.front f × IfSome given.text (λ session. IsUnfinished (IsAuditText settings rules.dealing f session) front))
     known answer).0
+status_tells_capture_in_part rules keeping (Watch rule grain) given file front reads known answer = absurd reads
 status_tells_capture_in_part rules keeping (Make seed frames) given file front reads known answer = absurd reads
 status_tells_capture_in_part rules keeping (Demo seed frames settings) given file front reads known answer = absurd reads
 
@@ -103,16 +107,18 @@ status_tells_capture_if_refused rules (Report settings) given AsBefore file faul
     (is.dealt.frames, is.records.cut, is.dealt.capture)
 status_tells_capture_if_refused rules (Format settings) given AsBefore file fault known refuses = absurd refuses
 status_tells_capture_if_refused rules (Audit settings) given AsBefore file fault known refuses = absurd refuses
+status_tells_capture_if_refused rules (Watch rule grain) given AsBefore file fault known refuses = absurd refuses
 status_tells_capture_if_refused rules (Make seed frames) given AsBefore file fault known refuses = absurd refuses
 status_tells_capture_if_refused rules (Demo seed frames settings) given AsBefore file fault known refuses = absurd refuses
 
 -- and an audit that ends by what it found read a capture
 status_tells_capture_if_audited : (rules : DealingRules) (command : Command) (given : InputBytes) (old new : Option (List ℕ)) (file : List ℕ)
     (report : ℕ) (verdict : Verdict) → given.capture ≡ Some file
-    → AuditFinds command rules given old new (AuditNo report verdict) → IsCaptureFile (takes_front command) file
+    → SessionFinds command rules given old new (AuditNo report verdict) → IsCaptureFile (takes_front command) file
 status_tells_capture_if_audited rules (Weigh prefix settings) given old new file report verdict known finds = absurd finds
 status_tells_capture_if_audited rules (Report settings) given old new file report verdict known finds = absurd finds
 status_tells_capture_if_audited rules (Format settings) given old new file report verdict known finds = absurd finds
+status_tells_capture_if_audited rules (Watch rule grain) given old new file report verdict known finds = absurd finds
 status_tells_capture_if_audited rules (Make seed frames) given old new file report verdict known finds = absurd finds
 status_tells_capture_if_audited rules (Demo seed frames settings) given old new file report verdict known finds = absurd finds
 status_tells_capture_if_audited rules (Audit settings) given old new file report verdict known finds =
@@ -121,14 +127,15 @@ status_tells_capture_if_audited rules (Audit settings) given old new file report
     known finds.0).0
 
 status_tells_capture_if_faulty : (rules : DealingRules) (command : Command) (given : InputBytes) (old new : Option (List ℕ)) (file : List ℕ)
-    (fault : TextFault) → given.capture ≡ Some file → AuditFinds command rules given old new (BadReport fault)
+    (fault : TextFault) → UsesCapture command → given.capture ≡ Some file → SessionFinds command rules given old new (BadReport fault)
     → IsCaptureFile (takes_front command) file
-status_tells_capture_if_faulty rules (Weigh prefix settings) given old new file fault known finds = absurd finds
-status_tells_capture_if_faulty rules (Report settings) given old new file fault known finds = absurd finds
-status_tells_capture_if_faulty rules (Format settings) given old new file fault known finds = absurd finds
-status_tells_capture_if_faulty rules (Make seed frames) given old new file fault known finds = absurd finds
-status_tells_capture_if_faulty rules (Demo seed frames settings) given old new file fault known finds = absurd finds
-status_tells_capture_if_faulty rules (Audit settings) given old new file fault known finds =
+status_tells_capture_if_faulty rules (Weigh prefix settings) given old new file fault reads known finds = absurd finds
+status_tells_capture_if_faulty rules (Report settings) given old new file fault reads known finds = absurd finds
+status_tells_capture_if_faulty rules (Format settings) given old new file fault reads known finds = absurd finds
+status_tells_capture_if_faulty rules (Watch rule grain) given old new file fault reads known finds = absurd reads
+status_tells_capture_if_faulty rules (Make seed frames) given old new file fault reads known finds = absurd finds
+status_tells_capture_if_faulty rules (Demo seed frames settings) given old new file fault reads known finds = absurd finds
+status_tells_capture_if_faulty rules (Audit settings) given old new file fault reads known finds =
     status_of_known_file given.capture file (IsCaptureFile settings.front) known finds.accepted
 
 -- an accepted capture is one
@@ -141,6 +148,7 @@ status_tells_accepted_capture (Report settings) given file reads known was =
 status_tells_accepted_capture (Format settings) given file reads known was = absurd reads
 status_tells_accepted_capture (Audit settings) given file reads known was =
     status_of_known_file given.capture file (IsCaptureFile settings.front) known was
+status_tells_accepted_capture (Watch rule grain) given file reads known was = absurd reads
 status_tells_accepted_capture (Make seed frames) given file reads known was = absurd reads
 status_tells_accepted_capture (Demo seed frames settings) given file reads known was = absurd reads
 
@@ -160,6 +168,7 @@ status_of_known_capture rules (Audit settings) given file fault never_both reads
     let capture = can.0 in
     never_both settings.front capture.file capture.capture fault
     (status_of_known_file given.capture capture.file (λ f. IsRefusedFile settings.front f fault) capture.told has)
+status_of_known_capture rules (Watch rule grain) given file fault never_both reads can has = absurd reads
 status_of_known_capture rules (Make seed frames) given file fault never_both reads can has = absurd reads
 status_of_known_capture rules (Demo seed frames settings) given file fault never_both reads can has = absurd reads
 
@@ -188,6 +197,8 @@ command_status_is_never_refusal decided opened rules (Format settings) given AsB
     refuses
 command_status_is_never_refusal decided opened rules (Audit settings) given AsBefore fault limited can shown refuses =
     refuses
+command_status_is_never_refusal decided opened rules (Watch rule grain) given AsBefore fault limited can shown refuses =
+    refuses
 command_status_is_never_refusal decided opened rules (Make seed frames) given AsBefore fault limited can shown refuses =
     refuses
 command_status_is_never_refusal decided opened rules (Demo seed frames settings) given AsBefore fault limited can shown refuses =
@@ -201,7 +212,7 @@ SessionStatusIsFaultless =
 
 -- the text of a session is not refused
 status_is_never_bad_report : SessionStatusIsFaultless → (rules : DealingRules) (command : Command) (given : InputBytes) (old new : Option (List ℕ))
-    (fault : TextFault) → CanBeAnswered rules command given → AuditFinds command rules given old new (BadReport fault) → ⊥
+    (fault : TextFault) → CanBeAnswered rules command given → SessionFinds command rules given old new (BadReport fault) → ⊥
 status_is_never_bad_report no_fault rules (Weigh prefix settings) given old new fault can finds = finds
 status_is_never_bad_report no_fault rules (Report settings) given old new fault can finds = finds
 status_is_never_bad_report no_fault rules (Format settings) given old new fault can finds = finds
@@ -210,24 +221,29 @@ status_is_never_bad_report no_fault rules (Demo seed frames settings) given old 
 status_is_never_bad_report no_fault rules (Audit settings) given old new fault can finds =
     let known = can.1 in
     no_fault settings.grain known.text known.session fault known.is_session known.not_long
-    (status_of_known_file given.text known.text (λ t. HasSessionFault settings.grain t fault) known.told finds.first_fault)
+    (status_of_known_file given.text known.text (λ t. HasSessionFault settings.grain t fault) known.told finds.refused.first_fault)
+status_is_never_bad_report no_fault rules (Watch rule grain) given old new fault can finds =
+    no_fault grain can.text can.session fault can.is_session can.not_long
+    (status_of_known_file given.text can.text (λ t. HasSessionFault grain t fault) can.told finds.first_fault)
 
 -- a command whose text was written was answered
 status_done_answers : (command : Command) → EndsAnswered command Done
 status_done_answers (Weigh prefix settings) = refl
 status_done_answers (Report settings) = refl
 status_done_answers (Format settings) = refl
+status_done_answers (Watch rule grain) = refl
 status_done_answers (Make seed frames) = refl
 status_done_answers (Demo seed frames settings) = refl
 status_done_answers (Audit settings) = inl refl
 
 -- and so was one that found a report that is not sound
 status_found_answers : (rules : DealingRules) (command : Command) (given : InputBytes) (old new : Option (List ℕ)) (report : ℕ)
-    (verdict : Verdict) → AuditFinds command rules given old new (AuditNo report verdict)
+    (verdict : Verdict) → SessionFinds command rules given old new (AuditNo report verdict)
     → EndsAnswered command (AuditNo report verdict)
 status_found_answers rules (Weigh prefix settings) given old new report verdict finds = absurd finds
 status_found_answers rules (Report settings) given old new report verdict finds = absurd finds
 status_found_answers rules (Format settings) given old new report verdict finds = absurd finds
+status_found_answers rules (Watch rule grain) given old new report verdict finds = absurd finds
 status_found_answers rules (Make seed frames) given old new report verdict finds = absurd finds
 status_found_answers rules (Demo seed frames settings) given old new report verdict finds = absurd finds
 status_found_answers rules (Audit settings) given old new report verdict finds = inr (report, verdict, refl)
@@ -298,12 +314,13 @@ status_tells_disk_happening (Weigh prefix settings) Happened none = absurd none
 status_tells_disk_happening (Report settings) Happened happened = happened
 status_tells_disk_happening (Format settings) Happened happened = happened
 status_tells_disk_happening (Audit settings) Happened none = absurd none
+status_tells_disk_happening (Watch rule grain) Happened none = absurd none
 status_tells_disk_happening (Make seed frames) Happened none = absurd none
 status_tells_disk_happening (Demo seed frames settings) Happened none = absurd none
 
 -- a run, whose command ended so
 module _ {S T K D : Type 0} (s : SourceOf S) (t : SourceOf T) (k : SinkOf K) (d : DiskOf D) (old new : Streams S T K D)
-    (rules : DealingRules) where
+    (rules : RunRules) where
   -- its inputs, what it kept, and how a command of it ends
   abbrev given : InputBytes
   given = run_inputs s t k d old new
@@ -341,22 +358,22 @@ module _ {S T K D : Type 0} (s : SourceOf S) (t : SourceOf T) (k : SinkOf K) (d 
       let capture = status_tells_accepted_capture command given file reads known ends.1 in
       absurd (never_both (takes_front command) file capture fault has)
   status_of_refused_capture never_both one_fault command NotFormatted file fault reads known has ends =
-      let capture = status_tells_capture_if_refused rules command given AsBefore file opening.NotFormatted known ends.0 in
+      let capture = status_tells_capture_if_refused rules.dealing command given AsBefore file opening.NotFormatted known ends.0 in
       absurd (never_both (takes_front command) file capture fault has)
   status_of_refused_capture never_both one_fault command (Damaged slot) file fault reads known has ends =
-      let capture = status_tells_capture_if_refused rules command given AsBefore file (opening.Damaged slot) known ends.0 in
+      let capture = status_tells_capture_if_refused rules.dealing command given AsBefore file (opening.Damaged slot) known ends.0 in
       absurd (never_both (takes_front command) file capture fault has)
   status_of_refused_capture never_both one_fault command (OtherSettings stored asked) file fault reads known has ends =
-      let capture = status_tells_capture_if_refused rules command given AsBefore file (opening.OtherSettings stored asked) known ends.0 in
+      let capture = status_tells_capture_if_refused rules.dealing command given AsBefore file (opening.OtherSettings stored asked) known ends.0 in
       absurd (never_both (takes_front command) file capture fault has)
   status_of_refused_capture never_both one_fault command (OtherCapture stored asked) file fault reads known has ends =
-      let capture = status_tells_capture_if_refused rules command given AsBefore file (opening.OtherCapture stored asked) known ends.0 in
+      let capture = status_tells_capture_if_refused rules.dealing command given AsBefore file (opening.OtherCapture stored asked) known ends.0 in
       absurd (never_both (takes_front command) file capture fault has)
   status_of_refused_capture never_both one_fault command (AuditNo report verdict) file fault reads known has ends =
-      let capture = status_tells_capture_if_audited rules command given (k.taken old.sink) (k.taken new.sink) file report verdict known ends.1 in
+      let capture = status_tells_capture_if_audited rules.dealing command given (k.taken old.sink) (k.taken new.sink) file report verdict known ends.1 in
       absurd (never_both (takes_front command) file capture fault has)
   status_of_refused_capture never_both one_fault command (BadReport wrong) file fault reads known has ends =
-      let capture = status_tells_capture_if_faulty rules command given (k.taken old.sink) (k.taken new.sink) file wrong known ends.0 in
+      let capture = status_tells_capture_if_faulty rules.dealing command given (k.taken old.sink) (k.taken new.sink) file wrong reads known ends.0 in
       absurd (never_both (takes_front command) file capture fault has)
   status_of_refused_capture never_both one_fault command OutOfMemory file fault reads known has ends =
       inr (inr refl)
@@ -364,7 +381,7 @@ module _ {S T K D : Type 0} (s : SourceOf S) (t : SourceOf T) (k : SinkOf K) (d 
   -- over known inputs in their formats and with no fault of source, sink or disk, a command is answered unless memory runs
   -- out. BadCapture comes of commands alone that read a capture
   status_of_answered_command : CaptureStatusIsFaultless → AreDecided → BelongingOpen → SessionStatusIsFaultless
-      → (command : Command) (status : Status) → IsLimitedCommand command → CanBeAnswered rules command given
+      → (command : Command) (status : Status) → IsLimitedCommand command → CanBeAnswered rules.dealing command given
       → (SourceFaultsRose (faults_before s t k d old new) (faults_after s t k d old new) → ⊥)
       → (FaultRose (k.faults old.sink) (k.faults new.sink) → ⊥) → (FaultRose (d.faults old.disk) (d.faults new.disk) → ⊥)
       → ((fault : CaptureFault) → status ≡ BadCapture fault → UsesCapture command)
@@ -375,7 +392,7 @@ module _ {S T K D : Type 0} (s : SourceOf S) (t : SourceOf T) (k : SinkOf K) (d 
   status_of_answered_command never_both decided opened no_fault command (BadWords kind) limited can no_read no_write no_disk reads ends =
       absurd ends
   status_of_answered_command never_both decided opened no_fault command (BadCapture fault) limited can no_read no_write no_disk reads ends =
-      absurd (status_of_known_capture rules command given [] fault never_both (reads fault refl) can ends.0)
+      absurd (status_of_known_capture rules.dealing command given [] fault never_both (reads fault refl) can ends.0)
   status_of_answered_command never_both decided opened no_fault command ReadFault limited can no_read no_write no_disk reads ends =
       absurd (no_read ends.0)
   status_of_answered_command never_both decided opened no_fault command WriteFault limited can no_read no_write no_disk reads ends =
@@ -383,27 +400,27 @@ module _ {S T K D : Type 0} (s : SourceOf S) (t : SourceOf T) (k : SinkOf K) (d 
   status_of_answered_command never_both decided opened no_fault command DiskFault limited can no_read no_write no_disk reads ends =
       absurd (no_disk (status_tells_disk_happening command _ ends.3))
   status_of_answered_command never_both decided opened no_fault command NotFormatted limited can no_read no_write no_disk reads ends =
-      absurd (command_status_is_never_refusal decided opened rules command given AsBefore opening.NotFormatted limited can
+      absurd (command_status_is_never_refusal decided opened rules.dealing command given AsBefore opening.NotFormatted limited can
       (record { not_of_disk = λ is. cc is; not_of_memory = λ is. cc is }) ends.0)
   status_of_answered_command never_both decided opened no_fault command (Damaged slot) limited can no_read no_write no_disk reads ends =
-      absurd (command_status_is_never_refusal decided opened rules command given AsBefore (opening.Damaged slot) limited can
+      absurd (command_status_is_never_refusal decided opened rules.dealing command given AsBefore (opening.Damaged slot) limited can
       (record { not_of_disk = λ is. cc is; not_of_memory = λ is. cc is }) ends.0)
   status_of_answered_command never_both decided opened no_fault command (OtherSettings stored asked) limited can no_read no_write no_disk reads ends =
-      absurd (command_status_is_never_refusal decided opened rules command given AsBefore (opening.OtherSettings stored asked) limited can
+      absurd (command_status_is_never_refusal decided opened rules.dealing command given AsBefore (opening.OtherSettings stored asked) limited can
       (record { not_of_disk = λ is. cc is; not_of_memory = λ is. cc is }) ends.0)
   status_of_answered_command never_both decided opened no_fault command (OtherCapture stored asked) limited can no_read no_write no_disk reads ends =
-      absurd (command_status_is_never_refusal decided opened rules command given AsBefore (opening.OtherCapture stored asked) limited can
+      absurd (command_status_is_never_refusal decided opened rules.dealing command given AsBefore (opening.OtherCapture stored asked) limited can
       (record { not_of_disk = λ is. cc is; not_of_memory = λ is. cc is }) ends.0)
   status_of_answered_command never_both decided opened no_fault command (AuditNo report verdict) limited can no_read no_write no_disk reads ends =
-      inl (status_found_answers rules command given (k.taken old.sink) (k.taken new.sink) report verdict ends.1)
+      inl (status_found_answers rules.dealing command given (k.taken old.sink) (k.taken new.sink) report verdict ends.1)
   status_of_answered_command never_both decided opened no_fault command (BadReport fault) limited can no_read no_write no_disk reads ends =
-      absurd (status_is_never_bad_report no_fault rules command given (k.taken old.sink) (k.taken new.sink) fault can ends.0)
+      absurd (status_is_never_bad_report no_fault rules.dealing command given (k.taken old.sink) (k.taken new.sink) fault can ends.0)
   status_of_answered_command never_both decided opened no_fault command OutOfMemory limited can no_read no_write no_disk reads ends =
       inr refl
 
   -- a report whose store is refused
   status_of_refused_opening : (words : List (List ℕ)) (command : Command) (fault : OpenFault) → AskForCommand words command
-      → WereRead command given → Refuses command rules given AsBefore fault → new.sink ≡ old.sink
+      → WereRead command given → Refuses command rules.dealing given AsBefore fault → new.sink ≡ old.sink
       → RefusesStore s t k d old new words rules fault
   status_of_refused_opening words (Weigh prefix settings) fault asked read refuses same = absurd refuses
   status_of_refused_opening words (Report settings) fault asked read refuses same = record {
@@ -416,6 +433,7 @@ module _ {S T K D : Type 0} (s : SourceOf S) (t : SourceOf T) (k : SinkOf K) (d 
   }
   status_of_refused_opening words (Format settings) fault asked read refuses same = absurd refuses
   status_of_refused_opening words (Audit settings) fault asked read refuses same = absurd refuses
+  status_of_refused_opening words (Watch rule grain) fault asked read refuses same = absurd refuses
   status_of_refused_opening words (Make seed frames) fault asked read refuses same = absurd refuses
   status_of_refused_opening words (Demo seed frames settings) fault asked read refuses same = absurd refuses
 
@@ -443,7 +461,7 @@ module _ {S T K D : Type 0} (s : SourceOf S) (t : SourceOf T) (k : SinkOf K) (d 
       → (settings : Settings) (status : Status)
       (file image : List ℕ) (fault : OpenFault) → AreLimited settings → settings.store ≡ true
       → given.capture ≡ Some file → IsCaptureFile settings.front file → given.store ≡ Some image → IsShownByBytes fault
-      → ((records : Records) (lists : List (List RecordValue)) → AreDealtRecords settings rules file records lists
+      → ((records : Records) (lists : List (List RecordValue)) → AreDealtRecords settings rules.dealing file records lists
       → RefusesOpening (saves_settings settings) lists image fault)
       → Ended (Report settings) status
       → (status ≡ status_of_opening fault)
@@ -451,8 +469,8 @@ module _ {S T K D : Type 0} (s : SourceOf S) (t : SourceOf T) (k : SinkOf K) (d 
   status_is_store_refusal never_both decided settings Done file image fault limited used known
       capture is_store shown refused ends =
       let is = ends.1.is_text in
-      absurd (status_never_of_begun_session decided rules settings given.store file image fault is.records is.lists is.base limited used is_store
-      shown refused (status_of_known_file given.capture file (λ f. AreDealtRecords settings rules f is.records is.lists) known is.dealt) is.begins)
+      absurd (status_never_of_begun_session decided rules.dealing settings given.store file image fault is.records is.lists is.base limited used is_store
+      shown refused (status_of_known_file given.capture file (λ f. AreDealtRecords settings rules.dealing f is.records is.lists) known is.dealt) is.begins)
   status_is_store_refusal never_both decided settings (BadWords kind) file image fault limited used known
       capture is_store shown refused ends =
       absurd ends
@@ -466,8 +484,8 @@ module _ {S T K D : Type 0} (s : SourceOf S) (t : SourceOf T) (k : SinkOf K) (d 
   status_is_store_refusal never_both decided settings WriteFault file image fault limited used known
       capture is_store shown refused ends =
       let is = ends.1.is_text in
-      absurd (status_never_of_begun_session decided rules settings given.store file image fault is.records is.lists is.base limited used is_store
-      shown refused (status_of_known_file given.capture file (λ f. AreDealtRecords settings rules f is.records is.lists) known is.dealt) is.begins)
+      absurd (status_never_of_begun_session decided rules.dealing settings given.store file image fault is.records is.lists is.base limited used is_store
+      shown refused (status_of_known_file given.capture file (λ f. AreDealtRecords settings rules.dealing f is.records is.lists) known is.dealt) is.begins)
   status_is_store_refusal never_both decided settings DiskFault file image fault limited used known
       capture is_store shown refused ends =
       inr (inr (inl refl))
@@ -482,29 +500,29 @@ module _ {S T K D : Type 0} (s : SourceOf S) (t : SourceOf T) (k : SinkOf K) (d 
       inr (inr (inr refl))
   status_is_store_refusal never_both decided settings NotFormatted file image fault limited used known
       capture is_store shown refused ends =
-      inl (ap status_of_opening (status_names_same_refusal decided rules settings given AsBefore file image fault
+      inl (ap status_of_opening (status_names_same_refusal decided rules.dealing settings given AsBefore file image fault
       opening.NotFormatted limited known is_store shown
       (record { not_of_disk = λ is. cc is; not_of_memory = λ is. cc is }) refused ends.0))
   status_is_store_refusal never_both decided settings (Damaged slot) file image fault limited used known
       capture is_store shown refused ends =
-      inl (ap status_of_opening (status_names_same_refusal decided rules settings given AsBefore file image fault
+      inl (ap status_of_opening (status_names_same_refusal decided rules.dealing settings given AsBefore file image fault
       (opening.Damaged slot) limited known is_store shown
       (record { not_of_disk = λ is. cc is; not_of_memory = λ is. cc is }) refused ends.0))
   status_is_store_refusal never_both decided settings (OtherSettings stored asked) file image fault limited used known
       capture is_store shown refused ends =
-      inl (ap status_of_opening (status_names_same_refusal decided rules settings given AsBefore file image fault
+      inl (ap status_of_opening (status_names_same_refusal decided rules.dealing settings given AsBefore file image fault
       (opening.OtherSettings stored asked) limited known is_store shown
       (record { not_of_disk = λ is. cc is; not_of_memory = λ is. cc is }) refused ends.0))
   status_is_store_refusal never_both decided settings (OtherCapture stored asked) file image fault limited used known
       capture is_store shown refused ends =
-      inl (ap status_of_opening (status_names_same_refusal decided rules settings given AsBefore file image fault
+      inl (ap status_of_opening (status_names_same_refusal decided rules.dealing settings given AsBefore file image fault
       (opening.OtherCapture stored asked) limited known is_store shown
       (record { not_of_disk = λ is. cc is; not_of_memory = λ is. cc is }) refused ends.0))
 
   -- the same of the command that was asked for
   pub status_of_asked_command : CaptureStatusIsFaultless → AreDecided → BelongingOpen → SessionStatusIsFaultless
       → (command read : Command) (status : Status) → read ≡ command → IsLimitedCommand read
-      → CanBeAnswered rules command given
+      → CanBeAnswered rules.dealing command given
       → (SourceFaultsRose (faults_before s t k d old new) (faults_after s t k d old new) → ⊥)
       → (FaultRose (k.faults old.sink) (k.faults new.sink) → ⊥) → (FaultRose (d.faults old.disk) (d.faults new.disk) → ⊥)
       → ((fault : CaptureFault) → status ≡ BadCapture fault → UsesCapture read)
@@ -514,7 +532,7 @@ module _ {S T K D : Type 0} (s : SourceOf S) (t : SourceOf T) (k : SinkOf K) (d 
       ends =
       subst (λ c. EndsAnswered c status ⊎ (status ≡ OutOfMemory)) same
       (status_of_answered_command never_both decided opened no_fault read status limited
-      (subst (λ c. CanBeAnswered rules c given) (sym same) can) no_read no_write no_disk reads ends)
+      (subst (λ c. CanBeAnswered rules.dealing c given) (sym same) can) no_read no_write no_disk reads ends)
 
   -- how a command ended, by how the command that it is equal to ended
   pub status_as_named_command : (command named : Command) (status : Status) → command ≡ named → Ended named status

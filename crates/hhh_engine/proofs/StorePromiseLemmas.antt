@@ -13,6 +13,7 @@ use Rattle.command_words.specs.declared.settings.Settings.{Settings}
 use Rattle.checkpoint.specs.{stored_header}
 use Rattle.checkpoint.specs.declared.header.StoreHeader.{StoreHeader}
 use Rattle.dealt_capture.specs.{DealingRules}
+use Rattle.hhh_engine.specs.Rules.{RunRules}
 use Rattle.report_session.specs.{AreKeptOnDisk, IsAsBefore, IsAsBefore-untouched, IsSession, IsSessionInPart, StoreIsKept}
 use Rattle.report_session.specs.{WritesAnswer, saves_settings}
 use Rattle.hhh_engine.specs.Answer.{IsAnswer, IsAnswerInPart}
@@ -44,7 +45,7 @@ pub record StorePromises {D : Type 0} (d : DiskOf D) (rules : DealingRules) : Ty
 
 -- a run of `report` with a store whose bytes were known
 module _ {S T K D : Type 0} (s : SourceOf S) (t : SourceOf T) (k : SinkOf K) (d : DiskOf D) (old new : Streams S T K D)
-    (words : List (List ℕ)) (rules : DealingRules) (one : OneStoreCommand) (promises : StorePromises d rules)
+    (words : List (List ℕ)) (rules : RunRules) (one : OneStoreCommand) (promises : StorePromises d rules.dealing)
     (only_now : (disk : D) (image : List ℕ) → d.image_since disk (d.moment disk) image → d.image_now disk image)
     (settings : Settings) (store : List ℕ) (asked : AskForCommand words (Report settings)) (limited : AreLimited settings)
     (used : settings.store ≡ true) (known : d.reads old.disk ≡ Some store) where

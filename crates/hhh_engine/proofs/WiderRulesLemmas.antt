@@ -6,7 +6,7 @@ use Rattle.prefix_lattice.specs.{RecordValue}
 use Rattle.deal_rules.specs.declared.deal_kind.DealKind.{DealKind}
 use Rattle.deal_rules.specs.{IsDealing}
 use Rattle.command_words.specs.declared.command.Command.{Command}
-use Rattle.command_words.specs.declared.command.Command.TheVariants.{Weigh, Report, Format, Audit, Make, Demo}
+use Rattle.command_words.specs.declared.command.Command.TheVariants.{Weigh, Report, Format, Audit, Watch, Make, Demo}
 use Rattle.hhh_engine.specs.Answer.{IsAnswer, IsAnswerInPart, IsUnfinished, Answers, AnswersInPart}
 use Rattle.frame_records.specs.declared.records.Records.{Records}
 use Rattle.dealt_capture.specs.{AreDealtRecords, DealingRules}
@@ -14,6 +14,10 @@ use Rattle.report_session.specs.{IsSession, IsSessionInPart, SessionKeeping}
 use Rattle.session_audit.specs.{AreAudited, IsAuditText, IsSoundAudit, IsUnsoundAudit}
 use Rattle.traffic_maker.specs.{made_capture}
 use Rattle.hhh_engine.specs.Demo.{IsDemoText}
+use Rattle.hhh_engine.specs.Rules.{RunRules}
+use Rattle.session_watch.specs.{IsWatchOf}
+use Rattle.watch_rules.specs.declared.rule.Rule.{Rule}
+use Rattle.prefix_lattice.specs.declared.grain.Grain.{Grain}
 use Rattle.outside_io.specs.declared.source.Source.{Ghosts as SourceOf}
 use Rattle.outside_io.specs.declared.sink.Sink.{Ghosts as SinkOf}
 use Rattle.slot_disk.specs.declared.disk.Disk.{Ghosts as DiskOf}
@@ -157,46 +161,63 @@ wider_rules_allow_demo narrow wide settings seed frames text widen is = record {
   spelled = is.spelled;
 }
 
-wider_rules_allow_answer_text : (narrow wide : DealingRules) (keeping : SessionKeeping) (command : Command) (read : InputBytes) (text : List ℕ)
-    → ((kind : DealKind) (place : ℕ) (rec : RecordValue) (shards number : ℕ) → narrow kind place rec shards number
-    → wide kind place rec shards number)
+-- rules that allow all that other rules allow
+pub record IsWider (narrow wide : RunRules) : Type 0 where
+  pub dealing : (kind : DealKind) (place : ℕ) (rec : RecordValue) (shards number : ℕ) → narrow.dealing kind place rec shards number
+      → wide.dealing kind place rec shards number
+  pub judging : (rule : Rule) (grain : Grain) (session answer : List ℕ) → IsWatchOf narrow.judging rule grain session answer
+      → IsWatchOf wide.judging rule grain session answer
+
+wider_rules_allow_answer_text : (narrow wide : RunRules) (keeping : SessionKeeping) (command : Command) (read : InputBytes) (text : List ℕ)
+    → IsWider narrow wide
     → IsAnswer narrow keeping command read text → IsAnswer wide keeping command read text
 wider_rules_allow_answer_text narrow wide keeping (Weigh prefix settings) read text widen answer = answer
 wider_rules_allow_answer_text narrow wide keeping (Report settings) read text widen answer =
-    wider_rules_allow_session narrow wide keeping settings read.store read.capture text widen answer
+    wider_rules_allow_session narrow.dealing wide.dealing keeping settings read.store read.capture text widen.dealing answer
 wider_rules_allow_answer_text narrow wide keeping (Format settings) read text widen answer = answer
 wider_rules_allow_answer_text narrow wide keeping (Audit settings) read text widen answer =
-    audit_end_inputs_imply_more settings read (λ file session. IsSoundAudit settings narrow file session text)
-    (λ file session. IsSoundAudit settings wide file session text)
-    (λ file session is. wider_rules_allow_sound_session narrow wide settings file session text widen is) answer
+    audit_end_inputs_imply_more settings read (λ file session. IsSoundAudit settings narrow.dealing file session text)
+    (λ file session. IsSoundAudit settings wide.dealing file session text)
+    (λ file session is. wider_rules_allow_sound_session narrow.dealing wide.dealing settings file session text widen.dealing is) answer
+wider_rules_allow_answer_text narrow wide keeping (Watch rule grain) read text widen answer =
+    capture_report_if_known read.text (λ session. IsWatchOf narrow.judging rule grain session text)
+    (λ session. IsWatchOf wide.judging rule grain session text)
+    (λ session is. widen.judging rule grain session text is) answer
 wider_rules_allow_answer_text narrow wide keeping (Make seed frames) read text widen answer = answer
 wider_rules_allow_answer_text narrow wide keeping (Demo seed frames settings) read text widen answer =
-    wider_rules_allow_demo narrow wide settings seed frames text widen answer
+    wider_rules_allow_demo narrow.dealing wide.dealing settings seed frames text widen.dealing answer
 
-wider_rules_allow_answer_part : (narrow wide : DealingRules) (keeping : SessionKeeping) (command : Command) (read : InputBytes) (front : List ℕ)
-    → ((kind : DealKind) (place : ℕ) (rec : RecordValue) (shards number : ℕ) → narrow kind place rec shards number
-    → wide kind place rec shards number)
+wider_rules_allow_answer_part : (narrow wide : RunRules) (keeping : SessionKeeping) (command : Command) (read : InputBytes) (front : List ℕ)
+    → IsWider narrow wide
     → IsAnswerInPart narrow keeping command read front → IsAnswerInPart wide keeping command read front
 wider_rules_allow_answer_part narrow wide keeping (Weigh prefix settings) read front widen answer = answer
 wider_rules_allow_answer_part narrow wide keeping (Report settings) read front widen answer =
-    wider_rules_allow_partial_session narrow wide keeping settings read.store read.capture front widen answer
+    wider_rules_allow_partial_session narrow.dealing wide.dealing keeping settings read.store read.capture front widen.dealing answer
 wider_rules_allow_answer_part narrow wide keeping (Format settings) read front widen answer = answer
 wider_rules_allow_answer_part narrow wide keeping (Audit settings) read front widen answer =
-    audit_end_inputs_imply_more settings read (λ file session. IsUnfinished (IsAuditText settings narrow file session) front)
-    (λ file session. IsUnfinished (IsAuditText settings wide file session) front)
-    (λ file session is. wider_rules_allow_audit_part narrow wide settings file session front widen is) answer
+    audit_end_inputs_imply_more settings read (λ file session. IsUnfinished (IsAuditText settings narrow.dealing file session) front)
+    (λ file session. IsUnfinished (IsAuditText settings wide.dealing file session) front)
+    (λ file session is. wider_rules_allow_audit_part narrow.dealing wide.dealing settings file session front widen.dealing is) answer
+wider_rules_allow_answer_part narrow wide keeping (Watch rule grain) read front widen answer =
+    capture_report_if_known read.text (λ session. IsUnfinished (IsWatchOf narrow.judging rule grain session) front)
+    (λ session. IsUnfinished (IsWatchOf wide.judging rule grain session) front)
+    (λ session is. record {
+      text = is.text;
+      is_text = widen.judging rule grain session is.text is.is_text;
+      begins = is.begins;
+      cut = is.cut;
+    }) answer
 wider_rules_allow_answer_part narrow wide keeping (Make seed frames) read front widen answer = answer
 wider_rules_allow_answer_part narrow wide keeping (Demo seed frames settings) read front widen answer = record {
   text = answer.text;
-  is_text = wider_rules_allow_demo narrow wide settings seed frames answer.text widen answer.is_text;
+  is_text = wider_rules_allow_demo narrow.dealing wide.dealing settings seed frames answer.text widen.dealing answer.is_text;
   begins = answer.begins;
   cut = answer.cut;
 }
 
-wider_rules_allow_answers : (narrow wide : DealingRules) (keeping : SessionKeeping) (words : List (List ℕ)) (read : InputBytes)
+wider_rules_allow_answers : (narrow wide : RunRules) (keeping : SessionKeeping) (words : List (List ℕ)) (read : InputBytes)
     (old new : Option (List ℕ))
-    → ((kind : DealKind) (place : ℕ) (rec : RecordValue) (shards number : ℕ) → narrow kind place rec shards number
-    → wide kind place rec shards number)
+    → IsWider narrow wide
     → Answers narrow keeping words read old new → Answers wide keeping words read old new
 wider_rules_allow_answers narrow wide keeping words read old new widen answers = record {
   command = answers.command;
@@ -209,10 +230,9 @@ wider_rules_allow_answers narrow wide keeping words read old new widen answers =
   };
 }
 
-wider_rules_allow_partial_answers : (narrow wide : DealingRules) (keeping : SessionKeeping) (words : List (List ℕ)) (read : InputBytes)
+wider_rules_allow_partial_answers : (narrow wide : RunRules) (keeping : SessionKeeping) (words : List (List ℕ)) (read : InputBytes)
     (old new : Option (List ℕ))
-    → ((kind : DealKind) (place : ℕ) (rec : RecordValue) (shards number : ℕ) → narrow kind place rec shards number
-    → wide kind place rec shards number)
+    → IsWider narrow wide
     → AnswersInPart narrow keeping words read old new → AnswersInPart wide keeping words read old new
 wider_rules_allow_partial_answers narrow wide keeping words read old new widen answers = record {
   command = answers.command;
@@ -257,24 +277,24 @@ wider_rules_imply_answerable narrow wide (Report settings) read widen can =
     (can.0, λ used. wider_rules_imply_known_store narrow wide settings read widen (can.1 used))
 wider_rules_imply_answerable narrow wide (Format settings) read widen can = can
 wider_rules_imply_answerable narrow wide (Audit settings) read widen can = can
+wider_rules_imply_answerable narrow wide (Watch rule grain) read widen can = can
 wider_rules_imply_answerable narrow wide (Make seed frames) read widen can = can
 wider_rules_imply_answerable narrow wide (Demo seed frames settings) read widen can = can
 
 -- ---- a run
 
 module _ {S T K D : Type 0} (s : SourceOf S) (t : SourceOf T) (k : SinkOf K) (d : DiskOf D) (old new : Streams S T K D)
-    (words : List (List ℕ)) (narrow wide : DealingRules)
-    (widen : (kind : DealKind) (place : ℕ) (rec : RecordValue) (shards number : ℕ) → narrow kind place rec shards number
-    → wide kind place rec shards number) where
+    (words : List (List ℕ)) (narrow wide : RunRules) (widen : IsWider narrow wide) where
   wider_rules_allow_finding : (report : ℕ) (verdict : Verdict) → FindsUnsound s t k d old new words narrow report verdict
       → FindsUnsound s t k d old new words wide report verdict
   wider_rules_allow_finding report verdict found = record {
     settings = found.settings;
     asked = found.asked;
     read_to_end = found.read_to_end;
-    found = audit_end_inputs_imply_more found.settings (run_inputs s t k d old new) (λ file text. IsUnsoundAudit found.settings narrow file text report verdict)
-        (λ file text. IsUnsoundAudit found.settings wide file text report verdict)
-        (λ file text is. wider_rules_allow_unsound_session narrow wide found.settings file text report verdict widen is) found.found;
+    found = audit_end_inputs_imply_more found.settings (run_inputs s t k d old new)
+        (λ file text. IsUnsoundAudit found.settings narrow.dealing file text report verdict)
+        (λ file text. IsUnsoundAudit found.settings wide.dealing file text report verdict)
+        (λ file text is. wider_rules_allow_unsound_session narrow.dealing wide.dealing found.settings file text report verdict widen.dealing is) found.found;
     written = found.written;
   }
 
@@ -286,9 +306,9 @@ module _ {S T K D : Type 0} (s : SourceOf S) (t : SourceOf T) (k : SinkOf K) (d 
     used = refused.used;
     read_to_end = refused.read_to_end;
     refused = capture_report_if_known (s.left old.capture)
-        (λ file. IsRefusedStore refused.settings narrow (d.reads old.disk) file fault)
-        (λ file. IsRefusedStore refused.settings wide (d.reads old.disk) file fault)
-        (λ file is. wider_rules_allow_refusal narrow wide refused.settings (d.reads old.disk) file fault widen is) refused.refused;
+        (λ file. IsRefusedStore refused.settings narrow.dealing (d.reads old.disk) file fault)
+        (λ file. IsRefusedStore refused.settings wide.dealing (d.reads old.disk) file fault)
+        (λ file is. wider_rules_allow_refusal narrow.dealing wide.dealing refused.settings (d.reads old.disk) file fault widen.dealing is) refused.refused;
     nothing = refused.nothing;
   }
 
@@ -310,18 +330,19 @@ module _ {S T K D : Type 0} (s : SourceOf S) (t : SourceOf T) (k : SinkOf K) (d 
     bad_store = λ fault shown is. wider_rules_allow_refused_store fault (ends.bad_store fault shown is);
     refuses_store = λ settings file image fault asks used known capture is_store shown refused.
         ends.refuses_store settings file image fault asks used known capture is_store shown
-        (λ records lists dealt. refused records lists (wider_rules_allow_records narrow wide settings file records lists widen dealt));
+        (λ records lists dealt. refused records lists (wider_rules_allow_records narrow.dealing wide.dealing settings file records lists widen.dealing dealt));
     bad_text = ends.bad_text;
     refuses_text = ends.refuses_text;
+    refuses_watched = ends.refuses_watched;
     audit_no = λ report verdict is. wider_rules_allow_finding report verdict (ends.audit_no report verdict is);
     finds_unsound = λ settings file bytes known report verdict asks is_file capture is_text is_session not_long first.
         ends.finds_unsound settings file bytes known report verdict asks is_file capture is_text is_session not_long
         (λ lists session audited. first lists session
-        (wider_rules_allow_audit narrow wide settings file bytes lists session widen audited));
+        (wider_rules_allow_audit narrow.dealing wide.dealing settings file bytes lists session widen.dealing audited));
     finds_sound = λ settings file bytes known asks is_file capture is_text is_session not_long sound.
         ends.finds_sound settings file bytes known asks is_file capture is_text is_session not_long
         (λ lists session audited. sound lists session
-        (wider_rules_allow_audit narrow wide settings file bytes lists session widen audited));
+        (wider_rules_allow_audit narrow.dealing wide.dealing settings file bytes lists session widen.dealing audited));
     read_fault = ends.read_fault;
     read_fault_reported = ends.read_fault_reported;
     write_fault = λ is.
@@ -348,5 +369,5 @@ module _ {S T K D : Type 0} (s : SourceOf S) (t : SourceOf T) (k : SinkOf K) (d 
         ⊎_elim (λ nothing. inl nothing) (λ part. inr (wider_rules_allow_part part)) (ends.out_of_memory is);
     complete = λ command asked can.
         ends.complete command asked
-        (wider_rules_imply_answerable narrow wide command (run_inputs s t k d old new) widen can);
+        (wider_rules_imply_answerable narrow.dealing wide.dealing command (run_inputs s t k d old new) widen.dealing can);
   }

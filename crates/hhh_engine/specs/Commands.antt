@@ -9,19 +9,19 @@ use Rattle.command_words.specs.declared.command.Command.{Command}
 use Rattle.command_words.specs.declared.command.Command.TheVariants.{Format}
 use Rattle.command_words.specs.declared.settings.Settings.{Settings}
 use Rattle.hhh_engine.specs.Answer.{IsAnswer, IsAnswerInPart}
-use Rattle.hhh_engine.specs.Ending.{Task, course, AuditFinds, Ends, EndsAsBefore, EndsInOrder, FormatEnds}
+use Rattle.hhh_engine.specs.Ending.{Task, course, SessionFinds, Ends, EndsAsBefore, EndsInOrder, FormatEnds}
 use Rattle.hhh_engine.specs.Ending.{DiskHappened, Refuses}
 use Rattle.hhh_engine.specs.Inputs.{WereAccepted, WereRead, UsesCapture, UsesSession, ReadsSession, takes_front}
 use Rattle.hhh_engine.specs.Inputs.{UsesStore}
 use Rattle.hhh_engine.specs.TopCall.{Streams, faults_after, faults_before, run_inputs, run_keeping}
 use Rattle.report_session.specs.{IsAsBefore, saves_settings}
-use Rattle.dealt_capture.specs.{DealingRules}
+use Rattle.hhh_engine.specs.Rules.{RunRules}
 use Rattle.run_status.specs.declared.status.Status.{Status}
 use Rattle.run_status.specs.declared.status.Status.TheVariants.{BadCapture, DiskFault}
 
 -- a run, as in `RunEnds`
 module _ {S T K D : Type 0} (s : SourceOf S) (t : SourceOf T) (k : SinkOf K) (d : DiskOf D) (old new : Streams S T K D)
-    (rules : DealingRules) where
+    (rules : RunRules) where
   -- what the command owes
   abbrev pub run_task : Command → Task
   run_task command = record {
@@ -33,8 +33,8 @@ module _ {S T K D : Type 0} (s : SourceOf S) (t : SourceOf T) (k : SinkOf K) (d 
     disk_failed = DiskHappened command (FaultRose (d.faults old.disk) (d.faults new.disk));
     disk_same = new.disk ≡ old.disk;
     store_same = EndsAsBefore command (IsAsBefore d old.disk new.disk);
-    refuses = Refuses command rules (run_inputs s t k d old new) (IsAsBefore d old.disk new.disk);
-    finds = AuditFinds command rules (run_inputs s t k d old new) (k.taken old.sink) (k.taken new.sink);
+    refuses = Refuses command rules.dealing (run_inputs s t k d old new) (IsAsBefore d old.disk new.disk);
+    finds = SessionFinds command rules.dealing (run_inputs s t k d old new) (k.taken old.sink) (k.taken new.sink);
   }
 
   -- the command ended with this status

@@ -28,6 +28,7 @@ use Rattle.run_status.specs.declared.status.Status.TheVariants.{Done, BadWords, 
 use Rattle.run_status.specs.declared.status.Status.TheVariants.{DiskFault, NotFormatted, Damaged, OtherSettings}
 use Rattle.run_status.specs.declared.status.Status.TheVariants.{OtherCapture, AuditNo, BadReport, OutOfMemory}
 use Rattle.outside_io.specs.declared.sink.Sink.{Ghosts as SinkOf}
+use Rattle.prefix_lattice.specs.declared.grain.Grain.{Grain}
 
 -- the counts of faults of the two sources: that of the capture, and that of the text of a session
 pub record SourceFaults : Type 0 where
@@ -48,19 +49,19 @@ pub record FailsAtCapture {T : Type 0} (Reads : Type 0) (before now : SourceFaul
   pub rose : FaultRose before.capture now.capture
   pub text_unread : text_read ≡ text
 
--- the source of the text of a session, which the command reads after its capture was accepted, failed after the capture was
--- read to its end without a fault
-pub record FailsAtText (ReadsText : Type 0) (read : InputBytes) (before now : SourceFaults) : Type 0 where
+-- the source of the text of a session, which the command reads, failed after the capture, where the command reads one, was
+-- accepted and read to its end without a fault
+pub record FailsAtText (Reads ReadsText : Type 0) (read : InputBytes) (before now : SourceFaults) : Type 0 where
   pub reads : ReadsText
   pub rose : FaultRose before.text now.text
   pub capture_kept : now.capture ≡ before.capture
-  pub read_to_end : IsAtEnd read.capture_left
+  pub read_to_end : Reads → IsAtEnd read.capture_left
 
 -- one of the sources failed, the capture's first
 abbrev pub FailsAtSource : {T : Type 0} → (Reads ReadsText : Type 0) → InputBytes → (before now : SourceFaults)
     → (text text_read : T) → Type 0
 FailsAtSource Reads ReadsText read before now text text_read =
-    FailsAtCapture Reads before now text text_read ⊎ FailsAtText ReadsText read before now
+    FailsAtCapture Reads before now text text_read ⊎ FailsAtText Reads ReadsText read before now
 
 -- where no byte was written: the disk is as before, unless the command is `format`, which may have begun a store
 abbrev pub EndsAsBefore : Command → (AsBefore : Type 0) → Type 0
@@ -68,6 +69,7 @@ EndsAsBefore (command.Weigh prefix settings) AsBefore = AsBefore
 EndsAsBefore (command.Report settings) AsBefore = AsBefore
 EndsAsBefore (command.Format settings) AsBefore = ⊤
 EndsAsBefore (command.Audit settings) AsBefore = AsBefore
+EndsAsBefore (command.Watch rule grain) AsBefore = AsBefore
 EndsAsBefore (command.Make seed frames) AsBefore = AsBefore
 EndsAsBefore (command.Demo seed frames settings) AsBefore = AsBefore
 
@@ -79,13 +81,27 @@ pub record IsRefusedStore (settings : Settings) (rules : DealingRules) (store : 
   pub dealt : AreDealtRecords settings rules file records lists
   pub refused : IfImageKnown store (λ image. RefusesOpening (saves_settings settings) lists image fault)
 
--- the text of a session by a grain was refused: the capture is one and was read to its end; this is the first fault of the text, where
--- its bytes are known, which was read to its end, or to one byte past the longest one
-pub record TextRefused (settings : Settings) (read : InputBytes) (fault : TextFault) : Type 0 where
+-- the text of a session by a grain was refused: this is its first fault, where its bytes are known; it was read to its end, or to
+-- one byte past the longest one
+pub record TextRefused (grain : Grain) (read : InputBytes) (fault : TextFault) : Type 0 where
+  pub first_fault : IfSome read.text (λ text. HasSessionFault grain text fault)
+  pub read_to_limit : ReadOnFault fault read.text read.text_left
+
+-- the text of a session was refused in an audit, whose capture is one and was read to its end
+pub record AuditRefused (settings : Settings) (read : InputBytes) (fault : TextFault) : Type 0 where
   pub read_to_end : IsAtEnd read.capture_left
   pub accepted : IfSome read.capture (IsCaptureFile settings.front)
-  pub first_fault : IfSome read.text (λ text. HasSessionFault settings.grain text fault)
-  pub read_to_limit : ReadOnFault fault read.text read.text_left
+  pub refused : TextRefused settings.grain read fault
+
+-- the text of a session was refused, which the command reads
+abbrev pub SessionRefused : Command → InputBytes → TextFault → Type 0
+SessionRefused (command.Weigh prefix settings) read fault = ⊥
+SessionRefused (command.Report settings) read fault = ⊥
+SessionRefused (command.Format settings) read fault = ⊥
+SessionRefused (command.Audit settings) read fault = AuditRefused settings read fault
+SessionRefused (command.Watch rule grain) read fault = TextRefused grain read fault
+SessionRefused (command.Make seed frames) read fault = ⊥
+SessionRefused (command.Demo seed frames settings) read fault = ⊥
 
 -- the command was answered: its text was written, or an audit found a report that is not sound
 abbrev pub EndsAnswered : Command → Status → Type 0
@@ -94,6 +110,7 @@ EndsAnswered (command.Audit settings) status =
 EndsAnswered (command.Weigh prefix settings) status = status ≡ Done
 EndsAnswered (command.Report settings) status = status ≡ Done
 EndsAnswered (command.Format settings) status = status ≡ Done
+EndsAnswered (command.Watch rule grain) status = status ≡ Done
 EndsAnswered (command.Make seed frames) status = status ≡ Done
 EndsAnswered (command.Demo seed frames settings) status = status ≡ Done
 
@@ -129,6 +146,7 @@ Refuses (command.Report settings) rules read AsBefore fault =
     EndsRefusing settings rules read.capture read.store AsBefore fault
 Refuses (command.Format settings) rules read AsBefore fault = ⊥
 Refuses (command.Audit settings) rules read AsBefore fault = ⊥
+Refuses (command.Watch rule grain) rules read AsBefore fault = ⊥
 Refuses (command.Make seed frames) rules read AsBefore fault = ⊥
 Refuses (command.Demo seed frames settings) rules read AsBefore fault = ⊥
 
@@ -138,6 +156,7 @@ DiskHappened (command.Weigh prefix settings) happened = ⊥
 DiskHappened (command.Report settings) happened = happened
 DiskHappened (command.Format settings) happened = happened
 DiskHappened (command.Audit settings) happened = ⊥
+DiskHappened (command.Watch rule grain) happened = ⊥
 DiskHappened (command.Make seed frames) happened = ⊥
 DiskHappened (command.Demo seed frames settings) happened = ⊥
 
@@ -154,17 +173,23 @@ abbrev pub EndsByFinding : Settings → DealingRules → InputBytes → (old new
 EndsByFinding settings rules read old new (AuditNo report verdict) =
     HoldsOfAudit settings read (λ file text. IsUnsoundAudit settings rules file text report verdict)
     × Appends old new (unsound_audit report verdict)
-EndsByFinding settings rules read old new (BadReport fault) = TextRefused settings read fault
+EndsByFinding settings rules read old new (BadReport fault) = AuditRefused settings read fault
 EndsByFinding settings rules read old new _ = ⊥
 
--- within the crate: the same of any command: only `audit` audits
-abbrev pub AuditFinds : Command → DealingRules → InputBytes → (old new : Option (List ℕ)) → Status → Type 0
-AuditFinds (command.Weigh prefix settings) rules read old new status = ⊥
-AuditFinds (command.Report settings) rules read old new status = ⊥
-AuditFinds (command.Format settings) rules read old new status = ⊥
-AuditFinds (command.Make seed frames) rules read old new status = ⊥
-AuditFinds (command.Demo seed frames settings) rules read old new status = ⊥
-AuditFinds (command.Audit settings) rules read old new status = EndsByFinding settings rules read old new status
+-- within the crate: what a watch found that ended so: only a fault of its text
+abbrev pub EndsByWatching : Grain → InputBytes → Status → Type 0
+EndsByWatching grain read (BadReport fault) = TextRefused grain read fault
+EndsByWatching grain read _ = ⊥
+
+-- within the crate: the same of any command: only `audit` and `watch` read the text of a session
+abbrev pub SessionFinds : Command → DealingRules → InputBytes → (old new : Option (List ℕ)) → Status → Type 0
+SessionFinds (command.Weigh prefix settings) rules read old new status = ⊥
+SessionFinds (command.Report settings) rules read old new status = ⊥
+SessionFinds (command.Format settings) rules read old new status = ⊥
+SessionFinds (command.Make seed frames) rules read old new status = ⊥
+SessionFinds (command.Demo seed frames settings) rules read old new status = ⊥
+SessionFinds (command.Audit settings) rules read old new status = EndsByFinding settings rules read old new status
+SessionFinds (command.Watch rule grain) rules read old new status = EndsByWatching grain read status
 
 -- within the crate: what a command owes, over what it read
 pub record Task : Type 1 where
@@ -180,7 +205,7 @@ pub record Task : Type 1 where
   pub disk_failed : Type 0
   pub disk_same : Type 0
   pub store_same : Type 0
-  -- its store is refused for this fault; its audit ended so
+  -- its store is refused for this fault; it ended so by what its session says
   pub refuses : OpenFault → Type 0
   pub finds : Status → Type 0
 

@@ -10,7 +10,7 @@ use Rattle.report_text.specs.{IsSessionText, longest_session}
 use Rattle.report_text.specs.declared.session.Session.{Session}
 use Rattle.command_words.specs.{AskForCommand}
 use Rattle.command_words.specs.declared.command.Command.{Command}
-use Rattle.command_words.specs.declared.command.Command.TheVariants.{Weigh, Report, Format, Audit, Make, Demo}
+use Rattle.command_words.specs.declared.command.Command.TheVariants.{Weigh, Report, Format, Audit, Watch, Make, Demo}
 use Rattle.command_words.specs.declared.settings.Settings.{Settings}
 use Rattle.report_session.specs.{saves_settings}
 use Rattle.dealt_capture.specs.{AreDealtRecords, DealingRules}
@@ -43,6 +43,7 @@ UsesCapture (Weigh prefix settings) = ⊤
 UsesCapture (Report settings) = ⊤
 UsesCapture (Format settings) = ⊥
 UsesCapture (Audit settings) = ⊤
+UsesCapture (Watch rule grain) = ⊥
 UsesCapture (Make seed frames) = ⊥
 UsesCapture (Demo seed frames settings) = ⊥
 
@@ -52,6 +53,7 @@ takes_front (Weigh prefix settings) = settings.front
 takes_front (Report settings) = settings.front
 takes_front (Format settings) = false
 takes_front (Audit settings) = settings.front
+takes_front (Watch rule grain) = false
 takes_front (Make seed frames) = false
 takes_front (Demo seed frames settings) = false
 
@@ -61,6 +63,7 @@ UsesSession (Weigh prefix settings) = ⊥
 UsesSession (Report settings) = ⊥
 UsesSession (Format settings) = ⊥
 UsesSession (Audit settings) = ⊤
+UsesSession (Watch rule grain) = ⊤
 UsesSession (Make seed frames) = ⊥
 UsesSession (Demo seed frames settings) = ⊥
 
@@ -70,6 +73,7 @@ UsesStore (Weigh prefix settings) = ⊥
 UsesStore (Report settings) = settings.store ≡ true
 UsesStore (Format settings) = ⊤
 UsesStore (Audit settings) = ⊥
+UsesStore (Watch rule grain) = ⊥
 UsesStore (Make seed frames) = ⊥
 UsesStore (Demo seed frames settings) = ⊥
 
@@ -79,6 +83,7 @@ MayUseStore (Weigh prefix settings) = ⊥
 MayUseStore (Report settings) = ⊤
 MayUseStore (Format settings) = ⊤
 MayUseStore (Audit settings) = ⊥
+MayUseStore (Watch rule grain) = ⊥
 MayUseStore (Make seed frames) = ⊥
 MayUseStore (Demo seed frames settings) = ⊥
 
@@ -88,6 +93,7 @@ WereRead (Weigh prefix settings) read = IsAtEnd read.capture_left
 WereRead (Report settings) read = IsAtEnd read.capture_left
 WereRead (Format settings) read = ⊤
 WereRead (Audit settings) read = IsAtEnd read.capture_left × IsAtEnd read.text_left
+WereRead (Watch rule grain) read = IsAtEnd read.text_left
 WereRead (Make seed frames) read = ⊤
 WereRead (Demo seed frames settings) read = ⊤
 
@@ -101,10 +107,11 @@ WereAccepted (Weigh prefix settings) read = IfSome read.capture (IsCaptureFile s
 WereAccepted (Report settings) read = IfSome read.capture (IsCaptureFile settings.front)
 WereAccepted (Format settings) read = ⊤
 WereAccepted (Audit settings) read = IfSome read.capture (IsCaptureFile settings.front)
+WereAccepted (Watch rule grain) read = ⊤
 WereAccepted (Make seed frames) read = ⊤
 WereAccepted (Demo seed frames settings) read = ⊤
 
--- this command reads the text of a session, after its capture was accepted
+-- this command reads the text of a session, after its capture, if it reads one, was accepted
 abbrev pub ReadsSession : InputBytes → Command → Type 0
 ReadsSession read command = UsesSession command × WereAccepted command read
 
@@ -144,6 +151,7 @@ CanBeAnswered rules (Report settings) read =
     HasCapture settings.front read.capture × (settings.store ≡ true → HasStore settings rules read)
 CanBeAnswered rules (Format settings) read = ⊤
 CanBeAnswered rules (Audit settings) read = HasCapture settings.front read.capture × HasSession settings.grain read.text
+CanBeAnswered rules (Watch rule grain) read = HasSession grain read.text
 CanBeAnswered rules (Make seed frames) read = ⊤
 CanBeAnswered rules (Demo seed frames settings) read = ⊤
 

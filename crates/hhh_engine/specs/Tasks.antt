@@ -8,8 +8,12 @@ use Rattle.command_words.specs.declared.settings.Settings.{Settings}
 use Rattle.dealt_capture.specs.{IsCaptureFile, DealingRules}
 use Rattle.report_session.specs.{IsAsBefore, IsSession, IsSessionInPart, AreKeptOnDisk}
 use Rattle.session_audit.specs.{IsAuditText, IsSoundAudit}
+use Rattle.session_watch.specs.{IsWatchOf}
+use Rattle.watch_rules.specs.declared.rule.Rule.{Rule}
+use Rattle.prefix_lattice.specs.declared.grain.Grain.{Grain}
+use Rattle.hhh_engine.specs.Rules.{JudgingRule}
 use Rattle.hhh_engine.specs.Answer.{IsUnfinished, IsWeighInPart, formatted_answer}
-use Rattle.hhh_engine.specs.Ending.{EndsByFinding, EndsRefusing, Task}
+use Rattle.hhh_engine.specs.Ending.{EndsByFinding, EndsByWatching, EndsRefusing, Task}
 use Rattle.hhh_engine.specs.Inputs.{InputBytes, HoldsOfAudit}
 use Rattle.hhh_engine.specs.Weigh.{IsWeightText}
 
@@ -69,4 +73,12 @@ audit_task settings rules read old new =
     (λ begun. HoldsOfAudit settings read (λ file session. IsUnfinished (IsAuditText settings rules file session) begun))
     (IsAtEnd read.capture_left × IsAtEnd read.text_left) (IfSome read.capture (IsCaptureFile settings.front))) {
       finds = EndsByFinding settings rules read old new;
+    }
+
+-- that of `watch`, over its inputs, of which it reads the text of a session alone
+abbrev pub watch_task : Rule → Grain → JudgingRule → InputBytes → Task
+watch_task rule grain judging read =
+    record (plain_task false (λ answer. IfSome read.text (λ session. IsWatchOf judging rule grain session answer))
+    (λ begun. IfSome read.text (λ session. IsUnfinished (IsWatchOf judging rule grain session) begun)) (IsAtEnd read.text_left) ⊤) {
+      finds = EndsByWatching grain read;
     }

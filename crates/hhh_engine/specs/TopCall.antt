@@ -24,12 +24,15 @@ use Rattle.hhh_engine.specs.Answer.{Answers, AnswersInPart}
 use Rattle.session_audit.specs.{AreAudited, IsFirstUnsound, IsAuditedSound, IsUnsoundAudit}
 use Rattle.session_audit.specs.{unsound_audit}
 use Rattle.hhh_engine.specs.Ending.{SourceFaults, EndsAnswered, EndsAsBefore, FailsAtSource}
-use Rattle.hhh_engine.specs.Ending.{FormatEnds, IsRefusedStore, TextRefused, faults_of_source}
+use Rattle.hhh_engine.specs.Ending.{FormatEnds, IsRefusedStore, SessionRefused, faults_of_source}
 use Rattle.hhh_engine.specs.Inputs.{CommandAvoids, CommandUses, HoldsOfAudit, InputBytes}
 use Rattle.hhh_engine.specs.Inputs.{CanBeAnswered, WereRead, MayUseStore, UsesCapture}
 use Rattle.hhh_engine.specs.Inputs.{ReadsSession, UsesSession, UsesStore, inputs, takes_front}
 use Rattle.report_session.specs.{IsAsBefore, AreKeptOnDisk, saves_settings, SessionKeeping}
-use Rattle.dealt_capture.specs.{AreDealtRecords, DealingRules, IsCaptureFile}
+use Rattle.dealt_capture.specs.{AreDealtRecords, IsCaptureFile}
+use Rattle.watch_rules.specs.declared.rule.Rule.{Rule}
+use Rattle.prefix_lattice.specs.declared.grain.Grain.{Grain}
+use Rattle.hhh_engine.specs.Rules.{RunRules}
 use Rattle.run_status.specs.{status_of_opening}
 use Rattle.run_status.specs.declared.status.Status.{Status}
 use Rattle.run_status.specs.declared.status.Status.TheVariants.{Done, BadWords, BadCapture, ReadFault, WriteFault}
@@ -89,11 +92,11 @@ module _ {S T K D : Type 0} (s : SourceOf S) (t : SourceOf T) (k : SinkOf K) (d 
       pub text_unread : new.text ≡ old.text
       pub nothing : LeavesUnwritten
 
-    -- BadReport: an audit was asked for, and the text of the session was refused for this fault
+    -- BadReport: an audit or a watch was asked for, and the text of the session was refused for this fault
     pub record RefusesText (fault : TextFault) : Type 0 where
-      pub settings : Settings
-      pub asked : AskForCommand words (command.Audit settings)
-      pub refusal : TextRefused settings run_inputs fault
+      pub command : Command
+      pub asked : AskForCommand words command
+      pub refusal : SessionRefused command run_inputs fault
       pub nothing : LeavesUnwritten
 
     -- ReadFault: a source failed, the capture's first; nothing was written
@@ -122,8 +125,15 @@ module _ {S T K D : Type 0} (s : SourceOf S) (t : SourceOf T) (k : SinkOf K) (d 
         → t.left old.text ≡ Some bytes → HasSessionFault settings.grain bytes fault
         → (status ≡ BadReport fault) ⊎ ((status ≡ ReadFault) ⊎ (status ≡ OutOfMemory))
 
-    -- under `rules`, which say to which shards the dealers may deal a record
-    module _ (rules : DealingRules) where
+    -- the same of a watch, which reads no capture
+    abbrev pub MustRefuseWatched : Status → Type 0
+    MustRefuseWatched status =
+        (rule : Rule) (grain : Grain) (bytes : List ℕ) (fault : TextFault) → AskForCommand words (command.Watch rule grain)
+        → t.left old.text ≡ Some bytes → HasSessionFault grain bytes fault
+        → (status ≡ BadReport fault) ⊎ ((status ≡ ReadFault) ⊎ (status ≡ OutOfMemory))
+
+    -- under `rules`, which say to which shards the dealers may deal a record, and which severities the judge may give
+    module _ (rules : RunRules) where
       -- the text of the command was written, for its inputs, which were read to their ends
       abbrev pub WritesText : Type 0
       WritesText = Answers rules run_keeping words run_inputs (k.taken old.sink) (k.taken new.sink)
@@ -139,7 +149,7 @@ module _ {S T K D : Type 0} (s : SourceOf S) (t : SourceOf T) (k : SinkOf K) (d 
         pub asked : AskForCommand words (command.Report settings)
         pub used : settings.store ≡ true
         pub read_to_end : IsAtEnd (s.left new.capture)
-        pub refused : IfSome (s.left old.capture) (λ file. IsRefusedStore settings rules (d.reads old.disk) file fault)
+        pub refused : IfSome (s.left old.capture) (λ file. IsRefusedStore settings rules.dealing (d.reads old.disk) file fault)
         pub nothing : WritesNothing
 
       -- AuditNo: an audit was asked for, and the inputs were read to their ends; this report is the first of the session that
@@ -148,7 +158,7 @@ module _ {S T K D : Type 0} (s : SourceOf S) (t : SourceOf T) (k : SinkOf K) (d 
         pub settings : Settings
         pub asked : AskForCommand words (command.Audit settings)
         pub read_to_end : WereRead (command.Audit settings) run_inputs
-        pub found : HoldsOfAudit settings run_inputs (λ file text. IsUnsoundAudit settings rules file text report verdict)
+        pub found : HoldsOfAudit settings run_inputs (λ file text. IsUnsoundAudit settings rules.dealing file text report verdict)
         pub written : Appends (k.taken old.sink) (k.taken new.sink) (unsound_audit report verdict)
 
       -- WriteFault: the sink failed, after bytes with which the text of the command begins
@@ -172,7 +182,7 @@ module _ {S T K D : Type 0} (s : SourceOf S) (t : SourceOf T) (k : SinkOf K) (d 
           (settings : Settings) (file image : List ℕ) (fault : OpenFault)
           → AskForCommand words (command.Report settings) → settings.store ≡ true → s.left old.capture ≡ Some file
           → IsCaptureFile settings.front file → d.reads old.disk ≡ Some image → IsShownByBytes fault
-          → ((records : Records) (lists : List (List RecordValue)) → AreDealtRecords settings rules file records lists
+          → ((records : Records) (lists : List (List RecordValue)) → AreDealtRecords settings rules.dealing file records lists
           → RefusesOpening (saves_settings settings) lists image fault)
           → (status ≡ status_of_opening fault) ⊎ ((status ≡ ReadFault) ⊎ ((status ≡ DiskFault) ⊎ (status ≡ OutOfMemory)))
 
@@ -183,7 +193,7 @@ module _ {S T K D : Type 0} (s : SourceOf S) (t : SourceOf T) (k : SinkOf K) (d 
           (settings : Settings) (file bytes : List ℕ) (known : Session) (report : ℕ) (verdict : Verdict)
           → AskForCommand words (command.Audit settings) → s.left old.capture ≡ Some file → IsCaptureFile settings.front file
           → t.left old.text ≡ Some bytes → IsSessionText settings.grain bytes known → length bytes ≤ longest_session
-          → ((lists : List (List RecordValue)) (session : Session) → AreAudited settings rules file bytes lists session
+          → ((lists : List (List RecordValue)) (session : Session) → AreAudited settings rules.dealing file bytes lists session
           → IsFirstUnsound settings lists session.reports report verdict)
           → (status ≡ AuditNo report verdict) ⊎ ((status ≡ ReadFault) ⊎ ((status ≡ WriteFault) ⊎ (status ≡ OutOfMemory)))
 
@@ -194,7 +204,7 @@ module _ {S T K D : Type 0} (s : SourceOf S) (t : SourceOf T) (k : SinkOf K) (d 
           (settings : Settings) (file bytes : List ℕ) (known : Session)
           → AskForCommand words (command.Audit settings) → s.left old.capture ≡ Some file → IsCaptureFile settings.front file
           → t.left old.text ≡ Some bytes → IsSessionText settings.grain bytes known → length bytes ≤ longest_session
-          → ((lists : List (List RecordValue)) (session : Session) → AreAudited settings rules file bytes lists session
+          → ((lists : List (List RecordValue)) (session : Session) → AreAudited settings rules.dealing file bytes lists session
           → All (IsAuditedSound settings lists) session.reports)
           → (status ≡ Done) ⊎ ((status ≡ ReadFault) ⊎ ((status ≡ WriteFault) ⊎ (status ≡ OutOfMemory)))
 
@@ -202,7 +212,7 @@ module _ {S T K D : Type 0} (s : SourceOf S) (t : SourceOf T) (k : SinkOf K) (d 
       -- the disk, the command is answered, unless memory runs out
       abbrev pub MustAnswer : Status → Type 0
       MustAnswer status =
-          (command : Command) → AskForCommand words command → CanBeAnswered rules command run_inputs
+          (command : Command) → AskForCommand words command → CanBeAnswered rules.dealing command run_inputs
           → (FaultRose (s.faults old.capture) (s.faults new.capture) → ⊥) → (FaultRose (t.faults old.text) (t.faults new.text) → ⊥)
           → (FaultRose (k.faults old.sink) (k.faults new.sink) → ⊥) → (FaultRose (d.faults old.disk) (d.faults new.disk) → ⊥)
           → EndsAnswered command status ⊎ (status ≡ OutOfMemory)
@@ -225,6 +235,7 @@ module _ {S T K D : Type 0} (s : SourceOf S) (t : SourceOf T) (k : SinkOf K) (d 
         pub refuses_store : MustRefuseStore status
         pub bad_text : (fault : TextFault) → status ≡ BadReport fault → RefusesText fault
         pub refuses_text : MustRefuseText status
+        pub refuses_watched : MustRefuseWatched status
         -- an audit finds the first report that isn't sound, or that all are
         pub audit_no : (report : ℕ) (verdict : Verdict) → status ≡ AuditNo report verdict → FindsUnsound report verdict
         pub finds_unsound : MustFindUnsound status

@@ -6,6 +6,7 @@ pub(crate) mod format;
 mod made_source;
 pub(crate) mod make;
 pub(crate) mod report;
+pub(crate) mod watch;
 pub(crate) mod weigh;
 
 use deal_rules::Dealers;
@@ -14,12 +15,15 @@ use std::alloc::Global;
 use std::marker::Sync;
 use std::sync::Wait;
 use std::thread::Threads;
+use watch_rules::Judge;
 
-/// What a command is run by: what starts threads, the gate that is told of their steps, and the dealers of records.
+/// What a command is run by: what starts threads, the gate that is told of their steps, the dealers of records, and the judge
+/// of alarms.
 #[derive(Drop)]
 pub(crate) struct Runner<'a, R: Threads + Wait + Sync, G: Gate + Sync> {
     pub(crate) rt: &'a R,
     pub(crate) alloc: Global,
     pub(crate) gate: &'a G,
     pub(crate) dealers: &'a Dealers,
+    pub(crate) judge: &'a Judge,
 }

@@ -8,6 +8,10 @@ ghost use Rattle.session_audit.specs.{IsSoundAudit, sound_audit};
 ghost use Rattle.hhh_engine.specs.Demo.{IsDemoText};
 ghost use Rattle.hhh_engine.specs.SessionPromise.{BeginsItsSession};
 ghost use Rattle.hhh_engine.specs.StorePromise.{KeepsItsStore};
+ghost use Rattle.hhh_engine.specs.Rules.{run_rules};
+ghost use Rattle.watch_rules.specs.{GoesByFormula, judged_by};
+ghost use Rattle.watch_rules.specs.declared.rule.Rule.{Rule};
+ghost use Rattle.session_watch.specs.{IsHeavyAlarm, IsWatchOf};
 ghost use Rattle.hhh_engine.specs.TopCall.{RunEnds, Streams};
 ghost use Rattle.run_status.specs.declared.status.Status.{Status};
 ghost use Rattle.pcap_frames.specs.{FrameValue};
@@ -34,18 +38,29 @@ use report_session::{
     own_reports_are_sound, sessions_in_part_begin_whole_ones, sessions_keep_their_store,
     sessions_read_back, whole_reports_are_one,
 };
+use report_text::{same_sessions_have_equal_reports, session_texts_have_one_reading};
+use session_watch::{watched_alarms_are_certain, watches_have_one_text};
 use slot_disk::Disk;
+use watch_rules::{Judge, Judges};
 
-/// If each dealer answers by a formula, one for each kind of dealing, then a run that ended under what the dealers may
-/// answer also ended so under the formulas: the records are dealt by them, and what must come of known inputs comes where
-/// these are dealt so.
-pub fn runs_follow_formulas<S: Source, T: Source, K: Sink, D: Disk>(dealers: &Dealers)
-    ensures { (formula : DealKind → ℕ → RecordValue → ℕ → ℕ) (old new : Streams S T K D) (words : List (List ℕ)) (status : Status)
+/// If each dealer answers by a formula, one for each kind of dealing, and the judge by one of its own, then a run that ended
+/// under what dealers and judge may answer also ended so under the formulas: the records are dealt by them, and the alarms
+/// have their severities; and what must come of known inputs comes where the records are dealt so.
+pub fn runs_follow_formulas<S: Source, T: Source, K: Sink, D: Disk>(
+    dealers: &Dealers,
+    judge: &Judge,
+)
+    ensures { (formula : DealKind → ℕ → RecordValue → ℕ → ℕ) (severity : ℕ → ℕ → ℕ → ℕ) (old new : Streams S T K D) (words : List (List ℕ))
+        (status : Status)
         → ((kind : DealKind) (place : ℕ) (rec : RecordValue) (shards number : ℕ)
         → ⟦<Dealer as Deals>⟧.may_answer (dealer_of kind dealers.now) place rec shards number → number ≡ formula kind place rec shards)
-        → RunEnds S.Source T.Source K.Sink D.Disk old new words (λ kind. ⟦<Dealer as Deals>⟧.may_answer (dealer_of kind dealers.now)) status
-        → RunEnds S.Source T.Source K.Sink D.Disk old new words (rules_by formula) status }
-{}
+        → GoesByFormula severity (⟦<Judge as Judges>⟧.may_answer judge.now)
+        → RunEnds S.Source T.Source K.Sink D.Disk old new words
+        (run_rules (λ kind. ⟦<Dealer as Deals>⟧.may_answer (dealer_of kind dealers.now)) (⟦<Judge as Judges>⟧.may_answer judge.now)) status
+        → RunEnds S.Source T.Source K.Sink D.Disk old new words (run_rules (rules_by formula) (judged_by severity)) status }
+{
+    watches_have_one_text(judge);
+}
 
 /// An audit of a session's reports over the dealt records finds each of them good, for the grain, the capacity and the share of
 /// the session, also where the session went on from a saved cut, if the tables of this were those of its records.
@@ -80,6 +95,19 @@ pub fn own_sessions_are_audited_good<D: Disk>()
     sessions_read_back::<D>();
 }
 
+/// Where an audit finds all reports of a text sound over a capture, each alarm of a watch over this text is of a heavy
+/// prefix: the records before the positions of the alarm's report give it at least the limit of the rule.
+pub fn alarms_of_sound_sessions_are_certain(judge: &Judge)
+    ensures { (formula : DealKind → ℕ → RecordValue → ℕ → ℕ) (settings : Settings) (rule : Rule) (file text answer alarms : List ℕ)
+        (audit : IsSoundAudit settings (rules_by formula) file text answer)
+        (watch : IsWatchOf (⟦<Judge as Judges>⟧.may_answer judge.now) rule settings.grain text alarms)
+        → All (IsHeavyAlarm rule.limit audit.lists watch.session.reports) watch.watched.alarms }
+{
+    session_texts_have_one_reading();
+    same_sessions_have_equal_reports();
+    watched_alarms_are_certain(judge);
+}
+
 /// A made capture is a capture of its frames.
 pub fn made_captures_are_captures()
     ensures { (seed count : ℕ) → count ≤ most_frames
@@ -103,10 +131,14 @@ pub fn demos_have_one_text()
 /// Whatever the status of a run of `report` with a store, whose bytes were known as it began: the store is kept, by the bytes
 /// that were written. What a crash now leaves of it opens to no earlier positions than the last line `saved` shows, or than
 /// the line `opened` where there is none, and its sequence counts these lines, exactly so where the run is Done.
-pub fn runs_keep_their_store<S: Source, T: Source, K: Sink, D: Disk>(dealers: &Dealers)
+pub fn runs_keep_their_store<S: Source, T: Source, K: Sink, D: Disk>(
+    dealers: &Dealers,
+    judge: &Judge,
+)
     ensures { (old new : Streams S T K D) (words : List (List ℕ)) (status : Status) (settings : Settings) (store : List ℕ)
         → AskForCommand words (Report settings) → settings.store ≡ true → D.reads old.disk ≡ Some store
-        → RunEnds S.Source T.Source K.Sink D.Disk old new words (λ kind. ⟦<Dealer as Deals>⟧.may_answer (dealer_of kind dealers.now)) status
+        → RunEnds S.Source T.Source K.Sink D.Disk old new words
+        (run_rules (λ kind. ⟦<Dealer as Deals>⟧.may_answer (dealer_of kind dealers.now)) (⟦<Judge as Judges>⟧.may_answer judge.now)) status
         → KeepsItsStore K.Sink D.Disk old new settings store status }
 {
     arguments_ask_for_one_command();
@@ -115,10 +147,14 @@ pub fn runs_keep_their_store<S: Source, T: Source, K: Sink, D: Disk>(dealers: &D
 
 /// Whatever the status of a run of `report`: nothing was written, or bytes with which a whole session over the capture
 /// begins. So where a run breaks off, the reports that it didn't write exist, whether or not there was memory for them.
-pub fn runs_write_what_begins_a_session<S: Source, T: Source, K: Sink, D: Disk>(dealers: &Dealers)
+pub fn runs_write_what_begins_a_session<S: Source, T: Source, K: Sink, D: Disk>(
+    dealers: &Dealers,
+    judge: &Judge,
+)
     ensures { (old new : Streams S T K D) (words : List (List ℕ)) (status : Status) (settings : Settings)
         → AskForCommand words (Report settings)
-        → RunEnds S.Source T.Source K.Sink D.Disk old new words (λ kind. ⟦<Dealer as Deals>⟧.may_answer (dealer_of kind dealers.now)) status
+        → RunEnds S.Source T.Source K.Sink D.Disk old new words
+        (run_rules (λ kind. ⟦<Dealer as Deals>⟧.may_answer (dealer_of kind dealers.now)) (⟦<Judge as Judges>⟧.may_answer judge.now)) status
         → (new.sink ≡ old.sink) ⊎ BeginsItsSession S.Source K.Sink D.Disk old new settings
         (λ kind. ⟦<Dealer as Deals>⟧.may_answer (dealer_of kind dealers.now)) }
 {

@@ -10,6 +10,7 @@ ghost use Rattle.command_words.specs.declared.settings.Settings.{Settings};
 ghost use Rattle.hhh_engine.specs.Commands.{CommandEnds, CommandInOrder};
 ghost use Rattle.hhh_engine.specs.Ending.{FormatEnds};
 ghost use Rattle.hhh_engine.specs.Inputs.{UsesCapture, UsesSession, UsesStore};
+ghost use Rattle.hhh_engine.specs.Rules.{run_rules};
 ghost use Rattle.hhh_engine.specs.TopCall.{RunEnds, streams};
 ghost use Rattle.report_session.specs.{saves_settings};
 ghost use Rattle.run_status.specs.declared.status.Status.TheVariants.{BadCapture, DiskFault};
@@ -21,6 +22,7 @@ use crate::commands::demo::demo;
 use crate::commands::format::format;
 use crate::commands::make::make;
 use crate::commands::report::report;
+use crate::commands::watch::watch;
 use crate::commands::weigh::weigh;
 use command_words::{Command, read_words};
 use deal_rules::{Dealer, Dealers, Deals};
@@ -35,6 +37,7 @@ use std::alloc::Global;
 use std::marker::Sync;
 use std::sync::Wait;
 use std::thread::Threads;
+use watch_rules::{Judge, Judges};
 
 /// Runs the command that the arguments `words` ask for.
 ///
@@ -54,6 +57,9 @@ use std::thread::Threads;
 /// session by these records alone. It writes one line: how many reports there are, if all are sound, else what is wrong
 /// with the first that is not.
 ///
+/// `watch` reads the text of a session to its end, and writes an alarm for each prefix under that of its rule when a report
+/// shows for the first time that its weight is surely at least the rule's limit. The judge gives each alarm its severity.
+///
 /// `make SEED FRAMES` writes the capture that the seed and the number of frames determine.
 ///
 /// `demo SEED FRAMES` makes that capture in memory, deals its records to shards, counts them by workers, reports on all of
@@ -70,10 +76,11 @@ pub fn run<R: Threads + Wait + Sync, S: Source, T: Source, K: Sink, D: Disk, G: 
     disk: &mut D,
     gate: &G,
     dealers: &Dealers,
+    judge: &Judge,
 ) -> Status
     ensures { RunEnds S.Source T.Source K.Sink D.Disk (streams capture.old text.old sink.old disk.old)
         (streams capture.new text.new sink.new disk.new) (argument_texts words.now)
-        (λ kind. ⟦<Dealer as Deals>⟧.may_answer (dealer_of kind dealers.now)) result }
+        (run_rules (λ kind. ⟦<Dealer as Deals>⟧.may_answer (dealer_of kind dealers.now)) (⟦<Judge as Judges>⟧.may_answer judge.now)) result }
 {
     files_are_read_or_refused();
     openings_are_decided();
@@ -89,6 +96,7 @@ pub fn run<R: Threads + Wait + Sync, S: Source, T: Source, K: Sink, D: Disk, G: 
         alloc,
         gate,
         dealers,
+        judge,
     };
     answer(&runner, &command, capture, text, sink, disk)
 }
@@ -104,11 +112,11 @@ fn answer<R: Threads + Wait + Sync, S: Source, T: Source, K: Sink, D: Disk, G: G
 ) -> Status
     requires { IsLimitedCommand command.now }
     ensures ends { CommandEnds S.Source T.Source K.Sink D.Disk (streams capture.old text.old sink.old disk.old)
-        (streams capture.new text.new sink.new disk.new) (λ kind. ⟦<Dealer as Deals>⟧.may_answer (dealer_of kind runner.now.dealers.now))
-        command.now result }
+        (streams capture.new text.new sink.new disk.new) (run_rules (λ kind. ⟦<Dealer as Deals>⟧.may_answer (dealer_of kind runner.now.dealers.now))
+        (⟦<Judge as Judges>⟧.may_answer runner.now.judge.now)) command.now result }
     ensures order { CommandInOrder S.Source T.Source K.Sink D.Disk (streams capture.old text.old sink.old disk.old)
-        (streams capture.new text.new sink.new disk.new) (λ kind. ⟦<Dealer as Deals>⟧.may_answer (dealer_of kind runner.now.dealers.now))
-        command.now result }
+        (streams capture.new text.new sink.new disk.new) (run_rules (λ kind. ⟦<Dealer as Deals>⟧.may_answer (dealer_of kind runner.now.dealers.now))
+        (⟦<Judge as Judges>⟧.may_answer runner.now.judge.now)) command.now result }
     ensures told { (result ≡ DiskFault → ⊥) → D.faults disk.new ≡ D.faults disk.old }
     ensures unused { (UsesStore command.now → ⊥) → disk.new ≡ disk.old }
     ensures reads { (fault : CaptureFault) → result ≡ BadCapture fault → UsesCapture command.now }
@@ -124,6 +132,7 @@ fn answer<R: Threads + Wait + Sync, S: Source, T: Source, K: Sink, D: Disk, G: G
         Command::Report(settings) => report(runner, settings, capture, sink, disk),
         Command::Format(settings) => format(settings, sink, disk),
         Command::Audit(settings) => audit(alloc, settings, capture, text, sink, runner.dealers),
+        Command::Watch { rule, grain } => watch(alloc, *rule, *grain, text, sink, runner.judge),
         Command::Make { seed, frames } => make(*seed, *frames, sink),
         Command::Demo {
             seed,

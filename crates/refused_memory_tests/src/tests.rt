@@ -1,4 +1,4 @@
-ghost use Rattle.std.specs.Prelude.{◌≡◌, ◌%◌};
+ghost use Rattle.std.specs.Prelude.{◌≡◌, ◌≤◌, ◌/◌, ◌%◌, min};
 ghost use Rattle.deal_rules.specs.{IsAsked};
 
 use deal_rules::{DealKind, Dealer, Dealers};
@@ -9,7 +9,8 @@ use std::marker::Sync;
 use std::sync::Wait;
 use std::test::Fail;
 use std::thread::Threads;
-use test_runs::{Ended, FORMAT, ONE, REPORT, SECOND_SESSION, SESSION, disk_with, run_on};
+use test_runs::{Ended, FORMAT, Handed, ONE, REPORT, SECOND_SESSION, SESSION, disk_with, run_on};
+use watch_rules::Judge;
 
 // The rule of `round`, for which alone these runs ask, and a rule of `free`: in turn.
 fn by_place(place: u64, rec: Record, shards: u32) -> u32
@@ -27,12 +28,23 @@ fn by_source(place: u64, rec: Record, shards: u32) -> u32
     rec.src % shards
 }
 
-// The dealers that follow these rules.
-fn dealers_of(alloc: Global) -> Result<Dealers, AllocError> {
-    Ok(Dealers {
-        round: Dealer::new(DealKind::RoundRobin, Box::new(alloc, by_place)?),
-        source: Dealer::new(DealKind::BySource, Box::new(alloc, by_source)?),
-        free: Dealer::new(DealKind::Free, Box::new(alloc, by_place)?),
+// The severity of an alarm, which these runs don't ask for: how many times the low holds the limit, at most 7.
+fn by_multiple(lo: u64, _hi: u64, limit: u64) -> u32
+    requires { 1 ≤ limit }
+    ensures { result ≡ min (lo / limit) 7 }
+{
+    (lo / limit).min(7) as u32
+}
+
+// The dealers and the judge that follow these rules.
+fn handed_of(alloc: Global) -> Result<Handed, AllocError> {
+    Ok(Handed {
+        dealers: Dealers {
+            round: Dealer::new(DealKind::RoundRobin, Box::new(alloc, by_place)?),
+            source: Dealer::new(DealKind::BySource, Box::new(alloc, by_source)?),
+            free: Dealer::new(DealKind::Free, Box::new(alloc, by_place)?),
+        },
+        judge: Judge::new(Box::new(alloc, by_multiple)?),
     })
 }
 
@@ -50,8 +62,8 @@ const RUNS: [Run; 3] = [
 #[test]
 fn goes_on_where_it_stopped(rt: HostRuntime) -> Result<(), Fail> {
     let alloc = rt.alloc();
-    let dealers = dealers_of(alloc)?;
-    assert_eq!(rt; first_wrong_run(&rt, alloc, &dealers, &RUNS)?, None);
+    let handed = handed_of(alloc)?;
+    assert_eq!(rt; first_wrong_run(&rt, alloc, &handed, &RUNS)?, None);
     Ok(())
 }
 
@@ -68,12 +80,12 @@ enum Found {
 fn first_wrong_run<R: Threads + Wait + Sync>(
     rt: &R,
     alloc: Global,
-    dealers: &Dealers,
+    handed: &Handed,
     runs: &[Run],
 ) -> Result<Option<usize>, AllocError> {
     let mut disk = disk_with(alloc, &[], None, &[])?;
     for (place, (words, text)) in runs.iter().enumerate() {
-        let ended = run_on(rt, alloc, dealers, words, &[ONE], &mut disk)?;
+        let ended = run_on(rt, alloc, handed, words, &[ONE], &mut disk)?;
         match found_in(&ended, text.as_bytes()) {
             Found::Whole => {}
             Found::Beginning => return Ok(None),

@@ -18,6 +18,8 @@ pub mod LineCursorLemmas
 pub mod ListedLineLemmas
 pub mod ReadReportLemmas
 pub mod ReadSessionLemmas
+pub mod ReportCountLemmas
+pub mod SameSessionLemmas
 pub mod Examples
 pub mod ExamplesOfSessions
 pub mod SavedLineLemmas

@@ -60,6 +60,17 @@ pub fn session_texts_have_one_reading()
     report_order_is_total();
 }
 
+/// A law of sessions: sessions that say the same have equal reports.
+pub fn same_sessions_have_equal_reports()
+    ensures { (session other : Session) → AreSameSessions session other → other.reports ≡ session.reports }
+{}
+
+/// A law of sessions: a session has no more reports than its text has bytes.
+pub fn session_texts_hold_their_reports()
+    ensures { (grain : Grain) (text : List ℕ) (session : Session) → IsSessionText grain text session
+        → length session.reports ≤ length text }
+{}
+
 /// A law of texts: which cuts the whole lines of a text say were saved, from its parts. Reports, the first line of a session
 /// and its last ones show none, a line `saved` shows its positions, and a front of a text that shows none shows none. A
 /// line of positions is one whole line, and a strict front of it has none.

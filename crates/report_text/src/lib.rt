@@ -15,10 +15,11 @@ mod word_cut;
 
 pub use laws::{
     printed_sessions_read_back, report_texts_are_apart, same_reports_have_one_text,
-    session_texts_have_one_reading, texts_show_saves,
+    same_sessions_have_equal_reports, session_texts_have_one_reading,
+    session_texts_hold_their_reports, texts_show_saves,
 };
 pub use mark::Mark;
-pub use printing::{print, print_positions, print_tail};
+pub use printing::{print, print_lines, print_named_positions, print_positions, print_tail};
 pub use session::Session;
 pub use session_fault::{SessionFault, TextFault};
 pub use session_reading::read_session;

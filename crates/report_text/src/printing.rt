@@ -1,8 +1,9 @@
 //! The text of reports and of the lines around them.
 
-ghost use Rattle.std.specs.Prelude.{◌≡◌, ◌≤◌, ◌++◌, OnOk, OnErr};
+ghost use Rattle.std.specs.Prelude.{◌≡◌, ◌≤◌, ◌++◌, length, OnOk, OnErr};
 ghost use Rattle.report_text.specs.Printing.{ShowsPositions, report_text, mark_text};
-ghost use Rattle.report_text.specs.Printing.{tail_text};
+ghost use Rattle.report_text.specs.Printing.{lines_text, positions_text, tail_text};
+ghost use Rattle.prefix_lattice.specs.{shard_limit};
 
 use crate::Mark;
 use crate::putting::{put, put_cut, put_lines, put_number, put_positions};
@@ -18,6 +19,9 @@ const REPORT_ROOM: usize = 409;
 
 // The most bytes of a line of 16 positions, with the longer of its two names.
 const POSITIONS_ROOM: usize = 343;
+
+// The most bytes of a line of 16 positions and a name of 32 bytes.
+const NAMED_ROOM: usize = 369;
 
 // The most bytes of the last lines of a session: five numbers and the words.
 const TAIL_ROOM: usize = 128;
@@ -61,6 +65,35 @@ pub fn print_positions(
     };
     into.reserve(POSITIONS_ROOM)?;
     put_positions(into, name, positions.as_slice());
+    Ok(())
+}
+
+/// Appends a line of a name of at most 32 bytes and at most 16 positions, with a space before each. Memory is reserved first,
+/// so after an `Err`, which means that memory ran out, the bytes are as before.
+pub fn print_named_positions(
+    name: &[u8],
+    positions: &[u64],
+    into: &mut Vec<u8>,
+) -> Result<(), AllocError>
+    requires short { length name.now ≤ 32 }
+    requires few { length positions.now ≤ shard_limit }
+    ensures ok { OnOk result (into.new.items ≡ into.old.items ++ positions_text name.now positions.now) }
+    ensures err { OnErr result (into.new.items ≡ into.old.items) }
+{
+    into.reserve(NAMED_ROOM)?;
+    put_positions(into, name, positions);
+    Ok(())
+}
+
+/// Appends the lines of a report alone, for each `line` with prefix, low and high. Memory is reserved first, so after an `Err`,
+/// which means that memory ran out, the bytes are as before.
+pub fn print_lines(report: &Report, into: &mut Vec<u8>) -> Result<(), AllocError>
+    ensures ok { OnOk result (into.new.items ≡ into.old.items ++ lines_text report.now.lines) }
+    ensures err { OnErr result (into.new.items ≡ into.old.items) }
+{
+    let lines = report.lines.as_slice();
+    into.reserve(LINE_ROOM * lines.len())?;
+    put_lines(into, lines);
     Ok(())
 }
 

@@ -2,7 +2,9 @@
 #![tactic(auto)]
 
 mod decimal_text;
+mod prefix_text;
 mod status;
 
 pub use decimal_text::push_number;
+pub use prefix_text::push_prefix;
 pub use status::{Status, fault_line};

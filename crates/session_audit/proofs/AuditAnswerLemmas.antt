@@ -1,15 +1,10 @@
 -- What an audit finds of a text over a capture, where each kind of dealing is a formula: one answer.
-use Rattle.std.proofs.Common.{refl, ◌≡◌, ◌∙◌, ℕ, List, length, All, Option, sym, ap, subst}
-use Rattle.std.proofs.Props.{props}
-use Rattle.std.proofs.lemmas.List.Elements.{same_from_all_zip}
+use Rattle.std.proofs.Common.{refl, ◌≡◌, ◌∙◌, ℕ, List, length, All, sym, ap, subst}
 use Rattle.prefix_lattice.specs.{RecordValue}
 use Rattle.deal_rules.specs.declared.deal_kind.DealKind.{DealKind}
 use Rattle.frame_records.specs.declared.records.Records.{Records}
-use Rattle.hhh_report.specs.{AreReportLines, IsSameReport}
-use Rattle.hhh_report.specs.declared.line.Line.{Line}
-use Rattle.hhh_report.specs.declared.report.Report.{Report}
 use Rattle.hhh_report.specs.declared.reports.Reported.{Reported}
-use Rattle.report_text.specs.{AreSameSessions, IsSessionText}
+use Rattle.report_text.specs.{IsSessionText}
 use Rattle.report_text.specs.declared.session.Session.{Session}
 use Rattle.exact_audit.specs.declared.verdict.Verdict.{Verdict}
 use Rattle.command_words.specs.declared.settings.Settings.{Settings}
@@ -20,12 +15,12 @@ use Rattle.session_audit.proofs.FirstUnsoundLemmas.{FirstUnsoundHasOneVerdict, f
 use Rattle.session_audit.proofs.FirstUnsoundLemmas.{first_unsound_is_not_sound, first_unsound_reports_agree}
 use Rattle.prefix_lattice.specs.declared.grain.Grain.{Grain}
 
--- a text is that of one session
+-- a text has one list of reports
 abbrev pub AuditAnswerHasOneSession : Type 0
 AuditAnswerHasOneSession =
     (grain : Grain) (text : List ℕ) (session other : Session) → IsSessionText grain text session
     → IsSessionText grain text other
-    → AreSameSessions session other
+    → other.reports ≡ session.reports
 
 -- a capture is dealt in one way
 abbrev pub AuditAnswerIsDealtOnce : Type 0
@@ -34,57 +29,6 @@ AuditAnswerIsDealtOnce =
     (lists other_lists : List (List RecordValue)) → settings.shards ≡ other.shards → settings.deal ≡ other.deal
     → settings.weigh ≡ other.weigh → AreDealtRecords settings (rules_by formula) file records lists
     → AreDealtRecords other (rules_by formula) file others other_lists → lists ≡ other_lists
-
--- a report of these parts
-abbrev audit_answer_report : (positions : List ℕ) (total threshold : ℕ) (lines : List Line) → AreReportLines lines → Report
-audit_answer_report positions total threshold lines are = record {
-  positions = positions;
-  total = total;
-  threshold = threshold;
-  lines = lines;
-  are_lines = are;
-}
-
--- that lines are those of a report is one fact
-audit_answer_line_proofs_agree : (lines : List Line) → IsProp (AreReportLines lines)
-audit_answer_line_proofs_agree lines = hlevel props
-
-audit_answer_lines_give_report : (positions : List ℕ) (total threshold : ℕ) (lines others : List Line) (are : AreReportLines lines)
-    (others_are : AreReportLines others) → lines ≡ others
-    → audit_answer_report positions total threshold lines are ≡ audit_answer_report positions total threshold others others_are
-audit_answer_lines_give_report positions total threshold lines others are others_are same =
-    subst
-    (λ l. (a : AreReportLines l) → audit_answer_report positions total threshold lines are ≡ audit_answer_report positions total threshold l a)
-    same (λ a. ap (audit_answer_report positions total threshold lines) (audit_answer_line_proofs_agree lines are a)) others_are
-
--- reports that show the same are equal
-audit_answer_reports_are_equal : (report other : Report) → IsSameReport report other → report ≡ other
-audit_answer_reports_are_equal report other same =
-    ap (λ p. audit_answer_report p report.total report.threshold report.lines report.are_lines) same.positions
-    ∙ ap (λ t. audit_answer_report other.positions t report.threshold report.lines report.are_lines) same.total
-    ∙ ap (λ t. audit_answer_report other.positions other.total t report.lines report.are_lines) same.threshold
-    ∙ audit_answer_lines_give_report other.positions other.total other.threshold report.lines other.lines report.are_lines other.are_lines
-    same.lines
-
--- so are reports of sessions that say the same
-audit_answer_reported_is_equal : (reported another : Reported)
-    → IsSameReport reported.report another.report × (reported.saved ≡ another.saved) → another ≡ reported
-audit_answer_reported_is_equal reported another same =
-    sym
-    (ap (λ (r : Report). record reported { report = r }) (audit_answer_reports_are_equal reported.report another.report same.0)
-    ∙ ap (λ (s : Option (List ℕ)). record another { saved = s }) same.1)
-
-audit_answer_sessions_are_equal : (session other : Session) → AreSameSessions session other → other.reports ≡ session.reports
-audit_answer_sessions_are_equal session other same =
-    same_from_all_zip
-    (λ (reported another : Reported). IsSameReport reported.report another.report × (reported.saved ≡ another.saved))
-    session.reports other.reports same.reports audit_answer_reported_is_equal
-
--- what the reports of a text over a capture are
-audit_answer_reports_of_text : AuditAnswerHasOneSession → (grain : Grain) (text : List ℕ) (session other : Session) → IsSessionText grain text session
-    → IsSessionText grain text other → other.reports ≡ session.reports
-audit_answer_reports_of_text one grain text session other is is_other =
-    audit_answer_sessions_are_equal session other (one grain text session other is is_other)
 
 -- all reports of a text are sound, where some session of it is found sound
 pub audit_answer_all_sound : AuditAnswerIsDealtOnce → AuditAnswerHasOneSession → (formula : DealKind → ℕ → RecordValue → ℕ → ℕ)
@@ -96,7 +40,7 @@ audit_answer_all_sound once one formula settings file text answer lists session 
     let same_lists : lists ≡ is.lists =
     once formula settings settings file audited.records is.audited.records lists is.lists refl refl refl audited.dealt is.audited.dealt in
     let same_reports : session.reports ≡ is.session.reports =
-    audit_answer_reports_of_text one settings.grain text is.session session is.audited.is_session audited.is_session in (
+    one settings.grain text is.session session is.audited.is_session audited.is_session in (
       subst (λ l. All (IsAuditedSound settings l) session.reports) (sym same_lists)
           (subst (λ reports. All (IsAuditedSound settings is.lists) reports) (sym same_reports) is.sound),
       is.spelled ∙ sym (ap (λ (reports : List Reported). sound_audit (length reports)) same_reports),
@@ -112,7 +56,7 @@ audit_answer_first_unsound once one formula settings file text number verdict li
     subst (λ l. IsFirstUnsound settings l session.reports number verdict)
     (once formula settings settings file is.audited.records audited.records is.lists lists refl refl refl is.audited.dealt audited.dealt)
     (subst (λ reports. IsFirstUnsound settings is.lists reports number verdict)
-    (audit_answer_reports_of_text one settings.grain text session is.session audited.is_session is.audited.is_session) is.first)
+    (one settings.grain text session is.session audited.is_session is.audited.is_session) is.first)
 
 -- a session of sound reports has none that is not
 pub audit_answer_is_never_both : AuditAnswerIsDealtOnce → AuditAnswerHasOneSession → FirstUnsoundHasOneVerdict

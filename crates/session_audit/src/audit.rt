@@ -1,7 +1,6 @@
 //! The audit of a session by the dealt records of a capture.
 
 ghost use Rattle.std.specs.Prelude.{◌≡◌, ◌++◌, All, Option, IfOk, IfSome, IfNone, OnOk};
-ghost use Rattle.prefix_lattice.specs.{prefix_text};
 ghost use Rattle.hhh_report.specs.{AreOfGrain};
 ghost use Rattle.command_words.specs.{AreLimited};
 ghost use Rattle.session_audit.specs.Audit.{IsFirstUnsound, IsAuditedSound};
@@ -12,9 +11,8 @@ ghost use Rattle.session_audit.specs.Answer.{IsAuditingAnswer};
 use command_words::Settings;
 use deal_rules::Dealt;
 use exact_audit::Verdict;
-use prefix_lattice::Prefix;
 use report_text::Session;
-use run_status::{Status, push_number};
+use run_status::{Status, push_number, push_prefix};
 use std::alloc::{AllocError, Global};
 
 /// What is audited: the dealt records of a capture, and what the text of a session says.
@@ -143,12 +141,4 @@ fn push_verdict(text: &mut Vec<u8>, verdict: &Verdict) -> Result<(), AllocError>
             push_number(text, b" ", *weight)
         }
     }
-}
-
-fn push_prefix(text: &mut Vec<u8>, prefix: &Prefix) -> Result<(), AllocError>
-    ensures { OnOk result (text.new.items ≡ text.old.items ++ prefix_text prefix.now) }
-{
-    let mut written = [0; 37];
-    let len = prefix.write_text(&mut written);
-    text.extend_from_slice(&written[..len])
 }

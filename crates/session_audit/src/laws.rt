@@ -13,7 +13,7 @@ ghost use Rattle.dealt_capture.specs.{rules_by};
 
 use dealt_capture::captures_are_dealt_in_one_way;
 use exact_audit::a_report_has_one_verdict;
-use report_text::session_texts_have_one_reading;
+use report_text::{same_sessions_have_equal_reports, session_texts_have_one_reading};
 
 /// An audit finds one report first: two that are the first that isn't sound have one number and one verdict, and where there
 /// is one, not all are sound.
@@ -49,5 +49,6 @@ pub fn audits_have_one_answer()
 {
     captures_are_dealt_in_one_way();
     session_texts_have_one_reading();
+    same_sessions_have_equal_reports();
     a_report_has_one_verdict();
 }

@@ -1,6 +1,6 @@
 //! Runs of the top call without a store.
 
-use deal_rules::Dealers;
+use crate::Handed;
 use gate_workers::{Gate, OpenGate};
 use hhh_engine::{Status, run};
 use outside_io::{MemorySink, MemorySource};
@@ -36,19 +36,19 @@ pub const SOUND: Outside = Outside {
 pub fn run_over<R: Threads + Wait + Sync>(
     rt: &R,
     alloc: Global,
-    dealers: &Dealers,
+    handed: &Handed,
     words: &[&str],
     bytes: Vec<u8>,
     outside: Outside,
 ) -> Result<Ended, AllocError> {
-    run_gated(rt, alloc, dealers, words, bytes, outside, &OpenGate)
+    run_gated(rt, alloc, handed, words, bytes, outside, &OpenGate)
 }
 
 /// The same with a gate. There is no store.
 pub fn run_gated<R: Threads + Wait + Sync, G: Gate + Sync>(
     rt: &R,
     alloc: Global,
-    dealers: &Dealers,
+    handed: &Handed,
     words: &[&str],
     bytes: Vec<u8>,
     outside: Outside,
@@ -68,7 +68,8 @@ pub fn run_gated<R: Threads + Wait + Sync, G: Gate + Sync>(
         &mut sink,
         &mut disk,
         gate,
-        dealers,
+        &handed.dealers,
+        &handed.judge,
     );
     let text = Vec::from_slice(alloc, sink.taken())?;
     Ok(Ended { status, text })

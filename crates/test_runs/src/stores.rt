@@ -1,8 +1,8 @@
 //! Runs of the top call with a store.
 
+use crate::Handed;
 use crate::captures::{Packet, capture_of};
 use crate::runs::Ended;
-use deal_rules::Dealers;
 use gate_workers::{Gate, OpenGate};
 use hhh_engine::run;
 use outside_io::{MemorySink, MemorySource};
@@ -46,19 +46,19 @@ pub fn disk_with(
 pub fn run_on<R: Threads + Wait + Sync>(
     rt: &R,
     alloc: Global,
-    dealers: &Dealers,
+    handed: &Handed,
     words: &[&str],
     packets: &[Packet],
     disk: &mut MemoryDisk,
 ) -> Result<Ended, AllocError> {
-    run_gated_on(rt, alloc, dealers, words, packets, disk, &OpenGate)
+    run_gated_on(rt, alloc, handed, words, packets, disk, &OpenGate)
 }
 
 /// The same with a gate.
 pub fn run_gated_on<R: Threads + Wait + Sync, G: Gate + Sync>(
     rt: &R,
     alloc: Global,
-    dealers: &Dealers,
+    handed: &Handed,
     words: &[&str],
     packets: &[Packet],
     disk: &mut MemoryDisk,
@@ -77,7 +77,8 @@ pub fn run_gated_on<R: Threads + Wait + Sync, G: Gate + Sync>(
         &mut sink,
         disk,
         gate,
-        dealers,
+        &handed.dealers,
+        &handed.judge,
     );
     let text = Vec::from_slice(alloc, sink.taken())?;
     Ok(Ended { status, text })

@@ -47,13 +47,13 @@ certain_lines rules report whole (line ∷ lines) are =
     (certain_lines rules report whole lines (λ other among. are other (Contains-list_tail line lines other among)))
 
 -- a crossing of these reports, with its report and its rule
-record IsCertainCrossing (rules : List Rule) (reports : List Reported) (at : LineByRule) : Type 0 where
-  reported : Reported
-  first : 1 ≤ at.report
-  of_report : slice_get reports (at.report - 1) ≡ Some reported
-  of_rule : slice_get rules at.number ≡ Some at.rule
-  of_line : Contains reported.report.lines at.line
-  over : is_over at ≡ true
+pub record IsCertainCrossing (rules : List Rule) (reports : List Reported) (at : LineByRule) : Type 0 where
+  pub reported : Reported
+  pub first : 1 ≤ at.report
+  pub of_report : slice_get reports (at.report - 1) ≡ Some reported
+  pub of_rule : slice_get rules at.number ≡ Some at.rule
+  pub of_line : Contains reported.report.lines at.line
+  pub over : is_over at ≡ true
 
 certain_at_seam : (before : List Reported) (reported : Reported) (rest : List Reported)
     → slice_get (before ++ (reported ∷ rest)) (length before) ≡ Some reported
@@ -116,8 +116,11 @@ certain_alarms may_answer rules reports (at ∷ places) (alarm ∷ alarms) are c
     (certain_alarm may_answer rules reports at alarm are.0 (All-head (IsCertainCrossing rules reports) at places crossing))
     (certain_alarms may_answer rules reports places alarms are.1 (All-tail (IsCertainCrossing rules reports) at places crossing))
 
+pub crossings_are_certain : (rules : List Rule) (reports : List Reported) → All (IsCertainCrossing rules reports) (crossings rules reports)
+crossings_are_certain rules reports =
+    subst (All (IsCertainCrossing rules reports)) (sym (crossings_are_recursive rules reports)) (certain_reports rules reports [] reports refl)
+
 pub alarms_of_reports_are_certain : (may_answer : ℕ → ℕ → ℕ → ℕ → Type 0) (rules : List Rule) (reports : List Reported)
     (alarms : List Alarm) → AreAlarmsOf may_answer rules reports alarms → All (IsCertain rules reports) alarms
 alarms_of_reports_are_certain may_answer rules reports alarms are =
-    certain_alarms may_answer rules reports (crossings rules reports) alarms are
-    (subst (All (IsCertainCrossing rules reports)) (sym (crossings_are_recursive rules reports)) (certain_reports rules reports [] reports refl))
+    certain_alarms may_answer rules reports (crossings rules reports) alarms are (crossings_are_certain rules reports)

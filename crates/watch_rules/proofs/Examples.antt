@@ -31,7 +31,7 @@ pub eight_is_too_severe : ¬ MayJudge (λ lo hi limit severity. severity ≡ lo 
 eight_is_too_severe judged = let most : 8 ≤ most_severity = judged.mild in omega (arith, most)
 
 -- 10.0.0.0/8 20.0.0.0/8 with 100, and the root
-abbrev network : PrefixValue
+abbrev pub network : PrefixValue
 network = record { source = front 0x0a000000 8; dest = front 0x14000000 8 }
 
 abbrev root : PrefixValue
@@ -41,7 +41,7 @@ abbrev line : Line
 line = record { prefix = network; lo = 100; hi = 120 }
 
 -- rules for all prefixes, with limits of 100 and 101, and one for the network's sources
-abbrev of_100 : Rule
+abbrev pub of_100 : Rule
 of_100 = record { prefix = root; limit = 100; some = omega arith }
 
 abbrev of_101 : Rule
@@ -89,7 +89,7 @@ one_line = record {
 }
 
 -- a report of this line
-abbrev told : Reported
+abbrev pub told : Reported
 told = record {
   report = record { positions = 1 ∷ []; total = 100; threshold = 1; lines = line ∷ []; are_lines = one_line };
   saved = None;
@@ -111,7 +111,7 @@ pub told_by_none : crossings (of_101 ∷ []) (told ∷ []) ≡ []
 told_by_none = refl
 
 -- the alarm of the line, where a judge may answer 1 alone
-abbrev alarm : Alarm
+abbrev pub alarm : Alarm
 alarm = record { report = 1; rule = 0; prefix = network; lo = 100; severity = 1 }
 
 pub alarm_of_the_line : IsAlarm (λ lo hi limit severity. severity ≡ 1) (beside 1 line 0 of_100) alarm

@@ -1,9 +1,10 @@
 -- The alarms of crossings.
-use Rattle.std.specs.Prelude.{ℕ, ◌≡◌, ◌-◌, ◌≤◌, List, slice_get, Some}
+use Rattle.std.specs.Prelude.{ℕ, ◌≡◌, ◌-◌, ◌^◌, ◌<◌, ◌≤◌, List, All, slice_get, Some}
 use Rattle.std.specs.List.{AllZip}
 use Rattle.prefix_lattice.specs.{RecordValue, prefix_weight}
 use Rattle.prefix_lattice.specs.declared.grain.Grain.{Grain}
 use Rattle.hhh_report.specs.{IsSound, records_before}
+use Rattle.hhh_report.specs.declared.line.Line.{Line}
 use Rattle.hhh_report.specs.declared.reports.Reported.{Reported}
 use Rattle.watch_rules.specs.declared.rule.Rule.{Rule}
 use Rattle.watch_rules.specs.declared.alarm.Alarm.{Alarm}
@@ -38,3 +39,7 @@ pub record IsCertain (rules : List Rule) (reports : List Reported) (alarm : Alar
   pub certain : (grain : Grain) (lists : List (List RecordValue)) (capacity phi : ℕ)
       → IsSound grain reported.report lists capacity phi
       → rule.limit ≤ prefix_weight alarm.prefix (records_before lists reported.report.positions)
+
+-- the highs of a report are numbers of 64 bits
+abbrev pub HasSmallHighs : Reported → Type 0
+HasSmallHighs reported = All (λ (line : Line). line.hi < 2 ^ 64) reported.report.lines

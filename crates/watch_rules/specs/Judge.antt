@@ -1,5 +1,5 @@
 -- What a judge is asked, and what it may answer.
-use Rattle.std.specs.Prelude.{ℕ, ◌^◌, ◌<◌, ◌≤◌}
+use Rattle.std.specs.Prelude.{ℕ, ◌≡◌, ◌^◌, ◌<◌, ◌≤◌}
 
 -- the greatest severity; a severity is a digit of base 8, as that of syslog (RFC 5424)
 abbrev pub most_severity : ℕ
@@ -16,3 +16,12 @@ pub record IsOverLimit (lo hi limit : ℕ) : Type 0 where
 pub record MayJudge (may_answer : ℕ → ℕ → ℕ → ℕ → Type 0) (lo hi limit severity : ℕ) : Type 0 where
   pub mild : severity ≤ most_severity
   pub answered : may_answer lo hi limit severity
+
+-- what a judge may answer that goes by a formula: the number that the formula gives, and no other
+abbrev pub judged_by : (ℕ → ℕ → ℕ → ℕ) → ℕ → ℕ → ℕ → ℕ → Type 0
+judged_by formula lo hi limit severity = severity ≡ formula lo hi limit
+
+-- a judge goes by a formula: over a limit it may answer what the formula gives alone
+abbrev pub GoesByFormula : (ℕ → ℕ → ℕ → ℕ) → (ℕ → ℕ → ℕ → ℕ → Type 0) → Type 0
+GoesByFormula formula may_answer =
+    (lo hi limit severity : ℕ) → IsOverLimit lo hi limit → may_answer lo hi limit severity → judged_by formula lo hi limit severity

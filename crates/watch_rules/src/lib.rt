@@ -15,7 +15,7 @@ mod watching;
 pub use alarm::Alarm;
 pub use alarms::Alarms;
 pub use judge::{Judge, JudgeRule, Judges};
-pub use laws::{alarms_are_certain, pairs_are_alarmed_once};
+pub use laws::{alarms_are_certain, formulas_give_one_list, pairs_are_alarmed_once};
 pub use rule::Rule;
 pub use watch::Watch;
 pub use watching::watch_all;

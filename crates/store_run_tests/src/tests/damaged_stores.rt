@@ -1,6 +1,5 @@
 //! Stores that are damaged on purpose, each refused.
 
-use deal_rules::Dealers;
 use hhh_engine::Status;
 use std::alloc::{AllocError, Global};
 use std::marker::Sync;
@@ -8,7 +7,7 @@ use std::process::Abort;
 use std::sync::Wait;
 use std::test::Fail;
 use std::thread::Threads;
-use test_runs::{Ended, FORMAT, ONE, REPORT, disk_with, run_on};
+use test_runs::{Ended, FORMAT, Handed, ONE, REPORT, disk_with, run_on};
 
 // The bytes with others at a place, as far as they reach.
 fn patched(alloc: Global, bytes: &[u8], place: usize, patch: &[u8]) -> Result<Vec<u8>, AllocError> {
@@ -47,22 +46,22 @@ const DAMAGES: [Damage; 6] = [
 pub(crate) fn damaged_stores<R: Abort + Threads + Wait + Sync>(
     rt: &R,
     alloc: Global,
-    dealers: &Dealers,
+    handed: &Handed,
 ) -> Result<(), Fail> {
-    let store = used_store(rt, alloc, dealers)?;
-    each_is_damaged(rt, alloc, dealers, &store, &DAMAGES)?;
-    goes_on_by_a_closed_gate(rt, alloc, dealers, &store)
+    let store = used_store(rt, alloc, handed)?;
+    each_is_damaged(rt, alloc, handed, &store, &DAMAGES)?;
+    goes_on_by_a_closed_gate(rt, alloc, handed, &store)
 }
 
 // The bytes of a store that has one save over one packet.
 fn used_store<R: Abort + Threads + Wait + Sync>(
     rt: &R,
     alloc: Global,
-    dealers: &Dealers,
+    handed: &Handed,
 ) -> Result<Vec<u8>, Fail> {
     let mut disk = disk_with(alloc, &[], None, &[])?;
-    run_on(rt, alloc, dealers, &FORMAT, &[], &mut disk)?;
-    let ended = run_on(rt, alloc, dealers, &REPORT, &[ONE], &mut disk)?;
+    run_on(rt, alloc, handed, &FORMAT, &[], &mut disk)?;
+    let ended = run_on(rt, alloc, handed, &REPORT, &[ONE], &mut disk)?;
     assert_eq!(rt; ended.status, Status::Done);
     Ok(disk.crash(alloc, 0)?)
 }
@@ -71,26 +70,26 @@ fn used_store<R: Abort + Threads + Wait + Sync>(
 fn report_on_changed<R: Threads + Wait + Sync>(
     rt: &R,
     alloc: Global,
-    dealers: &Dealers,
+    handed: &Handed,
     store: &[u8],
     place: usize,
     patch: &[u8],
 ) -> Result<Ended, AllocError> {
     let changed = patched(alloc, store, place, patch)?;
     let mut disk = disk_with(alloc, &changed, None, &[])?;
-    run_on(rt, alloc, dealers, &REPORT, &[ONE], &mut disk)
+    run_on(rt, alloc, handed, &REPORT, &[ONE], &mut disk)
 }
 
 // A table is a parameter of what goes through it: a proof with the table in every fact takes far longer.
 fn each_is_damaged<R: Abort + Threads + Wait + Sync>(
     rt: &R,
     alloc: Global,
-    dealers: &Dealers,
+    handed: &Handed,
     store: &[u8],
     damages: &[Damage],
 ) -> Result<(), Fail> {
     for (place, patch) in damages {
-        let ended = report_on_changed(rt, alloc, dealers, store, *place, patch)?;
+        let ended = report_on_changed(rt, alloc, handed, store, *place, patch)?;
         assert_eq!(rt; ended.status, Status::Damaged(0), "byte {place}");
         assert!(rt; ended.text.is_empty());
     }
@@ -101,10 +100,10 @@ fn each_is_damaged<R: Abort + Threads + Wait + Sync>(
 fn goes_on_by_a_closed_gate<R: Abort + Threads + Wait + Sync>(
     rt: &R,
     alloc: Global,
-    dealers: &Dealers,
+    handed: &Handed,
     store: &[u8],
 ) -> Result<(), Fail> {
-    let ended = report_on_changed(rt, alloc, dealers, store, 0, &[2])?;
+    let ended = report_on_changed(rt, alloc, handed, store, 0, &[2])?;
     assert_eq!(rt; ended.status, Status::Done);
     assert!(rt; ended.text.starts_with(b"opened 0\n"));
     Ok(())

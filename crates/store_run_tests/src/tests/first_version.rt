@@ -1,7 +1,6 @@
 //! A store of the first version, as the program wrote it that knew no other: it is opened, goes on and is saved as it is.
 
 use super::stores::front_on;
-use deal_rules::Dealers;
 use hhh_engine::Status;
 use slot_disk::{Disk, MemoryDisk};
 use std::alloc::{AllocError, Global};
@@ -10,7 +9,7 @@ use std::process::Abort;
 use std::sync::Wait;
 use std::test::Fail;
 use std::thread::Threads;
-use test_runs::{ONE, REPORT, SECOND_SESSION, SESSION, disk_with, run_on};
+use test_runs::{Handed, ONE, REPORT, SECOND_SESSION, SESSION, disk_with, run_on};
 
 // The gates, both closed, and the header for one shard at the default capacity.
 const EMPTY: [u8; 64] = [
@@ -64,22 +63,22 @@ fn push_table(bytes: &mut Vec<u8>, source: u32, dest: u32) -> Result<(), AllocEr
 pub(crate) fn stores_of_the_first_version<R: Abort + Threads + Wait + Sync>(
     rt: &R,
     alloc: Global,
-    dealers: &Dealers,
+    handed: &Handed,
 ) -> Result<(), Fail> {
-    goes_on(rt, alloc, dealers)?;
-    is_first_saved_to(rt, alloc, dealers)?;
-    refuses_another_capture(rt, alloc, dealers)
+    goes_on(rt, alloc, handed)?;
+    is_first_saved_to(rt, alloc, handed)?;
+    refuses_another_capture(rt, alloc, handed)
 }
 
 // It goes on where it was, twice, and what it saves is of the first version.
 fn goes_on<R: Abort + Threads + Wait + Sync>(
     rt: &R,
     alloc: Global,
-    dealers: &Dealers,
+    handed: &Handed,
 ) -> Result<(), Fail> {
     let mut disk = disk_with(alloc, &saved_store(alloc)?, None, &[])?;
-    session_is(rt, alloc, dealers, &mut disk, SECOND_SESSION)?;
-    session_is(rt, alloc, dealers, &mut disk, SECOND_SESSION)?;
+    session_is(rt, alloc, handed, &mut disk, SECOND_SESSION)?;
+    session_is(rt, alloc, handed, &mut disk, SECOND_SESSION)?;
     assert!(rt; is_saved_as_before(alloc, &mut disk, 3)?);
     Ok(())
 }
@@ -88,10 +87,10 @@ fn goes_on<R: Abort + Threads + Wait + Sync>(
 fn is_first_saved_to<R: Abort + Threads + Wait + Sync>(
     rt: &R,
     alloc: Global,
-    dealers: &Dealers,
+    handed: &Handed,
 ) -> Result<(), Fail> {
     let mut disk = disk_with(alloc, &EMPTY, None, &[])?;
-    session_is(rt, alloc, dealers, &mut disk, SESSION)?;
+    session_is(rt, alloc, handed, &mut disk, SESSION)?;
     assert!(rt; is_saved_as_before(alloc, &mut disk, 1)?);
     Ok(())
 }
@@ -99,11 +98,11 @@ fn is_first_saved_to<R: Abort + Threads + Wait + Sync>(
 fn session_is<R: Abort + Threads + Wait + Sync>(
     rt: &R,
     alloc: Global,
-    dealers: &Dealers,
+    handed: &Handed,
     disk: &mut MemoryDisk,
     text: &str,
 ) -> Result<(), Fail> {
-    let ended = run_on(rt, alloc, dealers, &REPORT, &[ONE], disk)?;
+    let ended = run_on(rt, alloc, handed, &REPORT, &[ONE], disk)?;
     assert_eq!(rt; ended.status, Status::Done);
     assert_eq!(rt; ended.text.as_slice(), text.as_bytes());
     Ok(())
@@ -129,10 +128,10 @@ fn is_saved_as_before(
 fn refuses_another_capture<R: Abort + Threads + Wait + Sync>(
     rt: &R,
     alloc: Global,
-    dealers: &Dealers,
+    handed: &Handed,
 ) -> Result<(), Fail> {
     let mut disk = disk_with(alloc, &saved_store(alloc)?, None, &[])?;
-    let ended = run_on(rt, alloc, dealers, &REPORT, &[ONE, ONE], &mut disk)?;
+    let ended = run_on(rt, alloc, handed, &REPORT, &[ONE, ONE], &mut disk)?;
     let told = Status::OtherCapture {
         stored: DIGEST,
         asked: DIGEST_OF_TWO,
@@ -145,25 +144,25 @@ fn refuses_another_capture<R: Abort + Threads + Wait + Sync>(
 pub(crate) fn headers_of_no_version<R: Abort + Threads + Wait + Sync>(
     rt: &R,
     alloc: Global,
-    dealers: &Dealers,
+    handed: &Handed,
 ) -> Result<(), Fail> {
     let mut third = EMPTY;
     third[6] = 3;
-    is_not_formatted(rt, alloc, dealers, &third)?;
+    is_not_formatted(rt, alloc, handed, &third)?;
     let mut with_grain = EMPTY;
     with_grain[12] = 8;
-    is_not_formatted(rt, alloc, dealers, &with_grain)
+    is_not_formatted(rt, alloc, handed, &with_grain)
 }
 
 // The store isn't opened, and stands as it was.
 fn is_not_formatted<R: Abort + Threads + Wait + Sync>(
     rt: &R,
     alloc: Global,
-    dealers: &Dealers,
+    handed: &Handed,
     header: &[u8; 64],
 ) -> Result<(), Fail> {
     let mut disk = disk_with(alloc, header, None, &[])?;
-    let ended = run_on(rt, alloc, dealers, &REPORT, &[ONE], &mut disk)?;
+    let ended = run_on(rt, alloc, handed, &REPORT, &[ONE], &mut disk)?;
     assert_eq!(rt; ended.status, Status::NotFormatted);
     assert!(rt; front_on(rt, &mut disk) == *header);
     Ok(())

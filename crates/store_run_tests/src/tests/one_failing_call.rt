@@ -1,7 +1,6 @@
 //! One failing call, and a stop at each call of the disk: what was written begins a session, and what a crash leaves of the
 //! store opens no earlier than what was saved.
 
-use deal_rules::Dealers;
 use gate_workers::OpenGate;
 use hhh_engine::{Status, run};
 use outside_io::{MemorySink, MemorySource};
@@ -14,7 +13,7 @@ use std::process::Abort;
 use std::sync::Wait;
 use std::test::Fail;
 use std::thread::Threads;
-use test_runs::Ended;
+use test_runs::{Ended, Handed};
 use traffic_maker::make_bytes;
 
 // Two slots for one shard at capacity 2 take fewer bytes than this.
@@ -101,20 +100,20 @@ fn disk_of(alloc: Global, bytes: &[u8], failing: Failing) -> Result<MemoryDisk, 
 fn run_once<R: Threads + Wait + Sync>(
     rt: &R,
     alloc: Global,
-    dealers: &Dealers,
+    handed: &Handed,
     words: &[&str],
     store: &[u8],
     failing: Failing,
 ) -> Result<Outcome, AllocError> {
     let mut disk = disk_of(alloc, store, failing)?;
-    let ended = run_on_disk(rt, alloc, dealers, words, &mut disk, failing)?;
+    let ended = run_on_disk(rt, alloc, handed, words, &mut disk, failing)?;
     Ok(Outcome { ended, disk })
 }
 
 fn run_on_disk<R: Threads + Wait + Sync>(
     rt: &R,
     alloc: Global,
-    dealers: &Dealers,
+    handed: &Handed,
     words: &[&str],
     disk: &mut MemoryDisk,
     failing: Failing,
@@ -131,7 +130,8 @@ fn run_on_disk<R: Threads + Wait + Sync>(
         &mut sink,
         disk,
         &OpenGate,
-        dealers,
+        &handed.dealers,
+        &handed.judge,
     );
     let text = Vec::from_slice(alloc, sink.taken())?;
     Ok(Ended { status, text })
@@ -141,22 +141,22 @@ fn run_on_disk<R: Threads + Wait + Sync>(
 fn run_after<R: Threads + Wait + Sync>(
     rt: &R,
     alloc: Global,
-    dealers: &Dealers,
+    handed: &Handed,
     broken: &Outcome,
     choice: u8,
     failing: Failing,
 ) -> Result<Outcome, AllocError> {
     let store = broken.disk.crash(alloc, choice)?;
-    run_once(rt, alloc, dealers, &REPORT, &store, failing)
+    run_once(rt, alloc, handed, &REPORT, &store, failing)
 }
 
 // The bytes of a store that was just formatted.
 fn formatted<R: Threads + Wait + Sync>(
     rt: &R,
     alloc: Global,
-    dealers: &Dealers,
+    handed: &Handed,
 ) -> Result<Vec<u8>, AllocError> {
-    let made = run_once(rt, alloc, dealers, &FORMAT, &[], NOTHING)?;
+    let made = run_once(rt, alloc, handed, &FORMAT, &[], NOTHING)?;
     made.disk.crash(alloc, 0)
 }
 
@@ -164,10 +164,10 @@ fn formatted<R: Threads + Wait + Sync>(
 fn filled<R: Threads + Wait + Sync>(
     rt: &R,
     alloc: Global,
-    dealers: &Dealers,
+    handed: &Handed,
 ) -> Result<Vec<u8>, AllocError> {
-    let store = formatted(rt, alloc, dealers)?;
-    let made = run_once(rt, alloc, dealers, &REPORT, &store, NOTHING)?;
+    let store = formatted(rt, alloc, handed)?;
+    let made = run_once(rt, alloc, handed, &REPORT, &store, NOTHING)?;
     made.disk.crash(alloc, 0)
 }
 
@@ -231,27 +231,27 @@ fn last_report(alloc: Global, text: &[u8]) -> Result<Vec<u8>, AllocError> {
 pub(crate) fn a_source_fails<R: Abort + Threads + Wait + Sync>(
     rt: &R,
     alloc: Global,
-    dealers: &Dealers,
+    handed: &Handed,
 ) -> Result<(), Fail> {
-    each_call_fails(rt, alloc, dealers, Stream::Source)
+    each_call_fails(rt, alloc, handed, Stream::Source)
 }
 
 // Each call of the sink that fails leaves the beginning of a session, and a store that opens at what was saved.
 pub(crate) fn a_sink_fails<R: Abort + Threads + Wait + Sync>(
     rt: &R,
     alloc: Global,
-    dealers: &Dealers,
+    handed: &Handed,
 ) -> Result<(), Fail> {
-    each_call_fails(rt, alloc, dealers, Stream::Sink)
+    each_call_fails(rt, alloc, handed, Stream::Sink)
 }
 
 // So does each call of the disk that fails.
 pub(crate) fn a_disk_fails<R: Abort + Threads + Wait + Sync>(
     rt: &R,
     alloc: Global,
-    dealers: &Dealers,
+    handed: &Handed,
 ) -> Result<(), Fail> {
-    each_call_fails(rt, alloc, dealers, Stream::Disk)
+    each_call_fails(rt, alloc, handed, Stream::Disk)
 }
 
 #[derive(Clone, Copy)]
@@ -264,13 +264,13 @@ enum Stream {
 fn each_call_fails<R: Abort + Threads + Wait + Sync>(
     rt: &R,
     alloc: Global,
-    dealers: &Dealers,
+    handed: &Handed,
     stream: Stream,
 ) -> Result<(), Fail> {
-    let store = filled(rt, alloc, dealers)?;
+    let store = filled(rt, alloc, handed)?;
     for call in 0..MOST_CALLS {
         let (failing, fault) = failing_at(stream, call);
-        if ends_well(rt, alloc, dealers, &store, failing, fault)? {
+        if ends_well(rt, alloc, handed, &store, failing, fault)? {
             return Ok(());
         }
     }
@@ -310,12 +310,12 @@ fn failing_at(stream: Stream, call: u64) -> (Failing, Status) {
 fn ends_well<R: Abort + Threads + Wait + Sync>(
     rt: &R,
     alloc: Global,
-    dealers: &Dealers,
+    handed: &Handed,
     store: &[u8],
     failing: Failing,
     fault: Status,
 ) -> Result<bool, Fail> {
-    let broken = run_once(rt, alloc, dealers, &REPORT, store, failing)?;
+    let broken = run_once(rt, alloc, handed, &REPORT, store, failing)?;
     if broken.ended.status == Status::Done {
         return Ok(true);
     }
@@ -323,7 +323,7 @@ fn ends_well<R: Abort + Threads + Wait + Sync>(
     if failing.source.is_some() {
         assert!(rt; broken.ended.text.is_empty());
     } else {
-        goes_on(rt, alloc, dealers, &broken)?;
+        goes_on(rt, alloc, handed, &broken)?;
     }
     Ok(false)
 }
@@ -332,13 +332,13 @@ fn ends_well<R: Abort + Threads + Wait + Sync>(
 fn goes_on<R: Abort + Threads + Wait + Sync>(
     rt: &R,
     alloc: Global,
-    dealers: &Dealers,
+    handed: &Handed,
     broken: &Outcome,
 ) -> Result<(), Fail> {
     assert!(rt; begins_a_session(alloc, &broken.ended.text));
     let saved = last_position(&broken.ended.text, b"saved ");
     for choice in 0..CRASHES {
-        let next = run_after(rt, alloc, dealers, broken, choice, NOTHING)?;
+        let next = run_after(rt, alloc, handed, broken, choice, NOTHING)?;
         assert_eq!(rt; next.ended.status, Status::Done);
         assert!(rt; last_position(&next.ended.text, b"opened ") >= saved);
     }
@@ -351,13 +351,13 @@ fn goes_on<R: Abort + Threads + Wait + Sync>(
 pub(crate) fn the_disk_stops_twice<R: Abort + Threads + Wait + Sync>(
     rt: &R,
     alloc: Global,
-    dealers: &Dealers,
+    handed: &Handed,
     from: u64,
     made: u64,
 ) -> Result<(), Fail> {
-    let store = formatted(rt, alloc, dealers)?;
-    let report = plain_report(rt, alloc, dealers)?;
-    let stopped = count_stops(rt, alloc, dealers, &store, &report, from)?;
+    let store = formatted(rt, alloc, handed)?;
+    let report = plain_report(rt, alloc, handed)?;
+    let stopped = count_stops(rt, alloc, handed, &store, &report, from)?;
     assert_eq!(rt; stopped, made);
     Ok(())
 }
@@ -366,14 +366,14 @@ pub(crate) fn the_disk_stops_twice<R: Abort + Threads + Wait + Sync>(
 fn count_stops<R: Abort + Threads + Wait + Sync>(
     rt: &R,
     alloc: Global,
-    dealers: &Dealers,
+    handed: &Handed,
     store: &[u8],
     report: &[u8],
     from: u64,
 ) -> Result<u64, Fail> {
     let mut stopped: u64 = 0;
     for call in from..from.saturating_add(7) {
-        if !stops(rt, alloc, dealers, store, call, report)? {
+        if !stops(rt, alloc, handed, store, call, report)? {
             return Ok(stopped);
         }
         stopped = call.saturating_sub(from).saturating_add(1);
@@ -385,9 +385,9 @@ fn count_stops<R: Abort + Threads + Wait + Sync>(
 fn plain_report<R: Abort + Threads + Wait + Sync>(
     rt: &R,
     alloc: Global,
-    dealers: &Dealers,
+    handed: &Handed,
 ) -> Result<Vec<u8>, Fail> {
-    let plain = run_once(rt, alloc, dealers, &WITHOUT_A_STORE, &[], NOTHING)?;
+    let plain = run_once(rt, alloc, handed, &WITHOUT_A_STORE, &[], NOTHING)?;
     assert_eq!(rt; plain.ended.status, Status::Done);
     Ok(last_report(alloc, &plain.ended.text)?)
 }
@@ -396,7 +396,7 @@ fn plain_report<R: Abort + Threads + Wait + Sync>(
 fn stops<R: Abort + Threads + Wait + Sync>(
     rt: &R,
     alloc: Global,
-    dealers: &Dealers,
+    handed: &Handed,
     store: &[u8],
     call: u64,
     report: &[u8],
@@ -405,13 +405,13 @@ fn stops<R: Abort + Threads + Wait + Sync>(
         fuse: Some(call),
         ..NOTHING
     };
-    let first = run_once(rt, alloc, dealers, &REPORT, store, failing)?;
+    let first = run_once(rt, alloc, handed, &REPORT, store, failing)?;
     if first.ended.status == Status::Done {
         return Ok(false);
     }
     assert_eq!(rt; first.ended.status, Status::DiskFault);
     for choice in 0..CRASHES {
-        stops_again(rt, alloc, dealers, &first, choice, failing, report)?;
+        stops_again(rt, alloc, handed, &first, choice, failing, report)?;
     }
     Ok(true)
 }
@@ -419,19 +419,19 @@ fn stops<R: Abort + Threads + Wait + Sync>(
 fn stops_again<R: Abort + Threads + Wait + Sync>(
     rt: &R,
     alloc: Global,
-    dealers: &Dealers,
+    handed: &Handed,
     first: &Outcome,
     choice: u8,
     failing: Failing,
     report: &[u8],
 ) -> Result<(), Fail> {
-    let second = run_after(rt, alloc, dealers, first, choice, failing)?;
+    let second = run_after(rt, alloc, handed, first, choice, failing)?;
     let saved = last_position(&first.ended.text, b"saved ").max(last_position(
         &second.ended.text,
         b"saved ",
     ));
     for again in 0..CRASHES {
-        let third = run_after(rt, alloc, dealers, &second, again, NOTHING)?;
+        let third = run_after(rt, alloc, handed, &second, again, NOTHING)?;
         reports_as(rt, alloc, &third.ended, saved, report)?;
     }
     Ok(())

@@ -1,7 +1,7 @@
 //! Reports that go on from a store.
 
 use checkpoint::StoreSettings;
-use deal_rules::{DealKind, Dealers};
+use deal_rules::DealKind;
 use frame_records::Weigh;
 use hhh_engine::Status;
 use prefix_lattice::Grain;
@@ -12,7 +12,7 @@ use std::process::Abort;
 use std::sync::Wait;
 use std::test::Fail;
 use std::thread::Threads;
-use test_runs::{FORMAT, HEADER, ONE, REPORT, SECOND_SESSION, SESSION, disk_with, run_on};
+use test_runs::{FORMAT, HEADER, Handed, ONE, REPORT, SECOND_SESSION, SESSION, disk_with, run_on};
 
 // A disk with these bytes, whose calls with these numbers fail.
 fn disk_of(alloc: Global, bytes: &[u8], fails: &[u64]) -> Result<MemoryDisk, AllocError> {
@@ -32,12 +32,12 @@ const TWO_ROUNDS: [&str; 6] = [
 pub(crate) fn saves_each_round<R: Abort + Threads + Wait + Sync>(
     rt: &R,
     alloc: Global,
-    dealers: &Dealers,
+    handed: &Handed,
 ) -> Result<(), Fail> {
     let mut disk = disk_of(alloc, &[], &[])?;
-    run_on(rt, alloc, dealers, &FORMAT, &[], &mut disk)?;
+    run_on(rt, alloc, handed, &FORMAT, &[], &mut disk)?;
     for _ in 0..3 {
-        let ended = run_on(rt, alloc, dealers, &TWO_ROUNDS, &[ONE, ONE], &mut disk)?;
+        let ended = run_on(rt, alloc, handed, &TWO_ROUNDS, &[ONE, ONE], &mut disk)?;
         assert_eq!(rt; ended.status, Status::Done);
         assert_eq!(rt; saves_in(&ended.text), 3);
     }
@@ -63,25 +63,25 @@ fn slot_on(rt: &impl Abort, disk: &mut MemoryDisk) -> [u8; 16] {
 pub(crate) fn formats<R: Abort + Threads + Wait + Sync>(
     rt: &R,
     alloc: Global,
-    dealers: &Dealers,
+    handed: &Handed,
 ) -> Result<(), Fail> {
     let by_bytes = ["format", "--store=s", "--shards=1", "--capacity=2"];
     let header = [0, 0, 0x48, 0x48, 0x48, 0x53, 2, 1, 0, 2, 0, 0, 8];
-    formats_as(rt, alloc, dealers, &by_bytes, &header)?;
+    formats_as(rt, alloc, handed, &by_bytes, &header)?;
     let by_nibbles = ["format", "--store=s", "--shards=1", "--bits=4"];
     let header = [0, 0, 0x48, 0x48, 0x48, 0x53, 2, 1, 2, 0, 0, 0, 4];
-    formats_as(rt, alloc, dealers, &by_nibbles, &header)
+    formats_as(rt, alloc, handed, &by_nibbles, &header)
 }
 
 fn formats_as<R: Abort + Threads + Wait + Sync>(
     rt: &R,
     alloc: Global,
-    dealers: &Dealers,
+    handed: &Handed,
     words: &[&str],
     header: &[u8],
 ) -> Result<(), Fail> {
     let mut disk = disk_of(alloc, &[], &[])?;
-    let ended = run_on(rt, alloc, dealers, words, &[], &mut disk)?;
+    let ended = run_on(rt, alloc, handed, words, &[], &mut disk)?;
     assert_eq!(rt; ended.status, Status::Done);
     begins_with(rt, &front_on(rt, &mut disk), header);
     Ok(())
@@ -93,7 +93,7 @@ const BY_NIBBLES: [&str; 4] = ["report", "--store=s", "--shards=1", "--bits=4"];
 pub(crate) fn keeps_tables_by_half_bytes<R: Abort + Threads + Wait + Sync>(
     rt: &R,
     alloc: Global,
-    dealers: &Dealers,
+    handed: &Handed,
 ) -> Result<(), Fail> {
     let mut disk = MemoryDisk::with_room(
         alloc,
@@ -104,13 +104,13 @@ pub(crate) fn keeps_tables_by_half_bytes<R: Abort + Threads + Wait + Sync>(
         Vec::new(alloc),
     )?;
     let format = ["format", "--store=s", "--shards=1", "--bits=4"];
-    run_on(rt, alloc, dealers, &format, &[], &mut disk)?;
+    run_on(rt, alloc, handed, &format, &[], &mut disk)?;
     for session in [SESSION, SECOND_SESSION] {
-        let ended = run_on(rt, alloc, dealers, &BY_NIBBLES, &[ONE], &mut disk)?;
+        let ended = run_on(rt, alloc, handed, &BY_NIBBLES, &[ONE], &mut disk)?;
         assert_eq!(rt; ended.status, Status::Done);
         assert_eq!(rt; ended.text.as_slice(), session.as_bytes());
     }
-    let ended = run_on(rt, alloc, dealers, &REPORT, &[ONE], &mut disk)?;
+    let ended = run_on(rt, alloc, handed, &REPORT, &[ONE], &mut disk)?;
     let stored = StoreSettings {
         grain: Grain::Nibble,
         ..ASKED
@@ -139,24 +139,24 @@ fn begins_with(rt: &impl Abort, bytes: &[u8], front: &[u8]) {
 pub(crate) fn refuses_stores<R: Abort + Threads + Wait + Sync>(
     rt: &R,
     alloc: Global,
-    dealers: &Dealers,
+    handed: &Handed,
 ) -> Result<(), Fail> {
-    refuses_bytes(rt, alloc, dealers, &[0; 64])?;
-    refuses_bytes(rt, alloc, dealers, &[0; 63])?;
+    refuses_bytes(rt, alloc, handed, &[0; 64])?;
+    refuses_bytes(rt, alloc, handed, &[0; 63])?;
     let mut disk = disk_of(alloc, &[], &[])?;
-    refuses_other_settings(rt, alloc, dealers, &mut disk)?;
-    refuses_a_changed_byte(rt, alloc, dealers, &mut disk)?;
-    refuses_another_capture(rt, alloc, dealers, &mut disk)
+    refuses_other_settings(rt, alloc, handed, &mut disk)?;
+    refuses_a_changed_byte(rt, alloc, handed, &mut disk)?;
+    refuses_another_capture(rt, alloc, handed, &mut disk)
 }
 
 fn refuses_bytes<R: Abort + Threads + Wait + Sync>(
     rt: &R,
     alloc: Global,
-    dealers: &Dealers,
+    handed: &Handed,
     bytes: &[u8],
 ) -> Result<(), Fail> {
     let mut disk = disk_of(alloc, bytes, &[])?;
-    let ended = run_on(rt, alloc, dealers, &REPORT, &[ONE], &mut disk)?;
+    let ended = run_on(rt, alloc, handed, &REPORT, &[ONE], &mut disk)?;
     assert_eq!(rt; ended.status, Status::NotFormatted);
     assert!(rt; ended.text.is_empty());
     Ok(())
@@ -173,12 +173,12 @@ const ASKED: StoreSettings = StoreSettings {
 fn refuses_other_settings<R: Abort + Threads + Wait + Sync>(
     rt: &R,
     alloc: Global,
-    dealers: &Dealers,
+    handed: &Handed,
     disk: &mut MemoryDisk,
 ) -> Result<(), Fail> {
     let narrow = ["format", "--store=s", "--shards=1", "--capacity=2"];
-    run_on(rt, alloc, dealers, &narrow, &[], disk)?;
-    let ended = run_on(rt, alloc, dealers, &REPORT, &[ONE], disk)?;
+    run_on(rt, alloc, handed, &narrow, &[], disk)?;
+    let ended = run_on(rt, alloc, handed, &REPORT, &[ONE], disk)?;
     let stored = StoreSettings {
         capacity: 2,
         ..ASKED
@@ -191,12 +191,12 @@ fn refuses_other_settings<R: Abort + Threads + Wait + Sync>(
 fn refuses_a_changed_byte<R: Abort + Threads + Wait + Sync>(
     rt: &R,
     alloc: Global,
-    dealers: &Dealers,
+    handed: &Handed,
     disk: &mut MemoryDisk,
 ) -> Result<(), Fail> {
-    run_on(rt, alloc, dealers, &FORMAT, &[], disk)?;
+    run_on(rt, alloc, handed, &FORMAT, &[], disk)?;
     assert_eq!(rt; disk.write_at(0, &[1]), Ok(()));
-    let ended = run_on(rt, alloc, dealers, &REPORT, &[ONE], disk)?;
+    let ended = run_on(rt, alloc, handed, &REPORT, &[ONE], disk)?;
     assert_eq!(rt; ended.status, Status::Damaged(0));
     Ok(())
 }
@@ -204,12 +204,12 @@ fn refuses_a_changed_byte<R: Abort + Threads + Wait + Sync>(
 fn refuses_another_capture<R: Abort + Threads + Wait + Sync>(
     rt: &R,
     alloc: Global,
-    dealers: &Dealers,
+    handed: &Handed,
     disk: &mut MemoryDisk,
 ) -> Result<(), Fail> {
-    run_on(rt, alloc, dealers, &FORMAT, &[], disk)?;
-    run_on(rt, alloc, dealers, &REPORT, &[ONE], disk)?;
-    let ended = run_on(rt, alloc, dealers, &REPORT, &[ONE, ONE], disk)?;
+    run_on(rt, alloc, handed, &FORMAT, &[], disk)?;
+    run_on(rt, alloc, handed, &REPORT, &[ONE], disk)?;
+    let ended = run_on(rt, alloc, handed, &REPORT, &[ONE, ONE], disk)?;
     assert!(rt; matches!(ended.status, Status::OtherCapture { .. }));
     assert!(rt; ended.text.is_empty());
     Ok(())
@@ -219,25 +219,25 @@ fn refuses_another_capture<R: Abort + Threads + Wait + Sync>(
 pub(crate) fn tells_the_faults_of_the_disk<R: Abort + Threads + Wait + Sync>(
     rt: &R,
     alloc: Global,
-    dealers: &Dealers,
+    handed: &Handed,
 ) -> Result<(), Fail> {
     let mut disk = disk_of(alloc, &[], &[0])?;
-    ends(rt, alloc, dealers, &FORMAT, true, &mut disk)?;
-    ends(rt, alloc, dealers, &FORMAT, true, &mut disk)?;
-    ends(rt, alloc, dealers, &REPORT, false, &mut disk)?;
-    fails_at_first(rt, alloc, dealers)
+    ends(rt, alloc, handed, &FORMAT, true, &mut disk)?;
+    ends(rt, alloc, handed, &FORMAT, true, &mut disk)?;
+    ends(rt, alloc, handed, &REPORT, false, &mut disk)?;
+    fails_at_first(rt, alloc, handed)
 }
 
 // A run ends well, or where it may fail with a fault of the disk.
 fn ends<R: Abort + Threads + Wait + Sync>(
     rt: &R,
     alloc: Global,
-    dealers: &Dealers,
+    handed: &Handed,
     words: &[&str],
     may_fail: bool,
     disk: &mut MemoryDisk,
 ) -> Result<(), Fail> {
-    let ended = run_on(rt, alloc, dealers, words, &[ONE], disk)?;
+    let ended = run_on(rt, alloc, handed, words, &[ONE], disk)?;
     if may_fail && ended.status == Status::DiskFault {
         assert!(rt; ended.text.is_empty());
     } else {
@@ -249,10 +249,10 @@ fn ends<R: Abort + Threads + Wait + Sync>(
 fn fails_at_first<R: Abort + Threads + Wait + Sync>(
     rt: &R,
     alloc: Global,
-    dealers: &Dealers,
+    handed: &Handed,
 ) -> Result<(), Fail> {
     let mut disk = disk_of(alloc, &HEADER, &[0])?;
-    let ended = run_on(rt, alloc, dealers, &REPORT, &[ONE], &mut disk)?;
+    let ended = run_on(rt, alloc, handed, &REPORT, &[ONE], &mut disk)?;
     assert_eq!(rt; ended.status, Status::DiskFault);
     assert!(rt; ended.text.is_empty());
     Ok(())

@@ -27,10 +27,12 @@ const DEFAULTS: Settings = Settings {
 // Arguments joined by single spaces, and what is wrong with them.
 type BadWords = (&'static str, WordsKind);
 
-const BAD_WORDS: [BadWords; 88] = [
+const BAD_WORDS: [BadWords; 108] = [
     ("", WordsKind::NoCommand),
     ("way", WordsKind::UnknownCommand),
     ("Report", WordsKind::UnknownCommand),
+    ("watches --report R --limit 5", WordsKind::UnknownCommand),
+    ("sites --limit 5", WordsKind::UnknownCommand),
     ("--shards 1 report", WordsKind::UnknownCommand),
     // the form
     ("weigh", WordsKind::Refused),
@@ -64,6 +66,12 @@ const BAD_WORDS: [BadWords; 88] = [
     ("report --shards=", WordsKind::Refused),
     ("report --shards 1 --shards 1", WordsKind::Refused),
     ("report --shards 1 --shards=1", WordsKind::Refused),
+    ("watch", WordsKind::Refused),
+    ("watch --limit 5", WordsKind::Refused),
+    ("watch --report R", WordsKind::Refused),
+    ("watch --report R --limit 5 x", WordsKind::Refused),
+    ("watch --report R --limit 5 --capture C", WordsKind::Refused),
+    ("watch --report R --limit 5 --src=", WordsKind::Refused),
     // the prefix
     (
         "weigh 10.1.2 0.0.0.0/0",
@@ -88,6 +96,34 @@ const BAD_WORDS: [BadWords; 88] = [
     (
         "weigh 10.1.2 0.0.0.0/0 --weigh x",
         WordsKind::BadPrefix(PrefixFault::BadAddress(Side::Source)),
+    ),
+    (
+        "watch --report R --limit 5 --src 1.0.0/8",
+        WordsKind::BadPrefix(PrefixFault::BadAddress(Side::Source)),
+    ),
+    (
+        "watch --report R --limit 5 --src 1.16.0.0/12",
+        WordsKind::BadPrefix(PrefixFault::BadLength(Side::Source)),
+    ),
+    (
+        "watch --report R --limit 5 --dst 1.16.0.0/12 --bits 8",
+        WordsKind::BadPrefix(PrefixFault::BadLength(Side::Dest)),
+    ),
+    (
+        "watch --report R --limit 5 --bits 4 --dst 1.16.0.0/13",
+        WordsKind::BadPrefix(PrefixFault::BadLength(Side::Dest)),
+    ),
+    (
+        "watch --report R --limit 5 --bits 4 --dst 1.8.0.0/12",
+        WordsKind::BadPrefix(PrefixFault::LooseBits(Side::Dest)),
+    ),
+    (
+        "watch --report R --limit 5 --src 1.16.0.0/12 --bits 04",
+        WordsKind::BadPrefix(PrefixFault::BadLength(Side::Source)),
+    ),
+    (
+        "watch --report R --limit 0 --bits 5 --src 1.16.0.0/12",
+        WordsKind::BadPrefix(PrefixFault::BadLength(Side::Source)),
     ),
     // the values
     (
@@ -146,6 +182,18 @@ const BAD_WORDS: [BadWords; 88] = [
     ("make 7 x", WordsKind::BadNumber(Opt::Frames)),
     ("make 7 0", WordsKind::OutOfLimits(Opt::Frames)),
     ("make 7 1000001", WordsKind::OutOfLimits(Opt::Frames)),
+    (
+        "watch --report R --limit 0",
+        WordsKind::OutOfLimits(Opt::Limit),
+    ),
+    (
+        "watch --limit=05 --report R",
+        WordsKind::BadNumber(Opt::Limit),
+    ),
+    (
+        "watch --report R --limit 18446744073709551616",
+        WordsKind::BadNumber(Opt::Limit),
+    ),
     // the first of several faults
     ("make x 0", WordsKind::BadNumber(Opt::Seed)),
     ("demo --shards x 7 0", WordsKind::OutOfLimits(Opt::Frames)),
@@ -196,6 +244,14 @@ const BAD_WORDS: [BadWords; 88] = [
     (
         "report --phi 1 --front maybe",
         WordsKind::BadChoice(Opt::Front),
+    ),
+    (
+        "watch --report R --limit x --bits 5",
+        WordsKind::OutOfLimits(Opt::Bits),
+    ),
+    (
+        "watch --report R --limit 0 --bits 5 --src 1.0.0.0/8",
+        WordsKind::OutOfLimits(Opt::Bits),
     ),
     // the bound
     ("report --capacity 17 --phi 117647", WordsKind::Bound),
@@ -485,10 +541,89 @@ fn reads_a_prefix(rt: HostRuntime) -> Result<(), Fail> {
     Ok(())
 }
 
+// The arguments of `watch`, the text of reports that they name, and the rule that they ask for: the sides of its prefix, by
+// this grain, and its limit.
+struct WatchWords {
+    line: &'static str,
+    report: &'static str,
+    grain: Grain,
+    source: &'static str,
+    dest: &'static str,
+    limit: u64,
+}
+
+const WATCH_WORDS: [WatchWords; 4] = [
+    WatchWords {
+        line: "watch --report R --limit 100",
+        report: "R",
+        grain: Grain::Byte,
+        source: "0.0.0.0/0",
+        dest: "0.0.0.0/0",
+        limit: 100,
+    },
+    WatchWords {
+        line: "watch --limit=5 --src 1.0.0.0/8 --report=r",
+        report: "r",
+        grain: Grain::Byte,
+        source: "1.0.0.0/8",
+        dest: "0.0.0.0/0",
+        limit: 5,
+    },
+    WatchWords {
+        line: "watch --dst=1.16.0.0/12 --report R --bits 4 --limit 18446744073709551615",
+        report: "R",
+        grain: Grain::Nibble,
+        source: "0.0.0.0/0",
+        dest: "1.16.0.0/12",
+        limit: 18_446_744_073_709_551_615,
+    },
+    WatchWords {
+        line: "watch --src 1.2.3.4/32 --bits=8 --dst 5.6.0.0/16 --limit 1 --report R",
+        report: "R",
+        grain: Grain::Byte,
+        source: "1.2.3.4/32",
+        dest: "5.6.0.0/16",
+        limit: 1,
+    },
+];
+
+#[test]
+fn reads_rules(rt: HostRuntime) -> Result<(), Fail> {
+    assert_eq!(rt; first_rule_misread(rt.alloc(), &WATCH_WORDS)?, None);
+    Ok(())
+}
+
+// The place of the first arguments of `watch` that are not read as they should be.
+fn first_rule_misread(alloc: Global, cases: &[WatchWords]) -> Result<Option<usize>, Fail> {
+    for (place, case) in cases.iter().enumerate() {
+        if !is_rule_read(alloc, case)? {
+            return Ok(Some(place));
+        }
+    }
+    Ok(None)
+}
+
+fn is_rule_read(alloc: Global, case: &WatchWords) -> Result<bool, Fail> {
+    let words: Vec<&str> = case.line.split_whitespace().collect(alloc)?;
+    let named = paths(alloc, words.as_slice())?;
+    let names_text = named.capture.as_str().is_empty()
+        && named.report.as_str() == case.report
+        && named.store.as_str().is_empty();
+    Ok(names_text && is_rule_of(&read_words(alloc, words.as_slice())?, case)?)
+}
+
+fn is_rule_of(command: &Command, case: &WatchWords) -> Result<bool, PrefixFault> {
+    let Command::Watch { rule, grain } = command else {
+        return Ok(false);
+    };
+    let prefix = Prefix::parse(case.grain, case.source.as_bytes(), case.dest.as_bytes())?;
+    Ok(rule.prefix == prefix && rule.limit == case.limit && *grain == case.grain)
+}
+
 // Why arguments are refused, and how it is told.
 type Told = (WordsKind, &'static str);
 
-const TOLD: [Told; 18] = [
+const TOLD: [Told; 19] = [
     (WordsKind::NoCommand, "no command"),
     (WordsKind::UnknownCommand, "unknown command"),
     (WordsKind::Refused, "refused"),
@@ -521,6 +656,10 @@ const TOLD: [Told; 18] = [
         "bits: outside its limits",
     ),
     (WordsKind::BadChoice(Opt::Front), "front: no such choice"),
+    (
+        WordsKind::OutOfLimits(Opt::Limit),
+        "limit: outside its limits",
+    ),
     (WordsKind::Bound, "phi times capacity is below 2000000"),
 ];
 

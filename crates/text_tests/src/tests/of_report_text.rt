@@ -133,8 +133,8 @@ fn is_the_tail(alloc: Global, cut: Option<u64>, lines: &str) -> Result<bool, All
     Ok(text.as_slice() == text_of(alloc, lines)?.as_slice())
 }
 
-// The text of lines, each of which ends by `|` here and by a line feed there.
-fn text_of(alloc: Global, lines: &str) -> Result<Vec<u8>, AllocError> {
+/// The text of lines, each of which ends by `|` here and by a line feed there.
+pub(crate) fn text_of(alloc: Global, lines: &str) -> Result<Vec<u8>, AllocError> {
     let mut text = Vec::new(alloc);
     for byte in lines.bytes() {
         text.push(if byte == b'|' { b'\n' } else { byte })?;

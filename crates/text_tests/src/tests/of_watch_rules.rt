@@ -9,8 +9,8 @@ use std::alloc::{AllocError, Global};
 use std::test::Fail;
 use watch_rules::{Alarm, Alarms, Judge, Rule, Watch, watch_all};
 
-// How often the low has the limit in it, at most 7.
-fn times_the_limit(lo: u64, hi: u64, limit: u64) -> u32
+/// How often the low has the limit in it, at most 7.
+pub(crate) fn times_the_limit(lo: u64, hi: u64, limit: u64) -> u32
     requires { IsOverLimit lo hi limit }
     ensures { result ≡ min (lo / limit) 7 }
 {
@@ -18,8 +18,8 @@ fn times_the_limit(lo: u64, hi: u64, limit: u64) -> u32
     (lo / limit).min(7) as u32
 }
 
-// A rule for all prefixes under this one.
-fn rule_of(source: &str, dest: &str, limit: u64) -> Result<Rule, Fail> {
+/// A rule for all prefixes under this one.
+pub(crate) fn rule_of(source: &str, dest: &str, limit: u64) -> Result<Rule, Fail> {
     if limit == 0 {
         return Err("a limit of 0".into());
     }

@@ -2,7 +2,6 @@
 
 use super::endings::{compare, run_with};
 use super::reports::{ELEVEN, HALVES, HALVES_BY_BYTES, HALVES_BY_NIBBLES};
-use deal_rules::Dealers;
 use exact_audit::Verdict;
 use hhh_engine::Status;
 use outside_io::{MemorySink, MemorySource};
@@ -13,7 +12,7 @@ use std::process::Abort;
 use std::sync::Wait;
 use std::test::Fail;
 use std::thread::Threads;
-use test_runs::{Ended, ONE, Packet, SOUND, capture_of, run_over};
+use test_runs::{Ended, Handed, ONE, Packet, SOUND, capture_of, run_over};
 
 const AUDIT: [&str; 4] = ["audit", "--shards", "1", "--report=r"];
 
@@ -47,7 +46,7 @@ const WHOLE_BY_NIBBLES: [&str; 6] = [
 ];
 
 // The session over one packet.
-const SOUND_TEXT: &str =
+pub(crate) const SOUND_TEXT: &str =
     "opened 0\nreport\nat 1\ntotal 100\nthreshold 1\nline 10.1.2.3/32 20.1.2.3/32 100 100\ndone\nframes 1\nskipped 0 0 0\nend\n";
 
 // The arguments, the packets, the text, what the run ends in, and what is written.
@@ -151,22 +150,22 @@ const CASES: [Case; 10] = [
 pub(crate) fn audits<R: Abort + Threads + Wait + Sync>(
     rt: &R,
     alloc: Global,
-    dealers: &Dealers,
+    handed: &Handed,
 ) -> Result<(), Fail> {
-    each_is_audited(rt, alloc, dealers, &CASES)?;
-    each_names_what_is_left_out(rt, alloc, dealers, &LEFT_OUT)
+    each_is_audited(rt, alloc, handed, &CASES)?;
+    each_names_what_is_left_out(rt, alloc, handed, &LEFT_OUT)
 }
 
 // A table is a parameter of what goes through it: a proof with the table in every fact takes far longer.
 fn each_is_audited<R: Abort + Threads + Wait + Sync>(
     rt: &R,
     alloc: Global,
-    dealers: &Dealers,
+    handed: &Handed,
     cases: &[Case],
 ) -> Result<(), Fail> {
     for (words, packets, text, status, written) in cases {
         let text = text.as_bytes();
-        let ended = audit_over(rt, alloc, dealers, words, packets, text, SOUND_CALLS)?;
+        let ended = audit_over(rt, alloc, handed, words, packets, text, SOUND_CALLS)?;
         compare(rt, ended, *status, written.as_bytes());
     }
     Ok(())
@@ -203,12 +202,12 @@ const LEFT_OUT: [LeftOut; 2] = [
 fn each_names_what_is_left_out<R: Abort + Threads + Wait + Sync>(
     rt: &R,
     alloc: Global,
-    dealers: &Dealers,
+    handed: &Handed,
     cases: &[LeftOut],
 ) -> Result<(), Fail> {
     for (words, packets, text, weight, written) in cases {
         let text = text.as_bytes();
-        let ended = audit_over(rt, alloc, dealers, words, packets, text, SOUND_CALLS)?;
+        let ended = audit_over(rt, alloc, handed, words, packets, text, SOUND_CALLS)?;
         assert!(rt; is_left_out(&ended.status, *weight));
         assert_eq!(rt; ended.text.as_slice(), written.as_bytes());
     }
@@ -303,20 +302,20 @@ const CHANGES: [Change; 16] = [
 pub(crate) fn finds_each_change<R: Abort + Threads + Wait + Sync>(
     rt: &R,
     alloc: Global,
-    dealers: &Dealers,
+    handed: &Handed,
 ) -> Result<(), Fail> {
-    each_change_is_found(rt, alloc, dealers, &CHANGES)
+    each_change_is_found(rt, alloc, handed, &CHANGES)
 }
 
 fn each_change_is_found<R: Abort + Threads + Wait + Sync>(
     rt: &R,
     alloc: Global,
-    dealers: &Dealers,
+    handed: &Handed,
     changes: &[Change],
 ) -> Result<(), Fail> {
     for (report, written) in changes {
         let text = session_of(alloc, report)?;
-        let ended = audit_eleven(rt, alloc, dealers, &text)?;
+        let ended = audit_eleven(rt, alloc, handed, &text)?;
         assert_eq!(rt; ended.text.as_slice(), written.as_bytes());
     }
     Ok(())
@@ -372,20 +371,20 @@ const BAD_TEXTS: [BadText; 9] = [
 pub(crate) fn refuses_texts<R: Abort + Threads + Wait + Sync>(
     rt: &R,
     alloc: Global,
-    dealers: &Dealers,
+    handed: &Handed,
 ) -> Result<(), Fail> {
-    each_text_is_refused(rt, alloc, dealers, &BAD_TEXTS)
+    each_text_is_refused(rt, alloc, handed, &BAD_TEXTS)
 }
 
 fn each_text_is_refused<R: Abort + Threads + Wait + Sync>(
     rt: &R,
     alloc: Global,
-    dealers: &Dealers,
+    handed: &Handed,
     texts: &[BadText],
 ) -> Result<(), Fail> {
     for (text, fault) in texts {
         let text = text.as_bytes();
-        let ended = audit_over(rt, alloc, dealers, &AUDIT, &[], text, SOUND_CALLS)?;
+        let ended = audit_over(rt, alloc, handed, &AUDIT, &[], text, SOUND_CALLS)?;
         compare(rt, ended, Status::BadReport(*fault), b"");
     }
     Ok(())
@@ -435,20 +434,20 @@ const FAILING: [Failing; 3] = [
 pub(crate) fn tells_the_faults_of_its_inputs<R: Abort + Threads + Wait + Sync>(
     rt: &R,
     alloc: Global,
-    dealers: &Dealers,
+    handed: &Handed,
 ) -> Result<(), Fail> {
-    each_fault_is_told(rt, alloc, dealers, &FAILING)
+    each_fault_is_told(rt, alloc, handed, &FAILING)
 }
 
 fn each_fault_is_told<R: Abort + Threads + Wait + Sync>(
     rt: &R,
     alloc: Global,
-    dealers: &Dealers,
+    handed: &Handed,
     failing: &[Failing],
 ) -> Result<(), Fail> {
     let text = SOUND_TEXT.as_bytes();
     for (fails, status) in failing {
-        let ended = audit_over(rt, alloc, dealers, &AUDIT, &[ONE], text, *fails)?;
+        let ended = audit_over(rt, alloc, handed, &AUDIT, &[ONE], text, *fails)?;
         compare(rt, ended, *status, b"");
     }
     Ok(())
@@ -458,7 +457,7 @@ fn each_fault_is_told<R: Abort + Threads + Wait + Sync>(
 pub(crate) fn own_reports_are_good<R: Abort + Threads + Wait + Sync>(
     rt: &R,
     alloc: Global,
-    dealers: &Dealers,
+    handed: &Handed,
 ) -> Result<(), Fail> {
     let words = [
         "report",
@@ -471,9 +470,9 @@ pub(crate) fn own_reports_are_good<R: Abort + Threads + Wait + Sync>(
         "--rounds=3",
     ];
     let capture = capture_of(alloc, &ELEVEN)?;
-    let session = run_over(rt, alloc, dealers, &words, capture, SOUND)?;
+    let session = run_over(rt, alloc, handed, &words, capture, SOUND)?;
     assert_eq!(rt; session.status, Status::Done);
-    let ended = audit_eleven(rt, alloc, dealers, &session.text)?;
+    let ended = audit_eleven(rt, alloc, handed, &session.text)?;
     compare(rt, ended, Status::Done, b"good 10\n");
     Ok(())
 }
@@ -482,17 +481,17 @@ pub(crate) fn own_reports_are_good<R: Abort + Threads + Wait + Sync>(
 fn audit_eleven<R: Threads + Wait + Sync>(
     rt: &R,
     alloc: Global,
-    dealers: &Dealers,
+    handed: &Handed,
     text: &[u8],
 ) -> Result<Ended, AllocError> {
-    audit_over(rt, alloc, dealers, &NARROW, &ELEVEN, text, SOUND_CALLS)
+    audit_over(rt, alloc, handed, &NARROW, &ELEVEN, text, SOUND_CALLS)
 }
 
 // Audits a text over a capture of these packets, both read in pieces.
 fn audit_over<R: Threads + Wait + Sync>(
     rt: &R,
     alloc: Global,
-    dealers: &Dealers,
+    handed: &Handed,
     words: &[&str],
     packets: &[Packet],
     text: &[u8],
@@ -504,13 +503,5 @@ fn audit_over<R: Threads + Wait + Sync>(
     let mut text = MemorySource::new(text, Vec::from_slice(alloc, fails.text)?, 50);
     let fails = Vec::from_slice(alloc, fails.sink)?;
     let mut sink = MemorySink::with_room(alloc, 4096, fails)?;
-    run_with(
-        rt,
-        alloc,
-        dealers,
-        words,
-        &mut capture,
-        &mut text,
-        &mut sink,
-    )
+    run_with(rt, alloc, handed, words, &mut capture, &mut text, &mut sink)
 }

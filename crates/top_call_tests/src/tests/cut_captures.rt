@@ -1,7 +1,6 @@
 //! Captures that end inside a frame, of which the frames before it are taken where this is asked for.
 
 use super::endings::{compare, run_with};
-use deal_rules::Dealers;
 use hhh_engine::Status;
 use outside_io::{MemorySink, MemorySource};
 use pcap_frames::{CaptureFault, FaultKind};
@@ -11,7 +10,7 @@ use std::process::Abort;
 use std::sync::Wait;
 use std::test::Fail;
 use std::thread::Threads;
-use test_runs::{ONE, SOUND, capture_of, run_over};
+use test_runs::{Handed, ONE, SOUND, capture_of, run_over};
 
 const REPORT: [&str; 4] = ["report", "--shards", "1", "--front=yes"];
 
@@ -47,28 +46,28 @@ fn bad_capture(kind: FaultKind, place: usize) -> Status {
 pub(crate) fn fronts_are_taken<R: Abort + Threads + Wait + Sync>(
     rt: &R,
     alloc: Global,
-    dealers: &Dealers,
+    handed: &Handed,
 ) -> Result<(), Fail> {
-    reports_on(rt, alloc, dealers, 60, Status::Done, OF_NONE)?;
-    reports_on(rt, alloc, dealers, 84, Status::Done, OF_ONE)?;
+    reports_on(rt, alloc, handed, 60, Status::Done, OF_NONE)?;
+    reports_on(rt, alloc, handed, 84, Status::Done, OF_ONE)?;
     let short = bad_capture(FaultKind::ShortHeader, 20);
-    reports_on(rt, alloc, dealers, 20, short, "")?;
+    reports_on(rt, alloc, handed, 20, short, "")?;
     let refused = ["report", "--shards", "1", "--front=no"];
-    let ended = run_over(rt, alloc, dealers, &refused, front_of(alloc, 84)?, SOUND)?;
+    let ended = run_over(rt, alloc, handed, &refused, front_of(alloc, 84)?, SOUND)?;
     compare(rt, ended, bad_capture(FaultKind::CutFrame, 74), b"");
-    is_audited_good(rt, alloc, dealers, 60, OF_NONE)?;
-    is_audited_good(rt, alloc, dealers, 84, OF_ONE)
+    is_audited_good(rt, alloc, handed, 60, OF_NONE)?;
+    is_audited_good(rt, alloc, handed, 84, OF_ONE)
 }
 
 fn reports_on<R: Abort + Threads + Wait + Sync>(
     rt: &R,
     alloc: Global,
-    dealers: &Dealers,
+    handed: &Handed,
     length: usize,
     status: Status,
     text: &str,
 ) -> Result<(), Fail> {
-    let ended = run_over(rt, alloc, dealers, &REPORT, front_of(alloc, length)?, SOUND)?;
+    let ended = run_over(rt, alloc, handed, &REPORT, front_of(alloc, length)?, SOUND)?;
     compare(rt, ended, status, text.as_bytes());
     Ok(())
 }
@@ -76,7 +75,7 @@ fn reports_on<R: Abort + Threads + Wait + Sync>(
 fn is_audited_good<R: Abort + Threads + Wait + Sync>(
     rt: &R,
     alloc: Global,
-    dealers: &Dealers,
+    handed: &Handed,
     length: usize,
     session: &str,
 ) -> Result<(), Fail> {
@@ -87,7 +86,7 @@ fn is_audited_good<R: Abort + Threads + Wait + Sync>(
     let ended = run_with(
         rt,
         alloc,
-        dealers,
+        handed,
         &AUDIT,
         &mut capture,
         &mut text,
@@ -101,11 +100,11 @@ fn is_audited_good<R: Abort + Threads + Wait + Sync>(
 pub(crate) fn each_front_is_weighed<R: Abort + Threads + Wait + Sync>(
     rt: &R,
     alloc: Global,
-    dealers: &Dealers,
+    handed: &Handed,
 ) -> Result<(), Fail> {
     let words = ["weigh", "0.0.0.0/0", "0.0.0.0/0", "--front", "yes"];
     for length in 0..=WHOLE_LENGTH + 10 {
-        let ended = run_over(rt, alloc, dealers, &words, front_of(alloc, length)?, SOUND)?;
+        let ended = run_over(rt, alloc, handed, &words, front_of(alloc, length)?, SOUND)?;
         let (status, text) = end_of_front(length);
         compare(rt, ended, status, text.as_bytes());
     }

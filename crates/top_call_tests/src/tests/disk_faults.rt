@@ -2,7 +2,6 @@
 
 use super::endings::compare;
 use super::gates::Turnstile;
-use deal_rules::Dealers;
 use hhh_engine::Status;
 use slot_disk::MemoryDisk;
 use std::alloc::{AllocError, Global};
@@ -11,7 +10,7 @@ use std::process::Abort;
 use std::sync::Wait;
 use std::test::Fail;
 use std::thread::Threads;
-use test_runs::{Ended, FORMAT, ONE, REPORT, disk_with, run_gated_on, run_on};
+use test_runs::{Ended, FORMAT, Handed, ONE, REPORT, disk_with, run_gated_on, run_on};
 
 const ROUND: [&str; 7] = [
     "report",
@@ -104,25 +103,25 @@ fn joined(alloc: Global, texts: &[&str]) -> Result<Vec<u8>, AllocError> {
 pub(crate) fn goes_on_after_each_fault<R: Abort + Threads + Wait + Sync>(
     rt: &R,
     alloc: Global,
-    dealers: &Dealers,
+    handed: &Handed,
 ) -> Result<(), Fail> {
     let mut empty = disk_with(alloc, &[], None, &[])?;
-    run_on(rt, alloc, dealers, &FORMAT, &[], &mut empty)?;
+    run_on(rt, alloc, handed, &FORMAT, &[], &mut empty)?;
     let store = empty.crash(alloc, 0)?;
-    each_fault(rt, alloc, dealers, &store, &LEFT)
+    each_fault(rt, alloc, handed, &store, &LEFT)
 }
 
 // A table is a parameter of what goes through it: a proof with the table in every fact takes far longer.
 fn each_fault<R: Abort + Threads + Wait + Sync>(
     rt: &R,
     alloc: Global,
-    dealers: &Dealers,
+    handed: &Handed,
     store: &[u8],
     cases: &[Left],
 ) -> Result<(), Fail> {
     for left in cases {
         for call in left.calls.0..left.calls.1 {
-            fails_from(rt, alloc, dealers, store, call, left)?;
+            fails_from(rt, alloc, handed, store, call, left)?;
         }
     }
     Ok(())
@@ -131,27 +130,27 @@ fn each_fault<R: Abort + Threads + Wait + Sync>(
 fn fails_from<R: Abort + Threads + Wait + Sync>(
     rt: &R,
     alloc: Global,
-    dealers: &Dealers,
+    handed: &Handed,
     store: &[u8],
     call: u64,
     left: &Left,
 ) -> Result<(), Fail> {
     let mut disk = disk_with(alloc, store, Some(call), &[])?;
-    breaks_off(rt, alloc, dealers, &mut disk, left)?;
-    goes_on(rt, alloc, dealers, &disk, left)
+    breaks_off(rt, alloc, handed, &mut disk, left)?;
+    goes_on(rt, alloc, handed, &disk, left)
 }
 
 // The report ends with a disk fault, unless all calls went well, after as many pieces.
 fn breaks_off<R: Abort + Threads + Wait + Sync>(
     rt: &R,
     alloc: Global,
-    dealers: &Dealers,
+    handed: &Handed,
     disk: &mut MemoryDisk,
     left: &Left,
 ) -> Result<(), Fail> {
     let text = first_pieces(rt, alloc, left.pieces)?;
     let gate = Turnstile::after(3);
-    let ended = run_round(rt, alloc, dealers, disk, &gate)?;
+    let ended = run_round(rt, alloc, handed, disk, &gate)?;
     assert_eq!(rt; gate.missed(), 0);
     compare(rt, ended, status_after(left.pieces), &text);
     Ok(())
@@ -160,11 +159,11 @@ fn breaks_off<R: Abort + Threads + Wait + Sync>(
 fn run_round<R: Threads + Wait + Sync>(
     rt: &R,
     alloc: Global,
-    dealers: &Dealers,
+    handed: &Handed,
     disk: &mut MemoryDisk,
     gate: &Turnstile,
 ) -> Result<Ended, AllocError> {
-    run_gated_on(rt, alloc, dealers, &ROUND, &[ONE; 8], disk, gate)
+    run_gated_on(rt, alloc, handed, &ROUND, &[ONE; 8], disk, gate)
 }
 
 fn status_after(pieces: usize) -> Status {
@@ -193,13 +192,13 @@ fn first_of(
 fn goes_on<R: Abort + Threads + Wait + Sync>(
     rt: &R,
     alloc: Global,
-    dealers: &Dealers,
+    handed: &Handed,
     disk: &MemoryDisk,
     left: &Left,
 ) -> Result<(), Fail> {
     for choice in 0..4 {
         let opened = if choice == 1 { left.kept } else { left.lost };
-        goes_on_from(rt, alloc, dealers, disk, choice, opened)?;
+        goes_on_from(rt, alloc, handed, disk, choice, opened)?;
     }
     Ok(())
 }
@@ -207,13 +206,13 @@ fn goes_on<R: Abort + Threads + Wait + Sync>(
 fn goes_on_from<R: Abort + Threads + Wait + Sync>(
     rt: &R,
     alloc: Global,
-    dealers: &Dealers,
+    handed: &Handed,
     disk: &MemoryDisk,
     choice: u8,
     opened: &str,
 ) -> Result<(), Fail> {
     let text = joined(alloc, &[opened, REST])?;
-    let ended = report_after(rt, alloc, dealers, disk, choice)?;
+    let ended = report_after(rt, alloc, handed, disk, choice)?;
     compare(rt, ended, Status::Done, &text);
     Ok(())
 }
@@ -222,10 +221,10 @@ fn goes_on_from<R: Abort + Threads + Wait + Sync>(
 fn report_after<R: Threads + Wait + Sync>(
     rt: &R,
     alloc: Global,
-    dealers: &Dealers,
+    handed: &Handed,
     disk: &MemoryDisk,
     choice: u8,
 ) -> Result<Ended, AllocError> {
     let mut crashed = disk_with(alloc, &disk.crash(alloc, choice)?, None, &[])?;
-    run_on(rt, alloc, dealers, &REPORT, &[ONE; 8], &mut crashed)
+    run_on(rt, alloc, handed, &REPORT, &[ONE; 8], &mut crashed)
 }

@@ -1,6 +1,5 @@
 //! Runs of which the status and the text are compared with what they should be.
 
-use deal_rules::Dealers;
 use gate_workers::OpenGate;
 use hhh_engine::{Status, run};
 use outside_io::{MemorySink, MemorySource};
@@ -11,13 +10,13 @@ use std::process::Abort;
 use std::sync::Wait;
 use std::test::Fail;
 use std::thread::Threads;
-use test_runs::{Ended, Packet, SOUND, capture_of, run_over};
+use test_runs::{Ended, Handed, Packet, SOUND, capture_of, run_over};
 
 // Runs between these streams, without a store.
 pub(crate) fn run_with<R: Threads + Wait + Sync>(
     rt: &R,
     alloc: Global,
-    dealers: &Dealers,
+    handed: &Handed,
     words: &[&str],
     capture: &mut MemorySource,
     text: &mut MemorySource,
@@ -25,7 +24,16 @@ pub(crate) fn run_with<R: Threads + Wait + Sync>(
 ) -> Result<Ended, AllocError> {
     let mut disk = MemoryDisk::with_room(alloc, 0, 0, Vec::new(alloc), None, Vec::new(alloc))?;
     let status = run(
-        rt, alloc, words, capture, text, sink, &mut disk, &OpenGate, dealers,
+        rt,
+        alloc,
+        words,
+        capture,
+        text,
+        sink,
+        &mut disk,
+        &OpenGate,
+        &handed.dealers,
+        &handed.judge,
     );
     let text = Vec::from_slice(alloc, sink.taken())?;
     Ok(Ended { status, text })
@@ -41,12 +49,12 @@ pub(crate) fn compare(rt: &impl Abort, ended: Ended, status: Status, text: &[u8]
 pub(crate) fn writes<R: Abort + Threads + Wait + Sync>(
     rt: &R,
     alloc: Global,
-    dealers: &Dealers,
+    handed: &Handed,
     words: &[&str],
     bytes: Vec<u8>,
     text: &str,
 ) -> Result<(), Fail> {
-    let ended = run_over(rt, alloc, dealers, words, bytes, SOUND)?;
+    let ended = run_over(rt, alloc, handed, words, bytes, SOUND)?;
     compare(rt, ended, Status::Done, text.as_bytes());
     Ok(())
 }
@@ -58,12 +66,12 @@ pub(crate) type Written = (&'static [&'static str], &'static [Packet], &'static 
 pub(crate) fn each_is_written<R: Abort + Threads + Wait + Sync>(
     rt: &R,
     alloc: Global,
-    dealers: &Dealers,
+    handed: &Handed,
     cases: &[Written],
 ) -> Result<(), Fail> {
     for (words, packets, text) in cases {
         let bytes = capture_of(alloc, packets)?;
-        writes(rt, alloc, dealers, words, bytes, text)?;
+        writes(rt, alloc, handed, words, bytes, text)?;
     }
     Ok(())
 }

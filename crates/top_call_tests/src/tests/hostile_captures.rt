@@ -1,7 +1,6 @@
 //! Captures that are cut or damaged on purpose, each refused for its first fault.
 
 use super::endings::compare;
-use deal_rules::Dealers;
 use hhh_engine::Status;
 use pcap_frames::{CaptureFault, FaultKind};
 use std::alloc::Global;
@@ -10,7 +9,7 @@ use std::process::Abort;
 use std::sync::Wait;
 use std::test::Fail;
 use std::thread::Threads;
-use test_runs::{ONE, SOUND, capture_of, run_over};
+use test_runs::{Handed, ONE, SOUND, capture_of, run_over};
 
 // A capture of one packet has a header of 24 bytes, and a frame of 50.
 const HEADER_LENGTH: usize = 24;
@@ -21,13 +20,13 @@ const WEIGH: [&str; 3] = ["weigh", "0.0.0.0/0", "0.0.0.0/0"];
 pub(crate) fn each_front_of_a_capture<R: Abort + Threads + Wait + Sync>(
     rt: &R,
     alloc: Global,
-    dealers: &Dealers,
+    handed: &Handed,
 ) -> Result<(), Fail> {
     let whole = capture_of(alloc, &[ONE])?;
     for length in 0..=whole.len() {
         let mut front = whole.to_vec(alloc)?;
         front.truncate(length);
-        let ended = run_over(rt, alloc, dealers, &WEIGH, front, SOUND)?;
+        let ended = run_over(rt, alloc, handed, &WEIGH, front, SOUND)?;
         let (status, text) = end_of_front(length, whole.len());
         compare(rt, ended, status, text.as_bytes());
     }
@@ -55,12 +54,12 @@ fn bad_capture(kind: FaultKind, place: u64) -> Status {
 pub(crate) fn a_frame_of_all_ones<R: Abort + Threads + Wait + Sync>(
     rt: &R,
     alloc: Global,
-    dealers: &Dealers,
+    handed: &Handed,
 ) -> Result<(), Fail> {
     let mut bytes = capture_of(alloc, &[ONE])?;
     assert!(rt; HEADER_LENGTH + 12 <= bytes.len());
     bytes[32..36].copy_from_slice(&[0xff; 4]);
-    let ended = run_over(rt, alloc, dealers, &WEIGH, bytes, SOUND)?;
+    let ended = run_over(rt, alloc, handed, &WEIGH, bytes, SOUND)?;
     compare(rt, ended, bad_capture(FaultKind::LongFrame, 24), b"");
     Ok(())
 }

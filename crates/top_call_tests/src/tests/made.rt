@@ -1,7 +1,6 @@
 //! Made traffic, and what `demo` says of it.
 
 use super::endings::compare;
-use deal_rules::Dealers;
 use hhh_engine::Status;
 use std::alloc::Global;
 use std::marker::Sync;
@@ -9,7 +8,7 @@ use std::process::Abort;
 use std::sync::Wait;
 use std::test::Fail;
 use std::thread::Threads;
-use test_runs::{HEADER, Outside, SOUND, run_over};
+use test_runs::{HEADER, Handed, Outside, SOUND, run_over};
 
 // The one frame that seed 7 makes first: from 10.0.3.40 to 20.166.26.127, 100 bytes on the wire.
 const FRAME: [u8; 50] = [
@@ -26,13 +25,13 @@ const DEMO: [&str; 3] = ["demo", "7", "1"];
 fn ends_with<R: Abort + Threads + Wait + Sync>(
     rt: &R,
     alloc: Global,
-    dealers: &Dealers,
+    handed: &Handed,
     words: &[&str],
     outside: Outside,
     status: Status,
     text: &[u8],
 ) -> Result<(), Fail> {
-    let ended = run_over(rt, alloc, dealers, words, Vec::new(alloc), outside)?;
+    let ended = run_over(rt, alloc, handed, words, Vec::new(alloc), outside)?;
     compare(rt, ended, status, text);
     Ok(())
 }
@@ -40,46 +39,38 @@ fn ends_with<R: Abort + Threads + Wait + Sync>(
 pub(crate) fn makes_a_capture<R: Abort + Threads + Wait + Sync>(
     rt: &R,
     alloc: Global,
-    dealers: &Dealers,
+    handed: &Handed,
 ) -> Result<(), Fail> {
     let mut capture = Vec::from_slice(alloc, &HEADER)?;
     capture.extend_from_slice(&FRAME)?;
-    ends_with(rt, alloc, dealers, &MAKE, SOUND, Status::Done, &capture)?;
+    ends_with(rt, alloc, handed, &MAKE, SOUND, Status::Done, &capture)?;
     // A sink with room for 30 bytes takes a part of it.
     capture.truncate(30);
     let full = Outside { room: 30, ..SOUND };
-    ends_with(
-        rt,
-        alloc,
-        dealers,
-        &MAKE,
-        full,
-        Status::WriteFault,
-        &capture,
-    )
+    ends_with(rt, alloc, handed, &MAKE, full, Status::WriteFault, &capture)
 }
 
 pub(crate) fn demonstrates<R: Abort + Threads + Wait + Sync>(
     rt: &R,
     alloc: Global,
-    dealers: &Dealers,
+    handed: &Handed,
 ) -> Result<(), Fail> {
     let summary = b"demo 7 1\nrecords 1\ntotal 100\nthreshold 1\nlines 1\naudit good\nend\n";
-    ends_with(rt, alloc, dealers, &DEMO, SOUND, Status::Done, summary)?;
+    ends_with(rt, alloc, handed, &DEMO, SOUND, Status::Done, summary)?;
     let fails = Outside {
         sink_fails: &[0],
         ..SOUND
     };
-    ends_with(rt, alloc, dealers, &DEMO, fails, Status::WriteFault, b"")
+    ends_with(rt, alloc, handed, &DEMO, fails, Status::WriteFault, b"")
 }
 
 pub(crate) fn demonstrates_by_half_bytes<R: Abort + Threads + Wait + Sync>(
     rt: &R,
     alloc: Global,
-    dealers: &Dealers,
+    handed: &Handed,
 ) -> Result<(), Fail> {
     let words = ["demo", "7", "20000", "--bits", "4"];
-    let ended = run_over(rt, alloc, dealers, &words, Vec::new(alloc), SOUND)?;
+    let ended = run_over(rt, alloc, handed, &words, Vec::new(alloc), SOUND)?;
     assert_eq!(rt; ended.status, Status::Done);
     assert!(rt; ended.text.ends_with(b"\naudit good\nend\n"));
     Ok(())
@@ -90,12 +81,12 @@ pub(crate) fn demonstrates_by_half_bytes<R: Abort + Threads + Wait + Sync>(
 pub(crate) fn demonstrates_the_same_with_one_worker<R: Abort + Threads + Wait + Sync>(
     rt: &R,
     alloc: Global,
-    dealers: &Dealers,
+    handed: &Handed,
 ) -> Result<(), Fail> {
     let summary =
         b"demo 7 200000\nrecords 200000\ntotal 50000000\nthreshold 500000\nlines 28\naudit good\nend\n";
     let words = ["demo", "7", "200000", "--shards=8"];
-    ends_with(rt, alloc, dealers, &words, SOUND, Status::Done, summary)?;
+    ends_with(rt, alloc, handed, &words, SOUND, Status::Done, summary)?;
     let words = ["demo", "7", "200000", "--shards=8", "--workers=1"];
-    ends_with(rt, alloc, dealers, &words, SOUND, Status::Done, summary)
+    ends_with(rt, alloc, handed, &words, SOUND, Status::Done, summary)
 }

@@ -2,7 +2,7 @@
 
 use super::endings::compare;
 use checkpoint::StoreSettings;
-use deal_rules::{DealKind, Dealers};
+use deal_rules::DealKind;
 use exact_audit::Verdict;
 use frame_records::Weigh;
 use hhh_engine::{Opt, Status, WordsKind, fault_line};
@@ -15,7 +15,7 @@ use std::process::Abort;
 use std::sync::Wait;
 use std::test::Fail;
 use std::thread::Threads;
-use test_runs::{ONE, Outside, SOUND, capture_of, run_over};
+use test_runs::{Handed, ONE, Outside, SOUND, capture_of, run_over};
 
 // The arguments, what is wrong with them, and the line that reports it.
 type Case = (&'static [&'static str], WordsKind, &'static str);
@@ -103,20 +103,20 @@ const CASES: [Case; 17] = [
 pub(crate) fn refuses_words<R: Abort + Threads + Wait + Sync>(
     rt: &R,
     alloc: Global,
-    dealers: &Dealers,
+    handed: &Handed,
 ) -> Result<(), Fail> {
-    each_is_refused(rt, alloc, dealers, &CASES)
+    each_is_refused(rt, alloc, handed, &CASES)
 }
 
 fn each_is_refused<R: Abort + Threads + Wait + Sync>(
     rt: &R,
     alloc: Global,
-    dealers: &Dealers,
+    handed: &Handed,
     cases: &[Case],
 ) -> Result<(), Fail> {
     for (words, kind, line) in cases {
         let bytes = capture_of(alloc, &[ONE])?;
-        let ended = run_over(rt, alloc, dealers, words, bytes, SOUND)?;
+        let ended = run_over(rt, alloc, handed, words, bytes, SOUND)?;
         compare(rt, ended, Status::BadWords(*kind), b"");
         is_told(rt, alloc, Status::BadWords(*kind), 2, line.as_bytes())?;
     }
@@ -154,21 +154,21 @@ const CHANGES: [Change; 9] = [
 pub(crate) fn refuses_captures<R: Abort + Threads + Wait + Sync>(
     rt: &R,
     alloc: Global,
-    dealers: &Dealers,
+    handed: &Handed,
 ) -> Result<(), Fail> {
-    each_change_is_refused(rt, alloc, dealers, &CHANGES)
+    each_change_is_refused(rt, alloc, handed, &CHANGES)
 }
 
 fn each_change_is_refused<R: Abort + Threads + Wait + Sync>(
     rt: &R,
     alloc: Global,
-    dealers: &Dealers,
+    handed: &Handed,
     changes: &[Change],
 ) -> Result<(), Fail> {
     let words = ["report", "--shards", "1"];
     for (place, byte, length, kind, at) in changes {
         let bytes = changed(rt, alloc, *place, *byte, *length)?;
-        let ended = run_over(rt, alloc, dealers, &words, bytes, SOUND)?;
+        let ended = run_over(rt, alloc, handed, &words, bytes, SOUND)?;
         let fault = CaptureFault {
             kind: *kind,
             place: *at,
@@ -199,23 +199,23 @@ const CALLS: [[u64; 1]; 12] = [[0], [1], [2], [3], [4], [5], [6], [7], [8], [9],
 pub(crate) fn tells_the_faults_of_source_and_sink<R: Abort + Threads + Wait + Sync>(
     rt: &R,
     alloc: Global,
-    dealers: &Dealers,
+    handed: &Handed,
 ) -> Result<(), Fail> {
-    each_call_of_the_source_fails(rt, alloc, dealers, &CALLS)?;
+    each_call_of_the_source_fails(rt, alloc, handed, &CALLS)?;
     let fails = Outside {
         sink_fails: &[0],
         ..SOUND
     };
-    breaks_off(rt, alloc, dealers, fails, Status::WriteFault, b"")?;
+    breaks_off(rt, alloc, handed, fails, Status::WriteFault, b"")?;
     let full = Outside { room: 12, ..SOUND };
     let text = b"opened 0\nrep";
-    breaks_off(rt, alloc, dealers, full, Status::WriteFault, text)
+    breaks_off(rt, alloc, handed, full, Status::WriteFault, text)
 }
 
 fn each_call_of_the_source_fails<R: Abort + Threads + Wait + Sync>(
     rt: &R,
     alloc: Global,
-    dealers: &Dealers,
+    handed: &Handed,
     calls: &'static [[u64; 1]],
 ) -> Result<(), Fail> {
     for call in calls {
@@ -223,7 +223,7 @@ fn each_call_of_the_source_fails<R: Abort + Threads + Wait + Sync>(
             source_fails: call,
             ..SOUND
         };
-        breaks_off(rt, alloc, dealers, fails, Status::ReadFault, b"")?;
+        breaks_off(rt, alloc, handed, fails, Status::ReadFault, b"")?;
     }
     Ok(())
 }
@@ -232,14 +232,14 @@ fn each_call_of_the_source_fails<R: Abort + Threads + Wait + Sync>(
 fn breaks_off<R: Abort + Threads + Wait + Sync>(
     rt: &R,
     alloc: Global,
-    dealers: &Dealers,
+    handed: &Handed,
     outside: Outside,
     status: Status,
     text: &[u8],
 ) -> Result<(), Fail> {
     let words = ["report", "--shards", "1"];
     let bytes = capture_of(alloc, &[ONE])?;
-    let ended = run_over(rt, alloc, dealers, &words, bytes, outside)?;
+    let ended = run_over(rt, alloc, handed, &words, bytes, outside)?;
     compare(rt, ended, status, text);
     Ok(())
 }

@@ -1,14 +1,13 @@
 //! What `report` writes.
 
 use super::endings::{Written, each_is_written, writes};
-use deal_rules::Dealers;
 use std::alloc::{AllocError, Global};
 use std::marker::Sync;
 use std::process::Abort;
 use std::sync::Wait;
 use std::test::Fail;
 use std::thread::Threads;
-use test_runs::{HEADER, ONE, Packet, capture_of, packet_bytes, push_frame};
+use test_runs::{HEADER, Handed, ONE, Packet, capture_of, packet_bytes, push_frame};
 
 // Packets from N.0.0.1 to (100 + N).0.0.1, N being 1 to 6.
 const X: Packet = (0x0100_0001, 0x6500_0001);
@@ -24,6 +23,10 @@ const W: Packet = (0x0500_0001, 0x6900_0001);
 const V: Packet = (0x0600_0001, 0x6a00_0001);
 
 pub(crate) const ELEVEN: [Packet; 11] = [X, X, X, Y, X, Z, X, W, X, V, U];
+
+// The session over these, dealt in turn to two shards, where one prefix is heavy besides the root.
+pub(crate) const ONE_OF_ELEVEN: &str =
+    "opened 0 0\nreport\nat 6 5\ntotal 11\nthreshold 6\nline 1.0.0.1/32 101.0.0.1/32 5 6\nline 0.0.0.0/0 0.0.0.0/0 11 11\ndone\nframes 11\nskipped 0 0 0\nend\n";
 
 // Four sources of one network to one destination.
 const NETWORK: [Packet; 4] = [
@@ -85,7 +88,7 @@ const CASES: [Written; 11] = [
             "packets",
         ],
         &ELEVEN,
-        "opened 0 0\nreport\nat 6 5\ntotal 11\nthreshold 6\nline 1.0.0.1/32 101.0.0.1/32 5 6\nline 0.0.0.0/0 0.0.0.0/0 11 11\ndone\nframes 11\nskipped 0 0 0\nend\n",
+        ONE_OF_ELEVEN,
     ),
     // All sources are odd numbers.
     (
@@ -154,22 +157,22 @@ const CASES: [Written; 11] = [
 pub(crate) fn reports<R: Abort + Threads + Wait + Sync>(
     rt: &R,
     alloc: Global,
-    dealers: &Dealers,
+    handed: &Handed,
 ) -> Result<(), Fail> {
-    each_is_written(rt, alloc, dealers, &CASES)
+    each_is_written(rt, alloc, handed, &CASES)
 }
 
 // The rule answers shard 0 for each record.
 pub(crate) fn deals_to_the_first<R: Abort + Threads + Wait + Sync>(
     rt: &R,
     alloc: Global,
-    dealers: &Dealers,
+    handed: &Handed,
 ) -> Result<(), Fail> {
     let words = ["report", "--shards", "2", "--deal", "free"];
     let want =
         "opened 0 0\nreport\nat 1 0\ntotal 100\nthreshold 1\nline 10.1.2.3/32 20.1.2.3/32 100 100\ndone\nframes 1\nskipped 0 0 0\nend\n";
     let bytes = capture_of(alloc, &[ONE])?;
-    writes(rt, alloc, dealers, &words, bytes, want)
+    writes(rt, alloc, handed, &words, bytes, want)
 }
 
 // The header of a big-endian capture with timestamps in nanoseconds.
@@ -212,21 +215,21 @@ const SPELLINGS: [Spelling; 4] = [
 pub(crate) fn reads_the_four_spellings_of_the_magic<R: Abort + Threads + Wait + Sync>(
     rt: &R,
     alloc: Global,
-    dealers: &Dealers,
+    handed: &Handed,
 ) -> Result<(), Fail> {
-    each_spelling_is_read(rt, alloc, dealers, &SPELLINGS)
+    each_spelling_is_read(rt, alloc, handed, &SPELLINGS)
 }
 
 fn each_spelling_is_read<R: Abort + Threads + Wait + Sync>(
     rt: &R,
     alloc: Global,
-    dealers: &Dealers,
+    handed: &Handed,
     spellings: &[Spelling],
 ) -> Result<(), Fail> {
     let words = ["report", "--shards", "1"];
     for (big, magic) in spellings {
         let bytes = capture_by(alloc, *big, magic)?;
-        writes(rt, alloc, dealers, &words, bytes, OF_ONE)?;
+        writes(rt, alloc, handed, &words, bytes, OF_ONE)?;
     }
     Ok(())
 }
@@ -280,10 +283,10 @@ fn mixed_capture(alloc: Global) -> Result<Vec<u8>, AllocError> {
 pub(crate) fn counts_frames_without_a_record<R: Abort + Threads + Wait + Sync>(
     rt: &R,
     alloc: Global,
-    dealers: &Dealers,
+    handed: &Handed,
 ) -> Result<(), Fail> {
     let words = ["report", "--shards", "1"];
     let want =
         "opened 0\nreport\nat 3\ntotal 300\nthreshold 3\nline 10.1.2.3/32 20.1.2.3/32 300 300\ndone\nframes 8\nskipped 3 1 1\nend\n";
-    writes(rt, alloc, dealers, &words, mixed_capture(alloc)?, want)
+    writes(rt, alloc, handed, &words, mixed_capture(alloc)?, want)
 }

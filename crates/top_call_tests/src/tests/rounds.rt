@@ -3,7 +3,6 @@
 use super::endings::compare;
 use super::gates::{Meeting, RollCall, Turnstile};
 use super::reports::ELEVEN;
-use deal_rules::Dealers;
 use gate_workers::Gate;
 use hhh_engine::Status;
 use std::alloc::{AllocError, Global};
@@ -13,7 +12,7 @@ use std::str;
 use std::sync::Wait;
 use std::test::Fail;
 use std::thread::Threads;
-use test_runs::{Ended, ONE, Outside, Packet, SOUND, capture_of, run_gated, run_over};
+use test_runs::{Ended, Handed, ONE, Outside, Packet, SOUND, capture_of, run_gated, run_over};
 
 // The positions of all reports of a session, in their order.
 fn positions_in<'a>(alloc: Global, text: &'a [u8]) -> Result<Vec<&'a str>, AllocError> {
@@ -38,10 +37,10 @@ const IN_ROUNDS: [&str; 5] = [
 pub(crate) fn reports_in_rounds<R: Abort + Threads + Wait + Sync>(
     rt: &R,
     alloc: Global,
-    dealers: &Dealers,
+    handed: &Handed,
 ) -> Result<(), Fail> {
     let bytes = capture_of(alloc, &[ONE])?;
-    let ended = run_over(rt, alloc, dealers, &IN_ROUNDS, bytes, SOUND)?;
+    let ended = run_over(rt, alloc, handed, &IN_ROUNDS, bytes, SOUND)?;
     assert_eq!(rt; ended.status, Status::Done);
     has_ten_reports(rt, alloc, &ended.text)?;
     let last =
@@ -73,15 +72,15 @@ const FAULTS: [Fault; 3] = [(&[0], ""), (&[1], "opened 0\n"), (&[1, 3], "opened 
 pub(crate) fn ends_at_the_first_fault<R: Abort + Threads + Wait + Sync>(
     rt: &R,
     alloc: Global,
-    dealers: &Dealers,
+    handed: &Handed,
 ) -> Result<(), Fail> {
-    each_fault_ends_it(rt, alloc, dealers, &FAULTS)
+    each_fault_ends_it(rt, alloc, handed, &FAULTS)
 }
 
 fn each_fault_ends_it<R: Abort + Threads + Wait + Sync>(
     rt: &R,
     alloc: Global,
-    dealers: &Dealers,
+    handed: &Handed,
     faults: &[Fault],
 ) -> Result<(), Fail> {
     for (fails, text) in faults {
@@ -90,7 +89,7 @@ fn each_fault_ends_it<R: Abort + Threads + Wait + Sync>(
             ..SOUND
         };
         let bytes = capture_of(alloc, &[ONE])?;
-        let ended = run_over(rt, alloc, dealers, &IN_ROUNDS, bytes, outside)?;
+        let ended = run_over(rt, alloc, handed, &IN_ROUNDS, bytes, outside)?;
         compare(rt, ended, Status::WriteFault, text.as_bytes());
     }
     Ok(())
@@ -100,13 +99,13 @@ fn each_fault_ends_it<R: Abort + Threads + Wait + Sync>(
 fn run_by<R: Threads + Wait + Sync, G: Gate + Sync>(
     rt: &R,
     alloc: Global,
-    dealers: &Dealers,
+    handed: &Handed,
     words: &[&str],
     packets: &[Packet],
     gate: &G,
 ) -> Result<Ended, AllocError> {
     let bytes = capture_of(alloc, packets)?;
-    run_gated(rt, alloc, dealers, words, bytes, SOUND, gate)
+    run_gated(rt, alloc, handed, words, bytes, SOUND, gate)
 }
 
 const TWO_WORKERS: [&str; 9] = [
@@ -125,10 +124,10 @@ const TWO_WORKERS: [&str; 9] = [
 pub(crate) fn two_workers_feed_at_once<R: Abort + Threads + Wait + Sync>(
     rt: &R,
     alloc: Global,
-    dealers: &Dealers,
+    handed: &Handed,
 ) -> Result<(), Fail> {
     let gate = Meeting::new();
-    let ended = run_by(rt, alloc, dealers, &TWO_WORKERS, &ELEVEN, &gate)?;
+    let ended = run_by(rt, alloc, handed, &TWO_WORKERS, &ELEVEN, &gate)?;
     assert_eq!(rt; gate.missed(), 0);
     assert_eq!(rt; ended.status, Status::Done);
     let last =
@@ -154,19 +153,19 @@ const FOLDED: [Folded; 8] = [
 pub(crate) fn a_round_reads_what_was_folded<R: Abort + Threads + Wait + Sync>(
     rt: &R,
     alloc: Global,
-    dealers: &Dealers,
+    handed: &Handed,
 ) -> Result<(), Fail> {
-    each_round_reads(rt, alloc, dealers, &FOLDED)
+    each_round_reads(rt, alloc, handed, &FOLDED)
 }
 
 fn each_round_reads<R: Abort + Threads + Wait + Sync>(
     rt: &R,
     alloc: Global,
-    dealers: &Dealers,
+    handed: &Handed,
     cases: &[Folded],
 ) -> Result<(), Fail> {
     for (folds, at) in cases {
-        reads_after(rt, alloc, dealers, *folds, at)?;
+        reads_after(rt, alloc, handed, *folds, at)?;
     }
     Ok(())
 }
@@ -184,12 +183,12 @@ const ONE_WORKER: [&str; 6] = [
 fn reads_after<R: Abort + Threads + Wait + Sync>(
     rt: &R,
     alloc: Global,
-    dealers: &Dealers,
+    handed: &Handed,
     folds: u64,
     at: &str,
 ) -> Result<(), Fail> {
     let gate = Turnstile::after(folds);
-    let ended = run_by(rt, alloc, dealers, &ONE_WORKER, &[ONE; 8], &gate)?;
+    let ended = run_by(rt, alloc, handed, &ONE_WORKER, &[ONE; 8], &gate)?;
     assert_eq!(rt; gate.missed(), 0);
     assert_eq!(rt; ended.status, Status::Done);
     are_the_positions(rt, alloc, &ended.text, &[at, at, "8"])
@@ -219,9 +218,9 @@ const THREE_WORKERS: [&str; 6] = [
 pub(crate) fn each_thread_has_its_number<R: Abort + Threads + Wait + Sync>(
     rt: &R,
     alloc: Global,
-    dealers: &Dealers,
+    handed: &Handed,
 ) -> Result<(), Fail> {
-    let text = text_of_three(rt, alloc, dealers)?;
+    let text = text_of_three(rt, alloc, handed)?;
     let positions = ["2 2 2", "2 2 2", "4 4 4", "5 5 5"];
     are_the_positions(rt, alloc, &text, &positions)
 }
@@ -230,10 +229,10 @@ pub(crate) fn each_thread_has_its_number<R: Abort + Threads + Wait + Sync>(
 fn text_of_three<R: Abort + Threads + Wait + Sync>(
     rt: &R,
     alloc: Global,
-    dealers: &Dealers,
+    handed: &Handed,
 ) -> Result<Vec<u8>, Fail> {
     let gate = RollCall::new();
-    let ended = run_by(rt, alloc, dealers, &THREE_WORKERS, &[ONE; 15], &gate)?;
+    let ended = run_by(rt, alloc, handed, &THREE_WORKERS, &[ONE; 15], &gate)?;
     assert_eq!(rt; gate.missed(), 0);
     assert_eq!(rt; ended.status, Status::Done);
     assert_eq!(rt; gate.other_folds(), 0);

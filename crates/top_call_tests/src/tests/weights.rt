@@ -1,7 +1,6 @@
 //! What `weigh` writes.
 
 use super::endings::{Written, compare, each_is_written, run_with};
-use deal_rules::Dealers;
 use hhh_engine::Status;
 use outside_io::{MemorySink, MemorySource};
 use pcap_frames::{CaptureFault, FaultKind};
@@ -11,7 +10,7 @@ use std::process::Abort;
 use std::sync::Wait;
 use std::test::Fail;
 use std::thread::Threads;
-use test_runs::{Ended, HEADER, ONE, SOUND, run_over};
+use test_runs::{Ended, HEADER, Handed, ONE, SOUND, run_over};
 
 const CASES: [Written; 6] = [
     (
@@ -49,9 +48,9 @@ const CASES: [Written; 6] = [
 pub(crate) fn weighs_prefixes<R: Abort + Threads + Wait + Sync>(
     rt: &R,
     alloc: Global,
-    dealers: &Dealers,
+    handed: &Handed,
 ) -> Result<(), Fail> {
-    each_is_written(rt, alloc, dealers, &CASES)
+    each_is_written(rt, alloc, handed, &CASES)
 }
 
 const ALL: [&str; 3] = ["weigh", "0.0.0.0/0", "0.0.0.0/0"];
@@ -71,21 +70,21 @@ fn long_capture(alloc: Global, captured: u32) -> Result<Vec<u8>, AllocError> {
 fn weigh_all<R: Threads + Wait + Sync>(
     rt: &R,
     alloc: Global,
-    dealers: &Dealers,
+    handed: &Handed,
     bytes: Vec<u8>,
 ) -> Result<Ended, AllocError> {
     let mut source = MemorySource::new(bytes, Vec::new(alloc), 4096);
     let mut text = MemorySource::new(Vec::new(alloc), Vec::new(alloc), 64);
     let mut sink = MemorySink::with_room(alloc, 4096, Vec::new(alloc))?;
-    run_with(rt, alloc, dealers, &ALL, &mut source, &mut text, &mut sink)
+    run_with(rt, alloc, handed, &ALL, &mut source, &mut text, &mut sink)
 }
 
 pub(crate) fn weighs_the_longest_frame<R: Abort + Threads + Wait + Sync>(
     rt: &R,
     alloc: Global,
-    dealers: &Dealers,
+    handed: &Handed,
 ) -> Result<(), Fail> {
-    let ended = weigh_all(rt, alloc, dealers, long_capture(alloc, 262_144)?)?;
+    let ended = weigh_all(rt, alloc, handed, long_capture(alloc, 262_144)?)?;
     let text = b"low 262144\nhigh 262144\ntotal 262144\n";
     compare(rt, ended, Status::Done, text);
     let fault = CaptureFault {
@@ -93,7 +92,7 @@ pub(crate) fn weighs_the_longest_frame<R: Abort + Threads + Wait + Sync>(
         place: 24,
     };
     let bytes = long_capture(alloc, 262_145)?;
-    let ended = run_over(rt, alloc, dealers, &ALL, bytes, SOUND)?;
+    let ended = run_over(rt, alloc, handed, &ALL, bytes, SOUND)?;
     assert_eq!(rt; ended.status, Status::BadCapture(fault));
     Ok(())
 }

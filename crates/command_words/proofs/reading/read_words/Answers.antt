@@ -1,6 +1,5 @@
 -- Words have one meaning, so what is read soundly is read exactly.
 use Rattle.std.proofs.lemmas.Result.{IfOk-weaker}
-use Rattle.prefix_lattice.specs.declared.grain.Grain.TheVariants.{Byte}
 use Rattle.command_words.specs.Arguments.{argument_texts}
 use Rattle.command_words.specs.Command.{AskForCommand, IsLimitedCommand}
 use Rattle.command_words.proofs.LimitLemmas.{asked_command_is_in_limits}
@@ -12,9 +11,9 @@ pub returns-clause-complete : goal.returns-clause-complete
 returns-clause-complete c =
     let law = c.prefix_texts_have_one_reading.ensures in
     let reading : PrefixHasOneMeaning = record {
-      one_prefix = law.one_prefix Byte;
-      no_fault = law.no_fault Byte;
-      one_fault = law.one_fault Byte;
+      one_prefix = law.one_prefix;
+      no_fault = law.no_fault;
+      one_fault = law.one_fault;
     } in
     asked_command_meaning_is_read reading (argument_texts c.args.words.now) c.command_in.result c.command_in.ensures.ok c.command_in.ensures.bad
 
@@ -22,9 +21,9 @@ pub returns-clause-exact : goal.returns-clause-exact
 returns-clause-exact c =
     let law = c.prefix_texts_have_one_reading.ensures in
     let reading : PrefixHasOneMeaning = record {
-      one_prefix = law.one_prefix Byte;
-      no_fault = law.no_fault Byte;
-      one_fault = law.one_fault Byte;
+      one_prefix = law.one_prefix;
+      no_fault = law.no_fault;
+      one_fault = law.one_fault;
     } in
     faulty_meaning_is_always_told reading (argument_texts c.args.words.now) c.command_in.result
     (IfOk-weaker c.command_in.result (AskForCommand (argument_texts c.args.words.now)) _ (λ asked asks. (asked, asks))

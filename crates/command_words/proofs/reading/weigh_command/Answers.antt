@@ -1,10 +1,8 @@
 -- What `clap` found for SRC and DST are the two sides that the words give.
-use Rattle.std.proofs.Common.{refl}
 use Rattle.std.proofs.lemmas.Result.{err_from_is_err_and}
-use Rattle.command_words.specs.Command.{HasSides}
 use Rattle.command_words.specs.declared.command_word.CommandWord.TheVariants.{Weigh}
 use Rattle.command_words.proofs.MatchLemmas.{matches_tell_sides, match_told_is_found, matches_tell_settings}
-use Rattle.command_words.proofs.MatchLemmas.{matches_tell_fault, matches_found_are_sides}
+use Rattle.command_words.proofs.MatchLemmas.{matches_tell_fault, matches_found_are_sides, matches_tell_bad_prefix}
 use Rattle.command_words.proofs.reading.weigh_command.Goals as goal
 
 pub unwrap-source-requires : goal.unwrap-source-requires
@@ -19,46 +17,42 @@ unwrap-dest-requires c =
     let told = matches_tell_sides tells.arguments c.args.matches.now tells.are_words.well_formed.of_form.as_many tells.told in
     match_told_is_found c.get_str-2.result _ told.second c.get_str-2.ensures told.second_told
 
-pub returns-in-Err-clause-err : goal.returns-in-Err-clause-err
-returns-in-Err-clause-err c = λ words tells. record {
-  arguments = tells.arguments;
-  are_words = tells.are_words;
-  source = c.as_bytes.result.now;
-  dest = c.as_bytes-2.result.now;
-  sides =
-      matches_found_are_sides words c.args.matches.now tells c.get_str.result c.get_str-2.result c.unwrap-source.result
-      c.unwrap-dest.result c.get_str.ensures c.get_str-2.ensures c.unwrap-source.ensures
-      c.unwrap-dest.ensures _ _ c.as_bytes.ensures.value c.as_bytes-2.ensures.value;
-  has_fault = (c.in-Err.ensures.fault c.in-Err.fault).0 refl;
-}
+pub returns-in_err-prefix-clause-err : goal.returns-in_err-prefix-clause-err
+returns-in_err-prefix-clause-err c = λ words tells.
+    let p = err_from_is_err_and c.from_residual.result c.from_residual.ensures.1 in
+    rw (p.1, p.2)
+    (matches_tell_bad_prefix words Weigh c.args.matches.now tells c.unwrap-source.result.now c.unwrap-dest.result.now
+    c.in_err-prefix.field-0.0
+    (matches_found_are_sides words c.args.matches.now tells c.get_str.result c.get_str-2.result c.unwrap-source.result
+    c.unwrap-dest.result c.get_str.ensures c.get_str-2.ensures c.unwrap-source.ensures c.unwrap-dest.ensures)
+    c.in_err-prefix.ensures.err)
 
 pub returns-in_err-settings-clause-err : goal.returns-in_err-settings-clause-err
 returns-in_err-settings-clause-err c = λ words tells.
-    let sides : HasSides tells.arguments c.as_bytes.result.now c.as_bytes-2.result.now =
-    matches_found_are_sides words c.args.matches.now tells c.get_str.result c.get_str-2.result c.unwrap-source.result
-    c.unwrap-dest.result c.get_str.ensures c.get_str-2.ensures
-    c.unwrap-source.ensures c.unwrap-dest.ensures _ _ c.as_bytes.ensures.value c.as_bytes-2.ensures.value in
-    let p = err_from_is_err_and c.from_residual.result c.from_residual.ensures.1 in
+    let p = err_from_is_err_and c.from_residual-in_err-settings.result c.from_residual-in_err-settings.ensures.1 in
     rw (p.1, p.2)
-    (matches_tell_fault words Weigh c.args.matches.now tells c.in_err-settings.field-0.0 (
-      c.as_bytes.result.now,
-      c.as_bytes-2.result.now,
-      sides,
-      (c.in-Ok.prefix, (c.in-Ok.ensures.ok c.in-Ok.prefix).0 refl),
-    )
+    (matches_tell_fault words Weigh c.args.matches.now tells c.in_err-settings.field-0.0
+    (record {
+      source = c.unwrap-source.result.now;
+      dest = c.unwrap-dest.result.now;
+      sides =
+          matches_found_are_sides words c.args.matches.now tells c.get_str.result c.get_str-2.result c.unwrap-source.result
+          c.unwrap-dest.result c.get_str.ensures c.get_str-2.ensures c.unwrap-source.ensures c.unwrap-dest.ensures;
+      prefix = c.in_ok-prefix.prefix;
+      spelled = c.in_ok-prefix.ensures.ok;
+    })
     c.in_err-settings.ensures.err)
 
 pub returns-clause-ok : goal.returns-clause-ok
 returns-clause-ok c = λ words tells. record {
   arguments = tells.arguments;
   are_words = tells.are_words;
-  source = c.as_bytes.result.now;
-  dest = c.as_bytes-2.result.now;
+  source = c.unwrap-source.result.now;
+  dest = c.unwrap-dest.result.now;
   sides =
       matches_found_are_sides words c.args.matches.now tells c.get_str.result c.get_str-2.result c.unwrap-source.result
-      c.unwrap-dest.result c.get_str.ensures c.get_str-2.ensures c.unwrap-source.ensures
-      c.unwrap-dest.ensures _ _ c.as_bytes.ensures.value c.as_bytes-2.ensures.value;
-  spelled = (c.in-Ok.ensures.ok c.in-Ok.prefix).0 refl;
+      c.unwrap-dest.result c.get_str.ensures c.get_str-2.ensures c.unwrap-source.ensures c.unwrap-dest.ensures;
+  spelled = c.in_ok-prefix.ensures.ok;
   set =
       matches_tell_settings Weigh tells.arguments c.args.matches.now c.in_ok-settings.settings tells.told
       c.in_ok-settings.ensures.ok;

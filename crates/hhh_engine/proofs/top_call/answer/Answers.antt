@@ -1,12 +1,13 @@
 use Rattle.std.proofs.Common.{[], refl}
 use Rattle.std.proofs.KnownBytes.{Consumes-nil}
-use Rattle.command_words.specs.declared.command.Command.TheVariants.{Weigh, Report, Format, Audit, Make, Demo}
-use Rattle.hhh_engine.specs.Tasks.{made_task, report_task, weigh_task}
+use Rattle.command_words.specs.declared.command.Command.TheVariants.{Weigh, Report, Format, Audit, Watch, Make, Demo}
+use Rattle.hhh_engine.specs.Tasks.{made_task, report_task, watch_task, weigh_task}
+use Rattle.hhh_engine.specs.Inputs.{inputs}
 use Rattle.hhh_engine.specs.TopCall.{streams}
 use Rattle.report_session.specs.{IsAsBefore-untouched}
 use Rattle.hhh_engine.proofs.AuditEndLemmas.{audit_ends_as}
 use Rattle.hhh_engine.proofs.ReadOrderLemmas.{read_order_of_capture_alone, read_order_of_neither}
-use Rattle.hhh_engine.proofs.ReadOrderLemmas.{read_order_of_variant}
+use Rattle.hhh_engine.proofs.ReadOrderLemmas.{read_order_of_text_alone, read_order_of_variant}
 use Rattle.hhh_engine.proofs.StatusLemmas.{status_as_named_command, status_beside_disk}
 use Rattle.hhh_engine.proofs.top_call.answer.Goals as goal
 
@@ -30,13 +31,20 @@ returns-in-Format-clause-ends g c =
 
 pub returns-in-Audit-clause-ends : goal.returns-in-Audit-clause-ends
 returns-in-Audit-clause-ends g c =
-    status_as_named_command g.S.Source g.T.Source g.K.Sink g.D.Disk _ _ _ c.args.command.now (Audit c.in-Audit.settings)
-    c.audit.result c.in-Audit.is
-    (audit_ends_as g.S.Source g.T.Source g.K.Sink g.D.Disk
+    audit_ends_as g.S.Source g.T.Source g.K.Sink g.D.Disk
     (streams c.args.capture.now c.args.text.now c.args.sink.now c.args.disk.now)
-    (streams c.audit.new.capture c.audit.new.text c.audit.new.sink c.args.disk.now) _ c.in-Audit.settings c.audit.result refl
-    (IsAsBefore-untouched g.D.Disk c.args.disk.now c.args.disk.now g.met.D.Disk.only_now refl)
-    (c.audit.ensures.ends (g.D.Disk.reads c.args.disk.now)))
+    (streams c.audit.new.capture c.audit.new.text c.audit.new.sink c.args.disk.now) _ c.args.command.now c.in-Audit.settings c.audit.result
+    c.in-Audit.is refl (IsAsBefore-untouched g.D.Disk c.args.disk.now c.args.disk.now g.met.D.Disk.only_now refl)
+    (c.audit.ensures.ends (g.D.Disk.reads c.args.disk.now))
+
+pub returns-in-Watch-clause-ends : goal.returns-in-Watch-clause-ends
+returns-in-Watch-clause-ends g c =
+    status_as_named_command g.S.Source g.T.Source g.K.Sink g.D.Disk _ _ _ c.args.command.now (Watch c.in-Watch.rule c.in-Watch.grain)
+    c.watch.result c.in-Watch.is
+    (status_beside_disk (watch_task c.in-Watch.rule c.in-Watch.grain _ (inputs (g.S.Source.left c.args.capture.now)
+    (g.S.Source.left c.args.capture.now) (g.T.Source.left c.args.text.now) (g.T.Source.left c.watch.new.text) (g.D.Disk.reads c.args.disk.now)))
+    _ _ _ c.watch.result (λ failed. failed) refl
+    (IsAsBefore-untouched g.D.Disk c.args.disk.now c.args.disk.now g.met.D.Disk.only_now refl) (c.watch.ensures.ends _ _ _ _))
 
 pub returns-in-Make-clause-ends : goal.returns-in-Make-clause-ends
 returns-in-Make-clause-ends g c =
@@ -79,6 +87,14 @@ returns-in-Audit-clause-order g c =
     read_order_of_variant c.args.command.now (Audit c.in-Audit.settings) _ _ _ _ _ c.audit.result c.in-Audit.is
     (c.audit.ensures.order (g.D.Disk.reads c.args.disk.now))
 
+pub returns-in-Watch-clause-order : goal.returns-in-Watch-clause-order
+returns-in-Watch-clause-order g c =
+    read_order_of_variant c.args.command.now (Watch c.in-Watch.rule c.in-Watch.grain) _ _ _ _ _ c.watch.result c.in-Watch.is
+    (read_order_of_text_alone (watch_task c.in-Watch.rule c.in-Watch.grain _ (inputs (g.S.Source.left c.args.capture.now)
+    (g.S.Source.left c.args.capture.now) (g.T.Source.left c.args.text.now) (g.T.Source.left c.watch.new.text) (g.D.Disk.reads c.args.disk.now)))
+    g.K.Sink (g.S.Source.left c.args.capture.now) _ _ _ _ _ _ _ _ _ _ (λ none. none) (tt, tt) c.watch.result c.watch.ensures.no_capture
+    (c.watch.ensures.ends _ _ _ 0))
+
 pub returns-in-Make-clause-order : goal.returns-in-Make-clause-order
 returns-in-Make-clause-order g c =
     read_order_of_variant c.args.command.now (Make c.in-Make.seed c.in-Make.frames) _ _ _ _ _ c.make.result c.in-Make.is
@@ -113,6 +129,9 @@ returns-in-Demo-clause-fronts g c = (
   ([], Consumes-nil (g.S.Source.left c.args.capture.now)),
   ([], Consumes-nil (g.T.Source.left c.args.text.now)),
 )
+
+pub returns-in-Watch-clause-fronts : goal.returns-in-Watch-clause-fronts
+returns-in-Watch-clause-fronts g c = (([], Consumes-nil (g.S.Source.left c.args.capture.now)), c.watch.ensures.front)
 
 pub returns-in-Audit-clause-fronts : goal.returns-in-Audit-clause-fronts
 returns-in-Audit-clause-fronts g c = (c.audit.ensures.capture_front, c.audit.ensures.text_front)

@@ -4,6 +4,7 @@ use Rattle.std.proofs.lemmas.Result.{err_from_is_err_and}
 use Rattle.frame_records.specs.{FileGives}
 use Rattle.report_text.specs.{HasReadFault}
 use Rattle.dealt_capture.specs.{IsCaptureFile}
+use Rattle.hhh_engine.specs.Inputs.{inputs}
 use Rattle.hhh_engine.proofs.AuditEndLemmas.{audit_ends_at_refused_text}
 use Rattle.hhh_engine.proofs.CaptureReportLemmas.{capture_report_if_known}
 use Rattle.hhh_engine.proofs.ReadOrderLemmas.{read_order_without_text}
@@ -18,7 +19,7 @@ returns-in_err-session-clause-refused g c = λ store.
     let fault = c.in_err-session.field-0.0 in
     let p = err_from_is_err_and c.from_residual-in_err-session.result c.from_residual-in_err-session.ensures.1 in
     rw (p.1, p.2)
-    (audit_ends_at_refused_text c.args.settings.now left _ (g.T.Source.left c.args.text.now) _ store _ _ bytes fault c.in_ok-records.ensures.at_end
+    (audit_ends_at_refused_text c.args.settings.now (inputs left _ (g.T.Source.left c.args.text.now) _ store) _ _ bytes fault c.in_ok-records.ensures.at_end
     (capture_report_if_known left (λ file. FileGives c.args.settings.now.front file records.frames c.in_ok-records.records.cut)
     (IsCaptureFile c.args.settings.now.front) (λ file gives. (records.frames, c.in_ok-records.records.cut, gives)) records.told)
     c.in_ok-bytes.ensures.consumed c.in_ok-bytes.ensures.limit c.in_ok-bytes.ensures.at_end

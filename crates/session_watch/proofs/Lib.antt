@@ -1,0 +1,3 @@
+pub mod WatchTextLemmas
+pub mod HeavyAlarmLemmas
+pub mod Examples
