@@ -1,4 +1,4 @@
-//! Tests of stores: of their disk and slots, of what they hold, and of how they are opened.
+//! Tests of stores: of their disk and slots, of what they hold, of how they are opened, and of the report of several.
 #![tactic(auto)]
 
 #[cfg(test)]

@@ -36,10 +36,10 @@ const OTHER_OLD_DIGEST: [u8; 32] = [
 ];
 
 // The last sequence that is opened: 64 below the last.
-const LAST_OPENED: u64 = 0x3fff_ffff_ffff_ffc0;
+pub(super) const LAST_OPENED: u64 = 0x3fff_ffff_ffff_ffc0;
 
 // The body of a cut of `count` records, with tables of two entries.
-fn body_of(
+pub(super) fn body_of(
     alloc: Global,
     sequence: u64,
     digest: &[u8; 32],
@@ -55,7 +55,12 @@ fn body_of(
 }
 
 // A store with these gates and bodies, whose tables have two entries: the bodies are 1,556 bytes apart.
-fn store_of(alloc: Global, gates: [u8; 2], first: &[u8], second: &[u8]) -> Result<Vec<u8>, Fail> {
+pub(super) fn store_of(
+    alloc: Global,
+    gates: [u8; 2],
+    first: &[u8],
+    second: &[u8],
+) -> Result<Vec<u8>, Fail> {
     let header = header_of(&SMALLEST);
     let mut bytes = gates.to_vec(alloc)?;
     bytes.extend_from_slice(&header)?;
@@ -159,32 +164,33 @@ fn small_digest(alloc: Global, count: usize) -> Result<[u8; 32], Fail>
     Ok(digest_of(&dealt, &header_of(&SMALLEST)))
 }
 
-// Opens a new store, saves a cut of the dealt packet, and gives the digest of the saver.
-fn save_first<D: Disk>(
+// Opens a new store, saves a cut of one dealt packet, and gives the digest of the saver.
+pub(super) fn save_first<D: Disk>(
     alloc: Global,
     disk: &mut D,
     settings: &StoreSettings,
+    rec: Record,
 ) -> Result<[u8; 32], Fail>
     requires settings { AreSettings settings.now }
     requires shards { settings.now.shards ≡ 1 }
     requires capacity { settings.now.capacity ≡ 512 }
     requires grain { settings.now.grain ≡ Byte }
 {
-    let dealt = dealt_of(alloc, PACKET, 1)?;
+    let dealt = dealt_of(alloc, rec, 1)?;
     let opened = reopen(alloc, disk, settings, &dealt)?;
     if opened.base.is_some() {
         return Err("a base".into());
     }
-    let cut = cut_of(alloc, records(alloc, PACKET, 1)?, 512)?;
+    let cut = cut_of(alloc, records(alloc, rec, 1)?, 512)?;
     let saver = opened.saver.save(alloc, disk, &cut)?;
     Ok(*saver.digest())
 }
 
 // The bytes of a store that the dealt packet was saved into.
-fn saved_image(alloc: Global) -> Result<Vec<u8>, Fail> {
+pub(super) fn saved_image(alloc: Global) -> Result<Vec<u8>, Fail> {
     let mut disk = disk_of(alloc, Vec::new(alloc), None, &[])?;
     format(&mut disk, &header_of(&ONE_SHARD))?;
-    if save_first(alloc, &mut disk, &ONE_SHARD)? != DIGEST {
+    if save_first(alloc, &mut disk, &ONE_SHARD, PACKET)? != DIGEST {
         return Err("another digest".into());
     }
     Ok(disk.crash(alloc, 0)?)
@@ -212,7 +218,7 @@ fn a_left_store_is_opened(alloc: Global) -> Result<bool, Fail> {
 }
 
 // Two closed gates, and the header of the first version of one shard of capacity 512.
-const OLD_STORE: [u8; 64] = [
+pub(super) const OLD_STORE: [u8; 64] = [
     0, 0, 0x48, 0x48, 0x48, 0x53, 1, 1, 2, 0, 0, 0, 0, 0, 0, 0, 0, 0, 0, 0, 0, 0, 0, 0, 0, 0, 0, 0,
     0, 0, 0, 0, 0, 0, 0, 0, 0, 0, 0, 0, 0, 0, 0, 0, 0, 0, 0, 0, 0, 0, 0, 0, 0, 0, 0, 0, 0, 0, 0, 0,
     0, 0, 0, 0,
@@ -255,9 +261,9 @@ fn an_old_store_keeps_its_header(alloc: Global) -> Result<bool, Fail> {
 }
 
 // The bytes of a store of the first version that the dealt packet was saved into.
-fn saved_old_image(alloc: Global) -> Result<Vec<u8>, Fail> {
+pub(super) fn saved_old_image(alloc: Global) -> Result<Vec<u8>, Fail> {
     let mut disk = disk_of(alloc, OLD_STORE.to_vec(alloc)?, None, &[])?;
-    if save_first(alloc, &mut disk, &ONE_SHARD)? != OLD_DIGEST {
+    if save_first(alloc, &mut disk, &ONE_SHARD, PACKET)? != OLD_DIGEST {
         return Err("another digest".into());
     }
     Ok(disk.crash(alloc, 0)?)
@@ -328,9 +334,9 @@ fn half_store(alloc: Global, version: u8, grain: u8) -> Result<Vec<u8>, AllocErr
 }
 
 // The gates of a store, and the slot that is damaged.
-type Gates = ([u8; 2], u8);
+pub(super) type Gates = ([u8; 2], u8);
 
-const OPEN_GATES: [Gates; 3] = [([1, 0], 0), ([0, 1], 1), ([1, 1], 0)];
+pub(super) const OPEN_GATES: [Gates; 3] = [([1, 0], 0), ([0, 1], 1), ([1, 1], 0)];
 
 // A gate is open, and no body is under it.
 #[test]
@@ -485,7 +491,7 @@ fn each_call_of_the_disk_may_fail(rt: HostRuntime) -> Result<(), Fail> {
 }
 
 // A store whose slot 0 holds a cut of the packet.
-fn saved_store(alloc: Global) -> Result<Vec<u8>, Fail> {
+pub(super) fn saved_store(alloc: Global) -> Result<Vec<u8>, Fail> {
     let digest = small_digest(alloc, 1)?;
     let body = body_of(alloc, 1, &digest, PACKET, 1)?;
     store_of(alloc, [1, 0], &body, &[])

@@ -1,0 +1,11 @@
+pub mod MarkLemmas
+pub mod LeftDiskLemmas
+pub mod PutShardLemmas
+pub mod TakenLemmas
+pub mod ReadSiteLemmas
+pub mod SiteCutLemmas
+pub mod DecidedSiteLemmas
+pub mod SiteWordLemmas
+pub mod SitePositionLemmas
+pub mod SiteEndLemmas
+pub mod SiteTextLemmas
