@@ -16,11 +16,6 @@ trap 'rm -rf "$work"' EXIT
 
 program=$("$here/build_program.sh" "$work" board none 1 0 2 0)
 
-# The instructions of one run: WORD...
-instructions() {
-    valgrind --tool=callgrind --callgrind-out-file=/dev/null "$program" "$@" 2>&1 | sed -n 's/.*Collected : //p'
-}
-
 for capacity in 512 4096; do
     reads=$((512 * 400 / capacity))
     for mode in none plain board; do
@@ -30,9 +25,9 @@ for capacity in 512 4096; do
     times=$(python3 "$here/least_times.py" "$turns" <"$work/commands")
     counts=$(
         for mode in none plain board; do
-            instructions $mode 4 100000 $capacity 0
+            "$here/instructions.sh" "$program" $mode 4 100000 $capacity 0
         done
-        instructions board 4 100000 $capacity 10
+        "$here/instructions.sh" "$program" board 4 100000 $capacity 10
     )
     echo $times $counts | awk -v capacity=$capacity -v reads=$reads '{
         plain = $2 - $1

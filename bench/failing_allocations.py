@@ -1,9 +1,10 @@
 #!/usr/bin/env python3
 """Lets each allocation of command lines fail in turn: failing_allocations.py PROGRAM CAPTURE [MOST] [SEED]
 
-Compiles `failing_malloc.c`, which stands before the system's malloc, and counts the calls for memory of twelve command lines
-over the capture. Then it runs each once for each call with that call failing, and once with that one and all later ones
-failing; where there are more than MOST calls (1,000 unless given), for so many of them that are drawn. A run must end
+Compiles `failing_malloc.c`, which stands before the system's malloc, and counts the calls for memory of fourteen command
+lines over the capture, one of them with its frames in a pcapng one of many interfaces. Then it runs each once for each
+call with that call failing, and once with that one and all later ones failing; where there are more than MOST calls
+(1,000 unless given), for so many of them that are drawn. A run must end
 
 - as it does where nothing fails, with the same text and the same line or none; of a session whose rounds vary, with a good
   audit and its last report; or
@@ -23,6 +24,8 @@ import tempfile
 from collections import Counter
 from pathlib import Path
 
+import capture_reader
+import capture_writer
 import session_text
 
 HERE = Path(__file__).resolve().parent
@@ -34,6 +37,7 @@ most, seed = int(sys.argv[3]) if sys.argv[3:] else 1000, int(sys.argv[4]) if sys
 source = random.Random(seed)
 STORE = ["--shards", "2", "--capacity", "64"]
 SHARE = ["--phi", "50000"]
+INTERFACES = 300
 
 
 def run(words, **failing):
@@ -126,7 +130,8 @@ def test(command):
 with tempfile.TemporaryDirectory() as folder:
     library, store, part = f"{folder}/failing.so", f"{folder}/store", f"{folder}/part"
     subprocess.run(["cc", "-O2", "-shared", "-fPIC", "-o", library, HERE / "failing_malloc.c"], check=True)
-    good, bad = f"{folder}/good", f"{folder}/bad"
+    good, bad, pcapng = f"{folder}/good", f"{folder}/bad", f"{folder}/pcapng"
+    Path(pcapng).write_bytes(capture_writer.section(">", capture_reader.read_file(capture).frames, [1] * INTERFACES))
     whole = run(["report", "--capture", capture, *SHARE])[1]
     Path(good).write_text(whole)
     Path(bad).write_text("".join(line for line in whole.splitlines(True) if not line.startswith("line")))
@@ -146,6 +151,8 @@ with tempfile.TemporaryDirectory() as folder:
         Line("format", "--store", store, *STORE, before=saved),
         Line("audit", "--capture", capture, "--report", good, *SHARE),
         Line("audit", "--capture", capture, "--report", bad, *SHARE),
+        Line("weigh", "10.0.0.0/8", "0.0.0.0/0", "--capture", pcapng),
+        Line("watch", "--report", good, "--limit", "1000"),
         Line("make", "7", "2000"),
         Line("demo", "7", "2000", "--workers", "2"),
         Line("report", "--shards", "17"),

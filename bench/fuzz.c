@@ -49,19 +49,19 @@ static const struct kind {
     const char *name, *rules[MOST_RULES];
 } kinds[KINDS] = {
     {"captures",
-        {"taken", "taken up to a cut frame", "not a capture", "version", "link", "short header", "long frame",
-            "cut frame"}},
+        {"taken", "taken up to a cut", "not a capture", "version", "link", "short header", "long frame",
+            "cut frame", "byte order", "block", "block tail", "interface", "cut block"}},
     {"texts",
         {"good", "bad positions", "bad total", "bad threshold", "bad interval", "too wide", "below threshold",
             "not justified", "left out", "bad line", "no end", "not a capture", "version", "link", "short header",
-            "long frame", "cut frame"}},
+            "long frame", "cut frame", "byte order", "block", "block tail", "interface", "cut block"}},
     {"stores",
         {"opened, no gate open", "opened, slot 0 newest", "opened, slot 1 newest", "not formatted", "other settings",
             "no length", "a wrong length", "too short", "a wrong sequence", "a great position", "a great total",
             "too many entries", "counts fall", "a key twice", "a great error", "a bit that isn't kept",
             "counts don't add up", "totals differ", "bytes after the last table", "another capture", "no sequence left",
             "a position past the end", "another total", "not a capture", "version", "link", "short header",
-            "long frame", "cut frame"}},
+            "long frame", "cut frame", "byte order", "block", "block tail", "interface", "cut block"}},
     {"limits", {"taken", "too many frames", "no end", "too long"}},
 };
 
@@ -405,7 +405,7 @@ static void try_capture(uint64_t number) {
     begin_input(CAPTURES, number);
     set_grain(8);
     copy_bytes(&input.capture, &captures[draw_below(capture_count)]);
-    MUTATE(&input.capture, mutations_of_captures);
+    change_capture(&input.capture);
     draw_prefix(&key, &node);
     int by_packets = one_in(8);
     input.with_front = one_in(3);
@@ -453,11 +453,13 @@ static void take_seed(const struct seed *from, struct bytes *bytes) {
         fail("the file of seeds");
 }
 
-// Takes the capture of a seed, or now and then another one, or one that is changed or cut.
+// Takes the capture of a seed, or now and then another one, or one that is changed or cut, some as pcapng captures.
 static void draw_capture(size_t number) {
     copy_bytes(&input.capture, &captures[one_in(30) ? draw_below(capture_count) : number]);
     if (one_in(30))
-        MUTATE(&input.capture, mutations_of_captures);
+        change_capture(&input.capture);
+    else if (one_in(4))
+        turn_to_pcapng(&input.capture);
     input.with_front = one_in(4);
     if (input.with_front && one_in(4))
         (one_in(2) ? cut : add_bytes)(&input.capture);

@@ -6,8 +6,9 @@
 # - `audit` of a changed session text over its capture;
 # - `report` over a changed store and its capture.
 #
-# Texts are by 8 and by 4 bits, stores of both versions and by both. Some captures are cut, and some of the runs have
-# `--front yes`, so that they take what is before the cut.
+# A third of the changed captures are pcapng ones, and a quarter of those of texts and stores. Texts are by 8 and by 4
+# bits, stores of both versions and by both. Some captures are cut, and some of the runs have `--front yes`, so that they
+# take what is before the cut.
 #
 # Status, standard output and standard error must be those that the plain reader (`plain_reader.h`) predicts by
 # docs/FORMATS.md. Of a report over a store that opens, the lines of prefixes depend on the changed tables: of these

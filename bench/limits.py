@@ -5,8 +5,9 @@ Makes a capture of 16,777,216 frames in the folder by `traffic.c`, which takes 8
 shards: with tables of two entries, so that the lists of records are nearly all; with tables of 4,096; with eight callers
 besides, of three rounds; and with a store too. Prints the time by the clock, the processor time and the peak memory of each
 under `/usr/bin/time`; an MB is 1,000,000 bytes. Then it runs `audit` over the last session, a report that goes on from
-the store, and `report` over the capture with one frame more, which must be refused with 3. The files are removed. Needs cc
-and the Debian package `time`.
+the store, and `report` over the capture with one frame more, which must be refused with 3. At last it runs `weigh` over a
+pcapng capture of 16,777,216 blocks, nearly all of them without a frame, and over one with a byte more, which must be
+refused with 3. The files are removed. Needs cc and the Debian package `time`.
 """
 
 import os
@@ -15,7 +16,9 @@ import sys
 import tempfile
 from pathlib import Path
 
+import capture_writer
 import session_text
+from capture_reader import MOST_BLOCKS
 
 HERE = Path(__file__).resolve().parent
 FRAMES = 1 << 24
@@ -41,6 +44,30 @@ def test(holds, what):
     if not holds:
         faults.append(what)
         print(what)
+
+
+def write_blocks(path):
+    """A pcapng capture of as many blocks as there may be: a section, an interface, a frame, and blocks of another type."""
+    frame = capture_writer.ethernet(capture_writer.IPV4, behind=capture_writer.ipv4(0x0A010203, 0x14010203))
+    piece, pieces = capture_writer.block("<", 5, b"") * 65536, MOST_BLOCKS // 65536
+    begin = capture_writer.section_header("<") + capture_writer.interface("<") + capture_writer.packet("<", 0, frame, 100)
+    with open(path, "wb") as out:
+        out.write(begin + piece[3 * 12:])
+        for _ in range(pieces - 1):
+            out.write(piece)
+    return os.stat(path).st_size
+
+
+def try_blocks(folder):
+    path, text = f"{folder}/blocks", f"{folder}/weight"
+    end = write_blocks(path)
+    words = ["weigh", "0.0.0.0/0", "0.0.0.0/0", "--capture", path]
+    test(timed("a pcapng capture of the most blocks", words, text) == (0, ""), "blocks: another status")
+    test(Path(text).read_text() == "low 100\nhigh 100\ntotal 100\n", "blocks: another weight")
+    with open(path, "ab") as out:
+        out.write(b"\0")
+    status, line = timed("the same with a byte more", words, text)
+    test((status, line) == (3, f"hhh: bad capture: too many blocks at {end}"), f"{status} {line}")
 
 
 with tempfile.TemporaryDirectory(dir=place) as folder:
@@ -83,5 +110,7 @@ with tempfile.TemporaryDirectory(dir=place) as folder:
     status, line = timed("one frame more", report, text)
     test((status, line) == (3, f"hhh: bad capture: too many frames at {END}") and not os.stat(text).st_size, f"{status} {line}")
     print(f"one frame more: status {status}, {line}")
-print(f"8 runs, {len(faults)} wrong")
+    os.remove(capture)
+    try_blocks(folder)
+print(f"10 runs, {len(faults)} wrong")
 sys.exit(bool(faults))

@@ -3,8 +3,9 @@
 
 usage: minutes.py start [SECONDS]    of the first start whose file this is, crates/hhh/out/logs/seconds; else of the one in
                                      build/seconds, by which the launcher reckons
-       minutes.py gate LOG           runs `rt ci --anew` at the top of the repository, which proves and tries everything,
-                                     and keeps what it prints in LOG, each line after the minutes since its start
+       minutes.py gate LOG [WORD..]  runs `rt ci` at the top of the repository, and keeps what it prints in LOG, each line
+                                     after the minutes since its start. In kits that keep what passed, such as 13f, WORD
+                                     is --anew, so that everything is proved and tried
 
 A start's rows have the seconds that a crate took by the clock and of processors, and the memory of its largest process.
 The gate's rows have seconds of processors: of a crate's proof, of its tests and the proof of the crate with them, and of
@@ -61,12 +62,12 @@ def sample_until(ended, used):
         sample(used)
 
 
-def gate(log):
+def gate(log, *words):
     used, ended = defaultdict(dict), threading.Event()
     sampling = threading.Thread(target=sample_until, args=(ended, used))
     sampling.start()
     begun, proved = time.monotonic(), {}
-    ran = subprocess.Popen(["rt", "ci", "--anew"], cwd=top, stdin=subprocess.DEVNULL, stdout=subprocess.PIPE,
+    ran = subprocess.Popen(["rt", "ci", *words], cwd=top, stdin=subprocess.DEVNULL, stdout=subprocess.PIPE,
                            stderr=subprocess.STDOUT, text=True, errors="replace")
     with open(log, "w") as kept:
         for line in ran.stdout:
@@ -87,8 +88,8 @@ def gate(log):
     return ran.wait()
 
 
-if sys.argv[1:2] == ["gate"] and len(sys.argv) == 3:
-    sys.exit(gate(sys.argv[2]))
+if sys.argv[1:2] == ["gate"] and len(sys.argv) >= 3:
+    sys.exit(gate(*sys.argv[2:]))
 elif sys.argv[1:2] == ["start"] and len(sys.argv) <= 3:
     start(Path(sys.argv[2]) if sys.argv[2:] else top / "build/seconds")
 else:

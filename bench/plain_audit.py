@@ -80,6 +80,10 @@ def side_text(address, bits):
     return ".".join(str(part) for part in address.to_bytes(4, "big")) + f"/{bits}"
 
 
+def prefix_text(prefix):
+    return f"{side_text(*prefix[:2])} {side_text(*prefix[2:])}"
+
+
 def place_in_report(prefix):
     return -(prefix[1] + prefix[3]), prefix[0], prefix[1], prefix[2]
 
@@ -130,7 +134,7 @@ def verdict_on(report, lists, capacity, phi, grain):
     missing = [prefix for prefix, weight in left.items() if weight >= report.threshold and prefix not in set(prefixes)]
     if missing:
         first = min(missing, key=place_in_report)
-        return f"left out {side_text(*first[:2])} {side_text(*first[2:])} {left[first]}"
+        return f"left out {prefix_text(first)} {left[first]}"
     return None
 
 

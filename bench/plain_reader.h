@@ -1,24 +1,15 @@
 // A plain reader beside the program's own, for `fuzz.c`: of a capture, of the text of a session and of the image of a
 // store, each as bytes in memory. It goes over them by the rules of docs/FORMATS.md, without any cleverness, and
 // predicts how a run must end: the status, what is written, and the rule by which it is so.
-#include "records.h"
+#include "capture_reader.h"
 #include "lines.h"
 #include <stdarg.h>
-#include <stdio.h>
-#include <string.h>
 
-#define MOST_FRAMES 16777216
 #define LONGEST_TEXT 268435456
 #define TABLE_OF_WEIGH 64
 #define FRONT 64
 #define BODY_FRONT 48
 #define LAST_SEQUENCE ((uint64_t)1 << 62)
-
-// Bytes that grow.
-struct bytes {
-    unsigned char *at;
-    size_t length, room;
-};
 
 // How a run must end. The output of a report over a store is that without its lines of prefixes.
 struct ending {
@@ -36,22 +27,6 @@ struct settings {
 enum { ROUND, SOURCE, FREE };
 
 static const char *const weighings[] = {"bytes", "packets"}, *const dealings[] = {"round", "source", "free"};
-
-static void make_room(struct bytes *bytes, size_t length) {
-    if (length > bytes->room) {
-        bytes->room = length < 2000 ? 4000 : 2 * length;
-        bytes->at = realloc(bytes->at, bytes->room);
-        if (!bytes->at)
-            exit(13);
-    }
-}
-
-static void append(struct bytes *bytes, const void *piece, size_t length) {
-    make_room(bytes, bytes->length + length);
-    if (length)
-        memcpy(bytes->at + bytes->length, piece, length);
-    bytes->length += length;
-}
 
 static void put(struct bytes *text, const char *form, ...) {
     size_t room = 100;
@@ -88,69 +63,6 @@ static void end_with(struct ending *ending, int status, const char *rule) {
 }
 
 // The capture.
-
-static int is_magic(const unsigned char *p) {
-    uint32_t magic = big(p);
-    return magic == 0xa1b2c3d4 || magic == 0xd4c3b2a1 || magic == 0xa1b23c4d || magic == 0x4d3cb2a1;
-}
-
-static uint32_t number_of(const unsigned char *p, int is_big) {
-    return is_big ? big(p) : little(p);
-}
-
-static int is_version(const unsigned char *p, int is_big) {
-    return is_big ? big(p) == 0x00020004 : little(p) == 0x00040002;
-}
-
-static const char *fault_of_header(const unsigned char *file, size_t length, size_t *offset) {
-    *offset = 0;
-    if (length >= 4 && !is_magic(file))
-        return "not a capture";
-    int is_big = length >= 4 && file[0] == 0xa1;
-    *offset = 4;
-    if (length >= 8 && !is_version(file + 4, is_big))
-        return "version";
-    *offset = 20;
-    if (length >= 24 && number_of(file + 20, is_big) != 1)
-        return "link";
-    *offset = length;
-    return length < 24 ? "short header" : 0;
-}
-
-// The first fault of a capture, or none. The records and the counts of its frames before that are kept.
-static const char *read_file(const unsigned char *file, size_t length, size_t *offset) {
-    count = frames = skipped_type = skipped_short = skipped_header = 0;
-    const char *fault = fault_of_header(file, length, offset);
-    if (fault)
-        return fault;
-    int is_big = file[0] == 0xa1;
-    for (size_t at = 24; at < length;) {
-        *offset = at;
-        if (frames == MOST_FRAMES)
-            return "too many frames";
-        if (length - at < 16)
-            return "cut frame";
-        uint32_t captured = number_of(file + at + 8, is_big), original = number_of(file + at + 12, is_big);
-        if (captured > LONGEST)
-            return "long frame";
-        if (length - at - 16 < captured)
-            return "cut frame";
-        decode(file + at + 16, captured, original);
-        at += 16 + captured;
-    }
-    return 0;
-}
-
-// Where the capture that is read is cut, or 0.
-static size_t cut_place;
-
-// The same, but with the front a capture is taken up to a frame that is cut.
-static const char *read_capture(const struct bytes *capture, int with_front, size_t *offset) {
-    const char *fault = read_file(capture->at, capture->length, offset);
-    int is_cut = with_front && fault && !strcmp(fault, "cut frame");
-    cut_place = is_cut ? *offset : 0;
-    return is_cut ? 0 : fault;
-}
 
 // Reads a capture. Answers whether it is taken; if not, the run ends with that.
 static int is_read(const struct bytes *capture, int with_front, struct ending *ending) {
@@ -221,7 +133,7 @@ static void predict_weigh(const struct bytes *capture, int with_front, int by_pa
     uint64_t low = has_entry ? high - table[place].error : 0;
     put(&ending->output, "low %llu\nhigh %llu\ntotal %llu\n", (unsigned long long)low, (unsigned long long)high,
         (unsigned long long)total_weight());
-    end_with(ending, 0, cut_place ? "taken up to a cut frame" : "taken");
+    end_with(ending, 0, is_cut ? "taken up to a cut" : "taken");
 }
 
 // Dealing: for each record its shard and its place in that shard's list.
@@ -968,7 +880,7 @@ static void put_bare_session(struct bytes *text, const uint64_t *positions, cons
     put_positions(text, "saved", dealt.ends, settings->shards);
     put(text, "frames %zu\n", frames);
     put_positions(text, "skipped", skipped, 3);
-    if (cut_place)
+    if (is_cut)
         put(text, "cut %zu\n", cut_place);
     put(text, "end\n");
 }

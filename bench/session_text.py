@@ -5,7 +5,8 @@ A prefix is a source, how many of its bits are kept, a destination, and how many
 
 import struct
 from dataclasses import dataclass, field
-from pathlib import Path
+
+import capture_reader
 
 
 @dataclass
@@ -34,22 +35,19 @@ class Capture:
 
 
 def read_capture(path):
-    return decode_capture(Path(path).read_bytes())
+    """The records and counts of a capture of either format that is not refused."""
+    return count_frames(capture_reader.read_file(path).frames)
 
 
-def decode_capture(data):
-    """The records and counts of a capture that is not refused."""
-    order = "<" if data[3:4] == b"\xa1" else ">"
-    capture, at = Capture([], 0, [0, 0, 0]), 24
-    while at < len(data):
-        captured, wire = struct.unpack_from(order + "II", data, at + 8)
-        found = read_frame(data[at + 16:at + 16 + min(captured, 42)])
+def count_frames(frames):
+    """The records and counts of frames."""
+    capture = Capture([], len(frames), [0, 0, 0])
+    for captured, wire in frames:
+        found = read_frame(captured[:42])
         if isinstance(found, int):
             capture.skipped[found] += 1
         else:
-            capture.records.append((*found, max(captured, wire)))
-        capture.frames += 1
-        at += 16 + captured
+            capture.records.append((*found, max(len(captured), wire)))
     return capture
 
 

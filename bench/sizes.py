@@ -61,4 +61,5 @@ def main():
         print(f"| {frames:,} | {name} | {min(walls):.0f} ms | {min(processors):.0f} ms | {max(peaks):.1f} MB |")
 
 
-main()
+if __name__ == "__main__":
+    main()

@@ -4,9 +4,6 @@ import re
 
 from checks.repository import TOP, check, faults
 
-# The faults of pcapng captures: no command reads these yet, so that no line has them.
-NOT_SHOWN_YET = {"byte order", "block", "block tail", "interface", "cut block", "too many blocks"}
-
 
 def forms():
     """What each command takes: its positionals, its options, and those of them that are required."""
@@ -44,8 +41,6 @@ def check_manual(known):
     check_same("hhh.1", "option --", options_in(text), all_options(known), explained)
     texts = (TOP / "crates" / "run_status" / "specs" / "Status.antt").read_text()
     for part in re.findall(r'(?m)^(?:words|fault|session|status)_text .* = codes "([^"]+)"', texts):
-        if part in NOT_SHOWN_YET:
-            continue
         check(part == "done" or part.strip() in sections["DIAGNOSTICS"], f"DIAGNOSTICS of hhh.1 doesn't explain: {part}")
 
 

@@ -61,13 +61,13 @@ def crate_rows():
     rows = ["| Crate | What it is | Promises | Wrong bodies |", "|---|---|---|---|"]
     tests = []
     for crate in stands_on():
-        link = f"[`{crate}`](../{crate_page(crate)})"
         if is_of_tests(crate):
-            tests.append(link)
+            tests.append(f"`{crate}`")
         else:
+            link = f"[`{crate}`](../{crate_page(crate)})"
             count = len(promises(page_text(crate_page(crate))))
             rows.append(f"| {link} | {title(crate)} | {count} | {len(ALL_WRONG_BODIES[crate])} |")
-    return "\n".join(rows) + "\n\n" + filled(f"Crates of tests alone: {', '.join(tests)}.")
+    return "\n".join(rows) + "\n\n" + filled(f"Crates of tests alone, with a page each too: {', '.join(tests)}.")
 
 
 def floors():

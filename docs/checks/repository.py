@@ -66,7 +66,7 @@ def clauses(crate):
                 owner = block[1] + "::"
             elif line.startswith("}"):
                 owner = ""
-            elif item := re.match(r"\s*(?:pub(?:\((?:crate|super)\))? )?fn (\w+)|\s+ghost (\w+)(?:: | = )", line):
+            elif item := re.match(r"\s*(?:pub(?:\((?:crate|super)\))? |final )?fn (\w+)|\s+ghost (\w+)(?:: | = )", line):
                 function = owner + (item[1] or item[2])
                 found.setdefault(function, set())
             elif clause := re.match(r"\s*ensures (\w+) \{", line):
