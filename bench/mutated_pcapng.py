@@ -138,7 +138,7 @@ def change_number(source, blocks, at):
     elif block.kind == PACKET:
         place, form = source.choice(((8, "I"), (8, "I"), (20, "I"), (20, "I"), (24, "I"), (12, "I")))
     else:
-        place, form = 4 * source.randrange(len(block.data) // 4), "I"
+        place, form = 4 * source.randrange(max(1, len(block.data) // 4)), "I"
     number = source.choice((source.choice(TELLING), source.randrange(4), source.getrandbits(32)))
     block.put(place, number & (0xFFFF if form == "H" else 0xFFFFFFFF), form)
 
@@ -193,13 +193,21 @@ def resize_body(source, blocks, at):
     blocks[at].put_length(len(data))
 
 
+def cut_in_block(source, blocks, at):
+    """The end of the file behind the first bytes of a block, of which a number is changed now and then."""
+    if source.random() < 0.7:
+        source.choice((change_number, change_number, change_length, change_order))(source, blocks, at)
+    del blocks[at].data[source.randrange(1, 36):]
+    del blocks[at + 1:]
+
+
 def nothing(source, blocks, at):
     pass
 
 
 CHANGES_OF_BLOCKS = (change_length, change_length, change_length, change_kind, change_number, change_number, change_number,
     change_captured, change_captured, change_order, remove_block, repeat_block, repeat_blocks, move_block, insert_block,
-    insert_section, resize_body, resize_body, nothing)
+    insert_section, resize_body, resize_body, cut_in_block, cut_in_block, nothing)
 
 
 # Changes of bytes. Each answers the bytes that it makes of some.
