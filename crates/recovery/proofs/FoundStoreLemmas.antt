@@ -1,9 +1,9 @@
 -- The newest slot of a store, and what it opens to.
-use Rattle.std.proofs.Common.{◌≡◌, ℕ, Bool, true, false, nat_lt, if◌then◌else◌, List, Option, None, Some, IfSome, option_map}
+use Rattle.std.proofs.Common.{◌≡◌, ◌≤◌, ℕ, Bool, true, false, nat_lt, if◌then◌else◌, List, Option, None, Some, IfSome, option_map}
 use Rattle.std.proofs.Common.{refl, sym, ap, subst, ◌∙◌, arith}
 use Rattle.prefix_lattice.specs.{RecordValue}
 use Rattle.shard_state.specs.{CutValue}
-use Rattle.slot_disk.specs.{IsStoreOfKnown, KnownSlotsState}
+use Rattle.slot_disk.specs.{CrashLeaves, CrashLeaves-trans, CrashLeaves-weaker, IsStoreOfKnown, KnownSlotsState}
 use Rattle.checkpoint.specs.declared.newest.Newest.{Newest}
 use Rattle.checkpoint.specs.declared.header.StoreHeader.{StoreHeader}
 use Rattle.checkpoint.specs.declared.settings.StoreSettings.{StoreSettings}
@@ -19,6 +19,16 @@ use Rattle.recovery.specs.declared.fault.OpenFault.TheVariants as opening
 use Rattle.recovery.specs.declared.store_fault.StoreFault.{StoreFault}
 use Rattle.recovery.specs.declared.store_fault.StoreFault.TheVariants as reading
 use Rattle.recovery.proofs.OpenSlotLemmas.{open_slot_is_not_damaged}
+
+-- two spans of calls, neither of which leaves images that it didn't find
+pub found_store_after_reads : {D : Type 0} (moment : D → ℕ) (image_since : D → ℕ → List ℕ → Type 0) (image_now : D → List ℕ → Type 0)
+    → ((disk : D) (t : ℕ) (image : List ℕ) → t ≤ moment disk → image_now disk image → image_since disk t image)
+    → (old mid new : D) → CrashLeaves moment image_since old mid (image_now old) → CrashLeaves moment image_since mid new (image_now mid)
+    → CrashLeaves moment image_since old new (image_now old)
+found_store_after_reads moment image_since image_now now_is_since old mid new first second =
+    CrashLeaves-trans moment image_since old mid new (image_now old) first
+    (CrashLeaves-weaker moment image_since mid new (image_now mid) (image_now old) second
+    (λ image was. first.each image (now_is_since mid (moment old) image first.later was)))
 
 -- the header that the bytes show is there
 pub found_store_has_header : (settings : StoreSettings) (header : StoreHeader) (image : List ℕ) → ShowsHeader settings header image

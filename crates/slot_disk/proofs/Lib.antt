@@ -1,3 +1,4 @@
+pub mod MomentLemmas
 pub mod ImageLemmas
 pub mod CrashLemmas
 pub mod NewestEntryLemmas

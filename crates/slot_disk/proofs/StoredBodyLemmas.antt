@@ -1,10 +1,10 @@
 -- Bodies in the bytes of a store: what reads of them give, and which tests they pass.
-use Rattle.std.proofs.Common.{◌≡◌, ℕ, ◌+◌, ◌≤◌, List, length, take, drop, true, sym, ap, ◌∙◌, arith}
+use Rattle.std.proofs.Common.{◌≡◌, ℕ, ◌+◌, ◌<◌, ◌≤◌, ◌⊎◌, List, length, take, drop, Option, Some, true, false, sym, ap, ◌∙◌, subst, arith}
 use Rattle.std.proofs.lemmas.Bool.Decides.{nat_tests}
 use Rattle.byteorder.specs.Endian.{big_from}
 use Rattle.byteorder.specs.Numbers.{big_from-take}
 use Rattle.slot_disk.specs.Images.{GivesRange}
-use Rattle.slot_disk.specs.StoreLayout.{number_at, body_is_whole}
+use Rattle.slot_disk.specs.StoreLayout.{number_at, body_is_whole, IsNumberRead}
 
 -- the number in the first n bytes of lists that agree on them
 stored_body_number_is_same : (n count : ℕ) (xs ys : List ℕ) → n ≤ count → take count xs ≡ take count ys → big_from 0 n xs ≡ big_from 0 n ys
@@ -29,3 +29,13 @@ stored_body_number_is_given place count read bytes head gives fits is =
 pub stored_body_is_whole : (span place n : ℕ) (bytes : List ℕ) → place + 8 ≤ length bytes → 8 ≤ n → n ≤ span
     → place + n ≤ length bytes → n ≡ number_at place bytes → body_is_whole span place bytes ≡ true
 stored_body_is_whole span place n bytes head least most fits is = grind (arith, nat_tests)
+
+-- a number that fails one of them doesn't
+pub stored_body_is_broken : (span place n : ℕ) (bytes : List ℕ) → n ≡ number_at place bytes
+    → ((n < 8) ⊎ (span < n) ⊎ (length bytes < place + n)) → body_is_whole span place bytes ≡ false
+stored_body_is_broken span place n bytes number fails = grind (arith, nat_tests)
+
+-- the number that was read, where one was
+pub stored_body_number_is_read : (place n : ℕ) (read : Option ℕ) (bytes : List ℕ) → read ≡ Some n → IsNumberRead place read bytes
+    → (place + 8 ≤ length bytes) × (n ≡ number_at place bytes)
+stored_body_number_is_read place n read bytes is number = subst (λ (o : Option ℕ). IsNumberRead place o bytes) is number
