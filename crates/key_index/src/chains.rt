@@ -68,6 +68,15 @@ impl KeyChains {
         is_full_chain(&self.links, self.room + home)
     }
 
+    /// Whether the chain of this home has at most one place, which is known without a walk.
+    pub(crate) fn is_short(&self, home: usize) -> bool
+        requires home { home < 4 * self.now.room }
+        ensures { (rank home_of : ℕ → ℕ) → AreChains self.now.room self.now.links self.now.backs rank home_of
+            → IsTrue result → rank (self.now.room + home) ≤ 1 }
+    {
+        is_short_chain(&self.links, self.room + home)
+    }
+
     /// Whether the place is in a chain.
     pub(crate) fn has(&self, place: usize) -> bool
         requires { place < self.now.room }
@@ -196,13 +205,23 @@ fn is_full_chain(links: &[u16], head: usize) -> bool
     ensures { (room : ℕ) (backs : List ℕ) (rank home : ℕ → ℕ) → AreChains room links.now backs rank home
         → room ≤ head → (IsTrue result ↔ (4 ≤ rank head)) }
 {
-    let first = usize::from(links[head]);
-    let second = usize::from(links[first.saturating_sub(1)]);
-    // The lesser of the two, so that there is one branch.
-    if first.min(second) == 0 {
+    if is_short_chain(links, head) {
         return false;
     }
     is_full_walk(links, head)
+}
+
+// Whether a chain has at most one place.
+fn is_short_chain(links: &[u16], head: usize) -> bool
+    requires head { head < length links.now }
+    requires marks { All (λ mark. mark ≤ length links.now) links.now }
+    ensures { (room : ℕ) (backs : List ℕ) (rank home : ℕ → ℕ) → AreChains room links.now backs rank home
+        → room ≤ head → IsTrue result → rank head ≤ 1 }
+{
+    let first = usize::from(links[head]);
+    let second = usize::from(links[first.saturating_sub(1)]);
+    // The lesser of the two, so that there is one branch.
+    first.min(second) == 0
 }
 
 // Whether a chain has four places, found place by place.

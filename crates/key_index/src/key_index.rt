@@ -146,7 +146,8 @@ impl KeyIndex {
         self.patience == 0
     }
 
-    // Enters one place.
+    // Enters one place. Nearly always its first home has at most one place: then nothing is called, so the binary needs to
+    // save nothing.
     fn enter_one<T: Keyed>(&mut self, slots: &[T], place: usize)
         requires few { length slots.now ≤ self.old.room }
         requires within { place < length slots.now }
@@ -159,10 +160,10 @@ impl KeyIndex {
             → AreEntered end end (map T.key_of slots.now) self.new }
     {
         let home = home_of(mix(key_at(slots, place)), self.room);
-        if self.chains.is_full(home) {
-            self.enter_in_turn(slots, place);
-        } else {
+        if self.chains.is_short(home) {
             self.chains.link(place, home);
+        } else {
+            self.enter_in_turn(slots, place);
         }
     }
 

@@ -92,7 +92,8 @@ pub(crate) fn insert<T: Keyed>(listed: &mut Vec<u16>, slots: &[T], place: usize)
     listed.insert(at, place as u16).unwrap();
 }
 
-/// Takes a place out of the list.
+/// Takes a place out of the list. It stays a function of its own in the binary, since few places are in the list.
+#[inline(never)]
 pub(crate) fn remove<T: Keyed>(listed: &mut Vec<u16>, slots: &[T], place: usize)
     requires few { length slots.now < 2 ^ 16 }
     requires place { place < length slots.now }

@@ -1,5 +1,4 @@
-use Rattle.std.proofs.Common.{◌≡◌, ◌+◌, ◌*◌, ◌<◌, ◌≤◌, ℕ, List, get_or, set, ap, sym, subst, ◌∙◌, ⊎_elim, arith, rules, map}
-use Rattle.std.proofs.lemmas.Bool.{cases_lt}
+use Rattle.std.proofs.Common.{◌≡◌, ◌+◌, ◌*◌, ◌<◌, ℕ, List, get_or, set, ap, sym, subst, ◌∙◌, arith, rules, map}
 use Rattle.key_index.specs.Chains.{AreChains}
 use Rattle.key_index.specs.Homes.{home_at}
 use Rattle.key_index.specs.Entries.{KeyEntries, AreEntered}
@@ -8,8 +7,8 @@ use Rattle.key_index.proofs.JoinLemmas.{Joins}
 use Rattle.key_index.proofs.EntryLemmas.{entry_parts, entry_with, entry_joins, entry_free, entry_in_chain}
 use Rattle.key_index.proofs.key_index.KeyIndex.enter_one.Goals as goal
 
-pub returns-else-is_full-clause-entered : goal.returns-else-is_full-clause-entered
-returns-else-is_full-clause-entered g c =
+pub returns-then-is_short-clause-entered : goal.returns-then-is_short-clause-entered
+returns-then-is_short-clause-entered g c =
     let keys = map g.T.Keyed.key_of c.args.slots.now in
     λ end below was.
     let i = c.self.inside in
@@ -21,11 +20,7 @@ returns-else-is_full-clause-entered g c =
     let head = i.chains.room + home in
     let chains : AreChains i.chains.room i.chains.links i.chains.backs entered.rank entered.home =
     subst (λ room. AreChains room i.chains.links i.chains.backs entered.rank entered.home) (sym roomy) entered.chains in
-    let full = c.is_full.ensures entered.rank entered.home chains in
-    let few : entered.rank head < 4 =
-    ⊎_elim (λ (less : entered.rank head < 4). less)
-    (λ (four : 4 ≤ entered.rank head). absurd (search (rules, full.1 four, c.if-is_full.false)))
-    (cases_lt (entered.rank head) 4) in
+    let few : entered.rank head < 4 = omega (arith, c.is_short.ensures entered.rank entered.home chains (search (rules, c.if-is_short.true))) in
     let free : get_or i.chains.backs
     (c.args.place + 1) 0 ≡ 0 = entry_free end c.args.place i.room keys i.chains.links i.chains.backs i.listed.items i.turned entered in
     let within : home < 4 * i.room = c.home_of-home.ensures.within in
