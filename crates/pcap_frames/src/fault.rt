@@ -68,7 +68,7 @@ pub enum FeedFault {
     /// The bytes so far show this fault, or the file ends with it.
     #[error(transparent)]
     Refused(CaptureFault),
-    /// The visitor ran out of memory.
+    /// The reader or the visitor ran out of memory.
     #[error("out of memory")]
     OutOfMemory,
 }
@@ -82,7 +82,7 @@ pub enum ReadRefusal {
     /// A call of the source failed.
     #[error("read fault")]
     ReadFault,
-    /// The visitor ran out of memory.
+    /// The reader or the visitor ran out of memory.
     #[error("out of memory")]
     OutOfMemory,
 }

@@ -6,6 +6,7 @@ pub mod NgFileLemmas
 pub mod NgLimitLemmas
 pub mod Examples
 pub mod KeptVerdictLemmas
+pub mod PacketBlockLemmas
 pub mod NgStepLemmas
 pub mod NgReaderLemmas
 mod EitherFormatLemmas

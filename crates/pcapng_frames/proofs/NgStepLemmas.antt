@@ -1,8 +1,8 @@
 -- What each step of a reader of a pcapng capture leaves.
-use Rattle.std.proofs.Common.{◌-◌, length-take, ℕ, ◌≡◌, ◌+◌, ◌≤◌, ◌<◌, Bool, true, false, min, List, [], ◌∷◌, ◌++◌, length, take, drop}
+use Rattle.std.proofs.Common.{ℕ, ◌≡◌, ◌+◌, ◌≤◌, ◌<◌, Bool, true, false, min, List, [], ◌∷◌, ◌++◌, length, take, drop}
 use Rattle.std.proofs.Common.{refl, sym, ap, ◌∙◌, arith, length-append, subst, inl, inr, ◌⊎◌, append-nil}
 use Rattle.std.proofs.lemmas.Bool.{lt-ltb, le-ltb, cases_lt}
-use Rattle.std.proofs.lemmas.List.{drop_all, nil_from_length, take-append-drop}
+use Rattle.std.proofs.lemmas.List.{drop_all, nil_from_length}
 use Rattle.pcap_frames.specs.{FrameValue, number_in_order, header_fault_at, Advances, StepTakes}
 use Rattle.pcap_frames.specs.declared.file_order.FileOrder.{FileOrder}
 use Rattle.pcap_frames.specs.declared.fault.FaultKind.{FaultKind}
@@ -10,13 +10,13 @@ use Rattle.pcap_frames.specs.declared.fault.FaultKind.TheVariants.{CutBlock}
 use Rattle.pcapng_frames.specs.declared.block.BlockKind.{BlockKind}
 use Rattle.pcapng_frames.specs.declared.block.BlockKind.TheVariants.{SectionHeader, InterfaceDescription, EnhancedPacket, Other}
 use Rattle.pcapng_frames.specs.declared.verdict.Verdict.TheVariants.{Waits, IsWrong, IsWhole}
-use Rattle.pcapng_frames.specs.Block.{BlockValue, kind_of_type, block_kind, block_order, block_length, block_content, block_at, least_length}
+use Rattle.pcapng_frames.specs.Block.{BlockValue, block_kind, block_order, block_length, block_content, block_at, least_length}
 use Rattle.pcapng_frames.specs.Section.{SectionPlace, before_blocks, after_block, after_blocks, frames_of_blocks, frames_of_content}
 use Rattle.pcapng_frames.specs.Verdict.{verdict_of, block_verdict}
 use Rattle.pcapng_frames.specs.NgCapture.{BeginsWithBlock, BeginsWithBlocks, SplitsBlocks, IsNgCapture, ShowsNgFault, HasNgFaultAfter}
 use Rattle.pcapng_frames.specs.Kept.{KeptValue, kept_of, kept_and, kept_verdict}
 use Rattle.pcapng_frames.specs.NgReader.{BlockPlace, InBlocks, AtFault, IsInBlock, NgRepresents}
-use Rattle.pcapng_frames.specs.NgPart.{block_needs, gives_frame, SplitsPiece}
+use Rattle.pcapng_frames.specs.NgPart.{block_needs, gives_frame}
 use Rattle.pcapng_frames.proofs.VerdictLemmas.{VerdictTells, PacketVerdictTells, verdict_fits, verdict_tells, verdict_on_nothing}
 use Rattle.pcapng_frames.proofs.WholeBlockLemmas.{whole_block_is_long, block_at-of_whole_block_front}
 use Rattle.pcapng_frames.proofs.BlockSplitLemmas.{split_blocks_stay, split_blocks_and_one, after_split_blocks, frames_of_split_blocks, split_blocks_count}
@@ -183,17 +183,18 @@ ng_step_ends_block at front given whole needs given_is = record {
 
 -- the whole block is in the piece, and no byte of it arrived before
 pub ng_step_block_in_piece : (at new : BlockPlace) (piece block rest : List ℕ) (given : List FrameValue)
-    → SplitsPiece at.section.order piece block rest → at.kept.came ≡ 0 → block_verdict at.section block ≡ IsWhole
+    → piece ≡ block ++ rest → 0 < length block → length block ≤ block_length at.section.order block
+    → at.kept.came ≡ 0 → block_verdict at.section block ≡ IsWhole
     → new ≡ record {
       section = after_block at.section (block_at at.section.order block);
       frames = at.frames + length given;
       kept = at.kept;
     } → given ≡ frames_of_content at.section.interfaces (block_at at.section.order block).content
     → StepTakes NgRepresents (InBlocks at) (InBlocks new) piece rest given
-ng_step_block_in_piece at new piece block rest given splits none whole new_is given_is = record {
+ng_step_block_in_piece at new piece block rest given joined some fits none whole new_is given_is = record {
   front = block;
-  joined = splits.joined;
-  some = omega (arith, splits.some);
+  joined = joined;
+  some = some;
   advances = record {
     reads = λ before frames stands.
         let nothing : stands.rest ≡ [] =
@@ -203,7 +204,7 @@ ng_step_block_in_piece at new piece block rest given splits none whole new_is gi
         subst (λ l. BeginsWithBlocks before_blocks (before ++ block) stands.blocks l) same
         (split_blocks_stay before_blocks before block stands.blocks stands.rest stands.splits.begins) in
         let one = ng_step_one_block at (before ++ block) frames stands.blocks block begins stands.splits.frames_are
-        stands.section_is stands.count_is whole (omega (arith, splits.size)) in
+        stands.section_is stands.count_is whole fits in
         let kept : kept_of [] ≡ at.kept = ap kept_of (sym nothing) ∙ sym stands.kept_is in
         let shown : IsInBlock (record {
           section = after_block at.section (block_at at.section.order block);
@@ -376,42 +377,3 @@ ng_step_ends_in_block at file frames stands cut =
 pub ng_step_between_blocks : (at : SectionPlace) (kept : KeptValue) → kept.came ≡ 0 → kept_verdict at kept ≡ Waits
 unfolding verdict_of
 ng_step_between_blocks at kept none = rw none refl
-
--- the bytes of a whole block have the fields of its kind
-pub ng_step_block_has_fields : (at : SectionPlace) (block : List ℕ) → block_verdict at block ≡ IsWhole
-    → least_length (block_kind at.order block) ≤ length block
-ng_step_block_has_fields at block whole =
-    let fits = verdict_fits at (length block) block _ whole in omega (arith, fits.least, fits.there)
-
--- the bytes of a whole block, as if they were kept
-abbrev pub ng_step_whole_block : SectionPlace → List ℕ → KeptValue
-ng_step_whole_block at block = record {
-  first = block;
-  last = drop (block_length at.order block - 4) block;
-  came = length block;
-}
-
--- the verdict on a block as long as its length says
-pub ng_step_block_verdict : (at : SectionPlace) (block last : List ℕ) → length block ≡ block_length at.order block
-    → last ≡ drop (length block - 4) block → verdict_of at (length block) block last ≡ block_verdict at block
-ng_step_block_verdict at block last size is =
-    ap (λ l. verdict_of at (length block) block l) (is ∙ ap (λ n. drop (n - 4) block) size)
-
--- a block is split off by its length
-pub ng_step_splits_piece : (order : FileOrder) (piece block rest : List ℕ) (number : ℕ) (kind : BlockKind) (own : FileOrder) (size : ℕ)
-    → 12 ≤ size → size ≤ length piece → number ≡ number_in_order order 4 0 piece → kind ≡ kind_of_type number
-    → own ≡ block_order kind order piece → size ≡ number_in_order own 4 4 piece → block ≡ take size piece → rest ≡ drop size piece
-    → SplitsPiece order piece block rest
-ng_step_splits_piece order piece block rest number kind own size some there type_is kind_is own_is size_is block_is rest_is =
-    let kinds : kind ≡ block_kind order piece = kind_is ∙ ap kind_of_type type_is in
-    let owns : own ≡ block_order (block_kind order piece) order piece =
-    own_is ∙ ap (λ k. block_order k order piece) kinds in
-    let all : size ≡ block_length order piece = size_is ∙ ap (λ o. number_in_order o 4 4 piece) owns in
-    let joined : piece ≡ block ++ rest =
-    sym (take-append-drop size piece) ∙ ap (λ l. l ++ drop size piece) (sym block_is) ∙ ap (λ l. block ++ l) (sym rest_is) in
-    let long : length block ≡ size = ap length block_is ∙ (let e : length (take size piece) ≡ size = omega (arith, length-take size piece) in e) in
-    record {
-      joined = joined;
-      some = omega arith;
-      size = long ∙ all ∙ ap (block_length order) joined ∙ block_length-of_longer_kept_verdict order block rest (omega arith);
-    }

@@ -1,6 +1,6 @@
 -- A block of a pcapng capture: type and total length, four bytes each, a body, and the total length again. The numbers of a
 -- section are in the byte order in which its header spells the byte-order magic.
-use Rattle.std.specs.Prelude.{ℕ, ◌==◌, if◌then◌else◌, Bool, Option, Some, None, List, take, drop}
+use Rattle.std.specs.Prelude.{ℕ, ◌≡◌, ◌≤◌, ◌==◌, if◌then◌else◌, Bool, Option, Some, None, List, length, take, drop}
 use Rattle.pcap_frames.specs.{number_in_order, FrameValue, frame_head_length}
 use Rattle.pcap_frames.specs.declared.file_order.FileOrder.{FileOrder}
 use Rattle.pcap_frames.specs.declared.file_order.FileOrder.TheVariants.{Big, Little}
@@ -93,3 +93,9 @@ block_at order bytes = record {
   size = block_length order bytes;
   content = block_content (block_kind order bytes) order bytes;
 }
+
+-- these bytes are an enhanced packet, as long as its length says, with all its fields
+pub record IsPacketBlock (order : FileOrder) (bytes : List ℕ) : Type 0 where
+  pub kind : block_kind order bytes ≡ EnhancedPacket
+  pub least : least_length EnhancedPacket ≤ length bytes
+  pub size : length bytes ≡ number_in_order order 4 4 bytes

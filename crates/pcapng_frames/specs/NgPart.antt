@@ -1,5 +1,5 @@
 -- The state of a reader, made from its parts, and what one step of it does, which no public contract cites.
-use Rattle.std.specs.Prelude.{⊤, ℕ, ◌≡◌, ◌*◌, ◌^◌, ◌≤◌, nat_lt, if◌then◌else◌, Bool, false, Option, None, Some, List, [], ◌∷◌, ◌++◌, length}
+use Rattle.std.specs.Prelude.{⊤, ℕ, ◌≡◌, ◌*◌, ◌^◌, ◌≤◌, nat_lt, if◌then◌else◌, Bool, false, Option, None, Some, List, [], ◌∷◌}
 use Rattle.pcap_frames.specs.declared.frame.Frame.{Frame}
 use Rattle.pcap_frames.specs.{FrameValue, frame_content}
 use Rattle.pcap_frames.specs.declared.file_order.FileOrder.{FileOrder}
@@ -70,9 +70,3 @@ frames_held (Some held) = packet_frame held.order held.kept.first ∷ []
 abbrev pub frames_shown : Option Frame → List FrameValue
 frames_shown None = []
 frames_shown (Some frame) = frame_content frame ∷ []
-
--- the piece is a block, as long as its length says, and then a rest
-pub record SplitsPiece (order : FileOrder) (piece block rest : List ℕ) : Type 0 where
-  pub joined : piece ≡ block ++ rest
-  pub some : 12 ≤ length block
-  pub size : length block ≡ block_length order block

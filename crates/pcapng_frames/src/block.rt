@@ -8,6 +8,8 @@ use pcap_frames::FileOrder;
 
 /// The type of a section header, with which each pcapng capture begins. It is the same in either byte order.
 pub(crate) const SECTION_HEADER: u32 = 0x0a0d_0d0a;
+/// The type of an enhanced packet.
+pub(crate) const ENHANCED_PACKET: u32 = 6;
 
 /// The byte-order magic of a section header.
 const MAGIC: u32 = 0x1a2b_3c4d;
@@ -36,7 +38,7 @@ impl BlockKind {
         if number == 1 {
             return BlockKind::InterfaceDescription;
         }
-        if number == 6 {
+        if number == ENHANCED_PACKET {
             return BlockKind::EnhancedPacket;
         }
         BlockKind::Other

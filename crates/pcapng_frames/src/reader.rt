@@ -5,8 +5,8 @@ mod packet;
 mod part;
 pub(crate) mod section;
 
-ghost use Rattle.std.specs.Prelude.{◌≡◌, ◌<◌, [], length, IfOk, IfSome, IfNone};
-ghost use Rattle.pcap_frames.specs.{AreFrames, StepTakes};
+ghost use Rattle.std.specs.Prelude.{◌≡◌, ◌<◌, ◌↔◌, List, [], length, IfOk, IfSome, IfNone, OnErr};
+ghost use Rattle.pcap_frames.specs.{FrameValue, AreFrames, StepTakes, VisitorSees};
 ghost use Rattle.pcapng_frames.specs.NgCapture.{pcapng};
 ghost use Rattle.pcapng_frames.specs.NgPart.{frames_held, frames_shown};
 ghost use Rattle.pcapng_frames.specs.NgReader.{NgRepresents, ng_reader_stop, ng_reader_extent};
@@ -65,25 +65,39 @@ impl NgReader {
         }
     }
 
-    /// Takes the block at the front of the piece, if the reader is between two blocks and the whole next block is there
-    /// without a fault.
+    /// Takes the enhanced packet at the front of the piece, if the reader is between two blocks and the whole packet is
+    /// there without a fault.
     #[inline(always)]
-    fn whole_block<'a>(&mut self, piece: &'a [u8]) -> Result<Option<Whole<'a>>, AllocError>
-        ensures takes { IfOk result (λ found. IfSome found (λ whole.
-            StepTakes NgRepresents self.old self.new piece.now whole.rest.now (frames_shown whole.frame))) }
-        ensures are_frames { IfOk result (λ found. IfSome found (λ whole. AreFrames (frames_shown whole.frame))) }
-        ensures none { IfOk result (λ found. IfNone found (self.new ≡ self.old)) }
+    fn whole_packet<'a>(&mut self, piece: &'a [u8]) -> Option<Whole<'a>>
+        ensures takes { IfSome result (λ whole. StepTakes NgRepresents self.old self.new piece.now whole.rest.now (frames_shown whole.frame)) }
+        ensures are_frames { IfSome result (λ whole. AreFrames (frames_shown whole.frame)) }
+        ensures none { IfNone result (self.new ≡ self.old) }
     {
-        if !matches!(self.stage, Stage::Blocks) {
-            return Ok(None);
+        match self.stage {
+            Stage::Blocks => self.part.whole_packet(piece),
+            Stage::AtFault(_) | Stage::LacksMemory => None,
         }
-        match self.part.whole_block(piece) {
-            Ok(found) => Ok(found),
-            Err(error) => {
-                self.stage = Stage::LacksMemory;
-                Err(error)
-            }
+    }
+
+    /// Takes the next bytes of a block, and shows the visitor its packet if they complete it. Returns the bytes after them.
+    ///
+    /// This isn't inlined, so that the loop over whole packets doesn't clear the room of a kept one at each turn.
+    #[inline(never)]
+    fn show_next<'a, V: FrameVisitor>(
+        &mut self,
+        piece: &'a [u8],
+        visitor: &mut V,
+    ) -> Result<&'a [u8], AllocError>
+        requires { 0 < length piece.now }
+        ensures ok { IfOk result (λ rest. (given : List FrameValue) × StepTakes NgRepresents self.old self.new piece.now rest.now given
+            × AreFrames given × VisitorSees V.represents visitor.old visitor.new given) }
+        ensures err { OnErr result ((frames : List FrameValue) → (V.represents visitor.old frames ↔ V.represents visitor.new frames)) }
+    {
+        let (held, rest) = self.take(piece)?;
+        if let Some(held) = held {
+            visitor.frame(&held.frame())?;
         }
+        Ok(rest)
     }
 }
 
@@ -117,17 +131,13 @@ impl CaptureReader for NgReader {
         piece: &'a [u8],
         visitor: &mut V,
     ) -> Result<&'a [u8], AllocError> {
-        if let Some(whole) = self.whole_block(piece)? {
+        if let Some(whole) = self.whole_packet(piece) {
             if let Some(frame) = whole.frame {
                 visitor.frame(&frame)?;
             }
             return Ok(whole.rest);
         }
-        let (held, rest) = self.take(piece)?;
-        if let Some(held) = held {
-            visitor.frame(&held.frame())?;
-        }
-        Ok(rest)
+        self.show_next(piece, visitor)
     }
 
     /// Ends the file, and returns the number of frames.

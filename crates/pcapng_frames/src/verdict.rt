@@ -1,9 +1,10 @@
 //! What the bytes of a block show.
 
-ghost use Rattle.std.specs.Prelude.{◌≡◌, ◌≤◌, length, min};
+ghost use Rattle.std.specs.Prelude.{◌≡◌, ◌≤◌, true, length, min};
 ghost use Rattle.pcap_frames.specs.{number_in_order};
 ghost use Rattle.pcapng_frames.specs.declared.block.BlockKind.TheVariants as kinds;
-ghost use Rattle.pcapng_frames.specs.Block.{block_order};
+ghost use Rattle.pcapng_frames.specs.declared.verdict.Verdict.TheVariants as verdicts;
+ghost use Rattle.pcapng_frames.specs.Block.{block_order, IsPacketBlock};
 ghost use Rattle.pcapng_frames.specs.NgPart.{section_place};
 ghost use Rattle.pcapng_frames.specs.Verdict as tests;
 
@@ -28,7 +29,6 @@ pub(crate) enum Verdict {
 }
 
 /// What the bytes that arrived of the block after some others show: so many came, these first, and these last.
-#[inline(always)]
 #[tactic(auto, unfolding(crate::specs::Verdict::verdict_of))]
 pub(crate) fn verdict_of(section: &SectionState, came: u64, bytes: &[u8], last: &[u8]) -> Verdict
     requires first { min 28 came ≤ length bytes.now }
@@ -58,8 +58,31 @@ pub(crate) fn verdict_of(section: &SectionState, came: u64, bytes: &[u8], last: 
     )
 }
 
-/// What the bytes of a block of this kind show, in a section of this byte order and so many interfaces.
+/// Whether the enhanced packet of exactly these bytes has no fault.
 #[inline(always)]
+pub(crate) fn is_whole_packet(section: &SectionState, order: FileOrder, block: &[u8]) -> bool
+    requires order { section.now.order ≡ order }
+    requires packet { IsPacketBlock order block.now }
+    ensures { result ≡ true → tests.block_verdict (section_place section.now) block.now ≡ verdicts.IsWhole }
+{
+    if section.count == 0 {
+        return false;
+    }
+    if section.count == MOST_BLOCKS {
+        return false;
+    }
+    let (_, last) = block.split_at(block.len() - 4);
+    let verdict = packet_verdict(
+        order,
+        section.interfaces.len(),
+        block.len() as u64,
+        block,
+        last,
+    );
+    matches!(verdict, Verdict::IsWhole)
+}
+
+/// What the bytes of a block of this kind show, in a section of this byte order and so many interfaces.
 fn kind_verdict(
     kind: BlockKind,
     order: FileOrder,

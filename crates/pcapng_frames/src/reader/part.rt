@@ -1,8 +1,8 @@
 //! Where a reader is in a file, and its steps from one block to the next.
 
-ghost use Rattle.std.specs.Prelude.{◌≡◌, ℕ, ◌+◌, ◌^◌, ◌<◌, ◌≤◌, List, [], length, true, IfOk, IfSome, IfNone};
+ghost use Rattle.std.specs.Prelude.{◌≡◌, ℕ, ◌+◌, ◌^◌, ◌<◌, ◌≤◌, List, [], ◌++◌, length, IfOk, IfSome, IfNone};
 ghost use Rattle.pcapng_frames.specs.declared.verdict.Verdict.TheVariants as verdicts;
-ghost use Rattle.pcapng_frames.specs.Block.{block_at, block_length};
+ghost use Rattle.pcapng_frames.specs.Block.{IsPacketBlock, block_at};
 ghost use Rattle.pcap_frames.specs.{FrameValue, AreFrames, header_fault_at, Advances, StepTakes, IsFinalResult};
 ghost use Rattle.pcap_frames.specs.declared.fault.FaultKind.TheVariants.{CutBlock};
 ghost use Rattle.pcap_frames.specs.declared.fault.FeedFault.TheVariants.{Refused};
@@ -10,15 +10,15 @@ ghost use Rattle.pcapng_frames.specs.NgCapture.{pcapng};
 ghost use Rattle.pcapng_frames.specs.Kept.{KeptValue, kept_of, kept_and, kept_verdict};
 ghost use Rattle.pcapng_frames.specs.NgReader as state;
 ghost use Rattle.pcapng_frames.specs.NgPart.{section_place, place_of_part, state_of_part, IsPartInStage, IsPartWithin};
-ghost use Rattle.pcapng_frames.specs.NgPart.{IsSectionWithin, block_needs, frames_held, frames_shown, SplitsPiece};
+ghost use Rattle.pcapng_frames.specs.NgPart.{IsSectionWithin, block_needs, frames_held, frames_shown};
 ghost use Rattle.pcapng_frames.specs.Verdict.{block_verdict};
 ghost use Rattle.pcapng_frames.specs.Section.{before_blocks, after_block, frames_of_content};
 
-use crate::block::BlockKind;
+use crate::block::{BlockKind, ENHANCED_PACKET};
 use crate::reader::kept::KeptBytes;
 use crate::reader::packet::{HeldPacket, frame_at};
 use crate::reader::section::SectionState;
-use crate::verdict::{Verdict, verdict_of};
+use crate::verdict::{Verdict, is_whole_packet, verdict_of};
 use pcap_frames::{CaptureFault, FaultKind, FeedFault, FileOrder, Frame};
 use std::alloc::{AllocError, Global};
 use std::mem;
@@ -56,7 +56,7 @@ pub(crate) struct Taken<'a> {
     pub(crate) rest: &'a [u8],
 }
 
-/// A whole block of a piece: its frame, if it gives one, and the bytes after it.
+/// A whole packet of a piece: its frame, if it gives one, and the bytes after it.
 #[derive(Clone, Copy)]
 pub(crate) struct Whole<'a> {
     pub(crate) frame: Option<Frame<'a>>,
@@ -94,68 +94,70 @@ impl BlockPart {
         }
     }
 
-    /// Takes the block at the front of the piece, if no byte of it arrived before and the whole block is there without a
-    /// fault. The only error is that memory runs out.
+    /// Takes the enhanced packet at the front of the piece, if no byte of it arrived before and the whole block is there
+    /// without a fault.
     #[inline(always)]
-    pub(crate) fn whole_block<'a>(
-        &mut self,
-        piece: &'a [u8],
-    ) -> Result<Option<Whole<'a>>, AllocError>
+    pub(crate) fn whole_packet<'a>(&mut self, piece: &'a [u8]) -> Option<Whole<'a>>
         requires { IsPartWithin self.old }
-        ensures sound { IfOk result (λ _. IsPartWithin self.new) }
-        ensures takes { IfOk result (λ found. IfSome found (λ whole. StepTakes state.NgRepresents (state.InBlocks (place_of_part self.old))
-            (state.InBlocks (place_of_part self.new)) piece.now whole.rest.now (frames_shown whole.frame))) }
-        ensures are_frames { IfOk result (λ found. IfSome found (λ whole. AreFrames (frames_shown whole.frame))) }
-        ensures none { IfOk result (λ found. IfNone found (self.new ≡ self.old)) }
+        ensures sound { IsPartWithin self.new }
+        ensures takes { IfSome result (λ whole. StepTakes state.NgRepresents (state.InBlocks (place_of_part self.old))
+            (state.InBlocks (place_of_part self.new)) piece.now whole.rest.now (frames_shown whole.frame)) }
+        ensures are_frames { IfSome result (λ whole. AreFrames (frames_shown whole.frame)) }
+        ensures none { IfNone result (self.new ≡ self.old) }
     {
         if self.kept.came() != 0 {
-            return Ok(None);
+            return None;
         }
-        let Some((block, rest)) = split_block(self.section.order, piece) else {
-            return Ok(None);
-        };
-        if !self.is_whole(block) {
-            return Ok(None);
+        // The call is inlined with a constant order in each arm, so that no number of the packet needs a test of it.
+        match self.section.order {
+            FileOrder::Big => self.packet_in(FileOrder::Big, piece),
+            FileOrder::Little => self.packet_in(FileOrder::Little, piece),
         }
-        let frame = self.pass_block(block)?;
-        Ok(Some(Whole { frame, rest }))
     }
 
-    /// Whether these bytes, as many as the length of the block says, are a whole block without a fault.
+    /// Takes the enhanced packet at the front of the piece, in a section of this byte order.
     #[inline(always)]
-    fn is_whole(&self, block: &[u8]) -> bool
-        requires some { 12 ≤ length block.now }
-        requires size { length block.now ≡ block_length self.now.section.order block.now }
-        ensures { result ≡ true → block_verdict (section_place self.now.section) block.now ≡ verdicts.IsWhole }
-    {
-        let (_, last) = block.split_at(block.len() - 4);
-        let verdict = verdict_of(&self.section, block.len() as u64, block, last);
-        matches!(verdict, Verdict::IsWhole)
-    }
-
-    /// Goes past a whole block of the piece, and gives its frame if it is a packet of an Ethernet interface.
-    #[inline(always)]
-    fn pass_block<'a>(&mut self, block: &'a [u8]) -> Result<Option<Frame<'a>>, AllocError>
+    fn packet_in<'a>(&mut self, order: FileOrder, piece: &'a [u8]) -> Option<Whole<'a>>
         requires within { IsPartWithin self.old }
         requires none { self.old.kept.came ≡ 0 }
-        requires whole { block_verdict (section_place self.old.section) block.now ≡ verdicts.IsWhole }
-        ensures within { IfOk result (λ _. IsPartWithin self.new) }
-        ensures place { IfOk result (λ frame. place_of_part self.new ≡ record {
-          section = after_block (section_place self.old.section) (block_at self.old.section.order block.now);
-          frames = self.old.frames + length (frames_shown frame);
-          kept = self.old.kept;
-        }) }
-        ensures gives { IfOk result (λ frame. frames_shown frame
-            ≡ frames_of_content self.old.section.interfaces.items (block_at self.old.section.order block.now).content) }
-        ensures are_frames { IfOk result (λ frame. AreFrames (frames_shown frame)) }
+        requires order { self.old.section.order ≡ order }
+        ensures sound { IsPartWithin self.new }
+        ensures takes { IfSome result (λ whole. StepTakes state.NgRepresents (state.InBlocks (place_of_part self.old))
+            (state.InBlocks (place_of_part self.new)) piece.now whole.rest.now (frames_shown whole.frame)) }
+        ensures are_frames { IfSome result (λ whole. AreFrames (frames_shown whole.frame)) }
+        ensures none { IfNone result (self.new ≡ self.old) }
     {
-        let order = self.section.order;
-        let gives = self.section.end_block(block)?;
-        if !gives {
-            return Ok(None);
+        let (block, rest) = split_packet(order, piece)?;
+        if !is_whole_packet(&self.section, order, block) {
+            return None;
+        }
+        let frame = self.pass_packet(order, block);
+        Some(Whole { frame, rest })
+    }
+
+    /// Goes past a whole enhanced packet of the piece, and gives its frame if its interface is Ethernet.
+    #[inline(always)]
+    fn pass_packet<'a>(&mut self, order: FileOrder, block: &'a [u8]) -> Option<Frame<'a>>
+        requires within { IsPartWithin self.old }
+        requires none { self.old.kept.came ≡ 0 }
+        requires order { self.old.section.order ≡ order }
+        requires packet { IsPacketBlock order block.now }
+        requires whole { block_verdict (section_place self.old.section) block.now ≡ verdicts.IsWhole }
+        ensures within { IsPartWithin self.new }
+        ensures place { place_of_part self.new ≡ record {
+          section = after_block (section_place self.old.section) (block_at self.old.section.order block.now);
+          frames = self.old.frames + length (frames_shown result);
+          kept = self.old.kept;
+        } }
+        ensures gives { frames_shown result
+            ≡ frames_of_content self.old.section.interfaces.items (block_at self.old.section.order block.now).content }
+        ensures are_frames { AreFrames (frames_shown result) }
+    {
+        if !self.section.end_packet(order, block) {
+            return None;
         }
         self.frames += 1;
-        Ok(Some(frame_at(order, block)))
+        Some(frame_at(order, block))
     }
 
     /// How many bytes the block needs, as far as is known.
@@ -276,16 +278,20 @@ impl BlockPart {
     }
 }
 
-/// The block at the front of the piece, as long as its length says, and the bytes after it.
-fn split_block(order: FileOrder, piece: &[u8]) -> Option<(&[u8], &[u8])>
-    ensures { IfSome result (λ found. SplitsPiece order piece.now found.0.now found.1.now) }
+/// The enhanced packet at the front of the piece, as long as its length says, and the bytes after it.
+#[inline(always)]
+fn split_packet(order: FileOrder, piece: &[u8]) -> Option<(&[u8], &[u8])>
+    ensures joined { IfSome result (λ found. piece.now ≡ found.0.now ++ found.1.now) }
+    ensures packet { IfSome result (λ found. IsPacketBlock order found.0.now) }
 {
-    if piece.len() < 12 {
+    if piece.len() < 32 {
         return None;
     }
-    let kind = BlockKind::of_type(order.u32_at(piece, 0));
-    let size = kind.order(order, piece).u32_at(piece, 4) as usize;
-    if size < 12 {
+    if order.u32_at(piece, 0) != ENHANCED_PACKET {
+        return None;
+    }
+    let size = order.u32_at(piece, 4) as usize;
+    if size < 32 {
         return None;
     }
     if piece.len() < size {

@@ -3,8 +3,8 @@
 ghost use Rattle.std.specs.Prelude.{◌≡◌, ◌<◌, ◌≤◌, length, IfOk};
 ghost use Rattle.pcap_frames.specs.{number_in_order};
 ghost use Rattle.pcapng_frames.specs.declared.block.BlockKind.TheVariants as kinds;
-ghost use Rattle.pcapng_frames.specs.Block.{block_count_limit, block_kind, block_at, least_length};
-ghost use Rattle.pcapng_frames.specs.Section.{after_block};
+ghost use Rattle.pcapng_frames.specs.Block.{block_count_limit, block_kind, block_at, least_length, IsPacketBlock};
+ghost use Rattle.pcapng_frames.specs.Section.{after_block, is_ethernet};
 ghost use Rattle.pcapng_frames.specs.NgPart.{section_place, gives_frame, IsSectionWithin};
 
 use crate::block::BlockKind;
@@ -38,7 +38,6 @@ impl SectionState {
 
     /// Goes past a whole block, whose first bytes these are. Returns whether it is a packet of an Ethernet interface.
     /// The only error is that memory runs out.
-    #[inline(always)]
     pub(crate) fn end_block(&mut self, bytes: &[u8]) -> Result<bool, AllocError>
         requires within { IsSectionWithin self.old }
         requires room { self.old.count < block_count_limit }
@@ -64,8 +63,35 @@ impl SectionState {
                 self.interfaces.push(order.u16_at(bytes, 8) == 1)?;
                 Ok(false)
             }
-            BlockKind::EnhancedPacket => Ok(self.interfaces[order.u32_at(bytes, 8) as usize]),
+            BlockKind::EnhancedPacket => Ok(self.is_ethernet(order, bytes)),
             BlockKind::Other => Ok(false),
         }
+    }
+
+    /// Goes past a whole enhanced packet. Returns whether it is of an Ethernet interface.
+    #[inline(always)]
+    pub(crate) fn end_packet(&mut self, order: FileOrder, block: &[u8]) -> bool
+        requires within { IsSectionWithin self.old }
+        requires room { self.old.count < block_count_limit }
+        requires order { self.old.order ≡ order }
+        requires packet { IsPacketBlock order block.now }
+        requires named { number_in_order order 4 8 block.now < length self.old.interfaces.items }
+        ensures within { IsSectionWithin self.new }
+        ensures after { section_place self.new ≡ after_block (section_place self.old) (block_at self.old.order block.now) }
+        ensures gives { result ≡ gives_frame self.old.interfaces.items (block_at self.old.order block.now).content }
+    {
+        self.count += 1;
+        self.place += block.len() as u64;
+        self.is_ethernet(order, block)
+    }
+
+    /// Whether the enhanced packet, whose first bytes these are, is of an Ethernet interface.
+    #[inline(always)]
+    fn is_ethernet(&self, order: FileOrder, bytes: &[u8]) -> bool
+        requires header { 12 ≤ length bytes.now }
+        requires named { number_in_order order 4 8 bytes.now < length self.now.interfaces.items }
+        ensures { result ≡ is_ethernet self.now.interfaces.items (number_in_order order 4 8 bytes.now) }
+    {
+        self.interfaces[order.u32_at(bytes, 8) as usize]
     }
 }
