@@ -20,5 +20,6 @@ pub mod LimitLemmas
 pub mod Examples
 pub mod ExamplesOfValues
 pub mod ExamplesOfWords
+pub mod ExamplesOfNames
 pub mod ExamplesOfWatch
 pub mod ExamplesOfParser

@@ -45,7 +45,7 @@ AskForReport behind settings = AskForCommand (word_of Report ∷ behind) (comman
 abbrev pub HasReportFault : List ArgumentText → WordsKind → Type 0
 HasReportFault behind kind = HasWordsFault (word_of Report ∷ behind) kind
 
--- the option is one of these names, or that of the grain, which a missing value of it doesn't set alone
+-- the option has one of these names, or it is `bits`, whose limits depend on the capacity too
 abbrev pub IsNamedOption : List ArgumentText → Opt → Type 0
 IsNamedOption options opt = Contains options (name_of opt) ⊎ (opt ≡ Bits)
 

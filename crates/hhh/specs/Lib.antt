@@ -1,3 +1,4 @@
 pub mod Rules
-pub mod ToldStatus
+pub mod Ending
 pub mod Streams
+pub mod Sites

@@ -1,4 +1,5 @@
-use super::{code_of, finish};
+use crate::code_of;
+use crate::ending::finish;
 use hhh_engine::Status;
 use std::process::ExitCode;
 use std::test::Fail;

@@ -9,3 +9,5 @@ pub mod SiteWordLemmas
 pub mod SitePositionLemmas
 pub mod SiteEndLemmas
 pub mod SiteTextLemmas
+pub mod ExamplesOfSites
+pub mod ExamplesOfSiteWords

@@ -1,5 +1,5 @@
 -- What a run of `sites` comes to, by what was read of the words and of the stores.
-use Rattle.std.proofs.Common.{◌≡◌, ◌≢◌, ◌⊎◌, inl, inr, ◌+◌, ◌*◌, ◌≤◌, ◌∙◌, refl, sym, ap, subst, arith, ℕ, List, [], ◌∷◌, length, map, Option, Some, None}
+use Rattle.std.proofs.Common.{◌≡◌, ◌⊎◌, inl, inr, ◌+◌, ◌*◌, ◌≤◌, ◌∙◌, refl, sym, ap, subst, arith, ℕ, List, [], ◌∷◌, length, map, Option, Some, None}
 use Rattle.std.proofs.Common.{Result, Ok, Err, slice_index}
 use Rattle.std.specs.List.{flat_map}
 use Rattle.std.specs.Result.{IfErr, IsErrOf}
@@ -10,7 +10,7 @@ use Rattle.checkpoint.specs.declared.settings.StoreSettings.{StoreSettings}
 use Rattle.checkpoint.specs.{SavedValue}
 use Rattle.site_merge.specs.SiteCut.{IsReadStore, site_cut, store_shards}
 use Rattle.site_merge.specs.Disks.{AreLeftAlone, RoseAtSite}
-use Rattle.site_merge.specs.Sites.{IsShownBySites, RefusesSites, SiteReadsAs, SitesReadAs}
+use Rattle.site_merge.specs.Sites.{IsShownBySites, RefusesSites, SitesReadAs}
 use Rattle.site_merge.specs.Reporting.{IsSiteReport, MustRefuseSites, MustReport, WasStopped}
 use Rattle.site_merge.specs.SiteWords.{AskForSites, HasSiteFault}
 use Rattle.site_merge.specs.SiteStatus.{status_number, status_of_sites, status_of_site_words}

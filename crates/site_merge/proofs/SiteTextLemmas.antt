@@ -1,12 +1,12 @@
 -- The text of a report of sites, put together part by part.
-use Rattle.std.proofs.Common.{◌≡◌, ◌+◌, ◌*◌, ◌<◌, ◌≤◌, ◌++◌, ◌∙◌, ℕ, List, [], ◌∷◌, refl, sym, ap, arith, map, length, codes, decimal, append_assoc, append-nil}
+use Rattle.std.proofs.Common.{◌≡◌, ◌+◌, ◌≤◌, ◌++◌, ◌∙◌, ℕ, List, [], ◌∷◌, refl, sym, ap, arith, map, length, codes, decimal, append_assoc, append-nil}
 use Rattle.std.specs.List.{flat_map, range_with_len}
 use Rattle.std.proofs.lemmas.Grind.{flat_map-append}
 use Rattle.std.proofs.lemmas.Fmt.{length-decimal-le}
 use Rattle.std.proofs.lemmas.List.{length-append}
 use Rattle.std.proofs.lemmas.List.FromFn.{map-range_with_len_more}
-use Rattle.report_text.specs.{lines_text, number_text, text_line}
-use Rattle.site_merge.specs.SiteText.{site_lines, site_text_line, sites_text}
+use Rattle.report_text.specs.{lines_text}
+use Rattle.site_merge.specs.SiteText.{site_lines, sites_text}
 use Rattle.site_merge.specs.declared.reporting.SiteReport.{SiteReport}
 
 site_text_same : (numbers : List ℕ) → map (λ n. n) numbers ≡ numbers

@@ -1,5 +1,5 @@
 -- The words of `sites` have one meaning.
-use Rattle.std.proofs.Common.{◌≡◌, ◌≢◌, ◌⊎◌, inl, inr, ◌<◌, ◌≤◌, ◌++◌, ◌∙◌, refl, sym, ap, subst, arith, ℕ, List, [], ◌∷◌, length, take, drop}
+use Rattle.std.proofs.Common.{◌≡◌, ◌⊎◌, inl, inr, ◌<◌, ◌≤◌, ◌++◌, ◌∙◌, refl, sym, ap, subst, arith, ℕ, List, length, take, drop}
 use Rattle.std.proofs.Common.{Result, Ok, Err, Some, None, Option, codes, false, true≢false}
 use Rattle.std.specs.List.{All, Contains}
 use Rattle.std.specs.Str.{bytes_eq}

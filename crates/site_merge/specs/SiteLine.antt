@@ -1,5 +1,5 @@
 -- What is read of the words of `sites`, which no public contract cites.
-use Rattle.std.specs.Prelude.{⊤, ℕ, ◌≡◌, ◌≤◌, ◌⊎◌, List, length, Result, Err, IsErrOf, IsOkAnd}
+use Rattle.std.specs.Prelude.{⊤, ℕ, ◌≡◌, ◌≤◌, List}
 use Rattle.hhh_report.specs.{million}
 use Rattle.hhh_output.specs.{IsWideShare}
 use Rattle.checkpoint.specs.{AreSettings}
@@ -8,8 +8,7 @@ use Rattle.command_words.specs.{argument_texts}
 use Rattle.command_words.specs.declared.words_kind.WordsRefusal.{WordsRefusal}
 use Rattle.command_words.specs.declared.words_kind.WordsRefusal.TheVariants as report
 use Rattle.site_merge.specs.SiteCut.{site_limit}
-use Rattle.site_merge.specs.SiteWords.{AskBehind, HasFaultBehind, IsOptionFault}
-use Rattle.site_merge.specs.declared.site_words.SiteWords.{SiteWords}
+use Rattle.site_merge.specs.SiteWords.{IsOptionFault}
 use Rattle.site_merge.specs.declared.site_words.SiteWordsRefusal.{SiteWordsRefusal}
 use Rattle.site_merge.specs.declared.site_words.SiteWordsRefusal.TheVariants.{Bad, OutOfMemory}
 use Rattle.site_merge.specs.declared.words.SiteLine.{SiteLine}

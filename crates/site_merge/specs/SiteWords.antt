@@ -1,5 +1,5 @@
 -- What the words of `sites` ask for, and their first fault.
-use Rattle.std.specs.Prelude.{⊤, ℕ, ◌≡◌, ◌<◌, ◌≤◌, List, [], ◌∷◌, length, codes}
+use Rattle.std.specs.Prelude.{ℕ, ◌≡◌, ◌<◌, ◌≤◌, List, [], ◌∷◌, length, codes}
 use Rattle.checkpoint.specs.declared.settings.StoreSettings.{StoreSettings}
 use Rattle.command_words.specs.{AreOptionsThenNames, AskForReport, HasReportFault}
 use Rattle.command_words.specs.declared.opt.Opt.{Opt}

@@ -98,15 +98,23 @@ module _ {D : Type 0} (d : DiskOf D) (words : List (List ℕ)) (old new : List D
 
 -- the same with a sink that was `before` and is `after`, of which `taken` is what it has taken
 module _ {D K : Type 0} (d : DiskOf D) (k : SinkOf K) (words : List (List ℕ)) (old new : List D) (before after : K) where
+  -- the words ask for a report, and its text was written whole
+  abbrev pub WritesSites : Type 0
+  WritesSites = (made : SiteReport) × AnswersSites d words old new made × Appends (k.taken before) (k.taken after) (sites_text made)
+
+  -- the words ask for a report, and a strict beginning of its text was written
+  abbrev pub WritesSitesInPart : Type 0
+  WritesSitesInPart =
+      (made : SiteReport) × AnswersSites d words old new made × AppendsPart (k.taken before) (k.taken after) (sites_text made)
+
   -- the run ended with this status
   pub record SitesEnd (status : SiteStatus) : Type 0 where
     -- the text of the one report over the stores was written whole
-    pub done : status ≡ Done → (made : SiteReport) × AnswersSites d words old new made × Appends (k.taken before) (k.taken after) (sites_text made)
+    pub done : status ≡ Done → WritesSites
     -- what the words and the stores give rise to, with each cause
     pub reading : ReadingEnds d words old new status
     -- a fault of the sink is returned only where there was one in this run, and always then; a strict beginning was written
-    pub write_fault : status ≡ WriteFault → FaultRose (k.faults before) (k.faults after)
-        × ((made : SiteReport) × AnswersSites d words old new made × AppendsPart (k.taken before) (k.taken after) (sites_text made))
+    pub write_fault : status ≡ WriteFault → FaultRose (k.faults before) (k.faults after) × WritesSitesInPart
     pub write_fault_reported : (status ≡ WriteFault → ⊥) → k.faults after ≡ k.faults before
     -- on every other status nothing was written
     pub unwritten : (status ≡ Done → ⊥) → (status ≡ WriteFault → ⊥) → after ≡ before

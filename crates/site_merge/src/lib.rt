@@ -1,5 +1,5 @@
 //! One report over the stores of several sites, which captured their own traffic with the same settings: what is heavy in
-//! the sum, though it may be heavy nowhere.
+//! the sum of all.
 #![tactic(auto)]
 
 mod captures;

@@ -20,7 +20,7 @@ const NEXT_PACKET: Record = Record {
     ..PACKET
 };
 
-const TWO_SHARDS: StoreSettings = StoreSettings {
+pub(super) const TWO_SHARDS: StoreSettings = StoreSettings {
     shards: 2,
     ..ONE_SHARD
 };
@@ -29,21 +29,25 @@ const TWO_SHARDS: StoreSettings = StoreSettings {
 type Answer = Result<SiteReport, SiteFault>;
 
 // The bytes of a new store.
-fn new_image(alloc: Global) -> Result<Vec<u8>, Fail> {
+pub(super) fn new_image(alloc: Global) -> Result<Vec<u8>, Fail> {
     let mut disk = disk_of(alloc, Vec::new(alloc), None, &[])?;
     format(&mut disk, &header_of(&ONE_SHARD))?;
     Ok(disk.crash(alloc, 0)?)
 }
 
 // The bytes of a store that the next packet was saved into.
-fn next_image(alloc: Global) -> Result<Vec<u8>, Fail> {
+pub(super) fn next_image(alloc: Global) -> Result<Vec<u8>, Fail> {
     let mut disk = disk_of(alloc, new_image(alloc)?, None, &[])?;
     save_first(alloc, &mut disk, &ONE_SHARD, NEXT_PACKET)?;
     Ok(disk.crash(alloc, 0)?)
 }
 
 // Disks of these bytes, of the last of which the calls with these numbers fail.
-fn disks_of(alloc: Global, images: &[&[u8]], fails: &[u64]) -> Result<Vec<MemoryDisk>, Fail> {
+pub(super) fn disks_of(
+    alloc: Global,
+    images: &[&[u8]],
+    fails: &[u64],
+) -> Result<Vec<MemoryDisk>, Fail> {
     let mut disks = Vec::new(alloc);
     for (place, image) in images.iter().enumerate() {
         let fails = if place + 1 == images.len() {
@@ -54,6 +58,16 @@ fn disks_of(alloc: Global, images: &[&[u8]], fails: &[u64]) -> Result<Vec<Memory
         disks.push(disk_of(alloc, image.to_vec(alloc)?, None, fails)?)?;
     }
     Ok(disks)
+}
+
+// Whether disks have these bytes, whatever a crash leaves.
+pub(super) fn stay(alloc: Global, disks: &[MemoryDisk], images: &[&[u8]]) -> Result<bool, Fail> {
+    for (disk, image) in disks.iter().zip(images) {
+        if !leaves(alloc, disk, 0, image)? || !leaves(alloc, disk, 1, image)? {
+            return Ok(false);
+        }
+    }
+    Ok(true)
 }
 
 // The report of stores with these bytes. `None` where a byte of them changed.
@@ -67,12 +81,8 @@ fn answer(
 {
     let mut disks = disks_of(alloc, images, fails)?;
     let made = report_on(alloc, disks.as_mut_slice(), settings)?;
-    for (disk, image) in disks.iter().zip(images) {
-        if !leaves(alloc, disk, 0, image)? || !leaves(alloc, disk, 1, image)? {
-            return Ok(None);
-        }
-    }
-    Ok(Some(made))
+    let stay = stay(alloc, &disks, images)?;
+    Ok(stay.then_some(made))
 }
 
 // Disks of any kind keep what is known of a disk in memory out of the proof.
@@ -96,7 +106,7 @@ fn sites_give_one_report(rt: HostRuntime) -> Result<(), Fail> {
     Ok(())
 }
 
-// What is heavy in the sum is heavy at neither site.
+// The line of the sum has none at either site, where one host explains it.
 fn two_sites_are_merged(alloc: Global) -> Result<bool, Fail> {
     let images = [saved_image(alloc)?, next_image(alloc)?];
     let made = answer(alloc, &[&images[0], &images[1]], &[], &ONE_SHARD)?;

@@ -1,12 +1,12 @@
 -- What was read of the words and of the stores says how the run ends.
-use Rattle.std.proofs.Common.{◌∙◌, inl, inr, refl, sym, ap, subst, arith, length, map, Bor, List, ℕ, Ok, Err}
+use Rattle.std.proofs.Common.{inl, refl, ap, arith, map, Bor, List, ℕ, Err}
 use Rattle.std.proofs.lemmas.List.{length-map}
 use Rattle.std.proofs.lemmas.Result.{err_from_is_err_and}
 use Rattle.std.proofs.lemmas.Slice.Zip.{AllZip-long}
 use Rattle.command_words.specs.{argument_texts}
 use Rattle.site_merge.specs.Sites.{SiteReadsAs}
 use Rattle.site_merge.specs.declared.status.SiteStatus.TheVariants.{Done}
-use Rattle.site_merge.proofs.SiteEndLemmas.{SiteStoresWereRead, site_end_of_words, site_end_exact, site_end_complete, site_end_one_line}
+use Rattle.site_merge.proofs.SiteEndLemmas.{site_end_of_words, site_end_exact, site_end_complete, site_end_one_line}
 use Rattle.site_merge.proofs.SiteEndLemmas.{site_end_line_is_faultless, site_end_of_stores, site_end_of_report, site_end_without_memory}
 use Rattle.site_merge.proofs.SiteEndLemmas.{site_end_positions}
 use Rattle.site_merge.proofs.sites.read_sites.Goals as goal

@@ -4,7 +4,7 @@ use Rattle.std.proofs.lemmas.List.{length-drop, length-map, take_rest}
 use Rattle.command_words.specs.{argument_texts}
 use Rattle.command_words.specs.declared.settings.Settings.{Settings}
 use Rattle.site_merge.specs.SiteWords.{AskBehind, HasFaultBehind, site_options, stored_settings}
-use Rattle.site_merge.specs.declared.site_words.SiteWordsRefusal.TheVariants.{Bad, OutOfMemory}
+use Rattle.site_merge.specs.declared.site_words.SiteWordsRefusal.TheVariants.{Bad}
 use Rattle.site_merge.specs.declared.site_words.SiteWords.TheVariants.{Refused, TooMany}
 use Rattle.site_merge.proofs.SiteWordLemmas.{site_words_lack_form, site_words_have_no_count, site_words_have_one_count}
 use Rattle.site_merge.proofs.SiteWordLemmas.{site_words_have_one_rest, site_words_are_few, site_words_of_many_names}
