@@ -42,18 +42,9 @@ class Store(StoredCapture):
         elif self.kind == "rounds":
             self.run(self.report("--store", store, "--rounds", str(source.randint(1, 4))))
         elif self.kind == "killed":
-            self.kill_run(source.randint(1, 4))
+            self.stop_after_saves(store, source.randint(1, 4), 16, "--workers", "1")
         self.image = Path(store).read_bytes()
         assert self.opening(self.image)[0] == 0, "a run left no sound store"
-
-    def kill_run(self, saves):
-        command = self.report("--store", self.store, "--rounds", "8", "--block", "16", "--workers", "1")
-        with subprocess.Popen(command, stdout=subprocess.PIPE, text=True) as killed:
-            for line in killed.stdout:
-                saves -= line.startswith("saved")
-                if not saves:
-                    killed.kill()
-                    break
 
     def damaged(self):
         """The bytes with one of them or the header changed, and what was changed."""

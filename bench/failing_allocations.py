@@ -1,10 +1,10 @@
 #!/usr/bin/env python3
 """Lets each allocation of command lines fail in turn: failing_allocations.py PROGRAM CAPTURE [MOST] [SEED]
 
-Compiles `failing_malloc.c`, which stands before the system's malloc, and counts the calls for memory of fourteen command
-lines over the capture, one of them with its frames in a pcapng one of many interfaces. Then it runs each once for each
-call with that call failing, and once with that one and all later ones failing; where there are more than MOST calls
-(1,000 unless given), for so many of them that are drawn. A run must end
+Compiles `failing_malloc.c`, which stands before the system's malloc, and counts the calls for memory of fifteen command
+lines over the capture, one of them with its frames in a pcapng one of many interfaces, and one over the stores of two sites.
+Then it runs each once for each call with that call failing, and once with that one and all later ones failing; where there are
+more than MOST calls (1,000 unless given), for so many of them that are drawn. A run must end
 
 - as it does where nothing fails, with the same text and the same line or none; of a session whose rounds vary, with a good
   audit and its last report; or
@@ -12,7 +12,7 @@ call with that call failing, and once with that one and all later ones failing; 
   of a session must have a good audit.
 
 A store must then be as it was before `format`, or be gone on with by a report that ends well, from the last line `saved` at
-least. Prints for each command line its calls and how many runs ended with which status, each run that ended otherwise, and at
+least. Both stores of `sites` must be as they were, and on 13 nothing may be written. Prints for each command line its calls and how many runs ended with which status, each run that ended otherwise, and at
 the end the counts. Needs cc, and a program that calls malloc of the system's library.
 """
 
@@ -87,7 +87,7 @@ class Line:
             return "another status"
         elif line not in ("", "hhh: out of memory\n"):
             return "another line"
-        elif not self.varies and not self.text.startswith(text):
+        elif not self.varies and not self.text.startswith(text) or self.words[0] == "sites" and text:
             return "no beginning of the text"
         if self.words[0] == "report" and not audits_well(text, self.settings):
             return "an audit that finds fault"
@@ -97,6 +97,9 @@ class Line:
         if self.words[0] == "format":
             formatted = text == "formatted\n"
             return None if formatted or Path(store).read_bytes() == self.before else "another store"
+        if self.words[0] == "sites":
+            stores = [Path(each).read_bytes() for each in (store, other)]
+            return None if stores == [self.before, saved_other] else "another store"
         status, later, _ = run(["report", "--capture", capture, "--store", store, *STORE, *SHARE])
         if status != 0 or session_text.last_report(later) != whole_report:
             return f"a store that can't be gone on with: {status}"
@@ -128,7 +131,7 @@ def test(command):
 
 
 with tempfile.TemporaryDirectory() as folder:
-    library, store, part = f"{folder}/failing.so", f"{folder}/store", f"{folder}/part"
+    library, store, other, made, part = (f"{folder}/{name}" for name in ("failing.so", "store", "other", "made", "part"))
     subprocess.run(["cc", "-O2", "-shared", "-fPIC", "-o", library, HERE / "failing_malloc.c"], check=True)
     good, bad, pcapng = f"{folder}/good", f"{folder}/bad", f"{folder}/pcapng"
     Path(pcapng).write_bytes(capture_writer.section(">", capture_reader.read_file(capture).frames, [1] * INTERFACES))
@@ -139,6 +142,10 @@ with tempfile.TemporaryDirectory() as folder:
     empty = Path(store).read_bytes()
     whole_report = session_text.last_report(run(["report", "--capture", capture, "--store", store, *STORE, *SHARE])[1])
     saved = Path(store).read_bytes()
+    Path(other).write_bytes(empty)
+    Path(made).write_bytes(run(["make", "9", "2000"])[1].encode("latin-1"))
+    run(["report", "--capture", made, "--store", other, *STORE, *SHARE])
+    saved_other = Path(other).read_bytes()
     report = ["report", "--capture", capture, *SHARE]
     live = ["--workers", "2", "--callers", "2", "--rounds", "2", "--block", "64"]
     lines = [
@@ -153,6 +160,7 @@ with tempfile.TemporaryDirectory() as folder:
         Line("audit", "--capture", capture, "--report", bad, *SHARE),
         Line("weigh", "10.0.0.0/8", "0.0.0.0/0", "--capture", pcapng),
         Line("watch", "--report", good, "--limit", "1000"),
+        Line("sites", *STORE, *SHARE, store, other, before=saved),
         Line("make", "7", "2000"),
         Line("demo", "7", "2000", "--workers", "2"),
         Line("report", "--shards", "17"),

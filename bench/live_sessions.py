@@ -77,16 +77,7 @@ def format_anew(settings, store):
 def stop_after_saves(settings, store):
     """Kills a run after some of its saves. Answers the positions of the last line `saved` that it wrote."""
     format_anew(settings, store)
-    command = settings.report("--store", store, "--rounds", "4", "--block", str(up_to(1, 4096)), "--workers", "2")
-    saves, text = source.randint(1, 4), ""
-    with subprocess.Popen(command, stdout=subprocess.PIPE, text=True) as run:
-        for line in run.stdout:
-            text += line
-            saves -= line.startswith("saved")
-            if not saves:
-                run.kill()
-                break
-        text += run.stdout.read()
+    text = settings.stop_after_saves(store, source.randint(1, 4), up_to(1, 4096), "--workers", "2")
     return session_text.last_saved(text) or [0] * settings.shards
 
 

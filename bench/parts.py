@@ -1,8 +1,8 @@
 """Run by gdb over `report`: the processor time and the peak memory of each of its parts.
 
-gdb -batch -x parts.py PROGRAM, where INPUT names the capture, and WORDS may have further words. For each part, in
-their order, a line with its name, the milliseconds that it took, and the peak memory of the program up to its end
-in kilobytes.
+gdb -batch -x parts.py PROGRAM, where INPUT names the capture, and WORDS may have further words. With `sites` for
+COMMAND it runs over that command, whose stores WORDS names. For each part, in their order, a line with its name, the
+milliseconds that it took, and the peak memory of the program up to its end in kilobytes.
 """
 
 import os
@@ -10,17 +10,22 @@ import time
 
 import gdb
 
-FIRST = "frame_records::reading::read_records"
-
-# Each part, and the function whose next entry ends it.
-PARTS = [
-    ("reading", "report_text::putting::put_number"),
-    ("dealing", "report_text::putting::put_positions"),
-    ("folding", "cut_merge::merged::merge_node"),
-    ("merging", "hhh_output::selecting::select_lines"),
-    ("selecting", "report_text::putting::put_positions"),
-    ("printing", "write"),
-]
+# The function whose entry begins the first part, each part, and the function whose next entry ends it.
+PARTS = {
+    "report": ("frame_records::reading::read_records", [
+        ("reading", "report_text::putting::put_number"),
+        ("dealing", "report_text::putting::put_positions"),
+        ("folding", "cut_merge::merged::merge_node"),
+        ("merging", "hhh_output::selecting::select_lines"),
+        ("selecting", "report_text::putting::put_positions"),
+        ("printing", "write"),
+    ]),
+    "sites": ("main", [
+        ("reading", "cut_merge::merged::merge_node"),
+        ("merging", "hhh_output::selecting::select_lines"),
+        ("selecting", "write"),
+    ]),
+}
 
 
 def stop_at(function, command):
@@ -43,9 +48,11 @@ def stand():
 
 def main():
     gdb.execute("set confirm off")
-    stop_at(FIRST, "run report %s <'%s' >/dev/null" % (os.environ.get("WORDS", ""), os.environ["INPUT"]))
+    command = os.environ.get("COMMAND", "report")
+    first, parts = PARTS[command]
+    stop_at(first, "run %s %s <'%s' >/dev/null" % (command, os.environ.get("WORDS", ""), os.environ["INPUT"]))
     before, most = stand()
-    for part, end in PARTS:
+    for part, end in parts:
         stop_at(end, "continue")
         now, peak = stand()
         most = max(most, peak)

@@ -33,17 +33,27 @@ class Settings:
         return [word for name, value in options for word in (f"--{name}", str(value))]
 
 
-def lines_of(weights, threshold, bits):
-    """The lines of a report by exact weights: what their closest lines leave of them reaches the threshold."""
-    whole, _ = plain_audit.sums_of(weights, [], bits)
-    lines = []
-    for prefix in sorted((prefix for prefix in whole if whole[prefix] >= threshold), key=plain_audit.place_in_report):
+def lines_of(candidates, interval, threshold):
+    """The lines of a report, each with its low and high: of which the closest lines leave as much as the threshold, or may."""
+    lines = {}
+    for prefix in sorted((prefix for prefix in candidates if interval(prefix)[1] >= threshold), key=plain_audit.place_in_report):
         closest = plain_audit.closest_under(prefix, lines)
-        left = whole[prefix] - sum(whole[line] for line in closest)
-        left += sum(whole.get(lowest, 0) for lowest in plain_audit.kept_meets(closest))
+        left = interval(prefix)[1] - sum(lines[line][0] for line in closest)
+        left += sum(interval(lowest)[1] for lowest in plain_audit.kept_meets(closest))
         if left >= threshold:
-            lines.append(prefix)
-    return [(prefix, whole[prefix]) for prefix in lines]
+            lines[prefix] = interval(prefix)
+    return lines
+
+
+def exact_lines(weights, threshold, bits):
+    """The lines of a report by exact weights."""
+    whole, _ = plain_audit.sums_of(weights, [], bits)
+    return lines_of(whole, lambda prefix: (whole.get(prefix, 0),) * 2, threshold)
+
+
+def texts_of(lines):
+    """The lines of a report as they are written."""
+    return [f"line {plain_audit.prefix_text(prefix)} {low} {high}" for prefix, (low, high) in lines.items()]
 
 
 def line_text(word, numbers):
@@ -57,8 +67,7 @@ def session_of(settings, capture, cut=None):
         weights[source, destination] += weight
     total = weights.total()
     threshold = plain_audit.threshold_of(total, settings.phi)
-    found = lines_of(weights, threshold, settings.bits)
-    lines = [f"line {plain_audit.prefix_text(prefix)} {weight} {weight}" for prefix, weight in found]
+    lines = texts_of(exact_lines(weights, threshold, settings.bits))
     texts = [
         line_text("opened", [0] * settings.shards), "report", line_text("at", map(len, lists)), f"total {total}",
         f"threshold {threshold}", *lines, "done", f"frames {capture.frames}", line_text("skipped", capture.skipped),

@@ -49,8 +49,6 @@ from stored_capture import LINES, StoredCapture, least_share, test
 PER_CASE = 10
 MOST_SPAN = 320_000  # bytes of a body, for the time that reading it in Python takes
 STATUSES = {0, 4, 5, 6, 13}
-INTERRUPTED = ("openat", "read", "pread64", "write", "pwrite64", "fsync")
-FILLING = ("openat", "write", "pwrite64", "fsync")
 # The system's C library aborts where it can't give back the stack of a thread. That is an end by a signal, as by a kill.
 ABORTED = -signal.SIGABRT
 # How the store of a run begins: as no store, formatted only, as an earlier run left it, as an image of a stop, or as a run
@@ -138,12 +136,6 @@ def positions_of(text, word):
 
 def empty_cut(command):
     return 0, 0, [0] * int(command[command.index("--shards") + 1])
-
-
-def looks_for_folder(call, folder):
-    """Whether a call is one of those by which a store's folder is opened: it follows the store's name through links."""
-    asks_for_link = call.name == "readlink" or (call.name == "statx" and "AT_SYMLINK_NOFOLLOW" in call.words)
-    return asks_for_link or (call.name == "openat" and folder in call.paths())
 
 
 class Case(StoredCapture):
@@ -249,14 +241,14 @@ class Case(StoredCapture):
             return {0}
         if call.name == "munmap":
             return {0, ABORTED}
-        if fault == "EINTR" and call.name in INTERRUPTED:
+        if fault == "EINTR" and call.name in system_calls.INTERRUPTED:
             return {0}
-        if (self.store in paths or folder in paths) and looks_for_folder(call, folder):
+        if (self.store in paths or folder in paths) and system_calls.looks_for_folder(call, folder):
             return {0}
         if self.store in paths or folder in paths:
             return {6}
         if self.path in paths:
-            return {4} if call.name in INTERRUPTED else {0, 4}
+            return {4} if call.name in system_calls.INTERRUPTED else {0, 4}
         return {5} if call.descriptor() == 1 else STATUSES
 
     def test_failed(self, record, fault):
@@ -344,7 +336,7 @@ class Trial:
 
     def failing(self, case, record, source):
         """Lets each call of a recorded run fail."""
-        for call, fault in faults_of(record, case):
+        for call, fault in system_calls.faults_of(record.traced.threads, (case.path, case.store)):
             options = system_calls.failing(call, fault)
             image, command = record.start.image(), system_calls.command_of(record.command, *options)
             failed = self.guard(case, command, image,
@@ -356,23 +348,6 @@ class Trial:
             again = case.report("--store", case.store, *words)
             self.guard(case, again, left, lambda: case.test_image(failed, failed.last_stop(), left, words))
             self.image(case, failed, source, "images after them")
-
-
-def faults_of(record, case):
-    """The calls that can fail in a run like this one, from the first on that names its capture or its store."""
-    first, *others = record.traced.threads
-    begun = next(place for place, call in enumerate(first) if case.path in call.paths() or case.store in call.paths())
-    before = Counter(call.name for call in first[:begun])
-    calls = {}
-    for call in [*first[begun:], *(call for thread in others for call in thread)]:
-        if call.number > before[call.name]:
-            calls.setdefault((call.name, call.number), call)
-    for call in calls.values():
-        yield call, "EIO"
-        if call.name in FILLING:
-            yield call, "ENOSPC"
-        if call.name in INTERRUPTED:
-            yield call, "EINTR"
 
 
 def parse():

@@ -28,6 +28,24 @@ class Header(NamedTuple):
     settings: Settings
 
 
+class Entry(NamedTuple):
+    """A key of a table, its count, and by how much this may be too great."""
+
+    key: int
+    count: int
+    error: int
+
+
+class Body(NamedTuple):
+    """What a body spells. The tables of a shard are lists of entries, counts rising, in the order of their nodes."""
+
+    sequence: int
+    digest: bytes
+    positions: list
+    totals: list
+    tables: list  # of each shard
+
+
 class Damaged(Exception):
     """The bytes are no body."""
 
@@ -107,7 +125,7 @@ def kept_bits(node, bits):
 
 
 def read_table(body, at, settings, node):
-    """The total of a table, and where it ends."""
+    """The total of a table, its entries, and where it ends."""
     (total, count), at = take(body, at, ">QI")
     need(count <= settings.capacity)
     numbers, at = take(body, at, f">{3 * count}Q")
@@ -117,11 +135,11 @@ def read_table(body, at, settings, node):
     need(all(one <= other for one, other in zip(counts, counts[1:])))
     need(len(set(keys)) == count and not any(key & ~kept for key in keys))
     need(all(error < weight and error * settings.capacity <= total for weight, error in zip(counts, errors)))
-    return total, at
+    return total, list(map(Entry, keys, counts, errors)), at
 
 
 def read_body(image, slot, settings):
-    """The sequence, the digest, the positions and the totals that the body of a slot spells."""
+    """What the body of a slot spells."""
     span = span_of(settings)
     place = FRONT + slot * span
     (length,), _ = take(image, place, ">Q")
@@ -129,19 +147,33 @@ def read_body(image, slot, settings):
     body = image[place:place + length]
     (_, sequence, digest), at = take(body, 0, ">QQ32s")
     need(1 <= sequence <= LAST_SEQUENCE)
-    positions, totals = [], []
+    positions, totals, tables = [], [], []
     for _ in range(settings.shards):
         (position,), at = take(body, at, ">Q")
         need(position <= MOST_POSITION)
-        found = set()
+        found, own = set(), []
         for node in range(nodes_of(settings.bits)):
-            total, at = read_table(body, at, settings, node)
+            total, entries, at = read_table(body, at, settings, node)
             found.add(total)
+            own.append(entries)
         need(len(found) == 1)
         positions.append(position)
         totals += found
+        tables.append(own)
     need(at == length)
-    return sequence, digest, positions, totals
+    return Body(sequence, digest, positions, totals, tables)
+
+
+def spell_body(body):
+    """The bytes that spell a body."""
+    pieces = [struct.pack(">Q32s", body.sequence, body.digest)]
+    for position, total, tables in zip(body.positions, body.totals, body.tables):
+        pieces.append(struct.pack(">Q", position))
+        for entries in tables:
+            pieces.append(struct.pack(">QI", total, len(entries)))
+            pieces.extend(struct.pack(">QQQ", *entry) for entry in entries)
+    spelled = b"".join(pieces)
+    return struct.pack(">Q", 8 + len(spelled)) + spelled
 
 
 def open_bodies(image, settings):
@@ -158,13 +190,13 @@ def open_bodies(image, settings):
 
 def newest_of(bodies):
     """The newest of the slots with these bodies."""
-    return max(bodies, key=lambda number: (bodies[number][0], -number))
+    return max(bodies, key=lambda number: (bodies[number].sequence, -number))
 
 
 def newest_sequence(image, settings):
     """The sequence of the newest slot of a store that isn't damaged, or 0 where no gate is open."""
     bodies = open_bodies(image, settings)
-    return bodies[newest_of(bodies)][0] if bodies else 0
+    return bodies[newest_of(bodies)].sequence if bodies else 0
 
 
 def header_in(image):
@@ -186,13 +218,13 @@ def opening(image, settings, lists, spelled_lists):
     if not bodies:
         return 0, [0] * settings.shards
     slot = newest_of(bodies)
-    sequence, found, positions, totals = bodies[slot]
-    if found != digest_of(stored, spelled_lists):
+    body = bodies[slot]
+    if body.digest != digest_of(stored, spelled_lists):
         return 10, None
-    for position, total, records in zip(positions, totals, lists):
+    for position, total, records in zip(body.positions, body.totals, lists):
         if position > len(records) or total != sum(weight for _, _, weight in records[:position]):
             return 8, slot
-    return (8, slot) if sequence > LAST_SEQUENCE - 64 else (0, positions)
+    return (8, slot) if body.sequence > LAST_SEQUENCE - 64 else (0, body.positions)
 
 
 def structure_of(image, settings):

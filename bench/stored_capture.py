@@ -68,6 +68,18 @@ class StoredCapture:
             test(self.run(self.format(store)).stdout == "formatted\n", "format failed")
             test(Path(store).read_bytes()[:store_bytes.FRONT] == front, "another header")
 
+    def stop_after_saves(self, store, saves, block, *words):
+        """Begins a run of small blocks over a store and kills it after so many saves. Answers what it wrote."""
+        command, text = self.report("--store", store, "--rounds", "8", "--block", str(block), *words), ""
+        with subprocess.Popen(command, stdout=subprocess.PIPE, text=True) as run:
+            for line in run.stdout:
+                text += line
+                saves -= line.startswith("saved")
+                if not saves:
+                    run.kill()
+                    break
+            return text + run.stdout.read()
+
     def opening(self, image):
         return store_bytes.opening(image, self.settings, self.lists, self.spelled_lists)
 

@@ -3,6 +3,7 @@
 import re
 import subprocess
 import tempfile
+from collections import Counter
 from dataclasses import dataclass
 from pathlib import Path
 
@@ -12,6 +13,9 @@ WORD = re.compile(r'<((?:\\x..)*)>|"((?:\\x..)*)"')
 # What one call writes at most, more than any body of these trials.
 MOST_BYTES = 4_000_000
 MOVES_BYTES = ("read", "write", "pread64", "pwrite64")
+# Calls that a signal may interrupt, and those that may find a disk full.
+INTERRUPTED = ("openat", "read", "pread64", "write", "pwrite64", "fsync")
+FILLING = ("openat", "write", "pwrite64", "fsync")
 # Waiting, and ends of threads: so many that they only cost time, and no system lets them fail as a disk does.
 UNSEEN = "!futex,sched_yield,exit,exit_group"
 
@@ -82,6 +86,29 @@ def trace(command, *options):
         threads = [calls_of(path) for path in Path(folder).iterdir()]
     threads.sort(key=lambda calls: not calls or calls[0].name != "execve")
     return Traced(run.returncode, run.stdout.decode(), run.stderr.decode("utf-8", "replace"), threads)
+
+
+def looks_for_folder(call, folder):
+    """Whether a call is one of those by which a store's folder is opened: it follows the store's name through links."""
+    asks_for_link = call.name == "readlink" or (call.name == "statx" and "AT_SYMLINK_NOFOLLOW" in call.words)
+    return asks_for_link or (call.name == "openat" and folder in call.paths())
+
+
+def faults_of(threads, paths):
+    """The calls that can fail in a run like this one, from the first on that names one of these paths, and their faults."""
+    first, *others = threads
+    begun = next(place for place, call in enumerate(first) if set(paths) & set(call.paths()))
+    before = Counter(call.name for call in first[:begun])
+    calls = {}
+    for call in [*first[begun:], *(call for thread in others for call in thread)]:
+        if call.number > before[call.name]:
+            calls.setdefault((call.name, call.number), call)
+    for call in calls.values():
+        yield call, "EIO"
+        if call.name in FILLING:
+            yield call, "ENOSPC"
+        if call.name in INTERRUPTED:
+            yield call, "EINTR"
 
 
 def failing(call, fault):

@@ -22,10 +22,15 @@ HEADER, INTERFACE, PACKET = WORKED[:28], WORKED[28:48], WORKED[48:]
 OTHER_BLOCK = bytes.fromhex("05000000 10000000 00000000 10000000")
 
 
+def changed(data, place, text):
+    """Bytes with others from a place on."""
+    other = bytes.fromhex(text)
+    return data[:place] + other + data[place + len(other):]
+
+
 def with_bytes(place, text):
     """The capture with other bytes from a place on."""
-    other = bytes.fromhex(text)
-    return WORKED[:place] + other + WORKED[place + len(other):]
+    return changed(WORKED, place, text)
 
 
 # Each a name, the bytes, how many frames they have, and the first fault, or none.
