@@ -7,10 +7,10 @@ usage: check.py            prints a line for each fault, and ends with 1 where t
 checks/promises.py: in the promises of GUARANTEES.md and of crates/NAME/README.md each clause is on the function that is
 named before it, each wrong body in must-fail/ or more-wrong-bodies/ of its crate, and each wrong body in these on one
 of the pages. In the table of MEMORY.md each clause is on its call, and a call that is said to take nothing by `&mut`
-takes nothing so. A file of specs/ that a page names is there; where it names the definition before it, the file has
+takes nothing so. In the tables of PROMISES.md each clause is of its crate, and the definition that says a sentence is there. A file of specs/ that a page names is there; where it names the definition before it, the file has
 that one. Any other name in the form of the code's occurs in the crates.
 
-checks/pages.py: README.md, GUARANTEES.md, MEMORY.md and the crates' pages are no longer than they may be, and no row of
+checks/pages.py: README.md, GUARANTEES.md, MEMORY.md, PROMISES.md and the crates' pages are no longer than they may be, and no row of
 a table is wider than it may be; links lead to files. The facts of a crate's page and the table of crates in GUARANTEES.md are
 those of the code. The map in ARCHITECTURE.md has a row for each crate, and the README the number of the program's
 crates.

@@ -1,4 +1,4 @@
-"""Whether the manual page and OPERATORS.md have the commands and options of `command_words`."""
+"""Whether the manual page and OPERATORS.md have the commands and options of `command_words` and of `site_merge`."""
 
 import re
 
@@ -9,10 +9,14 @@ def forms():
     """What each command takes: its positionals, its options, and those of them that are required."""
     text = (TOP / "crates" / "command_words" / "specs" / "FormNames.antt").read_text()
     words = dict(re.findall(r'word_of (\w+) = codes "(\w+)"', text))
-    return {
+    known = {
         words[variant]: {field: re.findall(r'"(\w+)"', items) for field, items in re.findall(r"(\w+) =([^;]*)", fields)}
         for variant, fields in re.findall(r"form_of (\w+) = record \{(.*?)\}", text, re.DOTALL)
     }
+    text = (TOP / "crates" / "site_merge" / "specs" / "SiteWords.antt").read_text()
+    options = re.findall(r'"(\w+)"', re.search(r"(?m)^site_options = (.*)$", text)[1])
+    known["sites"] = {"positionals": ["store", "..."], "options": options, "required": []}
+    return known
 
 
 def options_in(text):
@@ -29,9 +33,10 @@ def check_manual(known):
     sections = dict(re.findall(r"(?m)^\.Sh (.+)\n((?:(?!\.Sh).*\n?)*)", text))
     shown = {}
     for part in sections["SYNOPSIS"].split(".Nm\n")[1:]:
-        command, positionals = re.match(r"\.Cm (\w+)\n(?:\.Ar (.*)\n)?", part).groups()
+        command = re.match(r"\.Cm (\w+)", part)[1]
+        positionals = " ".join(re.findall(r"(?m)^\.Ar (.*)$", part)).split()
         required = set(re.findall(r"(?m)^\.Fl -(\w+)", part))
-        shown[command] = {"positionals": (positionals or "").split(), "options": options_in(part), "required": required}
+        shown[command] = {"positionals": positionals, "options": options_in(part), "required": required}
     for command, form in known.items():
         wanted = {**form, "options": set(form["options"]), "required": set(form["required"])}
         check(shown.get(command) == wanted, f"the synopsis of hhh.1 doesn't show what the command {command} takes")
@@ -39,9 +44,10 @@ def check_manual(known):
     check_same("hhh.1", "command ", explained | set(shown), set(known), explained)
     explained = set(re.findall(r"(?m)^\.It Fl -(\w+)", sections["OPTIONS"]))
     check_same("hhh.1", "option --", options_in(text), all_options(known), explained)
-    texts = (TOP / "crates" / "run_status" / "specs" / "Status.antt").read_text()
-    for part in re.findall(r'(?m)^(?:words|fault|session|status)_text .* = codes "([^"]+)"', texts):
-        check(part == "done" or part.strip() in sections["DIAGNOSTICS"], f"DIAGNOSTICS of hhh.1 doesn't explain: {part}")
+    for specs in (TOP / "crates" / "run_status" / "specs" / "Status.antt", TOP / "crates" / "site_merge" / "specs" / "SiteStatus.antt"):
+        for line in re.findall(r"(?m)^(?:words|fault|session|status)_text .*", specs.read_text()):
+            for part in re.findall(r'"([^"]+)"', line):
+                check(part == "done" or part.strip() in sections["DIAGNOSTICS"], f"DIAGNOSTICS of hhh.1 doesn't explain: {part}")
 
 
 def check_operators(known):

@@ -11,6 +11,7 @@ MOST_LINES = {
     "README.md": 200,
     "docs/GUARANTEES.md": 400,
     "docs/MEMORY.md": 120,
+    "docs/PROMISES.md": 300,
     **{crate_page(crate): 80 for crate in CRATES},
 }
 WIDEST_ROW = 200

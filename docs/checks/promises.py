@@ -2,10 +2,13 @@
 
 import re
 
-from checks.repository import ALL_CLAUSES, ALL_DEFINITIONS, ALL_WRONG_BODIES, CRATES, TOP, check, faults, names, page_text, source_files
+from checks.repository import ALL_CLAUSES, ALL_DEFINITIONS, ALL_WRONG_BODIES, CRATES, TOP, check, faults, fields, names, page_text, source_files
 
 # The page of the whole program, whose promises may name clauses and wrong bodies of any crate.
 PROGRAM_PAGE = "docs/GUARANTEES.md"
+
+# The page whose tables have a sentence a row, with the clause that carries it and the definition that says it.
+SENTENCE_PAGE = "docs/PROMISES.md"
 
 # The page whose table says, call by call, what stands where memory ran out; and what it says in place of clauses.
 MEMORY_PAGE = "docs/MEMORY.md"
@@ -114,6 +117,25 @@ def check_memory():
                 check(is_there, f"{MEMORY_PAGE} names the clause {clause} on {call} of {crate}, and there is none")
 
 
+def check_sentences():
+    """A row of PROMISES.md | sentence | `crate` | `f`: `a` | `Record.field` | has a clause of its crate, as in
+    `check_clauses`, and a definition of any crate, or a field of one."""
+    defined = {name for crate in CRATES for name in ALL_DEFINITIONS[crate]}
+    parts = {f"{record}.{field}" for crate in CRATES for record, found in fields(crate).items() for field in found}
+    for row in re.findall(r"(?m)^\| (.*) \|$", page_text(SENTENCE_PAGE)):
+        cells = [cell.strip() for cell in row.split("|")]
+        check(len(cells) == 4, f"{SENTENCE_PAGE} has a row of {len(cells)} cells: {row}")
+        sentence, crate, clauses, said = (cells + [""] * 4)[:4]
+        if crate == "Crate" or sentence.startswith("---"):
+            continue
+        homes = [name for name in names(crate) if name in CRATES]
+        check(homes, f"{SENTENCE_PAGE} names the crate {crate}, and there is none")
+        check(names(clauses), f"{SENTENCE_PAGE} names no clause for: {sentence}")
+        check_clauses(SENTENCE_PAGE, homes, clauses)
+        for name in names(said):
+            check(name in defined | parts, f"{SENTENCE_PAGE} names the definition {name}, and there is none")
+
+
 def check_names(page, known):
     """A name in the form of the code's, `two_words` or `TwoWords`, occurs in the crates."""
     text = page_text(page)
@@ -123,6 +145,7 @@ def check_names(page, known):
 
 def check_promises(pages):
     check_memory()
+    check_sentences()
     by_program = check_page(PROGRAM_PAGE, CRATES)
     for crate in CRATES:
         named = by_program | check_page(crate_page(crate), [crate])

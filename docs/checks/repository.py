@@ -31,9 +31,10 @@ def names(text):
 
 def blocks(path):
     """Each paragraph of a file of definitions, also of a section, whose lines begin further to the right, as its lines of
-    comment and of code."""
-    for block in re.split(r"\n\n+", path.read_text()):
-        lines = [line.strip() for line in block.split("\n")]
+    comment and of code. The head of a section isn't code."""
+    text = re.sub(r"(?ms)^ *module _ .*? where$", "", path.read_text())
+    for block in re.split(r"\n\n+", text):
+        lines = [line.strip() for line in block.split("\n") if line.strip()]
         yield [line for line in lines if line.startswith("-- ")], [line for line in lines if not line.startswith("--")]
 
 
