@@ -19,6 +19,4 @@ pub use Rattle.command_words.specs.WordsRefusal.{HasWordsFault}
 pub use Rattle.command_words.specs.PathTexts.{NamesPaths}
 pub use Rattle.command_words.specs.Arguments.{argument_texts}
 pub use Rattle.command_words.specs.Names.{AreOptionsThenNames, AskForReport, HasReportFault, IsFaultOfOptions, IsNamedOption}
-pub use Rattle.command_words.specs.Names.{options_alone, report_options}
-pub use Rattle.command_words.specs.Options.{name_of}
-pub use Rattle.command_words.specs.PathTexts.{NamesPaths}
+pub use Rattle.command_words.specs.Names.{report_options}

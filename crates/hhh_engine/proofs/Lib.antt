@@ -9,6 +9,7 @@ pub mod AuditEndLemmas
 pub mod WatchEndLemmas
 pub mod SoundSessionLemmas
 pub mod RunEndLemmas
+pub mod ReportEndLemmas
 pub mod StorePromiseLemmas
 pub mod SessionPromiseLemmas
 pub mod WiderRulesLemmas

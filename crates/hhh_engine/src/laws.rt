@@ -7,7 +7,7 @@ ghost use Rattle.deal_rules.specs.declared.deal_kind.DealKind.{DealKind};
 ghost use Rattle.session_audit.specs.{IsSoundAudit, sound_audit};
 ghost use Rattle.hhh_engine.specs.Demo.{IsDemoText};
 ghost use Rattle.hhh_engine.specs.SessionPromise.{BeginsItsSession};
-ghost use Rattle.hhh_engine.specs.StorePromise.{KeepsItsStore};
+ghost use Rattle.hhh_engine.specs.StorePromise.{KeepsBelonging, KeepsItsStore};
 ghost use Rattle.hhh_engine.specs.Rules.{run_rules};
 ghost use Rattle.watch_rules.specs.{GoesByFormula, judged_by};
 ghost use Rattle.watch_rules.specs.declared.rule.Rule.{Rule};
@@ -36,7 +36,7 @@ use exact_audit::a_report_has_one_verdict;
 use outside_io::{Sink, Source};
 use report_session::{
     own_reports_are_sound, sessions_in_part_begin_whole_ones, sessions_keep_their_store,
-    sessions_read_back, whole_reports_are_one,
+    sessions_read_back, stores_belong_throughout, whole_reports_are_one,
 };
 use report_text::{same_sessions_have_equal_reports, session_texts_have_one_reading};
 use session_watch::{watched_alarms_are_certain, watches_have_one_text};
@@ -143,6 +143,25 @@ pub fn runs_keep_their_store<S: Source, T: Source, K: Sink, D: Disk>(
 {
     arguments_ask_for_one_command();
     sessions_keep_their_store::<D>(dealers);
+}
+
+/// Whatever the status of a run of `report` with a store, whose bytes were known as it began, and by whatever rules the
+/// dealers deal: the store keeps belonging to its records. If nothing was written, it belongs to whatever lists it belonged
+/// to. Else the records of the capture were dealt to lists; if whatever a crash could have left of the store as the run
+/// began belonged to these, the saved cut that the run went on from represents them, and whatever a crash leaves of the
+/// store, at any moment of the run or after it, belongs to them.
+pub fn runs_keep_stores_belonging<S: Source, T: Source, K: Sink, D: Disk>(
+    dealers: &Dealers,
+    judge: &Judge,
+)
+    ensures { (old new : Streams S T K D) (words : List (List ℕ)) (status : Status) (settings : Settings) (store : List ℕ)
+        → AskForCommand words (Report settings) → settings.store ≡ true → D.reads old.disk ≡ Some store
+        → RunEnds S.Source T.Source K.Sink D.Disk old new words
+        (run_rules (λ kind. ⟦<Dealer as Deals>⟧.may_answer (dealer_of kind dealers.now)) (⟦<Judge as Judges>⟧.may_answer judge.now)) status
+        → KeepsBelonging S.Source D.Disk old new settings (λ kind. ⟦<Dealer as Deals>⟧.may_answer (dealer_of kind dealers.now)) }
+{
+    arguments_ask_for_one_command();
+    stores_belong_throughout::<D>(dealers);
 }
 
 /// Whatever the status of a run of `report`: nothing was written, or bytes with which a whole session over the capture

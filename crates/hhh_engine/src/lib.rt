@@ -12,7 +12,7 @@ pub use exact_audit::Verdict;
 pub use laws::{
     alarms_of_sound_sessions_are_certain, demos_have_one_text, made_captures_are_captures,
     own_reports_are_good, own_sessions_are_audited_good, runs_follow_formulas,
-    runs_keep_their_store, runs_write_what_begins_a_session,
+    runs_keep_stores_belonging, runs_keep_their_store, runs_write_what_begins_a_session,
 };
 pub use report_session::{
     LiveRounds, last_reports_are_one, last_saves_are_at_the_ends, resumed_sessions_end_alike,

@@ -18,7 +18,8 @@ use Rattle.command_words.specs.declared.settings.Settings.{Settings}
 use Rattle.report_text.specs.{tail_text}
 use Rattle.report_session.specs.DealtFeed.{FeedGoesOn}
 use Rattle.report_session.specs.Saving.{BelongThroughout, BelongsToLists, AreKeptOnDisk, last_of_saves, saves_after}
-use Rattle.report_session.specs.Saving.{saves_settings, saves_settings-allowed}
+use Rattle.report_session.specs.Saving.{IsAsBefore, saves_settings, saves_settings-allowed}
+use Rattle.report_session.specs.KeptStore.{SessionsBelong}
 use Rattle.report_session.specs.Session.{AreOfCaller, GoesOnFrom, IsSession, IsSessionInPart}
 use Rattle.report_session.specs.Session.{IsShownInSession, GoesOnSoundly, SessionSaving}
 use Rattle.report_session.specs.Session.{caller_reports, session_opening, saved_cuts}
@@ -136,7 +137,7 @@ belonging_session_kept_cuts store opening lists reports used all =
     subst (λ b. All (λ (cut : CutValue). CutRepresents cut lists) (saved_cuts b opening reports)) (sym used) all
 
 -- a whole session
-pub belonging_session_completed : OpenToOne → ShowsItsHeader → SavedStoreCutsRepresent → {D : Type 0} (d : DiskOf D)
+belonging_session_completed : OpenToOne → ShowsItsHeader → SavedStoreCutsRepresent → {D : Type 0} (d : DiskOf D)
     → ((disk : D) (bytes : List ℕ) → d.reads disk ≡ Some bytes → d.image_now disk bytes) → (rules : DealingRules)
     (settings : Settings) (old new : D) (store : List ℕ) (file : Option (List ℕ)) (text : List ℕ)
     (is : IsSession settings rules (AreKeptOnDisk d old new) (d.reads old) file text)
@@ -156,7 +157,7 @@ belonging_session_completed one shown represent d read_is_image rules settings o
     (λ standing. All-nil (λ (cut : CutValue). CutRepresents cut is.lists)) store known belonged (is.spelled.kept used)
 
 -- a session that broke off
-pub belonging_session_broken_off : OpenToOne → ShowsItsHeader → SavedStoreCutsRepresent → {D : Type 0} (d : DiskOf D)
+belonging_session_broken_off : OpenToOne → ShowsItsHeader → SavedStoreCutsRepresent → {D : Type 0} (d : DiskOf D)
     → ((disk : D) (bytes : List ℕ) → d.reads disk ≡ Some bytes → d.image_now disk bytes) → (rules : DealingRules)
     (settings : Settings) (old new : D) (store : List ℕ) (file : Option (List ℕ)) (front : List ℕ)
     (is : IsSessionInPart settings rules (AreKeptOnDisk d old new) (d.reads old) file front)
@@ -212,3 +213,28 @@ belonging_session_broken_off one shown represent d read_is_image rules settings 
           (of_next rounds next count are standing))
           (λ standing. no_cut);
     }) is.begun)
+
+-- sessions of both kinds
+pub belonging_sessions : OpenToOne → ShowsItsHeader → SavedStoreCutsRepresent → {D : Type 0} (d : DiskOf D)
+    → ((disk : D) (bytes : List ℕ) → d.reads disk ≡ Some bytes → d.image_now disk bytes) → (rules : DealingRules)
+    → SessionsBelong d rules
+belonging_sessions one shown represent d read_is_image rules = record {
+  whole = λ old new settings store file text is.
+      belonging_session_completed one shown represent d read_is_image rules settings old new store file text is;
+  in_part = λ old new settings store file front is.
+      belonging_session_broken_off one shown represent d read_is_image rules settings old new store file front is;
+}
+
+-- a disk that is as before
+pub belonging_session_on_same_disk : {D : Type 0} (d : DiskOf D)
+    → ((disk : D) (t : ℕ) (image : List ℕ) → t ≤ d.moment disk → d.image_now disk image → d.image_since disk t image)
+    → (settings : StoreSettings) (lists : List (List RecordValue)) (old new : D) → IsAsBefore d old new
+    → ((image : List ℕ) → d.image_now old image → BelongsToLists settings lists image)
+    → BelongThroughout d settings lists None old new
+belonging_session_on_same_disk d now_is_since settings lists old new same belonged = record {
+  base_represents = tt;
+  any_moment = CrashLeaves-weaker d.moment d.image_since old new (d.image_now old) (BelongsToLists settings lists) same.any_moment
+      belonged;
+  afterwards = λ image now.
+      belonged image (same.any_moment.each image (now_is_since new (d.moment old) image same.any_moment.later now));
+}

@@ -1,4 +1,4 @@
--- What `report` promises of its store, by the bytes that it wrote.
+-- What `report` promises of its store: by the bytes that it wrote, and by the dealt lists to which the store belongs.
 use Rattle.std.specs.Prelude.{Bool, true, ℕ, ◌≡◌, ◌+◌, ◌≤◌, ◌⊎◌, List, [], ◌∷◌, ◌++◌, length, Contains, Option, Some}
 use Rattle.hhh_report.specs.{AreNotPast}
 use Rattle.hhh_report.specs.declared.report.Report.{Report}
@@ -9,7 +9,11 @@ use Rattle.checkpoint.specs.{SavedValue, StoreOpensTo, store_positions, store_se
 use Rattle.checkpoint.specs.declared.header.StoreHeader.{StoreHeader}
 use Rattle.report_text.specs.{ShowsSaves, mark_text, report_text, whole_lines}
 use Rattle.report_text.specs.declared.mark.Mark.TheVariants.{Opened, Saved}
-use Rattle.report_session.specs.Session.{IsStrictBeginning}
+use Rattle.command_words.specs.{AreLimited}
+use Rattle.command_words.specs.declared.settings.Settings.{Settings}
+use Rattle.dealt_capture.specs.{DealingRules}
+use Rattle.report_session.specs.Saving.{AreKeptOnDisk, BelongThroughout, BelongsToLists, saves_settings}
+use Rattle.report_session.specs.Session.{IsSession, IsSessionInPart, IsStrictBeginning}
 
 -- the last of these positions, or those at the start where there are none
 abbrev pub last_shown : List ℕ → List (List ℕ) → List ℕ
@@ -73,3 +77,18 @@ pub record StoreIsKept {D : Type 0} (d : DiskOf D) (header : StoreHeader) (old n
   pub reopens : (whole_lines written ≡ [] → ⊥) → StoreReopens d header new store written saves whole
   pub any_moment : CrashLeaves d.moment d.image_since old new
       (λ image. d.image_now old image ⊎ OpensToSave header store written saves image)
+
+-- Of sessions under these rules, whole ones and those that broke off: if whatever a crash could have left of the store before
+-- belonged to the dealt lists, then the saved cut that the session went on from represents them, and whatever a crash leaves of
+-- the store, at any moment of the session or after it, belongs to them
+pub record SessionsBelong {D : Type 0} (d : DiskOf D) (rules : DealingRules) : Type 0 where
+  pub whole : (old new : D) (settings : Settings) (store : List ℕ) (file : Option (List ℕ)) (text : List ℕ)
+      (is : IsSession settings rules (AreKeptOnDisk d old new) (d.reads old) file text)
+      → AreLimited settings → settings.store ≡ true → d.reads old ≡ Some store
+      → ((image : List ℕ) → d.image_now old image → BelongsToLists (saves_settings settings) is.lists image)
+      → BelongThroughout d (saves_settings settings) is.lists is.base old new
+  pub in_part : (old new : D) (settings : Settings) (store : List ℕ) (file : Option (List ℕ)) (front : List ℕ)
+      (is : IsSessionInPart settings rules (AreKeptOnDisk d old new) (d.reads old) file front)
+      → AreLimited settings → settings.store ≡ true → d.reads old ≡ Some store
+      → ((image : List ℕ) → d.image_now old image → BelongsToLists (saves_settings settings) is.lists image)
+      → BelongThroughout d (saves_settings settings) is.lists is.base old new

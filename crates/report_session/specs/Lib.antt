@@ -4,7 +4,7 @@ pub mod LiveRounds
 pub mod KeptStore
 pub mod DealtFeed
 -- the face: what contracts of other crates cite
-pub use Rattle.report_session.specs.Saving.{IsAsBefore, IsAsBefore-untouched, AreKeptOnDisk}
+pub use Rattle.report_session.specs.Saving.{IsAsBefore, IsAsBefore-untouched, AreKeptOnDisk, BelongThroughout, BelongsToLists}
 pub use Rattle.report_session.specs.Saving.{saves_settings, saves_settings-allowed}
 pub use Rattle.report_session.specs.Session.{BeginsSession, BeginsWholeSession, IsWholeReport, IsSession}
 pub use Rattle.report_session.specs.Session.{IsSessionInPart}
@@ -14,4 +14,4 @@ pub use Rattle.report_session.specs.LiveRounds.{RoundFaults}
 pub use Rattle.report_session.specs.DealtFeed.{IsFeedCapture}
 pub use Rattle.report_session.specs.DealtFeed.{FeedEnds, FeedRefuses, FeedWrites}
 pub use Rattle.report_session.specs.DealtFeed.{FeedWritesPart}
-pub use Rattle.report_session.specs.KeptStore.{StoreIsKept}
+pub use Rattle.report_session.specs.KeptStore.{SessionsBelong, StoreIsKept}

@@ -23,7 +23,7 @@ ghost use Rattle.report_session.specs.Session.{SessionReports, caller_reports, s
 ghost use Rattle.report_session.specs.Session.{new_shards, session_part, reports_in, saves_of};
 ghost use Rattle.report_session.specs.Session.{text_of_reports, session_start, IsWholeReport};
 ghost use Rattle.dealt_capture.specs.{rules_by};
-ghost use Rattle.report_session.specs.KeptStore.{StoreIsKept};
+ghost use Rattle.report_session.specs.KeptStore.{SessionsBelong, StoreIsKept};
 ghost use Rattle.report_session.specs.Saving.{IsAsBefore, BelongThroughout, OpensToSaves, AreKeptOnDisk};
 ghost use Rattle.report_session.specs.Saving.{last_of_saves, AreReopened, BelongsToLists, saves_settings};
 ghost use Rattle.hhh_report.specs.{IsSameReport, IsSound};
@@ -117,26 +117,20 @@ pub fn sessions_lose_no_save<D: Disk>()
     stores_open_to_one();
 }
 
-/// Where each kind of dealing is a formula, the bytes of the disk were known as `report` began, and whatever a crash could
-/// have left of the store then belonged to the dealt lists: the saved cut that the session went on from represents them, so
-/// its reports are sound; and whatever a crash leaves of the store at any moment of the session, or after it, belongs to
-/// them, whether the session was whole or broke off. The settings have to be within their limits. A store with no gate open,
-/// such as one that was just formatted, belongs to any lists.
-pub fn stores_belong_throughout<D: Disk>()
+/// What belonged to the dealt lists keeps belonging to them. If the bytes of the disk were known as `report` began, and
+/// whatever a crash could have left of the store then belonged to the dealt lists: the saved cut that the session went on
+/// from represents them, so its reports are sound; and whatever a crash leaves of the store at any moment of the session,
+/// or after it, belongs to them, whether the session was whole or broke off, by whatever rules these dealers deal, and by
+/// formulas. The settings have to be within their limits. A disk that is as before belongs to what it belonged to; a store
+/// with no gate open, such as one that was just formatted, belongs to any lists.
+pub fn stores_belong_throughout<D: Disk>(dealers: &Dealers)
     ensures formatted { (settings : StoreSettings) (lists : List (List RecordValue)) (image : List ℕ)
         → StoreOpensTo (written_header settings) image None → BelongsToLists settings lists image }
-    ensures whole { (formula : DealKind → ℕ → RecordValue → ℕ → ℕ) (before now : D) (settings : Settings) (store : List ℕ)
-        (file : Option (List ℕ)) (text : List ℕ) (is : IsSession settings (rules_by formula)
-        (AreKeptOnDisk D.Disk before now) (D.reads before) file text)
-        → AreLimited settings → settings.store ≡ true → D.reads before ≡ Some store
-        → ((image : List ℕ) → D.image_now before image → BelongsToLists (saves_settings settings) is.lists image)
-        → BelongThroughout D.Disk (saves_settings settings) is.lists is.base before now }
-    ensures in_part { (formula : DealKind → ℕ → RecordValue → ℕ → ℕ) (before now : D) (settings : Settings) (store : List ℕ)
-        (file : Option (List ℕ)) (front : List ℕ) (is : IsSessionInPart settings (rules_by formula)
-        (AreKeptOnDisk D.Disk before now) (D.reads before) file front)
-        → AreLimited settings → settings.store ≡ true → D.reads before ≡ Some store
-        → ((image : List ℕ) → D.image_now before image → BelongsToLists (saves_settings settings) is.lists image)
-        → BelongThroughout D.Disk (saves_settings settings) is.lists is.base before now }
+    ensures as_before { (old new : D) (settings : StoreSettings) (lists : List (List RecordValue)) → IsAsBefore D.Disk old new
+        → ((image : List ℕ) → D.image_now old image → BelongsToLists settings lists image)
+        → BelongThroughout D.Disk settings lists None old new }
+    ensures by_dealers { SessionsBelong D.Disk (λ kind. ⟦<Dealer as Deals>⟧.may_answer (dealer_of kind dealers.now)) }
+    ensures by_formula { (formula : DealKind → ℕ → RecordValue → ℕ → ℕ) → SessionsBelong D.Disk (rules_by formula) }
 {
     stores_open_to_one();
     stores_show_their_header();
