@@ -67,7 +67,7 @@ def meanings(known):
 
 def for_report(name, lines):
     """The lines of a definition that speak of the command `report`."""
-    others = re.compile(r"\s*%s .*\((?:command\.)?(?:Weigh|Format|Audit|Make|Demo)\b" % re.escape(name))
+    others = re.compile(r"\s*%s .*\((?:command\.)?(?:Weigh|Format|Audit|Watch|Make|Demo)\b" % re.escape(name))
     kept, skips = [], False
     for line in lines:
         if line.strip().startswith(name + " "):
