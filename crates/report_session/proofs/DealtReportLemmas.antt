@@ -18,19 +18,16 @@ use Rattle.command_words.specs.declared.settings.Settings.{Settings}
 use Rattle.report_session.specs.Session.{AreSessionShards, WritesAnswer, BeginsSession, GoesOnFrom, SessionKeeping}
 use Rattle.report_session.specs.Session.{GoesOnSoundly, SessionSaving, IsOverShards, session_opening}
 use Rattle.report_session.specs.DealtFeed.{FeedEnds, HasNoBase, IsFeedFault, IsFeedSaver}
-use Rattle.report_session.specs.DealtFeed.{FeedRefuses, FeedWrites, FeedWritesPart}
-use Rattle.report_session.specs.LiveRounds.{RoundFaults}
+use Rattle.report_session.specs.DealtFeed.{FeedWrites, FeedWritesPart}
+use Rattle.report_session.specs.LiveRounds.{round_faults}
 use Rattle.report_session.specs.Saving.{KeepsSaves, OpensToSaves, SavesInPart, AreKeptOnDisk}
 use Rattle.report_session.specs.Saving.{saves_after, saves_settings}
 use Rattle.run_status.specs.{status_of_opening}
 use Rattle.run_status.specs.declared.status.Status.{Status}
-use Rattle.run_status.specs.declared.status.Status.TheVariants.{Done, BadWords, BadCapture, ReadFault, WriteFault}
-use Rattle.run_status.specs.declared.status.Status.TheVariants.{DiskFault, NotFormatted, Damaged, OtherSettings}
-use Rattle.run_status.specs.declared.status.Status.TheVariants.{OtherCapture, AuditNo, BadReport, OutOfMemory}
+use Rattle.run_status.specs.declared.status.Status.TheVariants.{WriteFault, DiskFault, OutOfMemory}
 use Rattle.report_session.proofs.SessionTextLemmas.{session_text_begins_weaker}
 use Rattle.report_session.proofs.SessionTextLemmas.{spelled_session_text_says_less}
 use Rattle.outside_io.specs.declared.sink.Sink.{Ghosts as SinkOf}
-use Rattle.report_session.specs.DealtFeed.{feed_faults}
 use Rattle.report_session.specs.Saving.{IsAsBefore}
 use Rattle.report_session.specs.Session.{asked_shape}
 
@@ -49,9 +46,9 @@ dealt_report_keeps_saves shown d settings lists positions (Some saver) saved unf
     let found = saves.kept bytes (same ∙ known) in
     let of_bytes : saver.header ≡ header =
     sym (shown saver.header bytes found.opens.2.header) ∙ ap (λ s. stored_header s bytes) is.settings_are in
-    let kept : KeepsSaves d header (lists_digest header lists) (λ image. ⊥) saved unfinished mid new bytes =
-    subst (λ h. KeepsSaves d h (lists_digest h lists) (λ image. ⊥) saved unfinished mid new bytes) of_bytes
-    (subst (λ digest. KeepsSaves d saver.header digest (λ image. ⊥) saved unfinished mid new bytes) is.digest_is found) in
+    let kept : KeepsSaves d mid new header (lists_digest header lists) (λ image. ⊥) saved unfinished bytes =
+    subst (λ h. KeepsSaves d mid new h (lists_digest h lists) (λ image. ⊥) saved unfinished bytes) of_bytes
+    (subst (λ digest. KeepsSaves d mid new saver.header digest (λ image. ⊥) saved unfinished bytes) is.digest_is found) in
     let among : List ℕ → Type 0 = λ image. OpensToSaves header kept.opened
     (saves_after (store_sequence kept.opened) (lists_digest header lists) (saved ++ unfinished)) image in
     record {
@@ -66,62 +63,33 @@ dealt_report_keeps_saves shown d settings lists positions (Some saver) saved unf
       afterwards = kept.afterwards;
     }
 
--- a store that is refused for a fault that its bytes show
-dealt_report_refuses_lists : (settings : Settings) (lists : List (List RecordValue)) (store : Option (List ℕ)) (AsBefore : Type 0)
-    (fault : OpenFault) → AsBefore → (fault ≡ opening.OutOfMemory → ⊥)
-    → (settings.store ≡ true) ⊎ (fault ≡ opening.OutOfMemory)
-    → IfImageKnown store (λ image. RefusesOpening (saves_settings settings) lists image fault)
-    → FeedRefuses settings lists store AsBefore fault
-dealt_report_refuses_lists settings lists store AsBefore fault same other used refused = record {
-  used = ⊎_elim (λ is. is) (λ no. absurd (other no)) used;
-  as_before = same;
-  refused = refused;
-}
+-- a report to a sink, which found a disk as `old` and left it as `new` before anything was written
+module _ {K D : Type 0} (k : SinkOf K) (d : DiskOf D) (settings : Settings) (lists : List (List RecordValue))
+    (tail : List ℕ) (sink : K) (old new : D) where
+  -- the store is refused for a fault, or memory ran out
+  dealt_report_stops_at_fault : (fault : OpenFault) → IsAsBefore d old new
+      → (settings.store ≡ true) ⊎ (fault ≡ opening.OutOfMemory)
+      → IfImageKnown (d.reads old) (λ image. RefusesOpening (saves_settings settings) lists image fault)
+      → (fault ≡ opening.DiskFault → FaultRose (d.faults old) (d.faults new))
+      → ((fault ≡ opening.DiskFault → ⊥) → d.faults new ≡ d.faults old)
+      → FeedEnds k d settings lists tail sink sink old new (status_of_opening fault)
+  dealt_report_stops_at_fault opening.DiskFault same used refused rose kept =
+      (inl (refl, same), record { rose = rose refl; sink = refl })
+  dealt_report_stops_at_fault opening.OutOfMemory same used refused rose kept =
+      (inl (refl, same), ap (λ n. record { sink = k.faults sink; disk = n }) (kept (λ is. cc is)))
+  dealt_report_stops_at_fault fault same used refused rose kept = (
+    record { used = ⊎_elim (λ is. is) (λ no. cc no) used; as_before = same; refused = refused },
+    refl,
+    ap (λ n. record { sink = k.faults sink; disk = n }) (kept (λ is. cc is)),
+  )
 
-dealt_report_faults_are_equal : (sink before now : ℕ) → now ≡ before
-    → ◌≡◌ {A = RoundFaults} (record { sink = sink; disk = now }) (record { sink = sink; disk = before })
-dealt_report_faults_are_equal sink before now same = ap (λ n. record { sink = sink; disk = n }) same
-
-dealt_report_stops_at_fault : {K D : Type 0} (k : SinkOf K) (d : DiskOf D) (settings : Settings) (lists : List (List RecordValue))
-    (tail : List ℕ) (sink : K) (old new : D) (fault : OpenFault) → IsAsBefore d old new
-    → (settings.store ≡ true) ⊎ (fault ≡ opening.OutOfMemory)
-    → IfImageKnown (d.reads old) (λ image. RefusesOpening (saves_settings settings) lists image fault)
-    → (fault ≡ opening.DiskFault → FaultRose (d.faults old) (d.faults new))
-    → ((fault ≡ opening.DiskFault → ⊥) → d.faults new ≡ d.faults old)
-    → FeedEnds k d settings lists tail sink sink old new (status_of_opening fault)
-dealt_report_stops_at_fault k d settings lists tail sink old new opening.DiskFault same used refused rose kept =
-    (inl (refl, same), record { rose = rose refl; sink = refl })
-dealt_report_stops_at_fault k d settings lists tail sink old new opening.OutOfMemory same used refused rose kept =
-    (inl (refl, same), dealt_report_faults_are_equal (k.faults sink) (d.faults old) (d.faults new) (kept (λ is. cc is)))
-dealt_report_stops_at_fault k d settings lists tail sink old new opening.NotFormatted same used refused rose kept = (
-  dealt_report_refuses_lists settings lists (d.reads old) (IsAsBefore d old new) opening.NotFormatted same (λ is. cc is) used refused,
-  refl,
-  dealt_report_faults_are_equal (k.faults sink) (d.faults old) (d.faults new) (kept (λ is. cc is)),
-)
-dealt_report_stops_at_fault k d settings lists tail sink old new (opening.Damaged slot) same used refused rose kept = (
-  dealt_report_refuses_lists settings lists (d.reads old) (IsAsBefore d old new) (opening.Damaged slot) same (λ is. cc is) used refused,
-  refl,
-  dealt_report_faults_are_equal (k.faults sink) (d.faults old) (d.faults new) (kept (λ is. cc is)),
-)
-dealt_report_stops_at_fault k d settings lists tail sink old new (opening.OtherSettings stored asked) same used refused rose kept = (
-  dealt_report_refuses_lists settings lists (d.reads old) (IsAsBefore d old new) (opening.OtherSettings stored asked) same (λ is. cc is) used refused,
-  refl,
-  dealt_report_faults_are_equal (k.faults sink) (d.faults old) (d.faults new) (kept (λ is. cc is)),
-)
-dealt_report_stops_at_fault k d settings lists tail sink old new (opening.OtherCapture stored asked) same used refused rose kept = (
-  dealt_report_refuses_lists settings lists (d.reads old) (IsAsBefore d old new) (opening.OtherCapture stored asked) same (λ is. cc is) used refused,
-  refl,
-  dealt_report_faults_are_equal (k.faults sink) (d.faults old) (d.faults new) (kept (λ is. cc is)),
-)
-
--- the store was refused, or there was no memory for the base
-pub dealt_report_ends_without_base : {K D : Type 0} (k : SinkOf K) (d : DiskOf D) (settings : Settings)
-    (lists : List (List RecordValue)) (tail : List ℕ) (sink : K) (old new : D) (status : Status) → IsAsBefore d old new
-    → HasNoBase settings lists (d.reads old) (d.faults old) (d.faults new) status
-    → FeedEnds k d settings lists tail sink sink old new status
-dealt_report_ends_without_base k d settings lists tail sink old new status same none =
-    subst (FeedEnds k d settings lists tail sink sink old new) (sym none.status_is)
-    (dealt_report_stops_at_fault k d settings lists tail sink old new none.fault same none.used none.refused none.rose none.kept)
+  -- there is no base
+  pub dealt_report_ends_without_base : (status : Status) → IsAsBefore d old new
+      → HasNoBase settings lists (d.reads old) (d.faults old) (d.faults new) status
+      → FeedEnds k d settings lists tail sink sink old new status
+  dealt_report_ends_without_base status same none =
+      subst (FeedEnds k d settings lists tail sink sink old new) (sym none.status_is)
+      (dealt_report_stops_at_fault none.fault same none.used none.refused none.rose none.kept)
 
 -- bytes of a session, from the base on
 dealt_report_in_part : (settings : Settings) (lists : List (List RecordValue)) (tail : List ℕ) (keeping : SessionKeeping)
@@ -147,56 +115,35 @@ dealt_report_in_part settings lists tail keeping store base Kept old new begins 
 }
 
 -- the session broke off
-pub dealt_report_ends_broken_off : {K D : Type 0} (k : SinkOf K) (d : DiskOf D) (settings : Settings)
-    (lists : List (List RecordValue)) (tail : List ℕ) (base : Option CutValue) (Kept : SessionSaving) (Same : Type 0)
-    (sink written : K) (old new : D) (status : Status) → GoesOnFrom settings lists (d.reads old) base
-    → GoesOnSoundly lists base (session_opening (asked_shape settings) lists base)
-    → ((saved unfinished : List CutValue) → Kept saved unfinished → settings.store ≡ true
+module _ {K D : Type 0} (k : SinkOf K) (d : DiskOf D) (settings : Settings) (lists : List (List RecordValue))
+    (tail : List ℕ) (base : Option CutValue) (Kept : SessionSaving) (Same : Type 0) (sink written : K) (old new : D)
+    (begins : GoesOnFrom settings lists (d.reads old) base)
+    (represents : GoesOnSoundly lists base (session_opening (asked_shape settings) lists base))
+    (keeps : (saved unfinished : List CutValue) → Kept saved unfinished → settings.store ≡ true
     → AreKeptOnDisk d old new (saves_settings settings) lists saved unfinished)
-    → (Same → IsAsBefore d old new)
-    → (((written ≡ sink) × Same) × (status ≡ OutOfMemory))
-    ⊎ (AreSessionShards (asked_shape settings) (session_opening (asked_shape settings) lists base)
-    × WritesAnswer (BeginsSession (session_opening (asked_shape settings) lists base) settings Kept tail) (k.taken sink) (k.taken written))
-    → IsFeedFault (feed_faults k d sink old) (feed_faults k d written new) status
-    → FeedEnds k d settings lists tail sink written old new status
-dealt_report_ends_broken_off k d settings lists tail base Kept Same sink written old new WriteFault begins represents keeps unmoved part fault = (
-  ⊎_elim (λ same. absurd (cc same.1))
-      (λ some. dealt_report_in_part settings lists tail (AreKeptOnDisk d old new) (d.reads old) base Kept
-      (k.taken sink) (k.taken written) begins represents keeps some) part,
-  fault,
-)
-dealt_report_ends_broken_off k d settings lists tail base Kept Same sink written old new DiskFault begins represents keeps unmoved part fault = (
-  ⊎_elim (λ same. inl (same.0.0, unmoved same.0.1))
-      (λ some. inr (dealt_report_in_part settings lists tail (AreKeptOnDisk d old new) (d.reads old) base Kept
-      (k.taken sink) (k.taken written) begins represents keeps some)) part,
-  fault,
-)
-dealt_report_ends_broken_off k d settings lists tail base Kept Same sink written old new OutOfMemory begins represents keeps unmoved part fault = (
-  ⊎_elim (λ same. inl (same.0.0, unmoved same.0.1))
-      (λ some. inr (dealt_report_in_part settings lists tail (AreKeptOnDisk d old new) (d.reads old) base Kept
-      (k.taken sink) (k.taken written) begins represents keeps some)) part,
-  fault,
-)
-dealt_report_ends_broken_off k d settings lists tail base Kept Same sink written old new Done
-    begins represents keeps unmoved part fault = absurd fault
-dealt_report_ends_broken_off k d settings lists tail base Kept Same sink written old new (BadWords kind)
-    begins represents keeps unmoved part fault = absurd fault
-dealt_report_ends_broken_off k d settings lists tail base Kept Same sink written old new (BadCapture wrong)
-    begins represents keeps unmoved part fault = absurd fault
-dealt_report_ends_broken_off k d settings lists tail base Kept Same sink written old new ReadFault
-    begins represents keeps unmoved part fault = absurd fault
-dealt_report_ends_broken_off k d settings lists tail base Kept Same sink written old new NotFormatted
-    begins represents keeps unmoved part fault = absurd fault
-dealt_report_ends_broken_off k d settings lists tail base Kept Same sink written old new (Damaged slot)
-    begins represents keeps unmoved part fault = absurd fault
-dealt_report_ends_broken_off k d settings lists tail base Kept Same sink written old new (OtherSettings stored asked)
-    begins represents keeps unmoved part fault = absurd fault
-dealt_report_ends_broken_off k d settings lists tail base Kept Same sink written old new (OtherCapture stored asked)
-    begins represents keeps unmoved part fault = absurd fault
-dealt_report_ends_broken_off k d settings lists tail base Kept Same sink written old new (AuditNo report verdict)
-    begins represents keeps unmoved part fault = absurd fault
-dealt_report_ends_broken_off k d settings lists tail base Kept Same sink written old new (BadReport wrong)
-    begins represents keeps unmoved part fault = absurd fault
+    (unmoved : Same → IsAsBefore d old new) where
+  abbrev DealtInPart : Type 0
+  DealtInPart = AreSessionShards (asked_shape settings) (session_opening (asked_shape settings) lists base)
+      × WritesAnswer (BeginsSession (session_opening (asked_shape settings) lists base) settings Kept tail)
+      (k.taken sink) (k.taken written)
+
+  dealt_report_of_part : DealtInPart
+      → FeedWritesPart settings lists tail (AreKeptOnDisk d old new) (d.reads old) (k.taken sink) (k.taken written)
+  dealt_report_of_part part =
+      dealt_report_in_part settings lists tail (AreKeptOnDisk d old new) (d.reads old) base Kept (k.taken sink)
+      (k.taken written) begins represents keeps part
+
+  pub dealt_report_ends_broken_off : (status : Status)
+      → (((written ≡ sink) × Same) × (status ≡ OutOfMemory)) ⊎ DealtInPart
+      → IsFeedFault (round_faults k d sink old) (round_faults k d written new) status
+      → FeedEnds k d settings lists tail sink written old new status
+  dealt_report_ends_broken_off WriteFault part fault =
+      (⊎_elim (λ same. absurd (cc same.1)) (λ some. dealt_report_of_part some) part, fault)
+  dealt_report_ends_broken_off DiskFault part fault =
+      (⊎_elim (λ same. inl (same.0.0, unmoved same.0.1)) (λ some. inr (dealt_report_of_part some)) part, fault)
+  dealt_report_ends_broken_off OutOfMemory part fault =
+      (⊎_elim (λ same. inl (same.0.0, unmoved same.0.1)) (λ some. inr (dealt_report_of_part some)) part, fault)
+  dealt_report_ends_broken_off _ part fault = absurd fault
 
 -- the session was written whole
 pub dealt_report_is_written : (settings : Settings) (lists : List (List RecordValue)) (tail : List ℕ) (keeping : SessionKeeping)

@@ -14,7 +14,7 @@ use Rattle.gate_workers.specs.declared.gathered.Gathered.{Gathered}
 use Rattle.report_text.specs.{tail_text}
 use Rattle.report_session.specs.Session.{AreOfCaller, BreaksOffInRounds, SessionSaving}
 use Rattle.report_session.specs.Session.{session_part, session_parts}
-use Rattle.report_session.specs.LiveRounds.{RoundsBreakOff, BreaksRound, DiskFailed, EndRounds, RoundFaults}
+use Rattle.report_session.specs.LiveRounds.{BreaksRound, DiskFailed, EndRounds, RoundFaults, RoundSide, RoundsBreakOff}
 use Rattle.report_session.specs.LiveRounds.{IsInVain, ReportsOnce, SinkFailed, BreaksInLine}
 use Rattle.report_session.specs.LiveRounds.{BreaksInReport, WritesRounds, WritesUnsaved}
 use Rattle.report_session.specs.DealtFeed.{IsFeedCapture}
@@ -26,6 +26,7 @@ use Rattle.report_session.specs.declared.feed.Fed.{Fed}
 use Rattle.run_status.specs.declared.status.Status.TheVariants.{Done, BadWords, ReadFault, WriteFault, DiskFault}
 use Rattle.run_status.specs.declared.status.Status.TheVariants.{OutOfMemory}
 use Rattle.command_words.specs.declared.words_kind.WordsKind.TheVariants.{NoCommand}
+use Rattle.report_session.proofs.RoundLemmas.{saved_cuts-no_rounds}
 use Rattle.report_session.proofs.OpeningShardLemmas.{new_opening_shards_before_ends}
 use Rattle.report_session.proofs.Examples.{header, two_lists, two_shards}
 use Rattle.report_session.proofs.ExamplesOfSessions.{dealt_from_the_header, in_turn, last, lists, nothing_is_sound}
@@ -57,6 +58,10 @@ disk_failed = record { rose = omega arith; sink = refl }
 pub disk_did_not_fail : DiskFailed calm sink_rose → ⊥
 disk_did_not_fail failed = omega (arith, failed.rose)
 
+-- before the first round
+abbrev at_first : RoundSide
+at_first = record { view = first; taken = Some []; faults = calm }
+
 -- no cut was saved
 abbrev none_saved : List CutValue → Type 0
 none_saved cuts = cuts ≡ []
@@ -79,31 +84,24 @@ no_calls = record {
   unsaved = All-nil _;
 }
 
-no_round_with : (store : Bool) → WritesRounds opening 10000 store 0 first first (λ cuts. ⊤) (Some []) (Some [])
-no_round_with store = record {
+no_round_with : (store : Bool) (Kept : List CutValue → Type 0) → Kept [] → WritesRounds opening 10000 store 0 at_first at_first Kept
+no_round_with store Kept kept = record {
   reports = [];
   calls = no_calls;
   sound = λ bases. All-nil _;
   written = refl;
-  kept = tt;
+  kept = subst Kept (sym (saved_cuts-no_rounds store opening)) kept;
+  faultless = refl;
 }
 
-pub no_round_writes_nothing : WritesRounds opening 10000 false 0 first first none_saved (Some []) (Some [])
-no_round_writes_nothing = record {
-  reports = [];
-  calls = no_calls;
-  sound = λ bases. All-nil _;
-  written = refl;
-  kept = refl;
-}
-
-pub no_round_of_none : EndRounds opening 10000 false 0 first first none_saved none_unfinished (Some []) (Some []) calm calm None
-no_round_of_none = (no_round_writes_nothing, refl)
+pub no_round_of_none : EndRounds opening 10000 false 0 at_first at_first none_saved none_unfinished None
+no_round_of_none = no_round_with false none_saved refl
 
 -- a fault would have ended them
 pub fault_without_a_stop :
-    EndRounds opening 10000 false 0 first first none_saved none_unfinished (Some []) (Some []) calm sink_rose None → ⊥
-fault_without_a_stop ended = let same : 4 ≡ 3 = ap (λ (faults : RoundFaults). faults.sink) ended.1 in omega (arith, same)
+    EndRounds opening 10000 false 0 at_first (record at_first { faults = sink_rose }) none_saved none_unfinished None → ⊥
+fault_without_a_stop ended =
+    let same : 4 ≡ 3 = ap (λ (faults : RoundFaults). faults.sink) ended.faultless in omega (arith, same)
 
 -- ---- a round
 
@@ -116,6 +114,10 @@ reads = at_start ∷ at_start ∷ at_start ∷ at_start ∷ []
 
 abbrev after_one : View
 after_one = record first { trails = after_reads first.trails reads }
+
+-- then these bytes were taken, with these counts of faults
+abbrev took : List ℕ → RoundFaults → RoundSide
+took text faults = record { view = after_one; taken = Some text; faults = faults }
 
 no_losses : All (λ (read : ShardRead). All IsOddWord read.losses) reads
 no_losses =
@@ -141,7 +143,7 @@ last_is_sound =
     All-cons (λ (reported : Reported). IsSound Byte reported.report lists 512 10000) last [] nothing_is_sound (All-nil _)
 
 pub one_round_is_written :
-    WritesRounds opening 10000 false 1 first after_one none_saved (Some []) (Some (session_part false last))
+    WritesRounds opening 10000 false 1 at_first (took (session_part false last) calm) none_saved
 unfolding digits
 one_round_is_written = record {
   reports = last ∷ [];
@@ -149,18 +151,19 @@ one_round_is_written = record {
   sound = λ bases. last_is_sound;
   written = refl;
   kept = refl;
+  faultless = refl;
 }
 
-pub one_round_of_one : EndRounds opening 10000 false 1 first after_one none_saved none_unfinished (Some [])
-    (Some (session_part false last)) calm calm None
-one_round_of_one = (one_round_is_written, refl)
+pub one_round_of_one :
+    EndRounds opening 10000 false 1 at_first (took (session_part false last) calm) none_saved none_unfinished None
+one_round_of_one = one_round_is_written
 
 -- with a store the cut at the positions of the report is saved, and they are written
 abbrev one_saved : List CutValue → Type 0
 one_saved cuts = cuts ≡ cut_at opening (0 ∷ 0 ∷ 0 ∷ 0 ∷ []) ∷ []
 
 pub one_round_is_saved :
-    WritesRounds opening 10000 true 1 first after_one one_saved (Some []) (Some (session_part true last))
+    WritesRounds opening 10000 true 1 at_first (took (session_part true last) calm) one_saved
 unfolding digits
 one_round_is_saved = record {
   reports = last ∷ [];
@@ -168,6 +171,7 @@ one_round_is_saved = record {
   sound = λ bases. last_is_sound;
   written = refl;
   kept = refl;
+  faultless = refl;
 }
 
 -- ---- a round that broke off
@@ -176,7 +180,7 @@ pub report_of_one_round : ReportsOnce opening 10000 first after_one report
 report_of_one_round = record { calls = one_call; sound = λ bases. nothing_is_sound }
 
 -- a sink with room for 7 bytes took the first line of the report
-pub report_in_part : BreaksInReport opening 10000 first after_one none_unfinished (Some []) (Some (codes "report\n"))
+pub report_in_part : BreaksInReport opening 10000 at_first (took (codes "report\n") sink_rose) none_unfinished
 unfolding digits
 report_in_part = record {
   report = report;
@@ -195,7 +199,7 @@ abbrev saved_the_one : SessionSaving
 saved_the_one saved unfinished = one_saved saved × (unfinished ≡ [])
 
 pub line_in_part :
-    BreaksInLine opening 10000 true first after_one saved_the_one (Some []) (Some (session_part false last))
+    BreaksInLine opening 10000 true at_first (took (session_part false last) sink_rose) saved_the_one
 unfolding digits
 line_in_part = record {
   report = report;
@@ -215,100 +219,99 @@ line_in_part = record {
 abbrev unfinished_the_one : SessionSaving
 unfinished_the_one saved unfinished = (saved ≡ []) × one_saved unfinished
 
-pub unsaved_round : WritesUnsaved opening 10000 first after_one true unfinished_the_one (Some []) (Some (session_part false last))
+pub unsaved_round : WritesUnsaved opening 10000 at_first (took (session_part false last) disk_rose) true unfinished_the_one
 unfolding digits
 unsaved_round = record { report = report; reports = report_of_one_round; written = refl; kept = (refl, refl) }
 
 -- a save that was made is none that is unfinished
 pub saved_round_is_not_unsaved :
-    WritesUnsaved opening 10000 first after_one true saved_the_one (Some []) (Some (session_part false last)) → ⊥
+    WritesUnsaved opening 10000 at_first (took (session_part false last) disk_rose) true saved_the_one → ⊥
 saved_round_is_not_unsaved unsaved = cc unsaved.kept.1
 
 -- where memory ran out, it was not begun
-pub round_not_saved : WritesUnsaved opening 10000 first after_one false none_unfinished (Some []) (Some (session_part false last))
+pub round_not_saved : WritesUnsaved opening 10000 at_first (took (session_part false last) calm) false none_unfinished
 unfolding digits
 round_not_saved = record { report = report; reports = report_of_one_round; written = refl; kept = (refl, refl) }
 
 pub each_shard_was_read_once : ReadsOnce opening first after_one
 each_shard_was_read_once = record { reads = reads; as_many = refl; odd = no_losses; view = refl }
 
-pub round_in_vain : IsInVain opening first after_one none_unfinished (Some []) (Some [])
+pub round_in_vain : IsInVain opening at_first (took [] calm) none_unfinished
 round_in_vain = record { reads = each_shard_was_read_once; unwritten = refl; kept = (refl, refl) }
 
-pub round_in_vain_writes_nothing : IsInVain opening first after_one none_unfinished (Some []) (Some (codes "report\n")) → ⊥
+pub round_in_vain_writes_nothing : IsInVain opening at_first (took (codes "report\n") calm) none_unfinished → ⊥
 round_in_vain_writes_nothing vain = cc vain.unwritten
 
 pub sink_breaks_a_round :
-    BreaksRound opening 10000 false first after_one none_unfinished (Some []) (Some (codes "report\n")) calm sink_rose
+    BreaksRound opening 10000 false at_first (took (codes "report\n") sink_rose) none_unfinished
     WriteFault
 sink_breaks_a_round = (inl report_in_part, sink_failed)
 
 pub sink_breaks_the_line :
-    BreaksRound opening 10000 true first after_one saved_the_one (Some []) (Some (session_part false last)) calm sink_rose
+    BreaksRound opening 10000 true at_first (took (session_part false last) sink_rose) saved_the_one
     WriteFault
 sink_breaks_the_line = (inr line_in_part, sink_failed)
 
 -- a sink that failed has counted it
 pub sink_that_did_not_fail :
-    BreaksRound opening 10000 false first after_one none_unfinished (Some []) (Some (codes "report\n")) calm calm WriteFault → ⊥
+    BreaksRound opening 10000 false at_first (took (codes "report\n") calm) none_unfinished WriteFault → ⊥
 sink_that_did_not_fail breaks = omega (arith, breaks.1.rose)
 
 pub disk_breaks_a_round :
-    BreaksRound opening 10000 true first after_one unfinished_the_one (Some []) (Some (session_part false last)) calm disk_rose
+    BreaksRound opening 10000 true at_first (took (session_part false last) disk_rose) unfinished_the_one
     DiskFault
 disk_breaks_a_round = (refl, unsaved_round, disk_failed)
 
 -- without a store no disk is written to
 pub disk_breaks_no_round_without_a_store :
-    BreaksRound opening 10000 false first after_one unfinished_the_one (Some []) (Some (session_part false last)) calm disk_rose
+    BreaksRound opening 10000 false at_first (took (session_part false last) disk_rose) unfinished_the_one
     DiskFault → ⊥
 disk_breaks_no_round_without_a_store breaks = cc breaks.0
 
 pub memory_breaks_a_round :
-    BreaksRound opening 10000 false first after_one none_unfinished (Some []) (Some []) calm calm OutOfMemory
+    BreaksRound opening 10000 false at_first (took [] calm) none_unfinished OutOfMemory
 memory_breaks_a_round = (inl round_in_vain, refl)
 
 -- memory may also run out in a save
 pub memory_breaks_a_save :
-    BreaksRound opening 10000 true first after_one none_unfinished (Some []) (Some (session_part false last)) calm calm
+    BreaksRound opening 10000 true at_first (took (session_part false last) calm) none_unfinished
     OutOfMemory
 memory_breaks_a_save = (inr (refl, round_not_saved), refl)
 
 -- then no save was made, or begun
 pub memory_ran_out_after_a_save :
-    BreaksRound opening 10000 true first after_one saved_the_one (Some []) (Some (session_part false last)) calm calm
+    BreaksRound opening 10000 true at_first (took (session_part false last) calm) saved_the_one
     OutOfMemory → ⊥
 memory_ran_out_after_a_save (inl vain, same) = cc vain.kept.0
 memory_ran_out_after_a_save (inr unsaved, same) = cc unsaved.1.kept.0
 
 pub success_breaks_no_round :
-    BreaksRound opening 10000 false first after_one none_unfinished (Some []) (Some []) calm calm Done → ⊥
+    BreaksRound opening 10000 false at_first (took [] calm) none_unfinished Done → ⊥
 success_breaks_no_round breaks = breaks
 
 pub source_breaks_no_round :
-    BreaksRound opening 10000 false first after_one none_unfinished (Some []) (Some []) calm sink_rose ReadFault → ⊥
+    BreaksRound opening 10000 false at_first (took [] sink_rose) none_unfinished ReadFault → ⊥
 source_breaks_no_round breaks = breaks
 
 -- the first of two rounds broke off
 pub first_round_broke_off :
-    RoundsBreakOff opening 10000 false 2 first after_one none_unfinished (Some []) (Some (codes "report\n")) calm sink_rose WriteFault
+    RoundsBreakOff opening 10000 false 2 at_first (took (codes "report\n") sink_rose) none_unfinished WriteFault
 first_round_broke_off = record {
   whole = 0;
   few = omega arith;
-  middle = first;
-  between = Some [];
-  written = no_round_with false;
+  middle = at_first;
+  written = no_round_with false (λ cuts. ⊤) tt;
   broken = sink_breaks_a_round;
 }
 
 pub no_round_breaks_off :
-    RoundsBreakOff opening 10000 false 0 first after_one none_unfinished (Some []) (Some (codes "report\n")) calm sink_rose WriteFault
+    RoundsBreakOff opening 10000 false 0 at_first (took (codes "report\n") sink_rose) none_unfinished WriteFault
     → ⊥
 no_round_breaks_off breaks = omega (arith, breaks.few)
 
 pub two_rounds_ended_in_the_first :
-    EndRounds opening 10000 false 2 first after_one none_saved none_unfinished (Some []) (Some (codes "report\n")) calm
-    sink_rose (Some WriteFault)
+    EndRounds opening 10000 false 2 at_first (took (codes "report\n") sink_rose) none_saved none_unfinished
+    (Some WriteFault)
 two_rounds_ended_in_the_first = first_round_broke_off
 
 -- ---- the feed

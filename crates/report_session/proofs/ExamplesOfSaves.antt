@@ -155,7 +155,7 @@ abbrev formatted_since : ℕ → ℕ → List ℕ → Type 0
 formatted_since disk moment image = image ≡ formatted
 
 pub no_saves_keep_the_store :
-    KeepsSaves (disk_of formatted) of_one (9 ∷ []) (λ image. ⊥) [] [] 7 7 formatted
+    KeepsSaves (disk_of formatted) 7 7 of_one (9 ∷ []) (λ image. ⊥) [] [] formatted
 no_saves_keep_the_store = record {
   opened = None;
   opens = formatted_opens_to_nothing;
@@ -166,7 +166,7 @@ no_saves_keep_the_store = record {
 
 -- an unfinished save may have left the store as it was
 pub unfinished_save_left_nothing :
-    KeepsSaves (disk_of formatted) of_one (9 ∷ []) (λ image. ⊥) [] (none_counted ∷ []) 7 7 formatted
+    KeepsSaves (disk_of formatted) 7 7 of_one (9 ∷ []) (λ image. ⊥) [] (none_counted ∷ []) formatted
 unfinished_save_left_nothing = record {
   opened = None;
   opens = formatted_opens_to_nothing;

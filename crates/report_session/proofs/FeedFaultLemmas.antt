@@ -4,9 +4,7 @@ use Rattle.outside_io.specs.{FaultRose}
 use Rattle.report_session.specs.DealtFeed.{IsFeedFault, IsSaveFault}
 use Rattle.report_session.specs.LiveRounds.{RoundFaults}
 use Rattle.run_status.specs.declared.status.Status.{Status}
-use Rattle.run_status.specs.declared.status.Status.TheVariants.{Done, BadWords, BadCapture, ReadFault, WriteFault}
-use Rattle.run_status.specs.declared.status.Status.TheVariants.{DiskFault, NotFormatted, Damaged, OtherSettings}
-use Rattle.run_status.specs.declared.status.Status.TheVariants.{OtherCapture, AuditNo, BadReport, OutOfMemory}
+use Rattle.run_status.specs.declared.status.Status.TheVariants.{WriteFault, DiskFault, OutOfMemory}
 
 -- the sink failed
 pub feed_fault_of_sink : (sink_before sink_between sink_now disk_before disk_now : ℕ) (status : Status)
@@ -23,17 +21,7 @@ pub feed_fault_of_save : (sink_before sink_now disk_before disk_now : ℕ) (stat
 feed_fault_of_save sink_before sink_now disk_before disk_now DiskFault fault same = record { rose = fault; sink = same }
 feed_fault_of_save sink_before sink_now disk_before disk_now OutOfMemory fault same =
     ap₂ (λ s d. record { sink = s; disk = d }) same fault
-feed_fault_of_save sink_before sink_now disk_before disk_now Done fault same = absurd fault
-feed_fault_of_save sink_before sink_now disk_before disk_now (BadWords kind) fault same = absurd fault
-feed_fault_of_save sink_before sink_now disk_before disk_now (BadCapture wrong) fault same = absurd fault
-feed_fault_of_save sink_before sink_now disk_before disk_now ReadFault fault same = absurd fault
-feed_fault_of_save sink_before sink_now disk_before disk_now WriteFault fault same = absurd fault
-feed_fault_of_save sink_before sink_now disk_before disk_now NotFormatted fault same = absurd fault
-feed_fault_of_save sink_before sink_now disk_before disk_now (Damaged slot) fault same = absurd fault
-feed_fault_of_save sink_before sink_now disk_before disk_now (OtherSettings stored asked) fault same = absurd fault
-feed_fault_of_save sink_before sink_now disk_before disk_now (OtherCapture stored asked) fault same = absurd fault
-feed_fault_of_save sink_before sink_now disk_before disk_now (AuditNo report verdict) fault same = absurd fault
-feed_fault_of_save sink_before sink_now disk_before disk_now (BadReport wrong) fault same = absurd fault
+feed_fault_of_save sink_before sink_now disk_before disk_now _ fault same = absurd fault
 
 -- a fault after steps without one
 pub feed_fault_after_good_steps : (before between now : RoundFaults) (status : Status) → between ≡ before → IsFeedFault between now status

@@ -446,7 +446,7 @@ module _ (one : OpenToOne) {D : Type 0} (d : DiskOf D) (settings : Settings) (li
 
   abbrev KeepsStore : List CutValue → List CutValue → Type 0
   KeepsStore saved unfinished =
-      KeepsSaves d header_of_kept digest_of_kept (d.image_now old) saved unfinished old new store
+      KeepsSaves d old new header_of_kept digest_of_kept (d.image_now old) saved unfinished store
 
   abbrev AreOfKept : List Reported → Type 0
   AreOfKept reports = All (λ reported. length reported.report.positions ≡ length opening_of_kept) reports

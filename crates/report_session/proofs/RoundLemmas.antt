@@ -2,7 +2,7 @@
 use Rattle.std.proofs.Common.{◌≡◌, ◌∙◌, ◌≤◌, ◌<◌, ◌+◌, ℕ, List, [], ◌∷◌, ◌++◌, Option, None, Some, All, refl, sym, ap}
 use Rattle.std.proofs.Common.{subst, arith}
 use Rattle.std.proofs.Common.{Bool, true, false, ◌⊎◌, inl, inr, ⊎_elim, ap₂}
-use Rattle.std.specs.Prelude.{⊤, is_some, option_map}
+use Rattle.std.specs.Prelude.{is_some, option_map}
 use Rattle.std.proofs.Common.{Ok, Err}
 use Rattle.std.specs.Result.{IfErr, IsErrAnd}
 use Rattle.std.specs.declared.result.Result.{Result}
@@ -21,14 +21,12 @@ use Rattle.hhh_report.specs.declared.reports.Reported.{Reported}
 use Rattle.gate_workers.specs.{Calls, IsCoreReport, ReadsOnce, View, states_at}
 use Rattle.report_text.specs.{ShowsPositions}
 use Rattle.report_session.specs.DealtFeed.{IsSaveFault}
-use Rattle.report_session.specs.LiveRounds.{RoundsBreakOff, BreaksRound, EndRounds, RoundFaults, IsInVain}
-use Rattle.report_session.specs.LiveRounds.{BreaksInLine, BreaksInReport, WritesRounds, WritesUnsaved}
+use Rattle.report_session.specs.LiveRounds.{BreaksInLine, BreaksInReport, BreaksRound, EndRounds, IsInVain}
+use Rattle.report_session.specs.LiveRounds.{ReportsOnce, RoundSide, RoundsBreakOff, WritesRounds, WritesUnsaved}
 use Rattle.report_session.specs.Session.{SessionSaving, rest_after_saves, session_part, session_parts}
 use Rattle.report_session.specs.Session.{saved_cuts}
 use Rattle.run_status.specs.declared.status.Status.{Status}
-use Rattle.run_status.specs.declared.status.Status.TheVariants.{Done, BadWords, BadCapture, ReadFault, WriteFault}
-use Rattle.run_status.specs.declared.status.Status.TheVariants.{DiskFault, NotFormatted, Damaged, OtherSettings}
-use Rattle.run_status.specs.declared.status.Status.TheVariants.{OtherCapture, AuditNo, BadReport, OutOfMemory}
+use Rattle.run_status.specs.declared.status.Status.TheVariants.{WriteFault, DiskFault, OutOfMemory}
 use Rattle.report_session.proofs.SaveLemmas.{saved_cuts-append_saves}
 
 -- positions within the lists of shards are positions that a text can show
@@ -53,16 +51,15 @@ round_report_has_positions opening phi report shards at = record {
   within = round_positions_are_within opening report.positions at.as_many at.kept;
 }
 
+-- a report of which no line of saved positions was written
+abbrev pub round_of : Report → Reported
+round_of report = record { report = report; saved = None }
+
 -- the report of one round
 pub round_makes_report : (opening : List ShardValue) (phi : ℕ) (before now : View) (report : Report)
-    → Calls opening phi 1 before now (record { report = report; saved = None } ∷ []) → IsCoreReport opening phi report
+    → Calls opening phi 1 before now (round_of report ∷ []) → IsCoreReport opening phi report
 round_makes_report opening phi before now report calls =
-    All-head (λ (reported : Reported). IsCoreReport opening phi reported.report)
-    (record { report = report; saved = None }) [] calls.each
-
--- the text of a list of one report
-pub round_prints_its_report : (store : Bool) (reported : Reported) → session_parts store (reported ∷ []) ≡ session_part store reported
-round_prints_its_report store reported = append-nil (session_part store reported)
+    All-head (λ (reported : Reported). IsCoreReport opening phi reported.report) (round_of report) [] calls.each
 
 pub flat_map-append_rounds : {A B : Type 0} (f : A → List B) (xs ys : List A)
     → flat_map f (xs ++ ys) ≡ flat_map f xs ++ flat_map f ys
@@ -75,269 +72,210 @@ pub saved_cuts-no_rounds : (store : Bool) (opening : List ShardValue) → saved_
 saved_cuts-no_rounds false opening = refl
 saved_cuts-no_rounds true opening = refl
 
--- one round that was written whole
-pub writes_one_round : (opening : List ShardValue) (phi : ℕ) (before now : View) (store : Bool)
-    (Kept : List CutValue → Type 0) (old new : Option (List ℕ)) (report : Report)
-    → Calls opening phi 1 before now (record { report = report; saved = None } ∷ [])
-    → (BasesRepresent opening → IsSound (core_shape opening).grain report (core_lists opening) (core_shape opening).capacity phi)
-    → Appends old new (session_part store (record { report = report; saved = None }))
-    → Kept (saved_cuts store opening (record { report = report; saved = None } ∷ []))
-    → WritesRounds opening phi store 1 before now Kept old new
-writes_one_round opening phi before now store Kept old new report calls sound written kept = record {
-  reports = record { report = report; saved = None } ∷ [];
-  calls = calls;
-  sound = λ bases.
-      All-cons (λ (reported : Reported). IsSound (core_shape opening).grain reported.report (core_lists opening) (core_shape opening).capacity phi)
-      (record { report = report; saved = None }) [] (sound bases)
-      (All-nil (λ (reported : Reported). IsSound (core_shape opening).grain reported.report (core_lists opening) (core_shape opening).capacity phi));
-  written = subst (Appends old new) (sym (round_prints_its_report store (record { report = report; saved = None }))) written;
-  kept = kept;
-}
-
--- at first no round was made
-pub writes_no_round : (opening : List ShardValue) (phi : ℕ) (now : View) (store : Bool) (Kept : List CutValue → Type 0)
-    (old : Option (List ℕ)) → Calls opening phi 0 now now [] → Kept []
-    → WritesRounds opening phi store 0 now now Kept old old
-writes_no_round opening phi now store Kept old calls kept = record {
-  reports = [];
-  calls = calls;
-  sound = λ bases.
-      All-nil (λ (reported : Reported). IsSound (core_shape opening).grain reported.report (core_lists opening) (core_shape opening).capacity phi);
-  written = Appends-nil old;
-  kept = subst Kept (sym (saved_cuts-no_rounds store opening)) kept;
-}
-
 -- rounds that follow rounds of the same pass are rounds
 abbrev pub RoundsFollowRounds : List ShardValue → View → Type 0
 RoundsFollowRounds opening before = (phi rounds more : ℕ) (middle now : View) (reports later : List Reported)
     → Calls opening phi rounds before middle reports → Calls opening phi more middle now later
     → Calls opening phi (rounds + more) before now (reports ++ later)
 
--- rounds, and more of them
-pub writes_more_rounds : (opening : List ShardValue) (phi rounds more : ℕ) (before middle now : View) (store : Bool)
-    (First Second Both : List CutValue → Type 0) (old between new : Option (List ℕ)) → RoundsFollowRounds opening before
-    → ((cuts later : List CutValue) → First cuts → Second later → Both (cuts ++ later))
-    → WritesRounds opening phi store rounds before middle First old between
-    → WritesRounds opening phi store more middle now Second between new
-    → WritesRounds opening phi store (rounds + more) before now Both old new
-writes_more_rounds opening phi rounds more before middle now store First Second Both old between new follow both one two = record {
-  reports = one.reports ++ two.reports;
-  calls = follow phi rounds more middle now one.reports two.reports one.calls two.calls;
-  sound = λ bases.
-      All-append (λ (reported : Reported). IsSound (core_shape opening).grain reported.report (core_lists opening) (core_shape opening).capacity phi)
-      one.reports two.reports (one.sound bases) (two.sound bases);
-  written =
-      subst (Appends old new) (sym (flat_map-append_rounds (session_part store) one.reports two.reports))
-      (Appends-trans old between new (session_parts store one.reports) (session_parts store two.reports) one.written
-      two.written);
-  kept =
-      subst Both (sym (saved_cuts-append_saves store opening one.reports two.reports))
-      (both (saved_cuts store opening one.reports) (saved_cuts store opening two.reports) one.kept two.kept);
-}
+-- what is said of saves says less
+abbrev pub RoundSavesImply : SessionSaving → SessionSaving → Type 0
+RoundSavesImply Kept Less = (saved unfinished : List CutValue) → Kept saved unfinished → Less saved unfinished
 
--- rounds of which less is said
-abbrev written_rounds_say_less : (opening : List ShardValue) (phi rounds : ℕ) (before now : View) (store : Bool)
-    (Kept : List CutValue → Type 0) (old new : Option (List ℕ))
-    → WritesRounds opening phi store rounds before now Kept old new
-    → WritesRounds opening phi store rounds before now (λ cuts. ⊤) old new
-written_rounds_say_less opening phi rounds before now store Kept old new written = record {
-  reports = written.reports;
-  calls = written.calls;
-  sound = written.sound;
-  written = written.written;
-  kept = tt;
-}
+-- the report of a round is sound
+abbrev pub IsSoundRound : List ShardValue → ℕ → Reported → Type 0
+IsSoundRound opening phi reported =
+    IsSound (core_shape opening).grain reported.report (core_lists opening) (core_shape opening).capacity phi
 
--- all rounds were made, for the shards that a view names
-pub all_rounds_were_made : (opening shards : List ShardValue) (phi made rounds : ℕ) (before now : View) (store : Bool)
-    (Kept : List CutValue → Type 0) (KeptInPart : SessionSaving) (old new : Option (List ℕ))
-    (faults_before faults_now : RoundFaults) (stop : Option Status) → shards ≡ opening → stop ≡ None → made ≡ rounds
-    → faults_now ≡ faults_before → WritesRounds opening phi store made before now Kept old new
-    → EndRounds shards phi store rounds before now Kept KeptInPart old new faults_before faults_now stop
-all_rounds_were_made opening shards phi made rounds before now store Kept KeptInPart old new faults_before faults_now stop same none
-    all faults written =
-    subst (λ s. EndRounds shards phi store rounds before now Kept KeptInPart old new faults_before faults_now s) (sym none) (
-      subst (λ ss. WritesRounds ss phi store rounds before now Kept old new) (sym same)
-          (subst (λ n. WritesRounds opening phi store n before now Kept old new) all written),
-      faults,
-    )
+-- rounds over shards, at a share, with a store or without one
+module _ (opening : List ShardValue) (phi : ℕ) (store : Bool) where
+  -- one round that was written whole
+  pub writes_one_round : (before now : RoundSide) (Kept : List CutValue → Type 0) (report : Report)
+      → ReportsOnce opening phi before.view now.view report
+      → Appends before.taken now.taken (session_part store (round_of report))
+      → Kept (saved_cuts store opening (round_of report ∷ [])) → now.faults ≡ before.faults
+      → WritesRounds opening phi store 1 before now Kept
+  writes_one_round before now Kept report once written kept faultless = record {
+    reports = round_of report ∷ [];
+    calls = once.calls;
+    sound = λ bases.
+        All-cons (IsSoundRound opening phi) (round_of report) [] (once.sound bases) (All-nil (IsSoundRound opening phi));
+    written = subst (Appends before.taken now.taken) (sym (append-nil (session_part store (round_of report)))) written;
+    kept = kept;
+    faultless = faultless;
+  }
 
--- a round whose cut wasn't saved, of which less is said
-unsaved_round_says_less : (opening : List ShardValue) (phi : ℕ) (before now : View) (unfinished : Bool) (Kept Less : SessionSaving)
-    (old new : Option (List ℕ)) → ((saved unfinished : List CutValue) → Kept saved unfinished → Less saved unfinished)
-    → WritesUnsaved opening phi before now unfinished Kept old new
-    → WritesUnsaved opening phi before now unfinished Less old new
-unsaved_round_says_less opening phi before now unfinished Kept Less old new less unsaved = record {
-  report = unsaved.report;
-  reports = unsaved.reports;
-  written = unsaved.written;
-  kept = less [] (saved_cuts unfinished opening (record { report = unsaved.report; saved = None } ∷ [])) unsaved.kept;
-}
+  -- at first no round was made
+  pub writes_no_round : (now : RoundSide) (Kept : List CutValue → Type 0) → Calls opening phi 0 now.view now.view []
+      → Kept [] → WritesRounds opening phi store 0 now now Kept
+  writes_no_round now Kept calls kept = record {
+    reports = [];
+    calls = calls;
+    sound = λ bases. All-nil (IsSoundRound opening phi);
+    written = Appends-nil now.taken;
+    kept = subst Kept (sym (saved_cuts-no_rounds store opening)) kept;
+    faultless = refl;
+  }
 
--- a round that broke off, of which less is said
-broken_round_says_less : (opening : List ShardValue) (phi : ℕ) (before now : View) (store : Bool) (Kept Less : SessionSaving)
-    (old new : Option (List ℕ)) (faults_before faults_now : RoundFaults) (status : Status)
-    → ((saved unfinished : List CutValue) → Kept saved unfinished → Less saved unfinished)
-    → BreaksRound opening phi store before now Kept old new faults_before faults_now status
-    → BreaksRound opening phi store before now Less old new faults_before faults_now status
-broken_round_says_less opening phi before now store Kept Less old new faults_before faults_now WriteFault less broken = (
-  ⊎_elim
-      (λ (part : BreaksInReport opening phi before now Kept old new). inl (record {
-        report = part.report;
-        reports = part.reports;
-        written = part.written;
-        kept = less [] [] part.kept;
-      }))
-      (λ (part : BreaksInLine opening phi store before now Kept old new). inr (record {
-        report = part.report;
-        reports = part.reports;
-        between = part.between;
-        whole = part.whole;
-        written = part.written;
-        kept = less (saved_cuts store opening (record { report = part.report; saved = None } ∷ [])) [] part.kept;
-      })) broken.0,
-  broken.1,
-)
-broken_round_says_less opening phi before now store Kept Less old new faults_before faults_now DiskFault less broken =
-    (broken.0, unsaved_round_says_less opening phi before now true Kept Less old new less broken.1, broken.2)
-broken_round_says_less opening phi before now store Kept Less old new faults_before faults_now OutOfMemory less broken = (
-  ⊎_elim
-      (λ (vain : IsInVain opening before now Kept old new).
-      inl (record { reads = vain.reads; unwritten = vain.unwritten; kept = less [] [] vain.kept }))
-      (λ unsaved. inr (unsaved.0, unsaved_round_says_less opening phi before now false Kept Less old new less unsaved.1)) broken.0,
-  broken.1,
-)
-broken_round_says_less opening phi before now store Kept Less old new faults_before faults_now Done less broken = absurd broken
-broken_round_says_less opening phi before now store Kept Less old new faults_before faults_now (BadWords kind) less broken =
-    absurd broken
-broken_round_says_less opening phi before now store Kept Less old new faults_before faults_now (BadCapture wrong) less broken =
-    absurd broken
-broken_round_says_less opening phi before now store Kept Less old new faults_before faults_now ReadFault less broken =
-    absurd broken
-broken_round_says_less opening phi before now store Kept Less old new faults_before faults_now NotFormatted less broken =
-    absurd broken
-broken_round_says_less opening phi before now store Kept Less old new faults_before faults_now (Damaged slot) less broken =
-    absurd broken
-broken_round_says_less opening phi before now store Kept Less old new faults_before faults_now (OtherSettings stored asked) less
-    broken = absurd broken
-broken_round_says_less opening phi before now store Kept Less old new faults_before faults_now (OtherCapture stored asked) less
-    broken = absurd broken
-broken_round_says_less opening phi before now store Kept Less old new faults_before faults_now (AuditNo report verdict) less
-    broken = absurd broken
-broken_round_says_less opening phi before now store Kept Less old new faults_before faults_now (BadReport wrong) less broken =
-    absurd broken
+  -- rounds, and more of them
+  pub writes_more_rounds : (share rounds more : ℕ) (before middle now : RoundSide) (stored : Bool)
+      (First Second Both : List CutValue → Type 0) → share ≡ phi → stored ≡ store → RoundsFollowRounds opening before.view
+      → ((cuts later : List CutValue) → First cuts → Second later → Both (cuts ++ later))
+      → WritesRounds opening phi store rounds before middle First
+      → WritesRounds opening share stored more middle now Second
+      → WritesRounds opening phi store (rounds + more) before now Both
+  writes_more_rounds share rounds more before middle now stored First Second Both same_share same_store follow both one
+      later =
+      let two : WritesRounds opening phi store more middle now Second =
+      subst (λ b. WritesRounds opening phi b more middle now Second) same_store
+      (subst (λ n. WritesRounds opening n stored more middle now Second) same_share later) in record {
+        reports = one.reports ++ two.reports;
+        calls = follow phi rounds more middle.view now.view one.reports two.reports one.calls two.calls;
+        sound = λ bases.
+            All-append (IsSoundRound opening phi) one.reports two.reports (one.sound bases) (two.sound bases);
+        written =
+            subst (Appends before.taken now.taken)
+            (sym (flat_map-append_rounds (session_part store) one.reports two.reports))
+            (Appends-trans before.taken middle.taken now.taken (session_parts store one.reports)
+            (session_parts store two.reports) one.written two.written);
+        kept =
+            subst Both (sym (saved_cuts-append_saves store opening one.reports two.reports))
+            (both (saved_cuts store opening one.reports) (saved_cuts store opening two.reports) one.kept two.kept);
+        faultless = two.faultless ∙ one.faultless;
+      }
 
--- rounds that ended, of whose saves less is said where they broke off
-pub ended_rounds_say_less : (opening : List ShardValue) (phi rounds : ℕ) (before now : View) (store : Bool)
-    (Kept : List CutValue → Type 0) (KeptInPart Less : SessionSaving) (old new : Option (List ℕ))
-    (faults_before faults_now : RoundFaults) (stop : Option Status)
-    → EndRounds opening phi store rounds before now Kept KeptInPart old new faults_before faults_now stop
-    → ((saved unfinished : List CutValue) → KeptInPart saved unfinished → Less saved unfinished)
-    → EndRounds opening phi store rounds before now Kept Less old new faults_before faults_now stop
-ended_rounds_say_less opening phi rounds before now store Kept KeptInPart Less old new faults_before faults_now None ended less =
-    ended
-ended_rounds_say_less opening phi rounds before now store Kept KeptInPart Less old new faults_before faults_now (Some status) off
-    less = record {
-      whole = off.whole;
-      few = off.few;
-      middle = off.middle;
-      between = off.between;
-      written = off.written;
-      broken =
-          broken_round_says_less opening phi off.middle now store (rest_after_saves store opening off.written.reports KeptInPart)
-          (rest_after_saves store opening off.written.reports Less) off.between new faults_before faults_now status
-          (λ saved unfinished kept. less (saved_cuts store opening off.written.reports ++ saved) unfinished kept) off.broken;
-    }
+  -- all rounds were made, for the shards that a view names
+  pub all_rounds_were_made : (shards : List ShardValue) (made rounds : ℕ) (before now : RoundSide)
+      (Kept : List CutValue → Type 0) (KeptInPart : SessionSaving) (stop : Option Status)
+      → shards ≡ opening → stop ≡ None → made ≡ rounds → WritesRounds opening phi store made before now Kept
+      → EndRounds shards phi store rounds before now Kept KeptInPart stop
+  all_rounds_were_made shards made rounds before now Kept KeptInPart stop same none all written =
+      subst (EndRounds shards phi store rounds before now Kept KeptInPart) (sym none)
+      (subst (λ ss. WritesRounds ss phi store rounds before now Kept) (sym same)
+      (subst (λ n. WritesRounds opening phi store n before now Kept) all written))
 
--- a round broke off
-pub one_round_broke_off : (opening shards : List ShardValue) (phi share made rounds : ℕ) (before middle now : View)
-    (store stored : Bool) (Kept : List CutValue → Type 0) (KeptInRound KeptInPart : SessionSaving)
-    (old between new : Option (List ℕ)) (faults_before faults_between faults_now : RoundFaults) (status : Status)
-    → shards ≡ opening → share ≡ phi → stored ≡ store → faults_between ≡ faults_before → made < rounds
-    → ((cuts saved unfinished : List CutValue) → Kept cuts → KeptInRound saved unfinished → KeptInPart (cuts ++ saved) unfinished)
-    → WritesRounds opening phi store made before middle Kept old between
-    → BreaksRound opening share stored middle now KeptInRound between new faults_between faults_now status
-    → RoundsBreakOff shards phi store rounds before now KeptInPart old new faults_before faults_now status
-one_round_broke_off opening shards phi share made rounds before middle now store stored Kept KeptInRound KeptInPart old between
-    new faults_before faults_between faults_now status same same_share round_saver_stays_or_none same_faults few both written broken =
-    subst (λ ss. RoundsBreakOff ss phi store rounds before now KeptInPart old new faults_before faults_now status) (sym same)
-    (record {
-      whole = made;
-      few = few;
-      middle = middle;
-      between = between;
-      written = written_rounds_say_less opening phi made before middle store Kept old between written;
-      broken =
-          broken_round_says_less opening phi middle now store KeptInRound (rest_after_saves store opening written.reports KeptInPart)
-          between new faults_before faults_now status
-          (λ saved unfinished kept. both (saved_cuts store opening written.reports) saved unfinished written.kept kept)
-          (subst (λ b. BreaksRound opening phi b middle now KeptInRound between new faults_before faults_now status)
-          round_saver_stays_or_none
-          (subst (λ n. BreaksRound opening n stored middle now KeptInRound between new faults_before faults_now status)
-          same_share
-          (subst (λ f. BreaksRound opening share stored middle now KeptInRound between new f faults_now status) same_faults
-          broken)));
-    })
+  -- a round whose cut wasn't saved, of which less is said
+  unsaved_round_says_less : (before now : RoundSide) (unfinished : Bool) (Kept Less : SessionSaving)
+      → RoundSavesImply Kept Less → WritesUnsaved opening phi before now unfinished Kept
+      → WritesUnsaved opening phi before now unfinished Less
+  unsaved_round_says_less before now unfinished Kept Less less unsaved = record {
+    report = unsaved.report;
+    reports = unsaved.reports;
+    written = unsaved.written;
+    kept = less [] (saved_cuts unfinished opening (round_of unsaved.report ∷ [])) unsaved.kept;
+  }
 
--- the sink failed in a round
-pub round_broken_by_sink : (opening : List ShardValue) (phi : ℕ) (before now : View) (store : Bool) (Kept : SessionSaving)
-    (old new : Option (List ℕ)) (sink_before sink_between sink_now disk_before disk_now : ℕ) (status : Status)
-    → (status ≡ WriteFault) × FaultRose sink_between sink_now → sink_between ≡ sink_before → disk_now ≡ disk_before
-    → BreaksInReport opening phi before now Kept old new ⊎ BreaksInLine opening phi store before now Kept old new
-    → BreaksRound opening phi store before now Kept old new (record { sink = sink_before; disk = disk_before })
-    (record { sink = sink_now; disk = disk_now }) status
-round_broken_by_sink opening phi before now store Kept old new sink_before sink_between sink_now disk_before disk_now status failed
-    earlier same part =
-    subst (BreaksRound opening phi store before now Kept old new (record { sink = sink_before; disk = disk_before })
-    (record { sink = sink_now; disk = disk_now })) (sym failed.0)
-    (part, record { rose = subst (λ n. FaultRose n sink_now) earlier failed.1; disk = same })
+  -- a round that broke off, of which less is said
+  broken_round_says_less : (before now : RoundSide) (Kept Less : SessionSaving) (status : Status)
+      → RoundSavesImply Kept Less → BreaksRound opening phi store before now Kept status
+      → BreaksRound opening phi store before now Less status
+  broken_round_says_less before now Kept Less WriteFault less broken = (
+    ⊎_elim
+        (λ (part : BreaksInReport opening phi before now Kept). inl (record {
+          report = part.report;
+          reports = part.reports;
+          written = part.written;
+          kept = less [] [] part.kept;
+        }))
+        (λ (part : BreaksInLine opening phi store before now Kept). inr (record {
+          report = part.report;
+          reports = part.reports;
+          between = part.between;
+          whole = part.whole;
+          written = part.written;
+          kept = less (saved_cuts store opening (round_of part.report ∷ [])) [] part.kept;
+        })) broken.0,
+    broken.1,
+  )
+  broken_round_says_less before now Kept Less DiskFault less broken =
+      (broken.0, unsaved_round_says_less before now true Kept Less less broken.1, broken.2)
+  broken_round_says_less before now Kept Less OutOfMemory less broken = (
+    ⊎_elim
+        (λ (vain : IsInVain opening before now Kept).
+        inl (record { reads = vain.reads; unwritten = vain.unwritten; kept = less [] [] vain.kept }))
+        (λ unsaved. inr (unsaved.0, unsaved_round_says_less before now false Kept Less less unsaved.1)) broken.0,
+    broken.1,
+  )
+  broken_round_says_less before now Kept Less _ less broken = absurd broken
 
--- the cut of a round wasn't saved
-pub round_broken_at_saving : (opening : List ShardValue) (phi : ℕ) (before now : View) (store : Bool) (Kept : SessionSaving)
-    (old new : Option (List ℕ)) (sink_before sink_now disk_before disk_now : ℕ) (status : Status)
-    → store ≡ true → IsSaveFault disk_before disk_now status → sink_now ≡ sink_before
-    → (status ≡ DiskFault → WritesUnsaved opening phi before now true Kept old new)
-    → (status ≡ OutOfMemory → WritesUnsaved opening phi before now false Kept old new)
-    → BreaksRound opening phi store before now Kept old new (record { sink = sink_before; disk = disk_before })
-    (record { sink = sink_now; disk = disk_now }) status
-round_broken_at_saving opening phi before now store Kept old new sink_before sink_now disk_before disk_now DiskFault used fault same
-    unsaved untouched =
-    (used, unsaved refl, record { rose = fault; sink = same })
-round_broken_at_saving opening phi before now store Kept old new sink_before sink_now disk_before disk_now OutOfMemory used fault same
-    unsaved untouched =
-    (inr (used, untouched refl), ap₂ (λ s d. record { sink = s; disk = d }) same fault)
-round_broken_at_saving opening phi before now store Kept old new sink_before sink_now disk_before disk_now Done used fault same unsaved
-    untouched = absurd fault
-round_broken_at_saving opening phi before now store Kept old new sink_before sink_now disk_before disk_now (BadWords kind) used fault same
-    unsaved untouched = absurd fault
-round_broken_at_saving opening phi before now store Kept old new sink_before sink_now disk_before disk_now (BadCapture wrong) used fault
-    same unsaved untouched = absurd fault
-round_broken_at_saving opening phi before now store Kept old new sink_before sink_now disk_before disk_now ReadFault used fault same
-    unsaved untouched = absurd fault
-round_broken_at_saving opening phi before now store Kept old new sink_before sink_now disk_before disk_now WriteFault used fault same
-    unsaved untouched = absurd fault
-round_broken_at_saving opening phi before now store Kept old new sink_before sink_now disk_before disk_now NotFormatted used fault same
-    unsaved untouched = absurd fault
-round_broken_at_saving opening phi before now store Kept old new sink_before sink_now disk_before disk_now (Damaged slot) used fault same
-    unsaved untouched = absurd fault
-round_broken_at_saving opening phi before now store Kept old new sink_before sink_now disk_before disk_now (OtherSettings stored asked)
-    used fault same unsaved untouched = absurd fault
-round_broken_at_saving opening phi before now store Kept old new sink_before sink_now disk_before disk_now (OtherCapture stored asked)
-    used fault same unsaved untouched = absurd fault
-round_broken_at_saving opening phi before now store Kept old new sink_before sink_now disk_before disk_now (AuditNo report verdict) used
-    fault same unsaved untouched = absurd fault
-round_broken_at_saving opening phi before now store Kept old new sink_before sink_now disk_before disk_now (BadReport wrong) used fault
-    same unsaved untouched = absurd fault
+  -- rounds that ended, of whose saves less is said where they broke off
+  pub ended_rounds_say_less : (rounds : ℕ) (before now : RoundSide) (Kept : List CutValue → Type 0)
+      (KeptInPart Less : SessionSaving) (stop : Option Status)
+      → EndRounds opening phi store rounds before now Kept KeptInPart stop → RoundSavesImply KeptInPart Less
+      → EndRounds opening phi store rounds before now Kept Less stop
+  ended_rounds_say_less rounds before now Kept KeptInPart Less None ended less = ended
+  ended_rounds_say_less rounds before now Kept KeptInPart Less (Some status) off less = record {
+    whole = off.whole;
+    few = off.few;
+    middle = off.middle;
+    written = off.written;
+    broken =
+        broken_round_says_less off.middle now (rest_after_saves store opening off.written.reports KeptInPart)
+        (rest_after_saves store opening off.written.reports Less) status
+        (λ saved. less (saved_cuts store opening off.written.reports ++ saved)) off.broken;
+  }
 
--- memory ran out before a round was written
-pub round_broken_by_memory : {T : Type 0} (result : Result T Status) (opening : List ShardValue) (phi : ℕ) (before now : View)
-    (store : Bool) (Kept : SessionSaving) (old : Option (List ℕ)) (faults : RoundFaults)
-    → IsErrAnd result (λ status. status ≡ OutOfMemory) → ReadsOnce opening before now → Kept [] []
-    → IfErr result (BreaksRound opening phi store before now Kept old old faults faults)
-round_broken_by_memory (Ok value) opening phi before now store Kept old faults none reads kept = tt
-round_broken_by_memory (Err status) opening phi before now store Kept old faults is reads kept =
-    subst (BreaksRound opening phi store before now Kept old old faults faults) (sym is)
-    (inl (record { reads = reads; unwritten = refl; kept = kept }), refl)
+  -- a round broke off
+  pub one_round_broke_off : (shards : List ShardValue) (share made rounds : ℕ) (before middle now : RoundSide)
+      (stored : Bool) (Kept : List CutValue → Type 0) (KeptInRound KeptInPart : SessionSaving) (status : Status)
+      → shards ≡ opening → share ≡ phi → stored ≡ store → made < rounds
+      → ((cuts saved unfinished : List CutValue) → Kept cuts → KeptInRound saved unfinished
+      → KeptInPart (cuts ++ saved) unfinished)
+      → WritesRounds opening phi store made before middle Kept
+      → BreaksRound opening share stored middle now KeptInRound status
+      → RoundsBreakOff shards phi store rounds before now KeptInPart status
+  one_round_broke_off shards share made rounds before middle now stored Kept KeptInRound KeptInPart status same same_share
+      same_store few both written broken =
+      subst (λ ss. RoundsBreakOff ss phi store rounds before now KeptInPart status) (sym same) (record {
+        whole = made;
+        few = few;
+        middle = middle;
+        written = record {
+          reports = written.reports;
+          calls = written.calls;
+          sound = written.sound;
+          written = written.written;
+          kept = tt;
+          faultless = written.faultless;
+        };
+        broken =
+            broken_round_says_less middle now KeptInRound (rest_after_saves store opening written.reports KeptInPart) status
+            (λ saved unfinished. both (saved_cuts store opening written.reports) saved unfinished written.kept)
+            (subst (λ b. BreaksRound opening phi b middle now KeptInRound status) same_store
+            (subst (λ n. BreaksRound opening n stored middle now KeptInRound status) same_share broken));
+      })
+
+  -- the sink failed in a round
+  pub round_broken_by_sink : (before now : RoundSide) (Kept : SessionSaving) (between : ℕ) (status : Status)
+      → (status ≡ WriteFault) × FaultRose between now.faults.sink → between ≡ before.faults.sink
+      → now.faults.disk ≡ before.faults.disk
+      → BreaksInReport opening phi before now Kept ⊎ BreaksInLine opening phi store before now Kept
+      → BreaksRound opening phi store before now Kept status
+  round_broken_by_sink before now Kept between status failed earlier same part =
+      subst (BreaksRound opening phi store before now Kept) (sym failed.0)
+      (part, record { rose = subst (λ n. FaultRose n now.faults.sink) earlier failed.1; disk = same })
+
+  -- the cut of a round wasn't saved
+  pub round_broken_at_saving : (before now : RoundSide) (Kept : SessionSaving) (status : Status)
+      → store ≡ true → IsSaveFault before.faults.disk now.faults.disk status → now.faults.sink ≡ before.faults.sink
+      → (status ≡ DiskFault → WritesUnsaved opening phi before now true Kept)
+      → (status ≡ OutOfMemory → WritesUnsaved opening phi before now false Kept)
+      → BreaksRound opening phi store before now Kept status
+  round_broken_at_saving before now Kept DiskFault used fault same unsaved untouched =
+      (used, unsaved refl, record { rose = fault; sink = same })
+  round_broken_at_saving before now Kept OutOfMemory used fault same unsaved untouched =
+      (inr (used, untouched refl), ap₂ (λ s d. record { sink = s; disk = d }) same fault)
+  round_broken_at_saving before now Kept _ used fault same unsaved untouched = absurd fault
+
+  -- memory ran out before a round was written
+  pub round_broken_by_memory : {T : Type 0} (result : Result T Status) (before now : RoundSide) (Kept : SessionSaving)
+      → IsErrAnd result (λ status. status ≡ OutOfMemory) → ReadsOnce opening before.view now.view
+      → now.taken ≡ before.taken → now.faults ≡ before.faults → Kept [] []
+      → IfErr result (BreaksRound opening phi store before now Kept)
+  round_broken_by_memory (Ok value) before now Kept none reads unwritten same kept = tt
+  round_broken_by_memory (Err status) before now Kept is reads unwritten same kept =
+      subst (BreaksRound opening phi store before now Kept) (sym is)
+      (inl (record { reads = reads; unwritten = unwritten; kept = kept }), same)
 
 -- there is a saver after exactly if there was one before
 pub round_saver_stays_or_none : {A : Type 0} (before after : Option A) (f : A → A) → after ≡ option_map f before

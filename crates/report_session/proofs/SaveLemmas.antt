@@ -68,9 +68,9 @@ save_leaves_bytes_known old (Some now) bytes known is = (now, refl)
 -- saves that follow others, into the store that these left
 kept_saves_follow : OpenToOne → {D : Type 0} (d : DiskOf D) (header : StoreHeader) (digest : List ℕ) (Earlier : List ℕ → Type 0)
     (cuts later unfinished : List CutValue) (old mid new : D) (store between : List ℕ) → AreSettings header.settings
-    → d.image_now mid between → KeepsSaves d header digest Earlier cuts [] old mid store
-    → KeepsSaves d header digest (λ image. ⊥) later unfinished mid new between
-    → KeepsSaves d header digest Earlier (cuts ++ later) unfinished old new store
+    → d.image_now mid between → KeepsSaves d old mid header digest Earlier cuts [] store
+    → KeepsSaves d mid new header digest (λ image. ⊥) later unfinished between
+    → KeepsSaves d old new header digest Earlier (cuts ++ later) unfinished store
 kept_saves_follow one {D} d header digest Earlier cuts later unfinished old mid new store between are now
     first second =
     let opened : Option SavedValue = first.opened in
@@ -256,14 +256,14 @@ saves_raise_sequence saver (cut ∷ cuts) = saves_raise_sequence (saver_after sa
 -- what is kept by the saver after these saves is kept by the one before them
 saves_kept_as_before : {D : Type 0} (d : DiskOf D)
     (saver : SaverState) (cuts saved unfinished : List CutValue) (mid new : D) (store : List ℕ)
-    → KeepsSaves d (after_saves saver cuts).header (after_saves saver cuts).digest (λ image. ⊥)
-    saved unfinished mid new store
-    → KeepsSaves d saver.header saver.digest (λ image. ⊥) saved unfinished mid new store
+    → KeepsSaves d mid new (after_saves saver cuts).header (after_saves saver cuts).digest (λ image. ⊥)
+    saved unfinished store
+    → KeepsSaves d mid new saver.header saver.digest (λ image. ⊥) saved unfinished store
 saves_kept_as_before d saver cuts saved unfinished mid new store kept =
-    subst (λ header. KeepsSaves d header saver.digest (λ image. ⊥) saved unfinished mid new store)
+    subst (λ header. KeepsSaves d mid new header saver.digest (λ image. ⊥) saved unfinished store)
     (saves_leave_header saver cuts)
-    (subst (λ digest. KeepsSaves d (after_saves saver cuts).header digest (λ image. ⊥) saved
-    unfinished mid new store) (saves_leave_digest saver cuts) kept)
+    (subst (λ digest. KeepsSaves d mid new (after_saves saver cuts).header digest (λ image. ⊥) saved
+    unfinished store) (saves_leave_digest saver cuts) kept)
 
 saves_of_cuts_follow : OpenToOne → {D : Type 0} (d : DiskOf D) (saver : SaverState) (cuts later : List CutValue)
     (old mid new : D) → AreSettings saver.header.settings

@@ -3,7 +3,7 @@ use Rattle.std.proofs.Common.{Bool, true, false, ⊎_elim}
 use Rattle.std.proofs.Common.{◌≡◌, ◌∙◌, ◌≤◌, ◌<◌, ◌+◌, ◌⊎◌, inl, inr, ℕ, List, [], ◌∷◌, ◌++◌, Option, None, Some}
 use Rattle.std.proofs.Common.{Ok, Err, All, refl, sym, ap, ap₂, subst, arith, length, map, append-nil, get_or, take}
 use Rattle.std.proofs.Common.{zero, suc, slice_get}
-use Rattle.std.specs.Prelude.{slice_index}
+use Rattle.std.specs.Prelude.{slice_index, ⊤}
 use Rattle.std.specs.Result.{IfErr, IfOk, OnErr, OnOk}
 use Rattle.std.specs.List.Sorted.{IsNonDecreasing}
 use Rattle.std.specs.declared.result.Result.{Result}
@@ -26,18 +26,16 @@ use Rattle.gate_workers.specs.declared.plan.ThreadPlan.{ThreadPlan}
 use Rattle.command_words.specs.declared.settings.Settings.{Settings}
 use Rattle.report_text.specs.{report_text}
 use Rattle.report_session.specs.DealtFeed.{FeedBreaksOff, MakesSteps, other_reports}
-use Rattle.report_session.specs.LiveRounds.{RoundsBreakOff, EndRounds, RoundFaults, IsInVain, ReportsOnce}
-use Rattle.report_session.specs.LiveRounds.{BreaksInLine, BreaksInReport, WritesRounds, WritesUnsaved}
+use Rattle.report_session.specs.LiveRounds.{BreaksInLine, BreaksInReport, EndRounds, IsInVain, ReportsOnce}
+use Rattle.report_session.specs.LiveRounds.{RoundFaults, RoundSide, RoundsBreakOff, WritesRounds}
 use Rattle.report_session.specs.Session.{AreOfCaller, BreaksOffAround, IsShownInSession}
 use Rattle.report_session.specs.Session.{SessionSaving, rest_after_saves, caller_parts, session_ends}
 use Rattle.report_session.specs.Session.{session_part, session_parts, saved_cuts, save_line}
 use Rattle.report_session.specs.Session.{session_start}
 use Rattle.run_status.specs.declared.status.Status.{Status}
-use Rattle.run_status.specs.declared.status.Status.TheVariants.{Done, BadWords, BadCapture, ReadFault, WriteFault}
-use Rattle.run_status.specs.declared.status.Status.TheVariants.{DiskFault, NotFormatted, Damaged, OtherSettings}
-use Rattle.run_status.specs.declared.status.Status.TheVariants.{OtherCapture, AuditNo, BadReport, OutOfMemory}
-use Rattle.report_session.proofs.RoundLemmas.{RoundsFollowRounds, flat_map-append_rounds, round_makes_report}
-use Rattle.report_session.proofs.RoundLemmas.{saved_cuts-no_rounds}
+use Rattle.run_status.specs.declared.status.Status.TheVariants.{WriteFault, DiskFault, OutOfMemory}
+use Rattle.report_session.proofs.RoundLemmas.{IsSoundRound, RoundsFollowRounds, flat_map-append_rounds, round_makes_report}
+use Rattle.report_session.proofs.RoundLemmas.{round_of, saved_cuts-no_rounds}
 use Rattle.report_session.proofs.SeenPositionLemmas.{seen_position_report_count, seen_position_before_one_read}
 use Rattle.report_session.specs.Session.{asked_shape}
 
@@ -82,171 +80,111 @@ session_thread_reports_of_calls opening settings rounds before now reports alike
       (calls.never_fall shard (omega (arith, inside, many))));
 }
 
--- whole rounds, and one more that broke off
-session_thread_breaks_in_round : (opening : List ShardValue) (settings : Settings) (whole : ℕ) (before middle now : View) (Kept : SessionSaving)
-    (old between new : Option (List ℕ)) (reports : List Reported) (report : Report) (more : List ℕ)
-    → core_shape opening ≡ asked_shape settings → HasSessionThreadSeenStarts opening before → RoundsFollowRounds opening before
-    → whole < settings.rounds → Calls opening settings.phi whole before middle reports
-    → (BasesRepresent opening → AreSoundReports opening settings.phi reports)
-    → Appends old between (session_parts settings.store reports)
-    → ReportsOnce opening settings.phi middle now report
-    → BreaksOffAround (report_text report) (save_line settings.store report.positions)
-    (saved_cuts settings.store opening (record { report = report; saved = None } ∷ []))
-    (rest_after_saves settings.store opening reports Kept) more
-    → Appends between new more → FeedBreaksOff opening settings Kept old new
-session_thread_breaks_in_round opening settings whole before middle now Kept old between new reports report more alike seen follow few made
-    sound written once breaks_off appended =
-    let next : Reported = record { report = report; saved = None } in
-    let all : List Reported = reports ++ next ∷ [] in
-    let calls : Calls opening settings.phi (whole + 1) before now all =
-    follow settings.phi whole 1 middle now reports (next ∷ []) made once.calls in
-    let are_sound : BasesRepresent opening → AreSoundReports opening settings.phi all =
-    λ bases.
-    All-append (λ (reported : Reported). IsSound (core_shape opening).grain reported.report (core_lists opening) (core_shape opening).capacity settings.phi)
-    reports (next ∷ []) (sound bases)
-    (All-cons (λ (reported : Reported). IsSound (core_shape opening).grain reported.report (core_lists opening) (core_shape opening).capacity settings.phi)
-    next [] (once.sound bases)
-    (All-nil (λ (reported : Reported). IsSound (core_shape opening).grain reported.report (core_lists opening) (core_shape opening).capacity settings.phi))) in
-    let are : AreOfCaller opening settings (whole + 1) all =
-    session_thread_reports_of_calls opening settings (whole + 1) before now all alike seen calls are_sound in
-    let many : length reports ≡ whole = seen_position_report_count opening settings.phi whole before middle reports made in
-    record {
-      front = session_parts settings.store reports ++ more;
-      breaks_off = inr (record {
-        rounds = reports;
-        next = next;
-        few = omega (arith, few, many);
-        are_reports = subst (λ n. AreOfCaller opening settings (n + 1) all) (sym many) are;
-        more = more;
-        breaks_off = breaks_off;
-        written = refl;
-      });
-      written = Appends-trans old between new (session_parts settings.store reports) more written appended;
-    }
+-- rounds over shards of the shape that the settings ask for, by a pass that has seen where the shards start
+module _ (opening : List ShardValue) (settings : Settings) (alike : core_shape opening ≡ asked_shape settings)
+    (before : RoundSide) (seen : HasSessionThreadSeenStarts opening before.view) where
+  -- whole rounds, and nothing more
+  session_thread_between_rounds : (Kept : SessionSaving) (Whole : List CutValue → Type 0) (whole : ℕ) (middle : RoundSide)
+      (new : Option (List ℕ)) → whole ≤ settings.rounds
+      → (made : WritesRounds opening settings.phi settings.store whole before middle Whole) → new ≡ middle.taken
+      → Kept (saved_cuts settings.store opening made.reports) [] → FeedBreaksOff opening settings Kept before.taken new
+  session_thread_between_rounds Kept Whole whole middle new few made same kept =
+      let are : AreOfCaller opening settings whole made.reports =
+      session_thread_reports_of_calls opening settings whole before.view middle.view made.reports alike seen made.calls made.sound in
+      record {
+        front = session_parts settings.store made.reports;
+        breaks_off = inl (record {
+          rounds = made.reports;
+          few = omega (arith, few, are.as_many);
+          are_reports = subst (λ n. AreOfCaller opening settings n made.reports) (sym are.as_many) are;
+          written = refl;
+          kept = kept;
+        });
+        written = subst (λ o. Appends before.taken o (session_parts settings.store made.reports)) (sym same) made.written;
+      }
 
--- whole rounds, and nothing more
-session_thread_between_rounds : (opening : List ShardValue) (settings : Settings) (whole : ℕ) (before middle : View) (Kept : SessionSaving)
-    (old between new : Option (List ℕ)) (reports : List Reported)
-    → core_shape opening ≡ asked_shape settings → HasSessionThreadSeenStarts opening before
-    → whole ≤ settings.rounds → Calls opening settings.phi whole before middle reports
-    → (BasesRepresent opening → AreSoundReports opening settings.phi reports)
-    → Appends old between (session_parts settings.store reports) → new ≡ between
-    → Kept (saved_cuts settings.store opening reports) [] → FeedBreaksOff opening settings Kept old new
-session_thread_between_rounds opening settings whole before middle Kept old between new reports alike seen few made sound written same
-    kept =
-    let are : AreOfCaller opening settings whole reports =
-    session_thread_reports_of_calls opening settings whole before middle reports alike seen made sound in
-    record {
-      front = session_parts settings.store reports;
-      breaks_off = inl (record {
-        rounds = reports;
-        few = omega (arith, few, are.as_many);
-        are_reports = subst (λ n. AreOfCaller opening settings n reports) (sym are.as_many) are;
-        written = refl;
-        kept = kept;
-      });
-      written = subst (λ o. Appends old o (session_parts settings.store reports)) (sym same) written;
-    }
+  module _ (follow : RoundsFollowRounds opening before.view) (now : RoundSide) (Kept : SessionSaving) where
+    -- whole rounds, and one more that broke off
+    session_thread_breaks_in_round : (status : Status)
+        (off : RoundsBreakOff opening settings.phi settings.store settings.rounds before now Kept status)
+        (report : Report) (more : List ℕ) → ReportsOnce opening settings.phi off.middle.view now.view report
+        → BreaksOffAround (report_text report) (save_line settings.store report.positions)
+        (saved_cuts settings.store opening (round_of report ∷ []))
+        (rest_after_saves settings.store opening off.written.reports Kept) more
+        → Appends off.middle.taken now.taken more → FeedBreaksOff opening settings Kept before.taken now.taken
+    session_thread_breaks_in_round status off report more once breaks_off appended =
+        let made = off.written in
+        let all : List Reported = made.reports ++ round_of report ∷ [] in
+        let are : AreOfCaller opening settings (off.whole + 1) all =
+        session_thread_reports_of_calls opening settings (off.whole + 1) before.view now.view all alike seen
+        (follow settings.phi off.whole 1 off.middle.view now.view made.reports (round_of report ∷ []) made.calls once.calls)
+        (λ bases. All-append (IsSoundRound opening settings.phi) made.reports (round_of report ∷ []) (made.sound bases)
+        (All-cons (IsSoundRound opening settings.phi) (round_of report) [] (once.sound bases)
+        (All-nil (IsSoundRound opening settings.phi)))) in
+        let many : length made.reports ≡ off.whole =
+        seen_position_report_count opening settings.phi off.whole before.view off.middle.view made.reports made.calls in
+        record {
+          front = session_parts settings.store made.reports ++ more;
+          breaks_off = inr (record {
+            rounds = made.reports;
+            next = round_of report;
+            few = omega (arith, off.few, many);
+            are_reports = subst (λ n. AreOfCaller opening settings (n + 1) all) (sym many) are;
+            more = more;
+            breaks_off = breaks_off;
+            written = refl;
+          });
+          written =
+              Appends-trans before.taken off.middle.taken now.taken (session_parts settings.store made.reports) more
+              made.written appended;
+        }
 
--- whole rounds, and a report whose cut wasn't saved
-session_thread_unsaved_round : (opening : List ShardValue) (settings : Settings) (before now : View) (Kept : SessionSaving)
-    (old new : Option (List ℕ)) (faults_before faults_now : RoundFaults) (status : Status) (unfinished : Bool)
-    → core_shape opening ≡ asked_shape settings → HasSessionThreadSeenStarts opening before → RoundsFollowRounds opening before
-    → (off : RoundsBreakOff opening settings.phi settings.store settings.rounds before now Kept old new faults_before faults_now
-    status)
-    → (unsaved : WritesUnsaved opening settings.phi off.middle now unfinished
-    (rest_after_saves settings.store opening off.written.reports Kept) off.between new)
-    → BreaksOffAround (report_text unsaved.report) (save_line settings.store unsaved.report.positions)
-    (saved_cuts settings.store opening (record { report = unsaved.report; saved = None } ∷ []))
-    (rest_after_saves settings.store opening off.written.reports Kept) (report_text unsaved.report)
-    → FeedBreaksOff opening settings Kept old new
-session_thread_unsaved_round opening settings before now Kept old new faults_before faults_now status unfinished alike seen follow off
-    unsaved breaks_off =
-    let whole = off.written in
-    session_thread_breaks_in_round opening settings off.whole before off.middle now Kept old off.between new whole.reports unsaved.report
-    (report_text unsaved.report) alike seen follow off.few whole.calls whole.sound whole.written unsaved.reports breaks_off
-    unsaved.written
+    -- rounds that broke off: whole ones, and one more that broke off
+    session_thread_broken_rounds : (status : Status)
+        → RoundsBreakOff opening settings.phi settings.store settings.rounds before now Kept status
+        → FeedBreaksOff opening settings Kept before.taken now.taken
+    session_thread_broken_rounds WriteFault off =
+        let After : SessionSaving = rest_after_saves settings.store opening off.written.reports Kept in
+        ⊎_elim
+        (λ (part : BreaksInReport opening settings.phi off.middle now After).
+        session_thread_breaks_in_round WriteFault off part.report part.written.front part.reports
+        (inl (part.written.is_beginning, part.kept)) part.written.appended)
+        (λ (part : BreaksInLine opening settings.phi settings.store off.middle now After).
+        let text : List ℕ = report_text part.report in
+        let line : List ℕ = part.written.front in
+        session_thread_breaks_in_round WriteFault off part.report (text ++ line) part.reports
+        (inr (inr (line, (part.written.is_beginning, part.written.cut), refl, part.kept)))
+        (Appends-trans off.middle.taken part.between now.taken text line part.whole part.written.appended)) off.broken.0
+    session_thread_broken_rounds DiskFault off =
+        let unsaved = off.broken.1 in
+        session_thread_breaks_in_round DiskFault off unsaved.report (report_text unsaved.report) unsaved.reports
+        (inr (inl (
+          refl,
+          subst (λ store. rest_after_saves settings.store opening off.written.reports Kept []
+              (saved_cuts store opening (round_of unsaved.report ∷ []))) (sym off.broken.0) unsaved.kept,
+        ))) unsaved.written
+    session_thread_broken_rounds OutOfMemory off =
+        let whole = off.written in
+        let few : off.whole < settings.rounds = off.few in
+        ⊎_elim
+        (λ (vain : IsInVain opening off.middle now (rest_after_saves settings.store opening whole.reports Kept)).
+        session_thread_between_rounds Kept (λ cuts. ⊤) off.whole off.middle now.taken (omega (arith, few)) whole
+        vain.unwritten (subst (λ cuts. Kept cuts []) (append-nil (saved_cuts settings.store opening whole.reports)) vain.kept))
+        (λ unsaved.
+        session_thread_breaks_in_round OutOfMemory off unsaved.1.report (report_text unsaved.1.report) unsaved.1.reports
+        (inl (([], sym (append-nil (report_text unsaved.1.report))), unsaved.1.kept)) unsaved.1.written) off.broken.0
+    session_thread_broken_rounds _ off = absurd off.broken
 
--- rounds that broke off: whole ones, and one more that broke off
-session_thread_broken_rounds : (opening : List ShardValue) (settings : Settings) (before now : View) (Kept : SessionSaving)
-    (old new : Option (List ℕ)) (faults_before faults_now : RoundFaults) (status : Status)
-    → core_shape opening ≡ asked_shape settings → HasSessionThreadSeenStarts opening before → RoundsFollowRounds opening before
-    → RoundsBreakOff opening settings.phi settings.store settings.rounds before now Kept old new faults_before faults_now status
-    → FeedBreaksOff opening settings Kept old new
-session_thread_broken_rounds opening settings before now Kept old new faults_before faults_now WriteFault alike seen follow off =
-    let whole = off.written in
-    let After : SessionSaving = rest_after_saves settings.store opening whole.reports Kept in
-    ⊎_elim
-    (λ (part : BreaksInReport opening settings.phi off.middle now After off.between new).
-    session_thread_breaks_in_round opening settings off.whole before off.middle now Kept old off.between new whole.reports part.report
-    part.written.front alike seen follow off.few whole.calls whole.sound whole.written part.reports
-    (inl (part.written.is_beginning, part.kept)) part.written.appended)
-    (λ (part : BreaksInLine opening settings.phi settings.store off.middle now After off.between new).
-    let text : List ℕ = report_text part.report in
-    let line : List ℕ = part.written.front in
-    session_thread_breaks_in_round opening settings off.whole before off.middle now Kept old off.between new whole.reports part.report
-    (text ++ line) alike seen follow off.few whole.calls whole.sound whole.written part.reports
-    (inr (inr (line, (part.written.is_beginning, part.written.cut), refl, part.kept)))
-    (Appends-trans off.between part.between new text line part.whole part.written.appended)) off.broken.0
-session_thread_broken_rounds opening settings before now Kept old new faults_before faults_now DiskFault alike seen follow off =
-    let unsaved = off.broken.1 in
-    session_thread_unsaved_round opening settings before now Kept old new faults_before faults_now DiskFault true alike seen follow off
-    unsaved
-    (inr (inl (
-      refl,
-      subst (λ store. rest_after_saves settings.store opening off.written.reports Kept []
-          (saved_cuts store opening (record { report = unsaved.report; saved = None } ∷ []))) (sym off.broken.0) unsaved.kept,
-    )))
-session_thread_broken_rounds opening settings before now Kept old new faults_before faults_now OutOfMemory alike seen follow off =
-    let whole = off.written in
-    let few : off.whole < settings.rounds = off.few in
-    ⊎_elim
-    (λ (vain : IsInVain opening off.middle now (rest_after_saves settings.store opening whole.reports Kept) off.between new).
-    session_thread_between_rounds opening settings off.whole before off.middle Kept old off.between new whole.reports alike seen
-    (omega (arith, few)) whole.calls whole.sound whole.written vain.unwritten
-    (subst (λ cuts. Kept cuts []) (append-nil (saved_cuts settings.store opening whole.reports)) vain.kept))
-    (λ unsaved.
-    session_thread_unsaved_round opening settings before now Kept old new faults_before faults_now OutOfMemory false alike seen follow
-    off unsaved.1
-    (inl (([], sym (append-nil (report_text unsaved.1.report))), unsaved.1.kept))) off.broken.0
-session_thread_broken_rounds opening settings before now Kept old new faults_before faults_now Done alike seen follow off =
-    absurd off.broken
-session_thread_broken_rounds opening settings before now Kept old new faults_before faults_now (BadWords kind) alike seen follow off =
-    absurd off.broken
-session_thread_broken_rounds opening settings before now Kept old new faults_before faults_now (BadCapture fault) alike seen follow
-    off = absurd off.broken
-session_thread_broken_rounds opening settings before now Kept old new faults_before faults_now ReadFault alike seen follow off =
-    absurd off.broken
-session_thread_broken_rounds opening settings before now Kept old new faults_before faults_now NotFormatted alike seen follow off =
-    absurd off.broken
-session_thread_broken_rounds opening settings before now Kept old new faults_before faults_now (Damaged slot) alike seen follow off =
-    absurd off.broken
-session_thread_broken_rounds opening settings before now Kept old new faults_before faults_now (OtherSettings stored asked) alike seen
-    follow off = absurd off.broken
-session_thread_broken_rounds opening settings before now Kept old new faults_before faults_now (OtherCapture stored asked) alike seen
-    follow off = absurd off.broken
-session_thread_broken_rounds opening settings before now Kept old new faults_before faults_now (AuditNo report verdict) alike seen
-    follow off = absurd off.broken
-session_thread_broken_rounds opening settings before now Kept old new faults_before faults_now (BadReport fault) alike seen follow
-    off = absurd off.broken
-
--- rounds that ended, whole or not. What became of the cuts of whole rounds is also known where they are a part of a session
-session_thread_ended_rounds : (opening : List ShardValue) (settings : Settings) (before now : View)
-    (Kept : List CutValue → Type 0) (KeptInPart : SessionSaving) (old new : Option (List ℕ))
-    (faults_before faults_now : RoundFaults) (stop : Option Status) → core_shape opening ≡ asked_shape settings
-    → HasSessionThreadSeenStarts opening before → RoundsFollowRounds opening before
-    → ((cuts : List CutValue) → Kept cuts → KeptInPart cuts [])
-    → EndRounds opening settings.phi settings.store settings.rounds before now Kept KeptInPart old new faults_before
-    faults_now stop
-    → FeedBreaksOff opening settings KeptInPart old new
-session_thread_ended_rounds opening settings before now Kept KeptInPart old new faults_before faults_now None alike seen follow part
-    ended =
-    let whole = ended.0 in
-    session_thread_between_rounds opening settings settings.rounds before now KeptInPart old new new whole.reports alike seen (omega arith)
-    whole.calls whole.sound whole.written refl (part (saved_cuts settings.store opening whole.reports) whole.kept)
-session_thread_ended_rounds opening settings before now Kept KeptInPart old new faults_before faults_now (Some status) alike seen
-    follow part ended =
-    session_thread_broken_rounds opening settings before now KeptInPart old new faults_before faults_now status alike seen follow ended
+    -- rounds that ended, whole or not. What became of the cuts of whole rounds is also known where they are a part of a
+    -- session
+    session_thread_ended_rounds : (Whole : List CutValue → Type 0) (stop : Option Status)
+        → ((cuts : List CutValue) → Whole cuts → Kept cuts [])
+        → EndRounds opening settings.phi settings.store settings.rounds before now Whole Kept stop
+        → FeedBreaksOff opening settings Kept before.taken now.taken
+    session_thread_ended_rounds Whole None part whole =
+        session_thread_between_rounds Kept Whole settings.rounds now now.taken (omega arith) whole refl
+        (part (saved_cuts settings.store opening whole.reports) whole.kept)
+    session_thread_ended_rounds Whole (Some status) part off = session_thread_broken_rounds status off
 
 -- no round was begun
 session_thread_without_round : (opening : List ShardValue) (settings : Settings) (Kept : SessionSaving) (old new : Option (List ℕ))
@@ -273,8 +211,9 @@ pub session_threads_leave_rounds : (same : Type 0) (relates : View → View → 
     (passes : ℕ) (view : View) (Kept : List CutValue → Type 0) (KeptInPart : SessionSaving) (old new : Option (List ℕ))
     (faults_before faults_now : RoundFaults) (stop : Option Status)
     → view ≡ first_view opening → core_shape opening ≡ asked_shape settings
-    → ((before now : View) → relates before now → EndRounds before.opening settings.phi settings.store settings.rounds before
-    now Kept KeptInPart old new faults_before faults_now stop)
+    → ((before now : View) → relates before now → EndRounds before.opening settings.phi settings.store settings.rounds
+    (record { view = before; taken = old; faults = faults_before })
+    (record { view = now; taken = new; faults = faults_now }) Kept KeptInPart stop)
     → ((phi rounds more : ℕ) (before middle now : View) (reports later : List Reported)
     → length before.trails ≡ length opening → Calls opening phi rounds before middle reports
     → Calls opening phi more middle now later → Calls opening phi (rounds + more) before now (reports ++ later))
@@ -291,13 +230,14 @@ session_threads_leave_rounds same relates opening settings passes view Kept Kept
     ap (λ (v : View). map (λ trail. trail.seen) v.trails) first ∙ first_session_thread_sees_starts opening in
     let many : length before.trails ≡ length opening =
     ap (λ (v : View). length v.trails) first ∙ length-map opening _ in
-    let ended : EndRounds before.opening settings.phi settings.store settings.rounds before once.now Kept KeptInPart old
-    new faults_before faults_now stop = ends before once.now once.does in
-    session_thread_ended_rounds opening settings before once.now Kept KeptInPart old new faults_before faults_now stop alike seen
+    session_thread_ended_rounds opening settings alike (record { view = before; taken = old; faults = faults_before }) seen
     (λ phi rounds more middle now reports later one two.
-    follow phi rounds more before middle now reports later many one two) part
-    (subst (λ shards. EndRounds shards settings.phi settings.store settings.rounds before once.now Kept KeptInPart old
-    new faults_before faults_now stop) (ap (λ (v : View). v.opening) first) ended)
+    follow phi rounds more before middle now reports later many one two)
+    (record { view = once.now; taken = new; faults = faults_now }) KeptInPart Kept stop part
+    (subst (λ shards. EndRounds shards settings.phi settings.store settings.rounds
+    (record { view = before; taken = old; faults = faults_before })
+    (record { view = once.now; taken = new; faults = faults_now }) Kept KeptInPart stop)
+    (ap (λ (v : View). v.opening) first) (ends before once.now once.does))
 
 -- either the threads were run, or memory ran out before
 pub session_threads_ran_or_not : {E : Type 0} (same : Type 0) (relates : View → View → Type 0) (opening : List ShardValue)
@@ -313,49 +253,51 @@ session_thread_on_err (Ok value) P holds = tt
 session_thread_on_err (Err error) P holds = holds
 
 -- the share, the rounds and the store that settings ask for
-pub session_thread_ended_as_set : (shards : List ShardValue) (share phi made rounds : ℕ) (before now : View) (stored store : Bool)
-    (Kept : List CutValue → Type 0) (KeptInPart : SessionSaving) (old new : Option (List ℕ))
-    (faults_before faults_now : RoundFaults) (stop : Option Status) → share ≡ phi → made ≡ rounds → stored ≡ store
-    → EndRounds shards share stored made before now Kept KeptInPart old new faults_before faults_now stop
-    → EndRounds shards phi store rounds before now Kept KeptInPart old new faults_before faults_now stop
-session_thread_ended_as_set shards share phi made rounds before now stored store Kept KeptInPart old new faults_before faults_now stop
-    same_share same_rounds same_store ended =
-    subst (λ b. EndRounds shards phi b rounds before now Kept KeptInPart old new faults_before faults_now stop) same_store
-    (subst (λ n. EndRounds shards phi stored n before now Kept KeptInPart old new faults_before faults_now stop)
-    same_rounds
-    (subst (λ n. EndRounds shards n stored made before now Kept KeptInPart old new faults_before faults_now stop)
-    same_share ended))
+pub session_thread_ended_as_set : (shards : List ShardValue) (share phi made rounds : ℕ) (before now : RoundSide)
+    (stored store : Bool) (Kept : List CutValue → Type 0) (KeptInPart : SessionSaving) (stop : Option Status)
+    → share ≡ phi → made ≡ rounds → stored ≡ store
+    → EndRounds shards share stored made before now Kept KeptInPart stop
+    → EndRounds shards phi store rounds before now Kept KeptInPart stop
+session_thread_ended_as_set shards share phi made rounds before now stored store Kept KeptInPart stop same_share same_rounds
+    same_store ended =
+    subst (λ b. EndRounds shards phi b rounds before now Kept KeptInPart stop) same_store
+    (subst (λ n. EndRounds shards phi stored n before now Kept KeptInPart stop) same_rounds
+    (subst (λ n. EndRounds shards n stored made before now Kept KeptInPart stop) same_share ended))
 
 -- rounds that were not stopped were all made
-pub session_thread_ended_all_rounds : (shards : List ShardValue) (phi rounds : ℕ) (before now : View) (store : Bool)
-    (Kept : List CutValue → Type 0) (KeptInPart : SessionSaving) (old new : Option (List ℕ))
-    (faults_before faults_now : RoundFaults) (stop : Option Status) → stop ≡ None
-    → EndRounds shards phi store rounds before now Kept KeptInPart old new faults_before faults_now stop
-    → WritesRounds shards phi store rounds before now Kept old new
-session_thread_ended_all_rounds shards phi rounds before now store Kept KeptInPart old new faults_before faults_now stop none ended =
-    (subst (λ s. EndRounds shards phi store rounds before now Kept KeptInPart old new faults_before faults_now s) none
-    ended).0
+pub session_thread_ended_all_rounds : (shards : List ShardValue) (phi rounds : ℕ) (before now : RoundSide) (store : Bool)
+    (Kept : List CutValue → Type 0) (KeptInPart : SessionSaving) (stop : Option Status) → stop ≡ None
+    → EndRounds shards phi store rounds before now Kept KeptInPart stop
+    → WritesRounds shards phi store rounds before now Kept
+session_thread_ended_all_rounds shards phi rounds before now store Kept KeptInPart stop none ended =
+    subst (EndRounds shards phi store rounds before now Kept KeptInPart) none ended
 
 -- what the threads bring back, where the rounds of the calling thread were all made
 pub session_threads_gathered_all : (relates : View → View → Type 0) (opening : List ShardValue) (settings : Settings)
     (plan : ThreadPlan) (view : View) (gathered : Gathered) (Kept : List CutValue → Type 0) (old new : Option (List ℕ))
-    → view ≡ first_view opening → core_shape opening ≡ asked_shape settings
+    (faults_before faults_now : RoundFaults) → view ≡ first_view opening → core_shape opening ≡ asked_shape settings
     → plan.phi ≡ settings.phi → plan.rounds ≡ settings.rounds → plan.callers ≡ settings.callers
     → ((before now : View) → relates before now
-    → WritesRounds before.opening settings.phi settings.store settings.rounds before now Kept old new)
+    → WritesRounds before.opening settings.phi settings.store settings.rounds
+    (record { view = before; taken = old; faults = faults_before })
+    (record { view = now; taken = new; faults = faults_now }) Kept)
     → BringBack opening plan relates view gathered
     → (BasesRepresent opening → All (λ (called : Called). AreSoundReports opening plan.phi called.reports) gathered.called.items)
     → (rounds : List Reported) × AreOfCaller opening settings settings.rounds rounds
     × Appends old new (session_parts settings.store rounds) × (length gathered.called.items ≡ settings.callers)
     × All (AreOfCaller opening settings settings.rounds) (other_reports gathered.called.items)
     × Kept (saved_cuts settings.store opening rounds)
-session_threads_gathered_all relates opening settings plan view gathered Kept old new first alike phi rounds callers ends gathers
-    sound =
+session_threads_gathered_all relates opening settings plan view gathered Kept old new faults_before faults_now first alike phi
+    rounds callers ends gathers sound =
     let before : View = record view { splits = view.splits + (plan.workers + plan.callers) } in
     let seen : HasSessionThreadSeenStarts opening view =
     ap (λ (v : View). map (λ trail. trail.seen) v.trails) first ∙ first_session_thread_sees_starts opening in
-    let whole : WritesRounds opening settings.phi settings.store settings.rounds before gathers.rounds.now Kept old new =
-    subst (λ shards. WritesRounds shards settings.phi settings.store settings.rounds before gathers.rounds.now Kept old new)
+    let whole : WritesRounds opening settings.phi settings.store settings.rounds
+    (record { view = before; taken = old; faults = faults_before })
+    (record { view = gathers.rounds.now; taken = new; faults = faults_now }) Kept =
+    subst (λ shards. WritesRounds shards settings.phi settings.store settings.rounds
+    (record { view = before; taken = old; faults = faults_before })
+    (record { view = gathers.rounds.now; taken = new; faults = faults_now }) Kept)
     (ap (λ (v : View). v.opening) first) (ends before gathers.rounds.now gathers.rounds.does) in (
       whole.reports,
       session_thread_reports_of_calls opening settings settings.rounds before gathers.rounds.now whole.reports alike seen whole.calls
@@ -378,9 +320,11 @@ session_threads_gathered_all relates opening settings plan view gathered Kept ol
 
 -- rounds that were all made split off no pass, and took in none
 pub session_thread_rounds_make_steps : (opening : List ShardValue) (phi rounds : ℕ) (before now : View) (store : Bool)
-    (Kept : List CutValue → Type 0) (old new : Option (List ℕ)) → WritesRounds opening phi store rounds before now Kept old new
+    (Kept : List CutValue → Type 0) (old new : Option (List ℕ)) (faults_before faults_now : RoundFaults)
+    → WritesRounds opening phi store rounds (record { view = before; taken = old; faults = faults_before })
+    (record { view = now; taken = new; faults = faults_now }) Kept
     → MakesSteps before now
-session_thread_rounds_make_steps opening phi rounds before now store Kept old new written =
+session_thread_rounds_make_steps opening phi rounds before now store Kept old new faults_before faults_now written =
     subst (MakesSteps before) (sym written.calls.view) refl
 
 pub session_thread_made_no_step : (before now : View) → now ≡ before → MakesSteps before now
@@ -468,9 +412,9 @@ session_thread_positions_at_ends (shard ∷ rest) (position ∷ positions) many 
 -- a report that was read after the ends of all lists were seen is that over all records
 pub session_thread_reports_at_ends : (opening : List ShardValue) (settings : Settings) (before now : View) (report : Report)
     → core_shape opening ≡ asked_shape settings → HasSeenEnds opening before
-    → Calls opening settings.phi 1 before now (record { report = report; saved = None } ∷ [])
+    → Calls opening settings.phi 1 before now (round_of report ∷ [])
     → (BasesRepresent opening → IsSound (core_shape opening).grain report (core_lists opening) (core_shape opening).capacity settings.phi)
-    → IsShownInSession opening settings (record { report = report; saved = None }) × (report.positions ≡ session_ends opening)
+    → IsShownInSession opening settings (round_of report) × (report.positions ≡ session_ends opening)
 session_thread_reports_at_ends opening settings before now report alike ends calls sound =
     let is_report = round_makes_report opening settings.phi before now report calls in (
       record {

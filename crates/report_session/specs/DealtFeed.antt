@@ -19,7 +19,7 @@ use Rattle.recovery.specs.{ContinuesLists, RefusesOpening, greatest_opened}
 use Rattle.recovery.specs.declared.fault.OpenFault.{OpenFault}
 use Rattle.recovery.specs.declared.fault.OpenFault.TheVariants as opening
 use Rattle.command_words.specs.declared.settings.Settings.{Settings}
-use Rattle.report_session.specs.LiveRounds.{DiskFailed, RoundFaults, SinkFailed}
+use Rattle.report_session.specs.LiveRounds.{DiskFailed, RoundFaults, SinkFailed, round_faults}
 use Rattle.report_session.specs.Saving.{saves_settings}
 use Rattle.report_session.specs.Session.{AreOfCaller, AreSessionShards, BeginsSession, BreaksOffInRounds}
 use Rattle.report_session.specs.Session.{GoesOnFrom, IsShownInSession, SessionKeeping, GoesOnSoundly}
@@ -115,10 +115,6 @@ pub record FeedRefuses (settings : Settings) (lists : List (List RecordValue)) (
   pub as_before : AsBefore
   pub refused : IfImageKnown store (λ image. RefusesOpening (saves_settings settings) lists image fault)
 
--- the faults of a sink and of a disk
-abbrev pub feed_faults : {K D : Type 0} → SinkOf K → DiskOf D → K → D → RoundFaults
-feed_faults k d sink disk = record { sink = k.faults sink; disk = d.faults disk }
-
 -- how a report over dealt lists ended, which wrote to a sink, and saved to a disk
 module _ {K D : Type 0} (k : SinkOf K) (d : DiskOf D) (settings : Settings) (lists : List (List RecordValue)) (tail : List ℕ)
     (sink written : K) (old new : D) where
@@ -127,7 +123,7 @@ module _ {K D : Type 0} (k : SinkOf K) (d : DiskOf D) (settings : Settings) (lis
   Unwritten = written ≡ sink
 
   abbrev Faultless : Type 0
-  Faultless = feed_faults k d written new ≡ feed_faults k d sink old
+  Faultless = round_faults k d written new ≡ round_faults k d sink old
 
   -- a part of the session was written
   abbrev WritesInPart : Type 0
@@ -143,10 +139,10 @@ module _ {K D : Type 0} (k : SinkOf K) (d : DiskOf D) (settings : Settings) (lis
   abbrev pub FeedEnds : Status → Type 0
   FeedEnds Done =
       FeedWrites settings lists tail (AreKeptOnDisk d old new) (d.reads old) (k.taken sink) (k.taken written) × Faultless
-  FeedEnds WriteFault = WritesInPart × SinkFailed (feed_faults k d sink old) (feed_faults k d written new)
+  FeedEnds WriteFault = WritesInPart × SinkFailed (round_faults k d sink old) (round_faults k d written new)
   FeedEnds DiskFault =
       ((Unwritten × IsAsBefore d old new) ⊎ WritesInPart)
-      × DiskFailed (feed_faults k d sink old) (feed_faults k d written new)
+      × DiskFailed (round_faults k d sink old) (round_faults k d written new)
   FeedEnds NotFormatted = RefusesFor opening.NotFormatted
   FeedEnds (Damaged slot) = RefusesFor (opening.Damaged slot)
   FeedEnds (OtherSettings stored asked) = RefusesFor (opening.OtherSettings stored asked)

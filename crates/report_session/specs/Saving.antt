@@ -46,28 +46,29 @@ OpensToSaves header opened [] image = StoreOpensTo header image opened
 OpensToSaves header opened (saved ∷ later) image =
     StoreOpensTo header image opened ⊎ OpensToSaves header (Some saved) later image
 
--- The cuts `saved` were saved, and one save may be unfinished. A crash at any moment of the run leaves what it could have left
--- before the run (`Earlier`), or a sound store that opens as before or to one of these cuts; which one isn't tied to the lines
--- written by then. A crash afterwards leaves a store that opens to the last saved cut, or as before if there is none, or to
--- the cut whose save is unfinished
-pub record KeepsSaves {D : Type 0} (d : DiskOf D) (header : StoreHeader) (digest : List ℕ) (Earlier : List ℕ → Type 0)
-    (saved unfinished : List CutValue) (old new : D) (store : List ℕ) : Type 0 where
-  pub opened : Option SavedValue
-  pub opens : StoreOpensTo header store opened
-  pub any_moment : CrashLeaves d.moment d.image_since old new (λ image. Earlier image
-      ⊎ OpensToSaves header opened (saves_after (store_sequence opened) digest (saved ++ unfinished)) image)
-  pub afterwards : (image : List ℕ) → d.image_now new image
-      → OpensToSaves header (last_of_saves opened (saves_after (store_sequence opened) digest saved))
-      (saves_after (store_sequence opened + length saved) digest unfinished) image
+-- a run that found a disk as `old`, and left it as `new`
+module _ {D : Type 0} (d : DiskOf D) (old new : D) where
+  -- The cuts `saved` were saved, and one save may be unfinished. A crash at any moment of the run leaves what it could have left
+  -- before the run (`Earlier`), or a sound store that opens as before or to one of these cuts; which one isn't tied to the lines
+  -- written by then. A crash afterwards leaves a store that opens to the last saved cut, or as before if there is none, or to
+  -- the cut whose save is unfinished
+  pub record KeepsSaves (header : StoreHeader) (digest : List ℕ) (Earlier : List ℕ → Type 0)
+      (saved unfinished : List CutValue) (store : List ℕ) : Type 0 where
+    pub opened : Option SavedValue
+    pub opens : StoreOpensTo header store opened
+    pub any_moment : CrashLeaves d.moment d.image_since old new (λ image. Earlier image
+        ⊎ OpensToSaves header opened (saves_after (store_sequence opened) digest (saved ++ unfinished)) image)
+    pub afterwards : (image : List ℕ) → d.image_now new image
+        → OpensToSaves header (last_of_saves opened (saves_after (store_sequence opened) digest saved))
+        (saves_after (store_sequence opened + length saved) digest unfinished) image
 
--- what a run keeps of the store on its disk, where the bytes of the disk were known as it began, under the header that they
--- have; given the store's settings, the dealt lists, the cuts of them that were saved, and the one whose save is unfinished,
--- if any
-abbrev pub AreKeptOnDisk : {D : Type 0} → DiskOf D → (old new : D) → StoreSettings → List (List RecordValue)
-    → (saved unfinished : List CutValue) → Type 0
-AreKeptOnDisk d old new settings lists saved unfinished =
-    IfImageKnown (d.reads old) (λ store. KeepsSaves d (stored_header settings store)
-    (lists_digest (stored_header settings store) lists) (d.image_now old) saved unfinished old new store)
+  -- what a run keeps of the store on its disk, where the bytes of the disk were known as it began, under the header that they
+  -- have; given the store's settings, the dealt lists, the cuts of them that were saved, and the one whose save is unfinished,
+  -- if any
+  abbrev pub AreKeptOnDisk : StoreSettings → List (List RecordValue) → (saved unfinished : List CutValue) → Type 0
+  AreKeptOnDisk settings lists saved unfinished =
+      IfImageKnown (d.reads old) (λ store. KeepsSaves (stored_header settings store)
+      (lists_digest (stored_header settings store) lists) (d.image_now old) saved unfinished store)
 
 -- of what a store opens to, `found` is no earlier than `opened`: neither its sequence nor the position of any shard is
 -- smaller
@@ -126,7 +127,7 @@ pub record SavesCuts {D : Type 0} (d : DiskOf D) (saver : SaverState) (cuts : Li
   pub known : is_some (d.reads new) ≡ is_some (d.reads old)
   pub stands : DiskMatches (d.reads new) (d.image_now new) (after_saves saver cuts)
   pub kept : IfImageKnown (d.reads old)
-      (KeepsSaves d saver.header saver.digest (λ image. ⊥) cuts [] old new)
+      (KeepsSaves d old new saver.header saver.digest (λ image. ⊥) cuts [])
 
 -- what a run with or without a saver did to the disk: the saver saved these cuts, or nothing was done
 abbrev pub Saves : {D : Type 0} → DiskOf D → Option SaverState → List CutValue → D → D → Type 0
@@ -140,7 +141,7 @@ pub record SavesInPart {D : Type 0} (d : DiskOf D) (saver : Option SaverState) (
     : Type 0 where
   pub unused : saver ≡ None → new ≡ old
   pub kept : IfSome saver (λ saver. IfImageKnown (d.reads old)
-      (KeepsSaves d saver.header saver.digest (λ image. ⊥) saved unfinished old new))
+      (KeepsSaves d old new saver.header saver.digest (λ image. ⊥) saved unfinished))
 
 -- such saves, and this is the saver after them
 pub record SavesInTurn {D : Type 0} (d : DiskOf D) (before after : Option SaverState) (old new : D) (cuts : List CutValue)

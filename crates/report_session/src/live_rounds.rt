@@ -5,7 +5,7 @@ ghost use Rattle.shard_state.specs.{HasCoreShape, core_shape};
 ghost use Rattle.hhh_report.specs.{million};
 ghost use Rattle.hhh_output.specs.{IsWideShare};
 ghost use Rattle.pass_tokens.specs.{IsPassOf, view};
-ghost use Rattle.report_session.specs.LiveRounds.{BreaksRound, EndRounds, WritesRounds};
+ghost use Rattle.report_session.specs.LiveRounds.{BreaksRound, EndRounds, WritesRounds, round_side};
 ghost use Rattle.report_session.specs.Saving.{CanMakeSaves, SavesBreakOff, SavesFitBoard, SavesInTurn};
 
 use crate::saving::{save_cut, saved_line};
@@ -52,7 +52,7 @@ impl<K: Sink, D: Disk, G: Gate> Rounds for LiveRounds<'_, K, D, G> {
     ghost use Rattle.shard_state.specs.{HasCoreShape, core_shape};
     ghost use Rattle.hhh_report.specs.{million};
     ghost use Rattle.hhh_output.specs.{IsWideShare};
-    ghost use Rattle.report_session.specs.LiveRounds.{EndRounds};
+    ghost use Rattle.report_session.specs.LiveRounds.{EndRounds, round_side};
     ghost use Rattle.report_session.specs.Saving.{CanMakeSaves, CanMakeSaves-later, SavesBreakOff, SavesInTurn};
 
     ghost ready = { λ rounds board view. HasCoreShape (length board.opening) (core_shape board.opening) rounds.cut.now
@@ -75,12 +75,11 @@ impl<K: Sink, D: Disk, G: Gate> Rounds for LiveRounds<'_, K, D, G> {
         × (after.saver.ghost_name ≡ before.saver.ghost_name)
         × (after.cut.ghost_name ≡ before.cut.ghost_name)
         × HasCoreShape (length view.opening) (core_shape view.opening) after.cut.now
-        × EndRounds view.opening before.phi (is_some before.saver.now) before.rounds view later
+        × EndRounds view.opening before.phi (is_some before.saver.now) before.rounds
+        (round_side K.Sink D.Disk view before.sink.now before.disk.now)
+        (round_side K.Sink D.Disk later after.sink.now after.disk.now)
         (SavesInTurn D.Disk before.saver.now after.saver.now before.disk.now after.disk.now)
-        (SavesBreakOff D.Disk before.saver.now after.saver.now before.disk.now after.disk.now)
-        (K.taken before.sink.now) (K.taken after.sink.now)
-        (record { sink = K.faults before.sink.now; disk = D.faults before.disk.now })
-        (record { sink = K.faults after.sink.now; disk = D.faults after.disk.now }) after.stop
+        (SavesBreakOff D.Disk before.saver.now after.saver.now before.disk.now after.disk.now) after.stop
         × (before.saver.now ≡ None → (after.saver.now ≡ None) × (after.disk.now ≡ before.disk.now))
         × (after.phi ≡ before.phi) × (after.rounds ≡ before.rounds) × (after.callers ≡ before.callers) };
 
@@ -114,18 +113,14 @@ impl<K: Sink, D: Disk, G: Gate> LiveRounds<'_, K, D, G> {
         requires can_save { IfSome self.old.saver.now (CanMakeSaves (D.reads self.old.disk.now) (D.image_now self.old.disk.now)
             board.now.opening (view pass.old) 1) }
         ensures whole { OnOk result (WritesRounds board.now.opening self.old.phi (is_some self.old.saver.now) 1
-            (view pass.old) (view pass.new)
-            (SavesInTurn D.Disk self.old.saver.now self.new.saver.now self.old.disk.now self.new.disk.now)
-            (K.taken self.old.sink.now) (K.taken self.new.sink.now)) }
+            (round_side K.Sink D.Disk (view pass.old) self.old.sink.now self.old.disk.now)
+            (round_side K.Sink D.Disk (view pass.new) self.new.sink.now self.new.disk.now)
+            (SavesInTurn D.Disk self.old.saver.now self.new.saver.now self.old.disk.now self.new.disk.now)) }
         ensures fits { OnOk result (IfSome self.new.saver.now (SavesFitBoard board.now.opening (view pass.new))) }
-        ensures faults { OnOk result ((K.faults self.new.sink.now ≡ K.faults self.old.sink.now)
-            × (D.faults self.new.disk.now ≡ D.faults self.old.disk.now)) }
         ensures broken { IfErr result (BreaksRound board.now.opening self.old.phi (is_some self.old.saver.now)
-            (view pass.old) (view pass.new)
-            (SavesBreakOff D.Disk self.old.saver.now self.new.saver.now self.old.disk.now self.new.disk.now)
-            (K.taken self.old.sink.now) (K.taken self.new.sink.now)
-            (record { sink = K.faults self.old.sink.now; disk = D.faults self.old.disk.now })
-            (record { sink = K.faults self.new.sink.now; disk = D.faults self.new.disk.now })) }
+            (round_side K.Sink D.Disk (view pass.old) self.old.sink.now self.old.disk.now)
+            (round_side K.Sink D.Disk (view pass.new) self.new.sink.now self.new.disk.now)
+            (SavesBreakOff D.Disk self.old.saver.now self.new.saver.now self.old.disk.now self.new.disk.now)) }
         ensures unused { self.old.saver.now ≡ None → (self.new.saver.now ≡ None) × (self.new.disk.now ≡ self.old.disk.now) }
         ensures shape { HasCoreShape (length board.now.opening) (core_shape board.now.opening) self.new.cut.now }
         ensures pass { IsPassOf board.now pass.new }

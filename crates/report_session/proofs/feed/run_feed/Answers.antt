@@ -15,8 +15,8 @@ pub returns-in-Some-clause-part : goal.returns-in-Some-clause-part
 returns-in-Some-clause-part g c =
     session_threads_leave_rounds _ _ c.args.board.now.opening c.args.setup.now.settings.now _ (view c.args.pass) _ _ _ _ _ _ _ c.requires.view
     c.requires.alike
-    (λ before now does. ended_rounds_say_less _ _ _ before now _ _ _ _ _ _ _ _ _
-    (session_thread_ended_as_set _ _ _ _ _ before now _ _ _ _ _ _ _ _ _ c.requires.share c.requires.count c.requires.used does.5)
+    (λ before now does. ended_rounds_say_less _ _ _ _ _ _ _ _ _ _
+    (session_thread_ended_as_set _ _ _ _ _ _ _ _ _ _ _ _ c.requires.share c.requires.count c.requires.used does.5)
     (λ saved unfinished kept. kept.saves))
     (c.calls_follow_calls.ensures.more c.args.board.now.opening)
     (λ cuts saves. part_of_saves g.D.Disk _ _ _ cuts saves.saves)
@@ -35,8 +35,8 @@ returns-in_err-gathered-clause-part g c =
     session_thread_on_err c.from_residual.result _
     (session_threads_leave_rounds _ _ c.args.board.now.opening c.args.setup.now.settings.now _ (view c.args.pass) _ _ _ _ _ _ _ c.requires.view
     c.requires.alike
-    (λ before now does. ended_rounds_say_less _ _ _ before now _ _ _ _ _ _ _ _ _
-    (session_thread_ended_as_set _ _ _ _ _ before now _ _ _ _ _ _ _ _ _ c.requires.share c.requires.count c.requires.used does.5)
+    (λ before now does. ended_rounds_say_less _ _ _ _ _ _ _ _ _ _
+    (session_thread_ended_as_set _ _ _ _ _ _ _ _ _ _ _ _ c.requires.share c.requires.count c.requires.used does.5)
     (λ saved unfinished kept. kept.saves))
     (c.calls_follow_calls.ensures.more c.args.board.now.opening)
     (λ cuts saves. part_of_saves g.D.Disk _ _ _ cuts saves.saves)
@@ -52,19 +52,19 @@ returns-in_err-gathered-clause-part g c =
 pub returns-clause-ran : goal.returns-clause-ran
 returns-clause-ran g c =
     session_threads_ran_as_planned _ _ c.args.board.now.opening _ _ (view c.args.pass) c.in_ok-gathered.gathered c.plan_of.ensures
-    (λ before now does. session_thread_rounds_make_steps _ _ _ before now _ _ _ _
-    (session_thread_ended_all_rounds _ _ _ before now _ _ _ _ _ _ _ _ c.in_default.is does.5))
+    (λ before now does. session_thread_rounds_make_steps _ _ _ before now _ _ _ _ _ _
+    (session_thread_ended_all_rounds _ _ _ _ _ _ _ _ _ c.in_default.is does.5))
     c.in_ok-gathered.ensures.gathers
 
 pub returns-clause-fed : goal.returns-clause-fed
 returns-clause-fed g c =
     let plan = c.plan_of.ensures in
     let whole = session_threads_gathered_all _ c.args.board.now.opening c.args.setup.now.settings.now _ (view c.args.pass)
-    c.in_ok-gathered.gathered _ _ _ c.requires.view c.requires.alike
+    c.in_ok-gathered.gathered _ _ _ _ _ c.requires.view c.requires.alike
     (ap (λ (plan : ThreadPlan). plan.phi) plan) (ap (λ (plan : ThreadPlan). plan.rounds) plan)
     (ap (λ (plan : ThreadPlan). plan.callers) plan)
-    (λ before now does. session_thread_ended_all_rounds _ _ _ before now _ _ _ _ _ _ _ _ c.in_default.is
-    (session_thread_ended_as_set _ _ _ _ _ before now _ _ _ _ _ _ _ _ _ c.requires.share c.requires.count c.requires.used does.5))
+    (λ before now does. session_thread_ended_all_rounds _ _ _ _ _ _ _ _ _ c.in_default.is
+    (session_thread_ended_as_set _ _ _ _ _ _ _ _ _ _ _ _ c.requires.share c.requires.count c.requires.used does.5))
     c.in_ok-gathered.ensures.gathers c.in_ok-gathered.ensures.sound in
     record {
       pass = c.in_ok-gathered.ensures.pass;

@@ -56,13 +56,14 @@ returns-clause-ends g c =
     (SavesInPart g.D.Disk c.in-Ok.base.saver
     c.open_base.new.disk c.write_session.new.disk) (c.write_session.new.disk ≡ c.open_base.new.disk) c.args.sink.now
     c.write_session.new.sink c.args.disk.now c.write_session.new.disk
-    c.in-Err-write_session.status base.begins c.openings_stand.ensures.represents
+    base.begins c.openings_stand.ensures.represents
     (λ saved unfinished saves used. dealt_report_keeps_saves c.stores_show_their_header.ensures g.D.Disk
     c.args.settings.now c.args.fed.dealt c.in-Ok.base.positions c.in-Ok.base.saver saved unfinished c.args.disk.now
     c.open_base.new.disk c.write_session.new.disk base.used base.saver c.open_base.ensures.any_moment
     c.open_base.ensures.reads saves used)
     (λ same. subst (IsAsBefore g.D.Disk c.args.disk.now) (sym same)
     (record { same_reads = c.open_base.ensures.reads; any_moment = c.open_base.ensures.any_moment }))
+    c.in-Err-write_session.status
     (subst (λ tail. (((c.write_session.new.sink ≡ c.args.sink.now) × (c.write_session.new.disk ≡ c.open_base.new.disk))
     × (c.in-Err-write_session.status ≡ OutOfMemory))
     ⊎ (AreSessionShards (asked_shape c.args.settings.now)

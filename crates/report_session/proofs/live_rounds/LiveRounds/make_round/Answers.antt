@@ -1,4 +1,4 @@
-use Rattle.std.proofs.Common.{◌∙◌, ◌++◌, [], ◌∷◌, inl, inr, ap, subst, refl}
+use Rattle.std.proofs.Common.{◌∙◌, ◌++◌, [], ◌∷◌, inl, inr, ap, ap₂, subst, refl}
 use Rattle.std.specs.Prelude.{is_some}
 use Rattle.std.specs.Io.KnownBytes.{Appends}
 use Rattle.std.proofs.KnownBytes.{Appends-trans}
@@ -37,7 +37,7 @@ pub returns-in-Err-clause-broken : goal.returns-in-Err-clause-broken
 returns-in-Err-clause-broken g c =
     let report = c.in_ok-report.report in
     let text = c.deref.ensures.value ∙ c.in_ok-print.ensures.ok ∙ ap (λ bytes. bytes ++ report_text report) c.new-text.ensures.items in
-    round_broken_by_sink _ _ _ _ (is_some c.args.self.now.saver.now) _ _ _ _ _ _ _ _ c.in-Err.status c.in-Err.ensures.fault refl refl
+    round_broken_by_sink _ _ (is_some c.args.self.now.saver.now) _ _ _ _ c.in-Err.status c.in-Err.ensures.fault refl refl
     (inl (record {
       report = report;
       reports = record { calls = c.in_ok-report.ensures.calls; sound = c.in_ok-report.ensures.sound };
@@ -52,7 +52,7 @@ returns-in-Err-save_cut-clause-broken g c =
     let report = c.in_ok-report.report in
     let text = c.deref.ensures.value ∙ c.in_ok-print.ensures.ok ∙ ap (λ bytes. bytes ++ report_text report) c.new-text.ensures.items in
     let written = subst (Appends _ _) text c.in_default.ensures.whole in
-    round_broken_at_saving _ _ _ _ (is_some c.args.self.now.saver.now) _ _ _ _ _ _ _ c.in-Err-save_cut.status c.in-Err-save_cut.ensures.used
+    round_broken_at_saving _ _ (is_some c.args.self.now.saver.now) _ _ _ c.in-Err-save_cut.status c.in-Err-save_cut.ensures.used
     c.in-Err-save_cut.ensures.fault c.in_default.ensures.faults
     (λ is. record {
       report = report;
@@ -80,7 +80,7 @@ returns-clause-broken g c =
     let report = c.in_ok-report.report in
     let text = c.deref.ensures.value ∙ c.in_ok-print.ensures.ok ∙ ap (λ bytes. bytes ++ report_text report) c.new-text.ensures.items in
     let line = c.deref-2.ensures.value ∙ c.in_ok-line.ensures ∙ ap (λ store. save_line store report.positions) c.is_some.ensures in
-    round_broken_by_sink _ _ _ _ (is_some c.args.self.now.saver.now) _ _ _ _ _ _ _ _ c.in-Err-write.status c.in-Err-write.ensures.fault
+    round_broken_by_sink _ _ (is_some c.args.self.now.saver.now) _ _ _ _ c.in-Err-write.status c.in-Err-write.ensures.fault
     c.in_default.ensures.faults c.in_default-save_cut.ensures.no_fault
     (inr (record {
       report = report;
@@ -101,12 +101,15 @@ returns-in-Ok-clause-whole g c =
     let report = c.in_ok-report.report in
     let text = c.deref.ensures.value ∙ c.in_ok-print.ensures.ok ∙ ap (λ bytes. bytes ++ report_text report) c.new-text.ensures.items in
     let line = c.deref-2.ensures.value ∙ c.in_ok-line.ensures ∙ ap (λ store. save_line store report.positions) c.is_some.ensures in
-    writes_one_round _ _ _ _ (is_some c.args.self.now.saver.now) _ _ _ report c.in_ok-report.ensures.calls c.in_ok-report.ensures.sound
+    writes_one_round _ _ (is_some c.args.self.now.saver.now) _ _ _ report
+    (record { calls = c.in_ok-report.ensures.calls; sound = c.in_ok-report.ensures.sound })
     (Appends-trans _ _ _ (report_text report) (save_line (is_some c.args.self.now.saver.now) report.positions)
     (subst (Appends _ _) text c.in_default.ensures.whole) (subst (Appends _ _) line c.in-Ok.ensures.whole))
     (save_of_reported_cut (is_some c.args.self.now.saver.now) _ report _
     (SavesInTurn g.D.Disk c.args.self.now.saver.now c.save_cut.new.saver c.args.self.now.disk.now c.save_cut.new.disk)
     c.in_ok-report.ensures.cut (no_saver_no_save g.D.Disk c.args.self.now.saver.now _ _ _ _) c.in_default-save_cut.ensures.saved)
+    (ap₂ (λ s d. record { sink = s; disk = d }) (c.in-Ok.ensures.faults ∙ c.in_default.ensures.faults)
+    c.in_default-save_cut.ensures.no_fault)
 
 pub returns-in-Ok-clause-fits : goal.returns-in-Ok-clause-fits
 returns-in-Ok-clause-fits g c =
@@ -116,24 +119,24 @@ returns-in-Ok-clause-fits g c =
 
 pub returns-in_err-report-clause-broken : goal.returns-in_err-report-clause-broken
 returns-in_err-report-clause-broken g c =
-    round_broken_by_memory c.from_residual.result c.args.board.now.opening c.args.self.now.phi _ _ (is_some c.args.self.now.saver.now) _ _ _
-    c.from_residual.ensures.1 c.report_once.ensures.reads
+    round_broken_by_memory c.args.board.now.opening c.args.self.now.phi (is_some c.args.self.now.saver.now)
+    c.from_residual.result _ _ _ c.from_residual.ensures.1 c.report_once.ensures.reads refl refl
     (no_save_broke_off g.D.Disk c.args.self.now.saver.now c.args.self.now.saver.now
     c.args.self.now.disk.now c.args.self.now.disk.now g.met.D.Disk.only_now
     (seen_positions_saver_stands _ _ c.args.board.now.opening _ _ c.args.self.now.saver.now c.requires.can_save) refl refl)
 
 pub returns-in_err-print-clause-broken : goal.returns-in_err-print-clause-broken
 returns-in_err-print-clause-broken g c =
-    round_broken_by_memory c.from_residual-in_err-print.result c.args.board.now.opening c.args.self.now.phi _ _ (is_some c.args.self.now.saver.now) _ _ _
-    c.from_residual-in_err-print.ensures.1 c.report_once.ensures.reads
+    round_broken_by_memory c.args.board.now.opening c.args.self.now.phi (is_some c.args.self.now.saver.now)
+    c.from_residual-in_err-print.result _ _ _ c.from_residual-in_err-print.ensures.1 c.report_once.ensures.reads refl refl
     (no_save_broke_off g.D.Disk c.args.self.now.saver.now c.args.self.now.saver.now
     c.args.self.now.disk.now c.args.self.now.disk.now g.met.D.Disk.only_now
     (seen_positions_saver_stands _ _ c.args.board.now.opening _ _ c.args.self.now.saver.now c.requires.can_save) refl refl)
 
 pub returns-in_err-line-clause-broken : goal.returns-in_err-line-clause-broken
 returns-in_err-line-clause-broken g c =
-    round_broken_by_memory c.from_residual-in_err-line.result c.args.board.now.opening c.args.self.now.phi _ _ (is_some c.args.self.now.saver.now) _ _ _
-    c.from_residual-in_err-line.ensures.1 c.report_once.ensures.reads
+    round_broken_by_memory c.args.board.now.opening c.args.self.now.phi (is_some c.args.self.now.saver.now)
+    c.from_residual-in_err-line.result _ _ _ c.from_residual-in_err-line.ensures.1 c.report_once.ensures.reads refl refl
     (no_save_broke_off g.D.Disk c.args.self.now.saver.now c.args.self.now.saver.now
     c.args.self.now.disk.now c.args.self.now.disk.now g.met.D.Disk.only_now
     (seen_positions_saver_stands _ _ c.args.board.now.opening _ _ c.args.self.now.saver.now c.requires.can_save) refl refl)

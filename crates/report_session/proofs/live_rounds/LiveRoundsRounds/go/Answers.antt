@@ -1,10 +1,8 @@
-use Rattle.std.proofs.Common.{◌∙◌, ◌≤◌, length, refl, sym, ap₂, subst, arith}
-use Rattle.std.specs.Prelude.{is_some}
+use Rattle.std.proofs.Common.{◌∙◌, ◌≤◌, length, refl, sym, subst, arith}
 use Rattle.hhh_report.specs.{million}
 use Rattle.hhh_output.specs.{IsWideShare}
 use Rattle.shard_state.specs.{HasCoreShape, core_shape}
 use Rattle.pass_tokens.specs.{view}
-use Rattle.report_session.specs.LiveRounds.{WritesRounds}
 use Rattle.report_session.specs.Saving.{SavesBreakOff, SavesInTurn}
 use Rattle.report_session.proofs.RoundLemmas.{all_rounds_were_made, one_round_broke_off, round_saver_stays_or_none}
 use Rattle.report_session.proofs.RoundLemmas.{writes_no_round, writes_more_rounds}
@@ -26,11 +24,9 @@ loop-round-init g c = record {
   same_rounds = refl;
   same_callers = refl;
   unstopped = c.requires.ready.4;
-  sink_faults = refl;
-  disk_faults = refl;
   fits = seen_positions_fit_saver _ _ c.args.board.now.opening _ _ c.args.self.now.saver.now c.requires.ready.5;
   written =
-      writes_no_round _ _ _ _ _ _ (c.calls_follow_calls.ensures.none _ _ _)
+      writes_no_round _ _ _ _ _ (c.calls_follow_calls.ensures.none _ _ _)
       (no_save g.D.Disk c.args.self.now.saver.now
       c.args.self.now.disk.now (g.met.D.Disk.only_now c.args.self.now.disk.now)
       (seen_positions_saver_stands _ _ c.args.board.now.opening _ _ c.args.self.now.saver.now c.requires.ready.5));
@@ -69,14 +65,14 @@ returns-in-Err-clause-does g c =
       subst (λ shards. HasCoreShape (length shards) (core_shape shards) c.make_round.new.self.cut.now) (sym opening)
           c.in-Err.ensures.shape,
       one_round_broke_off _ _ _ _ _ _ _ _ _ _ _
-          (SavesInTurn g.D.Disk c.args.self.now.saver.now
-          c.loop-round.self.saver.now c.args.self.now.disk.now c.loop-round.self.disk.now)
-          (SavesBreakOff g.D.Disk
-          c.loop-round.self.saver.now c.make_round.new.self.saver.now c.loop-round.self.disk.now c.make_round.new.self.disk.now)
-          (SavesBreakOff g.D.Disk c.args.self.now.saver.now
-          c.make_round.new.self.saver.now c.args.self.now.disk.now c.make_round.new.self.disk.now) _ _ _ _ _ _ c.in-Err.status opening far.same_share
+          (SavesInTurn g.D.Disk c.args.self.now.saver.now c.loop-round.self.saver.now
+          c.args.self.now.disk.now c.loop-round.self.disk.now)
+          (SavesBreakOff g.D.Disk c.loop-round.self.saver.now c.make_round.new.self.saver.now
+          c.loop-round.self.disk.now c.make_round.new.self.disk.now)
+          (SavesBreakOff g.D.Disk c.args.self.now.saver.now c.make_round.new.self.saver.now
+          c.args.self.now.disk.now c.make_round.new.self.disk.now) c.in-Err.status opening far.same_share
           (round_saver_stays_or_none c.args.self.now.saver.now c.loop-round.self.saver.now _ far.written.kept.saver)
-          (ap₂ (λ s d. record { sink = s; disk = d }) far.sink_faults far.disk_faults) c.loop-round-test.true
+          c.loop-round-test.true
           (λ cuts saved unfinished first second.
           broken_saves_follow c.stores_open_to_one.ensures g.D.Disk c.args.self.now.saver.now c.loop-round.self.saver.now
           c.make_round.new.self.saver.now cuts saved unfinished c.args.self.now.disk.now c.loop-round.self.disk.now c.make_round.new.self.disk.now
@@ -94,8 +90,7 @@ returns-in-Err-clause-does g c =
 pub loop-round-preserved : goal.loop-round-preserved
 loop-round-preserved g c =
     let far = c.loop-round.invariant in
-    let opening = c.args.board.now.opening in
-    let made = c.in_default.ensures.whole in record {
+    let opening = c.args.board.now.opening in record {
       pass = c.make_round.ensures.pass;
       shape = c.make_round.ensures.shape;
       same_sink = c.make_round.ensures.same_sink ∙ far.same_sink;
@@ -106,20 +101,17 @@ loop-round-preserved g c =
       same_rounds = c.make_round.ensures.same_rounds ∙ far.same_rounds;
       same_callers = c.make_round.ensures.same_callers ∙ far.same_callers;
       unstopped = c.make_round.ensures.same_stop ∙ far.unstopped;
-      sink_faults = c.in_default.ensures.faults.0 ∙ far.sink_faults;
-      disk_faults = c.in_default.ensures.faults.1 ∙ far.disk_faults;
       fits = c.in_default.ensures.fits;
       written =
-          writes_more_rounds opening c.args.self.now.phi c.loop-round.round 1 (view c.args.pass.now) (view c.loop-round.pass)
-          (view c.make_round.new.pass) (is_some c.args.self.now.saver.now)
-          (SavesInTurn g.D.Disk c.args.self.now.saver.now
-          c.loop-round.self.saver.now c.args.self.now.disk.now c.loop-round.self.disk.now)
-          (SavesInTurn g.D.Disk
-          c.loop-round.self.saver.now c.make_round.new.self.saver.now c.loop-round.self.disk.now c.make_round.new.self.disk.now)
-          (SavesInTurn g.D.Disk c.args.self.now.saver.now
-          c.make_round.new.self.saver.now c.args.self.now.disk.now c.make_round.new.self.disk.now)
-          (g.K.Sink.taken c.args.self.now.sink.now) (g.K.Sink.taken c.loop-round.self.sink.now)
-          (g.K.Sink.taken c.make_round.new.self.sink.now)
+          writes_more_rounds opening _ _ _ c.loop-round.round 1 _ _ _ _
+          (SavesInTurn g.D.Disk c.args.self.now.saver.now c.loop-round.self.saver.now
+          c.args.self.now.disk.now c.loop-round.self.disk.now)
+          (SavesInTurn g.D.Disk c.loop-round.self.saver.now c.make_round.new.self.saver.now
+          c.loop-round.self.disk.now c.make_round.new.self.disk.now)
+          (SavesInTurn g.D.Disk c.args.self.now.saver.now c.make_round.new.self.saver.now
+          c.args.self.now.disk.now c.make_round.new.self.disk.now)
+          far.same_share
+          (round_saver_stays_or_none c.args.self.now.saver.now c.loop-round.self.saver.now _ far.written.kept.saver)
           (λ phi rounds more middle now reports later.
           c.calls_follow_calls.ensures.more opening phi rounds more (view c.args.pass.now) middle now reports later
           c.requires.pass.seat.trails)
@@ -128,18 +120,7 @@ loop-round-preserved g c =
           c.args.self.now.disk.now c.loop-round.self.disk.now c.make_round.new.self.disk.now
           (seen_positions_allowed_settings _ _ opening _ _ c.args.self.now.saver.now c.requires.ready.5) g.met.D.Disk.reading_is_image first
           second)
-          far.written
-          (subst (λ store. WritesRounds opening c.args.self.now.phi store 1
-          (view c.loop-round.pass) (view c.make_round.new.pass)
-          (SavesInTurn g.D.Disk
-          c.loop-round.self.saver.now c.make_round.new.self.saver.now c.loop-round.self.disk.now c.make_round.new.self.disk.now)
-          (g.K.Sink.taken c.loop-round.self.sink.now) (g.K.Sink.taken c.make_round.new.self.sink.now))
-          (round_saver_stays_or_none c.args.self.now.saver.now c.loop-round.self.saver.now _ far.written.kept.saver)
-          (subst (λ phi. WritesRounds opening phi (is_some c.loop-round.self.saver.now) 1 (view c.loop-round.pass)
-          (view c.make_round.new.pass)
-          (SavesInTurn g.D.Disk
-          c.loop-round.self.saver.now c.make_round.new.self.saver.now c.loop-round.self.disk.now c.make_round.new.self.disk.now)
-          (g.K.Sink.taken c.loop-round.self.sink.now) (g.K.Sink.taken c.make_round.new.self.sink.now)) far.same_share made));
+          far.written c.in_default.ensures.whole;
     }
 
 pub returns-clause-does : goal.returns-clause-does
@@ -151,9 +132,8 @@ returns-clause-does g c =
       far.same_saver,
       far.same_cut,
       subst (λ shards. HasCoreShape (length shards) (core_shape shards) c.loop-round.self.cut.now) (sym opening) far.shape,
-      all_rounds_were_made _ _ _ _ _ _ _ _ _ _ _ _ _ _ c.loop-round.self.stop opening far.unstopped
-          (omega (arith, c.loop-round.auto.round-end, c.loop-round-test.false))
-          (ap₂ (λ s d. record { sink = s; disk = d }) far.sink_faults far.disk_faults) far.written,
+      all_rounds_were_made _ _ _ _ _ _ _ _ _ _ c.loop-round.self.stop opening far.unstopped
+          (omega (arith, c.loop-round.auto.round-end, c.loop-round-test.false)) far.written,
       save_needs_saver g.D.Disk _ _ _ _ _ far.written.kept,
       far.same_share,
       far.same_rounds,

@@ -2,7 +2,7 @@ use Rattle.std.proofs.Common.{◌≡◌, length, None}
 use Rattle.std.specs.Prelude.{IfSome, is_some}
 use Rattle.shard_state.specs.{HasCoreShape, core_shape}
 use Rattle.pass_tokens.specs.{IsPassOf, view}
-use Rattle.report_session.specs.LiveRounds.{WritesRounds}
+use Rattle.report_session.specs.LiveRounds.{WritesRounds, round_side}
 use Rattle.report_session.specs.Saving.{SavesFitBoard, SavesInTurn}
 use Rattle.report_session.proofs.live_rounds.LiveRoundsRounds.go.Given as goal
 
@@ -19,11 +19,9 @@ invariant-loop-round g l = record {
   same_rounds : l.self.rounds ≡ l.fn.self.rounds;
   same_callers : l.self.callers ≡ l.fn.self.callers;
   unstopped : l.self.stop ≡ None;
-  sink_faults : g.K.Sink.faults l.self.sink.now ≡ g.K.Sink.faults l.fn.self.sink.now;
-  disk_faults : g.D.Disk.faults l.self.disk.now ≡ g.D.Disk.faults l.fn.self.disk.now;
   fits : IfSome l.self.saver.now (SavesFitBoard l.board.opening (view l.pass));
-  written : WritesRounds l.board.opening l.fn.self.phi (is_some l.fn.self.saver.now) l.round (view l.fn.pass) (view l.pass)
-      (SavesInTurn g.D.Disk l.fn.self.saver.now
-      l.self.saver.now l.fn.self.disk.now l.self.disk.now)
-      (g.K.Sink.taken l.fn.self.sink.now) (g.K.Sink.taken l.self.sink.now);
+  written : WritesRounds l.board.opening l.fn.self.phi (is_some l.fn.self.saver.now) l.round
+      (round_side g.K.Sink g.D.Disk (view l.fn.pass) l.fn.self.sink.now l.fn.self.disk.now)
+      (round_side g.K.Sink g.D.Disk (view l.pass) l.self.sink.now l.self.disk.now)
+      (SavesInTurn g.D.Disk l.fn.self.saver.now l.self.saver.now l.fn.self.disk.now l.self.disk.now);
 }
