@@ -6,7 +6,7 @@ export KIT := $(patsubst %/,%,$(dir $(shell rt doc)))
 ifeq ($(KIT),)
 $(error this needs the toolchain's `rt` on the path)
 endif
-# A crate takes up to 2.5 GB. More of them than there are processors let the longest chain go on at any time.
+# A crate takes up to 2.5 GB. More of them than there are processors leave these to the crates that others wait for.
 export JOBS := $(shell awk -v most="$$(($$(nproc) * 2))" \
     '/^MemAvailable/ { fit = int($$2 / 2500000); print fit < 1 ? 1 : fit < most ? fit : most }' /proc/meminfo)
 MAKEFLAGS += --silent --jobs=$(JOBS)

@@ -13,8 +13,8 @@ Nothing is made of a crate unless it is proved: then a library, which holds what
 of `hhh` an object file. What the prover says goes to crates/hhh/out/logs/CRATE.log. The file `seconds` there gets a line
 for each crate that is proved: its name, the seconds that it took by the clock and of processors, and the memory of its
 largest process in kilobytes. build/seconds has these lines of a build that was measured: by it the minutes that are
-left are reckoned, and the crates found that go first. The environment has KIT, the folder of the toolchain, and JOBS, how
-many crates are proved at a time.
+left are reckoned, and which crates go first. The environment has KIT, the folder of the toolchain, and JOBS, how many
+crates are proved at a time.
 """
 
 import hashlib
@@ -91,8 +91,7 @@ def prove(crate):
     (libraries / f"{crate}.sum").unlink(missing_ok=True)
     shutil.rmtree(libraries / f"{crate}.rlib", ignore_errors=True)
     begun = time.monotonic()
-    nicely = [] if crate in longest_chain() else ["nice"]
-    run_in(crate, [*nicely, kit / "bin/rattle", "build", *words_of(crate)])
+    run_in(crate, ["nice", "-n", str(niceness(crate)), kit / "bin/rattle", "build", *words_of(crate)])
     clock, used = time.monotonic() - begun, resource.getrusage(resource.RUSAGE_CHILDREN)
     if sums_of(crates_of_the_program())[crate] != stale[crate][0]:
         say(f"{crate}, or a crate below it, was changed while it was proved: start again")
@@ -151,12 +150,11 @@ def minutes_left():
     """About how many minutes the crates take that aren't proved yet: as many as the longest chain of them, or as all of
     them side by side, if that is more, at the pace of those that are proved."""
     stale, proved = words_by_crate(logs / "stale"), words_by_crate(logs / "seconds")
-    clock, used = measured_seconds(0), measured_seconds(1)
+    used, alone = measured_seconds(1), seconds_alone()
     expected = sum(used[crate] for crate in proved)
     pace = sum(float(words[1]) for words in proved.values()) / expected if proved else 1
-    left = [crate for crate in clock if crate in stale and crate not in proved]
-    chain = chains({crate: clock[crate] if crate in left else 0 for crate in clock})
-    return pace * max(sum(used[crate] for crate in left) / processors, *chain.values()) / 60
+    left = {crate: alone[crate] if crate in stale and crate not in proved else 0 for crate in used}
+    return pace * max(sum(used[crate] for crate in left if left[crate]) / processors, *until_end(left).values()) / 60
 
 
 def measured_seconds(column):
@@ -166,21 +164,24 @@ def measured_seconds(column):
     return {crate: float(measured.get(crate, ["60", "60"])[column]) for crate in crates_of_the_program()}
 
 
-def chains(seconds):
-    """How long the longest chain of crates takes that ends with a crate, for each crate."""
-    found = {}
-    for crate, below in crates_of_the_program().items():
-        found[crate] = seconds[crate] + max((found.get(name, 0) for name in below), default=0)
+def seconds_alone():
+    """How long each crate takes with nothing beside it. By the clock, one that has a processor may have waited for it."""
+    clock, used = measured_seconds(0), measured_seconds(1)
+    return {crate: min(clock[crate], used[crate]) for crate in clock}
+
+
+def until_end(seconds):
+    """How long the longest chain of crates takes that begins with a crate, for each crate: each waits for the one before."""
+    crates, found = crates_of_the_program(), {}
+    for crate in reversed(crates):
+        found[crate] = seconds[crate] + max((found[above] for above in found if crate in crates[above]), default=0)
     return found
 
 
-def longest_chain():
-    """The crates for which the program waits longest, each of which waits for the next."""
-    crates, lengths = crates_of_the_program(), chains(measured_seconds(0))
-    chain = ["hhh"]
-    while below := [name for name in crates[chain[-1]] if name in crates]:
-        chain.append(max(below, key=lengths.get))
-    return chain
+def niceness(crate):
+    """From 0 for the crate after which the program waits longest on: so processors go first to what others wait for."""
+    left = until_end(seconds_alone())
+    return 20 * sorted(left, key=left.get, reverse=True).index(crate) // len(left)
 
 
 def about(minutes):
