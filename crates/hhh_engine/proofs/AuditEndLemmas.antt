@@ -19,7 +19,7 @@ use Rattle.command_words.specs.declared.command.Command.{Command}
 use Rattle.command_words.specs.declared.command.Command.TheVariants.{Audit}
 use Rattle.command_words.specs.declared.settings.Settings.{Settings}
 use Rattle.hhh_engine.specs.Answer.{IsUnfinished}
-use Rattle.session_audit.specs.{AreAudited, IsAuditText, IsSoundAudit, IsUnsoundAudit, IsAuditingAnswer, Says}
+use Rattle.session_audit.specs.{AreAudited, HasNoBytes, IsAuditText, IsSoundAudit, IsUnsoundAudit, IsAuditingAnswer, Says}
 use Rattle.hhh_engine.specs.Reading.{AreAuditing, HasNoAudit, HasNoWatch}
 use Rattle.hhh_engine.specs.Tasks.{audit_task}
 use Rattle.hhh_engine.specs.Ending.{course, Ends, SourceFaults, TextRefused}
@@ -65,6 +65,14 @@ text_end_is_faulty grain (Some whole) (Some rest) bytes fault consumed at_end ha
     (sym (consumed ∙ ap (λ r. bytes ++ r) (at_end short) ∙ append-nil bytes)) has)
     (cases_lt longest_session (length bytes))
 
+-- what holds of the bytes that were read to their end holds of the text, where it is known
+pub text_end_is_known : (left left_now : Option (List ℕ)) (bytes : List ℕ) (P : List ℕ → Type 0) → Consumes left left_now bytes
+    → IsAtEnd left_now → P bytes → IfSome left P
+text_end_is_known None left_now bytes P consumed at_end has = tt
+text_end_is_known (Some whole) None bytes P consumed at_end has = absurd consumed
+text_end_is_known (Some whole) (Some rest) bytes P consumed at_end has =
+    subst P (sym (consumed ∙ ap (λ r. bytes ++ r) at_end ∙ append-nil bytes)) has
+
 -- the text of a session was refused
 text_is_refused_at_end : (grain : Grain) (read : InputBytes) (bytes : List ℕ) (fault : TextFault)
     → Consumes read.text read.text_left bytes → length bytes ≤ longest_session + 1
@@ -106,6 +114,23 @@ pub watch_ends_at_refused_text : (grain : Grain) (read : InputBytes) (before now
 watch_ends_at_refused_text grain read before now bytes (session.Text fault) consumed limit at_end has too_long =
     text_is_refused_at_end grain read bytes fault consumed limit at_end has too_long
 watch_ends_at_refused_text grain read before now bytes session.OutOfMemory consumed limit at_end has too_long = tt
+
+-- the bytes of the text were not read
+pub audit_ends_without_bytes : (settings : Settings) (read : InputBytes) (before now : SourceFaults) (status : Status)
+    → HasNoBytes before.text now.text status → HasNoAudit settings read before now status
+audit_ends_without_bytes settings read before now Done none = absurd none
+audit_ends_without_bytes settings read before now (BadWords kind) none = absurd none
+audit_ends_without_bytes settings read before now (BadCapture fault) none = absurd none
+audit_ends_without_bytes settings read before now ReadFault none = inr none
+audit_ends_without_bytes settings read before now WriteFault none = absurd none
+audit_ends_without_bytes settings read before now DiskFault none = absurd none
+audit_ends_without_bytes settings read before now NotFormatted none = absurd none
+audit_ends_without_bytes settings read before now (Damaged slot) none = absurd none
+audit_ends_without_bytes settings read before now (OtherSettings stored asked) none = absurd none
+audit_ends_without_bytes settings read before now (OtherCapture stored asked) none = absurd none
+audit_ends_without_bytes settings read before now (AuditNo report verdict) none = absurd none
+audit_ends_without_bytes settings read before now (BadReport fault) none = absurd none
+audit_ends_without_bytes settings read before now OutOfMemory none = tt
 
 -- how an audit ended
 abbrev pub EndsAudit : {K : Type 0} → Settings → DealingRules → InputBytes → (read_before read_now : SourceFaults)

@@ -22,6 +22,8 @@ use Rattle.hhh_engine.specs.Ending.{course}
 use Rattle.hhh_engine.specs.Tasks.{report_task}
 use Rattle.report_session.specs.{IsAsBefore, AreKeptOnDisk}
 use Rattle.report_session.specs.{asked_shape}
+use Rattle.hhh_engine.specs.Ending.{Task, faults_of_source}
+use Rattle.hhh_engine.specs.Reading.{HasNoText}
 
 -- what follows of each capture that may be known follows of the one that is
 pub capture_report_if_known : (left : Option (List ℕ)) (P Q : List ℕ → Type 0) → ((file : List ℕ) → P file → Q file) → IfSome left P
@@ -193,3 +195,26 @@ capture_report_tells_disk_fault k d settings lists tail sink written old new (Ba
 capture_report_tells_disk_fault k d settings lists tail sink written old new ReadFault ends other = absurd ends
 capture_report_tells_disk_fault k d settings lists tail sink written old new (AuditNo report verdict) ends other = absurd ends
 capture_report_tells_disk_fault k d settings lists tail sink written old new (BadReport fault) ends other = absurd ends
+
+-- a command that reads a capture alone, and had no text of it
+module _ {K : Type 0} (task : Task) (k : SinkOf K) (capture : Option (List ℕ)) (before now other : ℕ) (sink : K)
+    (disk_same : task.disk_same) (store_same : task.store_same) where
+  pub capture_report_ends_without_text : (status : Status) → HasNoText task.front capture before now status
+      → ((status ≡ ReadFault → ⊥) → now ≡ before)
+      → Ends task (course k capture (faults_of_source before other) (faults_of_source now other) sink sink) status
+  capture_report_ends_without_text Done none told = absurd none
+  capture_report_ends_without_text (BadWords kind) none told = absurd none
+  capture_report_ends_without_text (BadCapture fault) none told =
+      (none, refl, disk_same, ap (λ count. faults_of_source count other) (told (λ is. cc is)), refl)
+  capture_report_ends_without_text ReadFault none told =
+      (inl none, refl, disk_same, refl)
+  capture_report_ends_without_text WriteFault none told = absurd none
+  capture_report_ends_without_text DiskFault none told = absurd none
+  capture_report_ends_without_text NotFormatted none told = absurd none
+  capture_report_ends_without_text (Damaged slot) none told = absurd none
+  capture_report_ends_without_text (OtherSettings stored asked) none told = absurd none
+  capture_report_ends_without_text (OtherCapture stored asked) none told = absurd none
+  capture_report_ends_without_text (AuditNo report verdict) none told = absurd none
+  capture_report_ends_without_text (BadReport fault) none told = absurd none
+  capture_report_ends_without_text OutOfMemory none told =
+      (inl (refl, store_same), ap (λ count. faults_of_source count other) (told (λ is. cc is)), refl)

@@ -16,7 +16,7 @@ use Rattle.report_session.specs.{WritesAnswer, saves_settings}
 use Rattle.hhh_engine.specs.Inputs.{CommandAvoids, CommandUses, CanBeAnswered}
 use Rattle.hhh_engine.specs.Inputs.{HasCapture, UsesCapture, UsesSession, UsesStore}
 use Rattle.hhh_engine.specs.Inputs.{WereAccepted, WereRead, inputs}
-use Rattle.hhh_engine.specs.Ending.{Ends, EndsAnswered, EndsAsBefore, FailsAtSource}
+use Rattle.hhh_engine.specs.Ending.{Ends, EndsAnswered, EndsAsBefore, FailsAtSource, sources}
 use Rattle.hhh_engine.specs.Ending.{EndsTearing, FormatEnds, DiskHappened, Refuses}
 use Rattle.hhh_engine.specs.Ending.{EndsRefusing, SourceFaultsRose, faults_of_source}
 use Rattle.hhh_engine.specs.TopCall.{FailsToRead, FailsToStore, FailsToWrite, RefusesCapture, RefusesWords, RunEnds}
@@ -320,8 +320,8 @@ source_failed = record {
 
 -- the source of a text fails only once the capture was read to its end
 pub text_failed_too_early :
-    FailsAtSource {T = List ℕ} ⊤ ⊤ (inputs (Some header) (Some (1 ∷ [])) None None None) (faults_of_source 3 0)
-    (faults_of_source 3 1) (3 ∷ []) [] → ⊥
+    FailsAtSource ⊤ ⊤ (inputs (Some header) (Some (1 ∷ [])) None None None)
+    (sources source source (known header 3) (known (3 ∷ []) 0)) (sources source source (known (1 ∷ []) 3) (known [] 1)) → ⊥
 text_failed_too_early failed =
     ⊎_elim
     (λ capture. omega (arith, capture.rose))

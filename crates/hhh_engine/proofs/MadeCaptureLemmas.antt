@@ -1,5 +1,5 @@
 -- Made captures are captures: the frames of each, which a reader takes from it.
-use Rattle.std.proofs.Common.{ℕ, zero, suc, ◌≡◌, ◌≤◌, ◌+◌, ◌*◌, ◌%◌, ◌^◌, List, [], ◌∷◌, ◌++◌}
+use Rattle.std.proofs.Common.{ℕ, zero, suc, ◌≡◌, ◌≤◌, ◌<◌, ◌+◌, ◌*◌, ◌%◌, ◌^◌, List, [], ◌∷◌, ◌++◌}
 use Rattle.std.proofs.Common.{length, map, drop, refl, ap, arith}
 use Rattle.std.specs.Prelude.{nat_lt}
 use Rattle.std.specs.Int.{byte_at}
@@ -40,12 +40,21 @@ made_capture_value_between index source dest = record {
   original = wire_length index;
 }
 
+-- the four bytes of a number, lowest first, as a number
+abbrev made_capture_number : ℕ → ℕ
+made_capture_number n =
+    (byte_at 0 n + 256 * (byte_at 1 n + 256 * (byte_at 2 n + 256 * (byte_at 3 n + 256 * 0)))) % 256 ^ 4
+
+made_capture_length_is_one_of_four : (rest : ℕ) → rest < 4 → 100 * (1 + rest) ≡ made_capture_number (100 * (1 + rest))
+made_capture_length_is_one_of_four zero below = refl
+made_capture_length_is_one_of_four (suc zero) below = refl
+made_capture_length_is_one_of_four (suc (suc zero)) below = refl
+made_capture_length_is_one_of_four (suc (suc (suc zero))) below = refl
+made_capture_length_is_one_of_four (suc (suc (suc (suc rest)))) below = absurd (omega (arith, below))
+
 -- the four bytes of a wire length, lowest first, are that length again
-made_capture_length_is_spelled : (index : ℕ)
-    → wire_length index
-    ≡ (byte_at 0 (wire_length index) + 256 * (byte_at 1 (wire_length index) + 256 * (byte_at 2 (wire_length index)
-    + 256 * (byte_at 3 (wire_length index) + 256 * 0)))) % 256 ^ 4
-made_capture_length_is_spelled index = omega arith
+made_capture_length_is_spelled : (index : ℕ) → wire_length index ≡ made_capture_number (wire_length index)
+made_capture_length_is_spelled index = made_capture_length_is_one_of_four (index % 4) (omega arith)
 
 -- over two addresses of four bytes the bytes of a made frame begin with that frame
 made_capture_spells_value : (index a b c d e f g h : ℕ) (rest : List ℕ)

@@ -13,7 +13,7 @@ use Rattle.command_words.specs.declared.command.Command.{Command}
 use Rattle.command_words.specs.declared.command.Command.TheVariants.{Weigh, Report, Format, Audit, Watch, Make, Demo}
 use Rattle.command_words.specs.declared.settings.Settings.{Settings}
 use Rattle.session_audit.specs.{HasNoBytes, Says}
-use Rattle.hhh_engine.specs.Ending.{Task, course, Ends, DiskHappened, FailsAtSource, SourceFaults, EndsInOrder}
+use Rattle.hhh_engine.specs.Ending.{Task, course, Ends, DiskHappened, FailsAtSource, Sources, EndsInOrder}
 use Rattle.hhh_engine.specs.Ending.{EndsAsBefore, faults_of_source}
 use Rattle.hhh_engine.specs.Inputs.{CommandUses, InputBytes, MayUseStore, UsesCapture}
 use Rattle.hhh_engine.specs.Inputs.{ReadsSession}
@@ -27,65 +27,64 @@ use Rattle.outside_io.specs.declared.source.Source.{Ghosts as SourceOf}
 use Rattle.outside_io.specs.declared.sink.Sink.{Ghosts as SinkOf}
 use Rattle.slot_disk.specs.declared.disk.Disk.{Ghosts as DiskOf}
 use Rattle.hhh_engine.specs.Commands.{CommandEnds, CommandInOrder}
-use Rattle.hhh_engine.specs.TopCall.{FailsToRead, FailsToStore, RefusesCapture, Streams, faults_after, faults_before}
-use Rattle.hhh_engine.specs.TopCall.{run_inputs}
+use Rattle.hhh_engine.specs.TopCall.{FailsToRead, FailsToStore, RefusesCapture, Streams, run_inputs}
+use Rattle.hhh_engine.specs.TopCall.{sources_after, sources_before}
 use Rattle.report_session.specs.{IsAsBefore}
 
 -- ---- the steps of an audit
 
 -- its text was not read
-pub read_order_without_text : {T : Type 0} (Accepted : Type 0) (read : InputBytes) (before now : SourceFaults) (text text_read : T) (status : Status)
-    → IsAtEnd read.capture_left → Accepted → now.capture ≡ before.capture
-    → HasNoBytes before.text now.text status → EndsInOrder ⊤ Accepted read before now text text_read status
-read_order_without_text Accepted read before now text text_read Done at_end is_capture same none = absurd none
-read_order_without_text Accepted read before now text text_read (BadWords kind) at_end is_capture same none = absurd none
-read_order_without_text Accepted read before now text text_read (BadCapture fault) at_end is_capture same none = absurd none
-read_order_without_text Accepted read before now text text_read ReadFault at_end is_capture same none =
+pub read_order_without_text : {T : Type 0} (Accepted : Type 0) (read : InputBytes) (before now : Sources T) (status : Status)
+    → IsAtEnd read.capture_left → Accepted → now.faults.capture ≡ before.faults.capture
+    → HasNoBytes before.faults.text now.faults.text status → EndsInOrder ⊤ Accepted read before now status
+read_order_without_text Accepted read before now Done at_end is_capture same none = absurd none
+read_order_without_text Accepted read before now (BadWords kind) at_end is_capture same none = absurd none
+read_order_without_text Accepted read before now (BadCapture fault) at_end is_capture same none = absurd none
+read_order_without_text Accepted read before now ReadFault at_end is_capture same none =
     inr (record { reads = is_capture; rose = none; capture_kept = same; read_to_end = λ reads. at_end })
-read_order_without_text Accepted read before now text text_read WriteFault at_end is_capture same none = absurd none
-read_order_without_text Accepted read before now text text_read DiskFault at_end is_capture same none = absurd none
-read_order_without_text Accepted read before now text text_read NotFormatted at_end is_capture same none = absurd none
-read_order_without_text Accepted read before now text text_read (Damaged slot) at_end is_capture same none = absurd none
-read_order_without_text Accepted read before now text text_read (OtherSettings stored asked) at_end is_capture same none = absurd none
-read_order_without_text Accepted read before now text text_read (OtherCapture stored asked) at_end is_capture same none = absurd none
-read_order_without_text Accepted read before now text text_read (AuditNo report verdict) at_end is_capture same none = absurd none
-read_order_without_text Accepted read before now text text_read (BadReport fault) at_end is_capture same none = absurd none
-read_order_without_text Accepted read before now text text_read OutOfMemory at_end is_capture same none = tt
+read_order_without_text Accepted read before now WriteFault at_end is_capture same none = absurd none
+read_order_without_text Accepted read before now DiskFault at_end is_capture same none = absurd none
+read_order_without_text Accepted read before now NotFormatted at_end is_capture same none = absurd none
+read_order_without_text Accepted read before now (Damaged slot) at_end is_capture same none = absurd none
+read_order_without_text Accepted read before now (OtherSettings stored asked) at_end is_capture same none = absurd none
+read_order_without_text Accepted read before now (OtherCapture stored asked) at_end is_capture same none = absurd none
+read_order_without_text Accepted read before now (AuditNo report verdict) at_end is_capture same none = absurd none
+read_order_without_text Accepted read before now (BadReport fault) at_end is_capture same none = absurd none
+read_order_without_text Accepted read before now OutOfMemory at_end is_capture same none = tt
 
 -- its text is not that of a session
-pub read_order_at_bad_text : {T : Type 0} (Accepted : Type 0) (read : InputBytes) (before now : SourceFaults) (text text_read : T) (fault : SessionFault)
-    → EndsInOrder ⊤ Accepted read before now text text_read (status_of_session fault)
-read_order_at_bad_text Accepted read before now text text_read (session.Text fault) = tt
-read_order_at_bad_text Accepted read before now text text_read session.OutOfMemory = tt
+pub read_order_at_bad_text : {T : Type 0} (Accepted : Type 0) (read : InputBytes) (before now : Sources T) (fault : SessionFault)
+    → EndsInOrder ⊤ Accepted read before now (status_of_session fault)
+read_order_at_bad_text Accepted read before now (session.Text fault) = tt
+read_order_at_bad_text Accepted read before now session.OutOfMemory = tt
 
 -- the audit was made
-pub read_order_of_made_audit : {T : Type 0} (Accepted : Type 0) (read : InputBytes) (before now : SourceFaults) (text text_read : T)
+pub read_order_of_made_audit : {T : Type 0} (Accepted : Type 0) (read : InputBytes) (before now : Sources T)
     (settings : Settings) (lists : List (List RecordValue)) (reports : List Reported) (written : List ℕ) (status : Status)
-    → Says settings lists reports written status → EndsInOrder ⊤ Accepted read before now text text_read status
-read_order_of_made_audit Accepted read before now text text_read settings lists reports written Done says = tt
-read_order_of_made_audit Accepted read before now text text_read settings lists reports written (BadWords kind) says = absurd says
-read_order_of_made_audit Accepted read before now text text_read settings lists reports written (BadCapture fault) says = absurd says
-read_order_of_made_audit Accepted read before now text text_read settings lists reports written ReadFault says = absurd says
-read_order_of_made_audit Accepted read before now text text_read settings lists reports written WriteFault says = absurd says
-read_order_of_made_audit Accepted read before now text text_read settings lists reports written DiskFault says = absurd says
-read_order_of_made_audit Accepted read before now text text_read settings lists reports written NotFormatted says = absurd says
-read_order_of_made_audit Accepted read before now text text_read settings lists reports written (Damaged slot) says = absurd says
-read_order_of_made_audit Accepted read before now text text_read settings lists reports written (OtherSettings stored asked) says =
+    → Says settings lists reports written status → EndsInOrder ⊤ Accepted read before now status
+read_order_of_made_audit Accepted read before now settings lists reports written Done says = tt
+read_order_of_made_audit Accepted read before now settings lists reports written (BadWords kind) says = absurd says
+read_order_of_made_audit Accepted read before now settings lists reports written (BadCapture fault) says = absurd says
+read_order_of_made_audit Accepted read before now settings lists reports written ReadFault says = absurd says
+read_order_of_made_audit Accepted read before now settings lists reports written WriteFault says = absurd says
+read_order_of_made_audit Accepted read before now settings lists reports written DiskFault says = absurd says
+read_order_of_made_audit Accepted read before now settings lists reports written NotFormatted says = absurd says
+read_order_of_made_audit Accepted read before now settings lists reports written (Damaged slot) says = absurd says
+read_order_of_made_audit Accepted read before now settings lists reports written (OtherSettings stored asked) says =
     absurd says
-read_order_of_made_audit Accepted read before now text text_read settings lists reports written (OtherCapture stored asked) says =
+read_order_of_made_audit Accepted read before now settings lists reports written (OtherCapture stored asked) says =
     absurd says
-read_order_of_made_audit Accepted read before now text text_read settings lists reports written (AuditNo report verdict) says = tt
-read_order_of_made_audit Accepted read before now text text_read settings lists reports written (BadReport fault) says = absurd says
-read_order_of_made_audit Accepted read before now text text_read settings lists reports written OutOfMemory says = absurd says
+read_order_of_made_audit Accepted read before now settings lists reports written (AuditNo report verdict) says = tt
+read_order_of_made_audit Accepted read before now settings lists reports written (BadReport fault) says = absurd says
+read_order_of_made_audit Accepted read before now settings lists reports written OutOfMemory says = absurd says
 
 -- ---- the commands
 
 -- what a command reads may be said in other words
-read_order_in_other_terms : {T : Type 0} (Reads ReadsText Other OtherText : Type 0) (read : InputBytes)
-    (before now : SourceFaults) (text text_read : T) → (Reads → Other) → (Other → Reads) → (ReadsText → OtherText)
-    → FailsAtSource Reads ReadsText read before now text text_read
-    → FailsAtSource Other OtherText read before now text text_read
-read_order_in_other_terms Reads ReadsText Other OtherText read before now text text_read reads reads_back reads_text failed =
+read_order_in_other_terms : {T : Type 0} (Reads ReadsText Other OtherText : Type 0) (read : InputBytes) (before now : Sources T)
+    → (Reads → Other) → (Other → Reads) → (ReadsText → OtherText) → FailsAtSource Reads ReadsText read before now
+    → FailsAtSource Other OtherText read before now
+read_order_in_other_terms Reads ReadsText Other OtherText read before now reads reads_back reads_text failed =
     ⊎_elim
     (λ is. inl (record { reads = reads is.reads; rose = is.rose; text_unread = is.text_unread }))
     (λ is. inr (record {
@@ -99,7 +98,8 @@ read_order_in_other_terms Reads ReadsText Other OtherText read before now text t
 pub read_order_of_capture_alone : {K T : Type 0} (task : Task) (k : SinkOf K) (capture : Option (List ℕ)) (before now other : ℕ)
     (sink written : K) (status : Status) (Reads ReadsText : Type 0) (read : InputBytes) (text : T) → Reads
     → Ends task (course k capture (faults_of_source before 0) (faults_of_source now 0) sink written) status
-    → EndsInOrder Reads ReadsText read (faults_of_source before other) (faults_of_source now other) text text status
+    → EndsInOrder Reads ReadsText read (record { faults = faults_of_source before other; text = text })
+    (record { faults = faults_of_source now other; text = text }) status
 read_order_of_capture_alone task k capture before now other sink written Done Reads ReadsText read text reads ends = tt
 read_order_of_capture_alone task k capture before now other sink written (BadWords kind) Reads ReadsText read text reads ends = tt
 read_order_of_capture_alone task k capture before now other sink written (BadCapture fault) Reads ReadsText read text reads ends = (reads, refl)
@@ -122,7 +122,8 @@ module _ {K T : Type 0} (task : Task) (k : SinkOf K) (capture : Option (List ℕ
     (Reads ReadsText : Type 0) (read : InputBytes) (text text_read : T) (none : Reads → ⊥) (reads : ReadsText) where
   pub read_order_of_text_alone : (status : Status) → ((fault : CaptureFault) → status ≡ BadCapture fault → ⊥)
       → Ends task (course k capture (faults_of_source 0 before) (faults_of_source 0 now) sink written) status
-      → EndsInOrder Reads ReadsText read (faults_of_source other before) (faults_of_source other now) text text_read status
+      → EndsInOrder Reads ReadsText read (record { faults = faults_of_source other before; text = text })
+      (record { faults = faults_of_source other now; text = text_read }) status
   read_order_of_text_alone Done no_capture ends = tt
   read_order_of_text_alone (BadWords kind) no_capture ends = tt
   read_order_of_text_alone (BadCapture fault) no_capture ends = absurd (no_capture fault refl)
@@ -142,30 +143,30 @@ module _ {K T : Type 0} (task : Task) (k : SinkOf K) (capture : Option (List ℕ
   read_order_of_text_alone OutOfMemory no_capture ends = tt
 
 -- and one that reads neither: it ends at no fault of them
-pub read_order_of_neither : {T : Type 0} (Reads ReadsText : Type 0) (read : InputBytes) (before now : SourceFaults) (text : T)
+pub read_order_of_neither : {T : Type 0} (Reads ReadsText : Type 0) (read : InputBytes) (before now : Sources T)
     (status : Status) → ((fault : CaptureFault) → status ≡ BadCapture fault → ⊥) → (status ≡ ReadFault → ⊥)
-    → EndsInOrder Reads ReadsText read before now text text status
-read_order_of_neither Reads ReadsText read before now text Done no_capture no_read = tt
-read_order_of_neither Reads ReadsText read before now text (BadWords kind) no_capture no_read = tt
-read_order_of_neither Reads ReadsText read before now text (BadCapture fault) no_capture no_read = absurd (no_capture fault refl)
-read_order_of_neither Reads ReadsText read before now text ReadFault no_capture no_read = absurd (no_read refl)
-read_order_of_neither Reads ReadsText read before now text WriteFault no_capture no_read = tt
-read_order_of_neither Reads ReadsText read before now text DiskFault no_capture no_read = tt
-read_order_of_neither Reads ReadsText read before now text NotFormatted no_capture no_read = tt
-read_order_of_neither Reads ReadsText read before now text (Damaged slot) no_capture no_read = tt
-read_order_of_neither Reads ReadsText read before now text (OtherSettings stored asked) no_capture no_read = tt
-read_order_of_neither Reads ReadsText read before now text (OtherCapture stored asked) no_capture no_read = tt
-read_order_of_neither Reads ReadsText read before now text (AuditNo report verdict) no_capture no_read = tt
-read_order_of_neither Reads ReadsText read before now text (BadReport fault) no_capture no_read = tt
-read_order_of_neither Reads ReadsText read before now text OutOfMemory no_capture no_read = tt
+    → EndsInOrder Reads ReadsText read before now status
+read_order_of_neither Reads ReadsText read before now Done no_capture no_read = tt
+read_order_of_neither Reads ReadsText read before now (BadWords kind) no_capture no_read = tt
+read_order_of_neither Reads ReadsText read before now (BadCapture fault) no_capture no_read = absurd (no_capture fault refl)
+read_order_of_neither Reads ReadsText read before now ReadFault no_capture no_read = absurd (no_read refl)
+read_order_of_neither Reads ReadsText read before now WriteFault no_capture no_read = tt
+read_order_of_neither Reads ReadsText read before now DiskFault no_capture no_read = tt
+read_order_of_neither Reads ReadsText read before now NotFormatted no_capture no_read = tt
+read_order_of_neither Reads ReadsText read before now (Damaged slot) no_capture no_read = tt
+read_order_of_neither Reads ReadsText read before now (OtherSettings stored asked) no_capture no_read = tt
+read_order_of_neither Reads ReadsText read before now (OtherCapture stored asked) no_capture no_read = tt
+read_order_of_neither Reads ReadsText read before now (AuditNo report verdict) no_capture no_read = tt
+read_order_of_neither Reads ReadsText read before now (BadReport fault) no_capture no_read = tt
+read_order_of_neither Reads ReadsText read before now OutOfMemory no_capture no_read = tt
 
 -- the command that a variant is reads what the variant reads
-pub read_order_of_variant : {T : Type 0} (command other : Command) (read : InputBytes) (before now : SourceFaults)
-    (text text_read : T) (status : Status) → command ≡ other
-    → EndsInOrder (UsesCapture other) (ReadsSession read other) read before now text text_read status
-    → EndsInOrder (UsesCapture command) (ReadsSession read command) read before now text text_read status
-read_order_of_variant command other read before now text text_read status is stops =
-    subst (λ c. EndsInOrder (UsesCapture c) (ReadsSession read c) read before now text text_read status) (sym is) stops
+pub read_order_of_variant : {T : Type 0} (command other : Command) (read : InputBytes) (before now : Sources T)
+    (status : Status) → command ≡ other
+    → EndsInOrder (UsesCapture other) (ReadsSession read other) read before now status
+    → EndsInOrder (UsesCapture command) (ReadsSession read command) read before now status
+read_order_of_variant command other read before now status is stops =
+    subst (λ c. EndsInOrder (UsesCapture c) (ReadsSession read c) read before now status) (sym is) stops
 
 -- ---- the top call
 
@@ -220,7 +221,7 @@ module _ {S T K D : Type 0} (s : SourceOf S) (t : SourceOf T) (k : SinkOf K) (d 
       let ended = subst (Ended command) is ends in
       record {
         failed = read_order_in_other_terms (UsesCapture command) (ReadsSession given command) (CommandUses UsesCapture words)
-            (CommandUses (ReadsSession given) words) given (faults_before s t k d old new) (faults_after s t k d old new) old.text new.text
+            (CommandUses (ReadsSession given) words) given (sources_before s t k d old new) (sources_after s t k d old new)
             (read_order_as_asked UsesCapture words command asked)
             (λ uses. subst UsesCapture (sym (same uses.command uses.asked)) uses.uses)
             (read_order_as_asked (ReadsSession given) words command asked) order;

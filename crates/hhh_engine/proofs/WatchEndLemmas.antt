@@ -6,6 +6,7 @@ use Rattle.outside_io.specs.declared.sink.Sink.{Ghosts as SinkOf}
 use Rattle.prefix_lattice.specs.declared.grain.Grain.{Grain}
 use Rattle.watch_rules.specs.declared.rule.Rule.{Rule}
 use Rattle.session_watch.specs.{IsWatchOf}
+use Rattle.session_audit.specs.{HasNoBytes}
 use Rattle.hhh_engine.specs.Answer.{IsUnfinished}
 use Rattle.hhh_engine.specs.Ending.{course, Ends, faults_of_source}
 use Rattle.hhh_engine.specs.Inputs.{InputBytes}
@@ -73,3 +74,20 @@ watch_ends_without_text k rule grain judging read capture other before now sink 
     (none, refl, tt, ap (faults_of_source other) (told (λ is. cc is)), refl)
 watch_ends_without_text k rule grain judging read capture other before now sink OutOfMemory none told =
     (inl (refl, tt), ap (faults_of_source other) (told (λ is. cc is)), refl)
+
+-- why the bytes of a text were not read is why a watch has no text
+pub watch_ends_without_bytes : (grain : Grain) (read : InputBytes) (before now : ℕ) (status : Status)
+    → HasNoBytes before now status → HasNoWatch grain read before now status
+watch_ends_without_bytes grain read before now Done none = absurd none
+watch_ends_without_bytes grain read before now (BadWords kind) none = absurd none
+watch_ends_without_bytes grain read before now (BadCapture fault) none = absurd none
+watch_ends_without_bytes grain read before now ReadFault none = none
+watch_ends_without_bytes grain read before now WriteFault none = absurd none
+watch_ends_without_bytes grain read before now DiskFault none = absurd none
+watch_ends_without_bytes grain read before now NotFormatted none = absurd none
+watch_ends_without_bytes grain read before now (Damaged slot) none = absurd none
+watch_ends_without_bytes grain read before now (OtherSettings stored asked) none = absurd none
+watch_ends_without_bytes grain read before now (OtherCapture stored asked) none = absurd none
+watch_ends_without_bytes grain read before now (AuditNo report verdict) none = absurd none
+watch_ends_without_bytes grain read before now (BadReport fault) none = absurd none
+watch_ends_without_bytes grain read before now OutOfMemory none = tt

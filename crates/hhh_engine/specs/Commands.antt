@@ -14,6 +14,7 @@ use Rattle.hhh_engine.specs.Ending.{DiskHappened, Refuses}
 use Rattle.hhh_engine.specs.Inputs.{WereAccepted, WereRead, UsesCapture, UsesSession, ReadsSession, takes_front}
 use Rattle.hhh_engine.specs.Inputs.{UsesStore}
 use Rattle.hhh_engine.specs.TopCall.{Streams, faults_after, faults_before, run_inputs, run_keeping}
+use Rattle.hhh_engine.specs.TopCall.{sources_after, sources_before}
 use Rattle.report_session.specs.{IsAsBefore, saves_settings}
 use Rattle.hhh_engine.specs.Rules.{RunRules}
 use Rattle.run_status.specs.declared.status.Status.{Status}
@@ -46,8 +47,8 @@ module _ {S T K D : Type 0} (s : SourceOf S) (t : SourceOf T) (k : SinkOf K) (d 
   -- a source that failed did so in the order in which the command reads them
   abbrev pub CommandInOrder : Command → Status → Type 0
   CommandInOrder command status =
-      EndsInOrder (UsesCapture command) (ReadsSession (run_inputs s t k d old new) command) (run_inputs s t k d old new) (faults_before s t k d old new)
-      (faults_after s t k d old new) old.text new.text status
+      EndsInOrder (UsesCapture command) (ReadsSession (run_inputs s t k d old new) command) (run_inputs s t k d old new)
+      (sources_before s t k d old new) (sources_after s t k d old new) status
 
   -- the command was answered with this status
   pub record AnswersCommand (command : Command) (status : Status) : Type 0 where

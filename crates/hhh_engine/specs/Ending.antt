@@ -27,6 +27,7 @@ use Rattle.run_status.specs.declared.status.Status.{Status}
 use Rattle.run_status.specs.declared.status.Status.TheVariants.{Done, BadWords, BadCapture, ReadFault, WriteFault}
 use Rattle.run_status.specs.declared.status.Status.TheVariants.{DiskFault, NotFormatted, Damaged, OtherSettings}
 use Rattle.run_status.specs.declared.status.Status.TheVariants.{OtherCapture, AuditNo, BadReport, OutOfMemory}
+use Rattle.outside_io.specs.declared.source.Source.{Ghosts as SourceOf}
 use Rattle.outside_io.specs.declared.sink.Sink.{Ghosts as SinkOf}
 use Rattle.prefix_lattice.specs.declared.grain.Grain.{Grain}
 
@@ -43,25 +44,32 @@ faults_of_source capture text = record { capture = capture; text = text }
 abbrev pub SourceFaultsRose : SourceFaults → SourceFaults → Type 0
 SourceFaultsRose before now = FaultRose before.capture now.capture ⊎ FaultRose before.text now.text
 
+-- the two sources at a moment: their counts of faults, and the source of the text itself
+pub record Sources (T : Type 0) : Type 0 where
+  pub faults : SourceFaults
+  pub text : T
+
+-- a capture and the text of a session, as sources
+abbrev pub sources : {S T : Type 0} → SourceOf S → SourceOf T → S → T → Sources T
+sources s t capture text = record { faults = faults_of_source (s.faults capture) (t.faults text); text = text }
+
 -- the source of a capture, which the command reads, failed before any text of a session was read
-pub record FailsAtCapture {T : Type 0} (Reads : Type 0) (before now : SourceFaults) (text text_read : T) : Type 0 where
+pub record FailsAtCapture {T : Type 0} (Reads : Type 0) (before now : Sources T) : Type 0 where
   pub reads : Reads
-  pub rose : FaultRose before.capture now.capture
-  pub text_unread : text_read ≡ text
+  pub rose : FaultRose before.faults.capture now.faults.capture
+  pub text_unread : now.text ≡ before.text
 
 -- the source of the text of a session, which the command reads, failed after the capture, where the command reads one, was
 -- accepted and read to its end without a fault
-pub record FailsAtText (Reads ReadsText : Type 0) (read : InputBytes) (before now : SourceFaults) : Type 0 where
+pub record FailsAtText {T : Type 0} (Reads ReadsText : Type 0) (read : InputBytes) (before now : Sources T) : Type 0 where
   pub reads : ReadsText
-  pub rose : FaultRose before.text now.text
-  pub capture_kept : now.capture ≡ before.capture
+  pub rose : FaultRose before.faults.text now.faults.text
+  pub capture_kept : now.faults.capture ≡ before.faults.capture
   pub read_to_end : Reads → IsAtEnd read.capture_left
 
 -- one of the sources failed, the capture's first
-abbrev pub FailsAtSource : {T : Type 0} → (Reads ReadsText : Type 0) → InputBytes → (before now : SourceFaults)
-    → (text text_read : T) → Type 0
-FailsAtSource Reads ReadsText read before now text text_read =
-    FailsAtCapture Reads before now text text_read ⊎ FailsAtText Reads ReadsText read before now
+abbrev pub FailsAtSource : {T : Type 0} → (Reads ReadsText : Type 0) → InputBytes → (before now : Sources T) → Type 0
+FailsAtSource Reads ReadsText read before now = FailsAtCapture Reads before now ⊎ FailsAtText Reads ReadsText read before now
 
 -- where no byte was written: the disk is as before, unless the command is `format`, which may have begun a store
 abbrev pub EndsAsBefore : Command → (AsBefore : Type 0) → Type 0
@@ -161,12 +169,10 @@ DiskHappened (command.Make seed frames) happened = ⊥
 DiskHappened (command.Demo seed frames settings) happened = ⊥
 
 -- within the crate: how far a command read its inputs that ended at a fault of the capture, or of a source
-abbrev pub EndsInOrder : {T : Type 0} → (Reads ReadsText : Type 0) → InputBytes → (before now : SourceFaults)
-    → (text text_read : T) → Status → Type 0
-EndsInOrder Reads ReadsText read before now text text_read (BadCapture fault) = Reads × (text_read ≡ text)
-EndsInOrder Reads ReadsText read before now text text_read ReadFault =
-    FailsAtSource Reads ReadsText read before now text text_read
-EndsInOrder Reads ReadsText read before now text text_read _ = ⊤
+abbrev pub EndsInOrder : {T : Type 0} → (Reads ReadsText : Type 0) → InputBytes → (before now : Sources T) → Status → Type 0
+EndsInOrder Reads ReadsText read before now (BadCapture fault) = Reads × (now.text ≡ before.text)
+EndsInOrder Reads ReadsText read before now ReadFault = FailsAtSource Reads ReadsText read before now
+EndsInOrder Reads ReadsText read before now _ = ⊤
 
 -- within the crate: what an audit found that ended so, and what it wrote of it
 abbrev pub EndsByFinding : Settings → DealingRules → InputBytes → (old new : Option (List ℕ)) → Status → Type 0

@@ -23,7 +23,7 @@ use Rattle.command_words.specs.declared.words_kind.WordsKind.{WordsKind}
 use Rattle.hhh_engine.specs.Answer.{Answers, AnswersInPart}
 use Rattle.session_audit.specs.{AreAudited, IsFirstUnsound, IsAuditedSound, IsUnsoundAudit}
 use Rattle.session_audit.specs.{unsound_audit}
-use Rattle.hhh_engine.specs.Ending.{SourceFaults, EndsAnswered, EndsAsBefore, FailsAtSource}
+use Rattle.hhh_engine.specs.Ending.{SourceFaults, Sources, EndsAnswered, EndsAsBefore, FailsAtSource, sources}
 use Rattle.hhh_engine.specs.Ending.{FormatEnds, IsRefusedStore, SessionRefused, faults_of_source}
 use Rattle.hhh_engine.specs.Inputs.{CommandAvoids, CommandUses, HoldsOfAudit, InputBytes}
 use Rattle.hhh_engine.specs.Inputs.{CanBeAnswered, WereRead, MayUseStore, UsesCapture}
@@ -64,6 +64,13 @@ module _ {S T K D : Type 0} (s : SourceOf S) (t : SourceOf T) (k : SinkOf K) (d 
   abbrev pub faults_after : SourceFaults
   faults_after = faults_of_source (s.faults new.capture) (t.faults new.text)
 
+  -- its sources, before it and after it
+  abbrev pub sources_before : Sources T
+  sources_before = sources s t old.capture old.text
+
+  abbrev pub sources_after : Sources T
+  sources_after = sources s t new.capture new.text
+
   -- what its disk keeps of the cuts that it saved
   abbrev pub run_keeping : SessionKeeping
   run_keeping = AreKeptOnDisk d old.disk new.disk
@@ -102,7 +109,7 @@ module _ {S T K D : Type 0} (s : SourceOf S) (t : SourceOf T) (k : SinkOf K) (d 
     -- ReadFault: a source failed, the capture's first; nothing was written
     pub record FailsToRead : Type 0 where
       pub failed : FailsAtSource (CommandUses UsesCapture words) (CommandUses (ReadsSession run_inputs) words) run_inputs
-          faults_before faults_after old.text new.text
+          sources_before sources_after
       pub nothing : LeavesUnwritten
 
     -- arguments with a fault are refused for it, unless memory runs out, and nothing is read or written

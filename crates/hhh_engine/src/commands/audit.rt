@@ -9,7 +9,7 @@ ghost use Rattle.command_words.specs.{AreLimited};
 ghost use Rattle.command_words.specs.declared.command.Command.TheVariants.{Audit as AuditCommand};
 ghost use Rattle.hhh_engine.specs.Reading.{AreAuditing, HasNoAudit};
 ghost use Rattle.hhh_engine.specs.Tasks.{audit_task};
-ghost use Rattle.hhh_engine.specs.Ending.{course, Ends, EndsInOrder, faults_of_source};
+ghost use Rattle.hhh_engine.specs.Ending.{course, Ends, EndsInOrder, faults_of_source, sources};
 ghost use Rattle.hhh_engine.specs.Inputs.{ReadsSession, inputs};
 
 use crate::{Settings, Status};
@@ -41,8 +41,7 @@ pub(crate) fn audit<S: Source, T: Source, K: Sink>(
     ensures order { (store : Option (List ℕ)) → EndsInOrder ⊤
         (ReadsSession (inputs (S.left capture.old) (S.left capture.new) (T.left text.old) (T.left text.new) store) (AuditCommand settings.now))
         (inputs (S.left capture.old) (S.left capture.new) (T.left text.old) (T.left text.new) store)
-        (faults_of_source (S.faults capture.old) (T.faults text.old))
-        (faults_of_source (S.faults capture.new) (T.faults text.new)) text.old text.new result }
+        (sources S.Source T.Source capture.old text.old) (sources S.Source T.Source capture.new text.new) result }
     ensures capture_front { ReadsFront (S.left capture.old) (S.left capture.new) }
     ensures text_front { ReadsFront (T.left text.old) (T.left text.new) }
 {
@@ -84,7 +83,7 @@ fn read_audited<S: Source, T: Source>(
         → IfErr result (EndsInOrder ⊤
         (ReadsSession (inputs (S.left capture.old) (S.left capture.new) (T.left text.old) (T.left text.new) store) (AuditCommand settings.now))
         (inputs (S.left capture.old) (S.left capture.new) (T.left text.old) (T.left text.new) store)
-        (faults_of_source (S.faults capture.old) (T.faults text.old)) (faults_of_source (S.faults capture.new) (T.faults text.new)) text.old text.new) }
+        (sources S.Source T.Source capture.old text.old) (sources S.Source T.Source capture.new text.new)) }
     ensures told { (IsErrOf result Status.ReadFault → ⊥)
         → faults_of_source (S.faults capture.new) (T.faults text.new) ≡ faults_of_source (S.faults capture.old) (T.faults text.old) }
 {

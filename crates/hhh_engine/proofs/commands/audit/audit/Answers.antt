@@ -35,5 +35,5 @@ returns-clause-ends g c = λ store.
 
 pub returns-in-Ok-write_all-clause-order : goal.returns-in-Ok-write_all-clause-order
 returns-in-Ok-write_all-clause-order g c = λ store.
-    read_order_of_made_audit _ _ _ _ _ _ c.args.settings.now c.in-Ok.audited.dealt c.in-Ok.audited.session.reports
+    read_order_of_made_audit _ _ _ _ c.args.settings.now c.in-Ok.audited.dealt c.in-Ok.audited.session.reports
     c.in-Ok-audit_session.answer.text.items c.in-Ok-audit_session.answer.status c.in-Ok-audit_session.ensures
