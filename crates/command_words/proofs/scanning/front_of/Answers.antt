@@ -1,4 +1,4 @@
-use Rattle.std.proofs.Common.{refl, sym, ap, ◌∙◌, arith, subst, Some, None}
+use Rattle.std.proofs.Common.{refl, sym, ap, ◌∙◌, arith, subst, Some, None, length}
 use Rattle.std.proofs.lemmas.Str.Pattern.{split_parts}
 use Rattle.command_words.specs.Arguments.{positional, option, equals_sign, IsValue, long_argument}
 use Rattle.command_words.specs.Arguments.{argument_texts}
@@ -10,6 +10,11 @@ use Rattle.command_words.proofs.WordFrontLemmas.{apart_option_at_word_front}
 use Rattle.command_words.proofs.WordFrontLemmas.{no_positional_at_word_front, no_joined_word_front, no_apart_word_front}
 use Rattle.command_words.proofs.OneReadingLemmas.{one_reading_of_head}
 use Rattle.command_words.proofs.scanning.front_of.Goals as goal
+
+pub returns-in_default-clause-fits : goal.returns-in_default-clause-fits
+returns-in_default-clause-fits c =
+    word_front_given_if_true _ _ _ _ c.then_some.ensures
+    (λ test. (omega arith, omega (arith, ap length c.in_ok-word.ensures.cases.0)))
 
 pub returns-in_default-clause-some : goal.returns-in_default-clause-some
 returns-in_default-clause-some c =
@@ -26,6 +31,11 @@ returns-in_default-clause-none c =
     (λ fails.
     no_positional_at_word_front _ _ _ c.in_ok-word.ensures.cases.0 c.in_default.ensures.cases
     (λ is_value. fails (c.is_value.ensures.1 is_value)))
+
+pub returns-in-Some-split_once-clause-fits : goal.returns-in-Some-split_once-clause-fits
+returns-in-Some-split_once-clause-fits c =
+    word_front_given_if_true _ _ _ _ c.then_some-in-Some-split_once.ensures
+    (λ test. (omega arith, omega (arith, ap length c.in_ok-word.ensures.cases.0)))
 
 pub returns-in-Some-split_once-clause-some : goal.returns-in-Some-split_once-clause-some
 returns-in-Some-split_once-clause-some c =
@@ -63,6 +73,14 @@ returns-in_err-value-clause-none c =
     (no_apart_word_front _ _ _ c.in-Some.text.now c.in_ok-word.ensures.cases.0 (stripped_word_front_is_long _ _ _ stripped.1.1 stripped.2)
     (name_at_word_front _ lacks)
     (λ value rest are is_value. nothing_behind_word_front _ c.in_err-value.ensures.cases value rest are))
+
+pub returns-clause-fits : goal.returns-clause-fits
+returns-clause-fits c =
+    word_front_given_if_true _ _ _ _ c.then_some-2.ensures
+    (λ test. (
+      omega arith,
+      omega (arith, ap length c.in_ok-word.ensures.cases.0, ap length c.in_ok-value.ensures.cases.0),
+    ))
 
 pub returns-clause-some : goal.returns-clause-some
 returns-clause-some c =

@@ -27,6 +27,15 @@ returns-in_err-frames-clause-err c =
     rw (p.1, p.2)
     (bad_numeric_value_is_first values Frames _ _ (sym c.text_of-2.ensures) before_frames c.in_err-frames.ensures.err)
 
+pub options_of-requires : goal.options_of-requires
+options_of-requires c =
+    let values = values_in c.args.matches.now in
+    let before_frames =
+    values_before_next_are_good values Seed (omega arith) _ (sym c.text_of.ensures) (values_before_first_are_good values)
+    (numeric_value_is_good Seed _ _ c.in_ok-seed.ensures.ok) in
+    values_before_next_are_good values Frames (omega arith) _ (sym c.text_of-2.ensures) before_frames
+    (numeric_value_is_good Frames _ _ c.in_ok-frames.ensures.ok)
+
 pub returns-in_err-limit-clause-err : goal.returns-in_err-limit-clause-err
 returns-in_err-limit-clause-err c =
     let values = values_in c.args.matches.now in

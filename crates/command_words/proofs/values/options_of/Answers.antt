@@ -1,10 +1,10 @@
 -- Each value that was read is good, so the first one that isn't is the first fault.
-use Rattle.std.proofs.Common.{subst, sym, arith}
+use Rattle.std.proofs.Common.{subst, sym, arith, rules}
 use Rattle.std.proofs.lemmas.Result.{err_from_is_err_and}
 use Rattle.command_words.specs.Matches.{values_in}
 use Rattle.command_words.specs.declared.opt.Opt.TheVariants.{Weigh, Shards, Capacity, Phi, Deal, Bits, Front}
 use Rattle.command_words.proofs.ValueLemmas.{values_before_next_are_good, weigh_value_is_good, numeric_value_is_good}
-use Rattle.command_words.specs.Settings.{SetsGrain, SetsNumber}
+use Rattle.command_words.specs.Settings.{SetsDeal, SetsFront, SetsGrain, SetsNumber, SetsWeigh}
 use Rattle.command_words.proofs.ValueLemmas.{deal_value_is_good, values_before_front_are_good}
 use Rattle.command_words.proofs.ValueLemmas.{bad_numeric_value_is_first, bad_choice_value_is_first}
 use Rattle.command_words.proofs.OneValueFaultLemmas.{grain_of_one_value_fits}
@@ -109,3 +109,24 @@ returns-in_err-front-clause-err c =
     (grain_of_one_value_fits values c.in_ok-grain.grain c.in_ok-capacity.capacity grain_set capacity_set c.in_ok-check_grain.ensures.ok) in
     let p = err_from_is_err_and c.from_residual-in_err-front.result c.from_residual-in_err-front.ensures.1 in
     rw (p.1, p.2) (bad_choice_value_is_first values Front _ _ (sym c.text_of-7.ensures) before_front c.in_err-front.ensures.err)
+
+-- `store` and `fits` name no step: a wrong value there leaves the goal open
+pub returns-clause-ok : goal.returns-clause-ok
+returns-clause-ok c =
+    let running = c.in_ok-running.ensures.ok in
+    record {
+      weigh = subst (λ told. SetsWeigh told c.in_ok-weigh.weigh) c.text_of.ensures c.in_ok-weigh.ensures.ok;
+      shards = subst (λ told. SetsNumber Shards told c.in_ok-shards.shards) c.text_of-2.ensures c.in_ok-shards.ensures.ok;
+      capacity =
+          subst (λ told. SetsNumber Capacity told c.in_ok-capacity.capacity) c.text_of-3.ensures c.in_ok-capacity.ensures.ok;
+      phi = subst (λ told. SetsNumber Phi told c.in_ok-phi.phi) c.text_of-4.ensures c.in_ok-phi.ensures.ok;
+      deal = subst (λ told. SetsDeal told c.in_ok-deal.deal) c.text_of-5.ensures c.in_ok-deal.ensures.ok;
+      block = running.block;
+      workers = running.workers;
+      callers = running.callers;
+      rounds = running.rounds;
+      grain = subst (λ told. SetsGrain told c.in_ok-grain.grain) c.text_of-6.ensures c.in_ok-grain.ensures.ok;
+      front = subst (λ told. SetsFront told c.in_ok-front.front) c.text_of-7.ensures c.in_ok-front.ensures.ok;
+      store = search rules;
+      fits = search rules;
+    }

@@ -52,3 +52,18 @@ returns-in_err-rounds-clause-err c =
     let p = err_from_is_err_and c.from_residual-in_err-rounds.result c.from_residual-in_err-rounds.ensures.1 in
     rw (p.1, p.2)
     (bad_numeric_value_is_first values Rounds _ _ (sym c.text_of-4.ensures) before_rounds c.in_err-rounds.ensures.err)
+
+pub returns-clause-good : goal.returns-clause-good
+returns-clause-good c =
+    let values = values_in c.args.matches.now in
+    let before_workers =
+    values_before_next_are_good values Block (omega arith) _ (sym c.text_of.ensures) c.requires
+    (numeric_value_is_good Block _ _ c.in_ok-block.ensures.ok) in
+    let before_callers =
+    values_before_next_are_good values Workers (omega arith) _ (sym c.text_of-2.ensures) before_workers
+    (numeric_value_is_good Workers _ _ c.in_ok-workers.ensures.ok) in
+    let before_rounds =
+    values_before_next_are_good values Callers (omega arith) _ (sym c.text_of-3.ensures) before_callers
+    (numeric_value_is_good Callers _ _ c.in_ok-callers.ensures.ok) in
+    values_before_next_are_good values Rounds (omega arith) _ (sym c.text_of-4.ensures) before_rounds
+    (numeric_value_is_good Rounds _ _ c.in_ok-rounds.ensures.ok)
