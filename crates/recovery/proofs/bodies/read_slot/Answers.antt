@@ -14,12 +14,12 @@ returns-then-not-gate-clause-fault g c = λ is. absurd (cc is)
 
 pub returns-in-Err-clause-fault : goal.returns-in-Err-clause-fault
 returns-in-Err-clause-fault g c =
-    rw c.fault_of_body.ensures (λ is. c.in-Err.ensures.fault (fault_of_body_is_of_disk c.in-Err.fault c.args.slot is))
+    rw c.fault_of_body.ensures (λ is. c.in-Err.ensures.fault (fault_of_body_is_of_disk c.in-Err.fault _ is))
 
 pub returns-in-Err-clause-no_fault : goal.returns-in-Err-clause-no_fault
 returns-in-Err-clause-no_fault g c =
     rw c.fault_of_body.ensures (λ none.
-    c.in-Err.ensures.no_fault (λ is. none (fault_of_slot_is_of_disk c.in-Err.fault c.args.slot is)))
+    c.in-Err.ensures.no_fault (λ is. none (fault_of_slot_is_of_disk c.in-Err.fault _ is)))
 
 pub returns-in-Ok-decode-clause-holds : goal.returns-in-Ok-decode-clause-holds
 returns-in-Ok-decode-clause-holds g c = λ image is slots.
@@ -54,7 +54,7 @@ returns-clause-refused g c = λ image is slots.
 
 pub returns-clause-fault : goal.returns-clause-fault
 returns-clause-fault g c =
-    rw c.fault_of_decode.ensures (λ is. absurd (fault_of_decode_is_not_of_disk c.in-Err-decode.fault c.args.slot is))
+    rw c.fault_of_decode.ensures (λ is. absurd (fault_of_decode_is_not_of_disk c.in-Err-decode.fault _ is))
 
 pub returns-clause-no_fault : goal.returns-clause-no_fault
 returns-clause-no_fault g c = λ none. c.in-Ok.ensures.no_fault (λ is. cc is)

@@ -3,7 +3,7 @@ use Rattle.std.proofs.lemmas.Result.{err_from_is_err_and}
 use Rattle.slot_disk.specs.{MatchesKnown-unchanged}
 use Rattle.recovery.proofs.FaultCountLemmas.{fault_count_rises, fault_count_rose, fault_is_same, fault_of_front_is_refused}
 use Rattle.recovery.proofs.FoundStoreLemmas.{found_store_after_reads, found_store_fault_at_zero, found_store_fault_at_one}
-use Rattle.recovery.proofs.FoundStoreLemmas.{found_store_has_header}
+use Rattle.recovery.proofs.FoundStoreLemmas.{found_store_has_header, found_store_holds_both, found_store_is_newest_save}
 use Rattle.recovery.proofs.reading.find_newest.Goals as goal
 
 pub returns-in_err-front-clause-refused : goal.returns-in_err-front-clause-refused
@@ -98,7 +98,8 @@ pub returns-in_err-second-clause-no_fault : goal.returns-in_err-second-clause-no
 returns-in_err-second-clause-no_fault g c =
     let p = err_from_is_err_and c.from_residual-in_err-second.result c.from_residual-in_err-second.ensures.1 in
     rw (p.1, p.2) (λ none.
-    c.in_err-second.ensures.no_fault (λ is. none (fault_is_same _ _ is)) ∙ (c.in_ok-first.ensures.no_fault (λ is. cc is) ∙ c.in_ok-front.ensures.no_fault (λ is. cc is)))
+    c.in_err-second.ensures.no_fault (λ is. none (fault_is_same _ _ is)) ∙ c.in_ok-first.ensures.no_fault (λ is. cc is)
+    ∙ c.in_ok-front.ensures.no_fault (λ is. cc is))
 
 pub returns-clause-stands : goal.returns-clause-stands
 returns-clause-stands g c =
@@ -119,6 +120,20 @@ returns-clause-spelled g c = c.in_ok-front.ensures.spelled
 pub returns-clause-shows : goal.returns-clause-shows
 returns-clause-shows g c = c.in_ok-front.ensures.shows
 
+pub returns-clause-newest : goal.returns-clause-newest
+returns-clause-newest g c =
+    found_store_is_newest_save c.args.settings.now c.in_ok-front.front.slots c.in_ok-first.first c.in_ok-second.second c.newest_of.result
+    c.in_ok-first.ensures.gate c.in_ok-second.ensures.gate c.in_ok-first.ensures.saved c.in_ok-second.ensures.saved
+    c.newest_of.ensures.newest c.newest_of.ensures.slot
+
+pub returns-clause-holds : goal.returns-clause-holds
+returns-clause-holds g c = λ image is.
+    let store = c.in_ok-front.ensures.stands image (c.in_ok-front.ensures.reads ∙ is) in
+    found_store_holds_both c.args.settings.now c.in_ok-front.front.header image _ _ c.newest_of.result (c.in_ok-front.ensures.shows image is)
+    c.in_ok-front.ensures.settings (c.in_ok-first.ensures.holds image (c.in_ok-front.ensures.reads ∙ is) store.slots_are)
+    (c.in_ok-second.ensures.holds image (c.in_ok-first.ensures.unchanged.same_reads ∙ c.in_ok-front.ensures.reads ∙ is) store.slots_are)
+    c.newest_of.ensures.newest c.newest_of.ensures.slot
+
 pub returns-clause-reads : goal.returns-clause-reads
 returns-clause-reads g c = c.in_ok-second.ensures.unchanged.same_reads ∙ c.in_ok-first.ensures.unchanged.same_reads ∙ c.in_ok-front.ensures.reads
 
@@ -138,4 +153,5 @@ returns-clause-fault g c = λ is. absurd (cc is)
 
 pub returns-clause-no_fault : goal.returns-clause-no_fault
 returns-clause-no_fault g c = λ none.
-    c.in_ok-second.ensures.no_fault (λ is. cc is) ∙ (c.in_ok-first.ensures.no_fault (λ is. cc is) ∙ c.in_ok-front.ensures.no_fault (λ is. cc is))
+    c.in_ok-second.ensures.no_fault (λ is. cc is) ∙ c.in_ok-first.ensures.no_fault (λ is. cc is)
+    ∙ c.in_ok-front.ensures.no_fault (λ is. cc is)

@@ -61,7 +61,7 @@ pub returns-in_err-check_newest-clause-fault : goal.returns-in_err-check_newest-
 returns-in_err-check_newest-clause-fault g c =
     let p = err_from_is_err_and c.from_residual-in_err-check_newest.result c.from_residual-in_err-check_newest.ensures.1 in
     rw (p.1, p.2) (λ is.
-    absurd (fault_of_lists_is_not_of_disk c.args.dealt.now c.digest_of-digest.result c.in_ok-found.found.newest c.in_err-check_newest.field-0.0
+    absurd (fault_of_lists_is_not_of_disk c.args.dealt.now _ c.in_ok-found.found.newest c.in_err-check_newest.field-0.0
     c.in_err-check_newest.ensures.refused is))
 
 pub returns-in_err-check_newest-clause-no_fault : goal.returns-in_err-check_newest-clause-no_fault
