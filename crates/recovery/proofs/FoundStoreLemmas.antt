@@ -1,13 +1,15 @@
 -- The newest slot of a store, and what it opens to.
-use Rattle.std.proofs.Common.{◌≡◌, ◌≤◌, ℕ, Bool, true, false, nat_lt, if◌then◌else◌, List, Option, None, Some, IfSome, option_map}
+use Rattle.std.specs.Prelude.{is_some}
+use Rattle.std.proofs.Common.{◌≡◌, ◌<◌, ◌≤◌, ℕ, Bool, true, false, nat_lt, if◌then◌else◌, List, Option, None, Some, IfSome, option_map}
 use Rattle.std.proofs.Common.{refl, sym, ap, subst, ◌∙◌, arith}
 use Rattle.prefix_lattice.specs.{RecordValue}
 use Rattle.shard_state.specs.{CutValue}
-use Rattle.slot_disk.specs.{CrashLeaves, CrashLeaves-trans, CrashLeaves-weaker, IsStoreOfKnown, KnownSlotsState}
+use Rattle.slot_disk.specs.{CrashLeaves, CrashLeaves-trans, CrashLeaves-weaker, IsStoreOfKnown, KnownSlotsState, known_slot_open}
 use Rattle.checkpoint.specs.declared.newest.Newest.{Newest}
 use Rattle.checkpoint.specs.declared.header.StoreHeader.{StoreHeader}
+use Rattle.checkpoint.specs.declared.saved.Saved.{Saved}
 use Rattle.checkpoint.specs.declared.settings.StoreSettings.{StoreSettings}
-use Rattle.checkpoint.specs.{HasNewest, IsSafeSaver, SavedValue, SaverState, SlotHolds}
+use Rattle.checkpoint.specs.{HasNewest, IsNewestSave, IsSafeSaver, IsSaved, SavedValue, SaverState, SlotHolds, settings_shape}
 use Rattle.checkpoint.specs.{header_bytes, header_digest, lists_digest, newest_in, stored_header}
 use Rattle.checkpoint.specs.{newest_slot_in, store_positions, store_sequence, saved_in, saved_value, saver_of}
 use Rattle.recovery.specs.Reading.{HasHeader, IsDamaged, ReadsAs, RefusesReading}
@@ -69,6 +71,65 @@ found_store_fault_at_one settings image (reading.Damaged slot) has held holds is
         open_slot_is_not_damaged settings 0 image held holds (subst (λ (n : ℕ). IsDamaged settings n image) none damaged);
   },
 )
+
+-- a slot that was read may have been saved
+found_store_is_save_at : (settings : StoreSettings) (slots : KnownSlotsState) (last : Newest) (slot : ℕ) (saved : SavedValue) → slot < 2
+    → known_slot_open slots slot ≡ true → IsSaved settings.shards (settings_shape settings) saved → Some (saved_in last) ≡ Some saved
+    → last.slot ≡ slot → IsNewestSave settings slots (Some last)
+found_store_is_save_at settings slots last slot saved within is_open may is at =
+    let same : saved_in last ≡ saved = cc is in (
+      subst (λ (n : ℕ). n < 2) (sym at) within,
+      subst (λ (n : ℕ). known_slot_open slots n ≡ true) (sym at) is_open,
+      subst (IsSaved settings.shards (settings_shape settings)) (sym same) may,
+    )
+
+-- what was found holds, where both slots hold what was read and the newest is the newest of these
+pub found_store_holds_both : (settings : StoreSettings) (header : StoreHeader) (image : List ℕ) (first second : Option SavedValue)
+    (found : Option Newest) → ShowsHeader settings header image → header.settings ≡ settings → SlotHolds settings 0 image first
+    → SlotHolds settings 1 image second → option_map saved_in found ≡ newest_in first second
+    → IfSome found (λ (last : Newest). last.slot ≡ newest_slot_in first second) → HoldsFound header found image
+found_store_holds_both settings header image first second found shows same here there newest_is slot_is = (
+  first,
+  second,
+  record {
+    long = shows.0.long;
+    header = shows.0.spelled;
+    taken = shows.0.is_header.taken;
+    first_slot = subst (λ (s : StoreSettings). SlotHolds s 0 image first) (sym same) here;
+    second_slot = subst (λ (s : StoreSettings). SlotHolds s 1 image second) (sym same) there;
+  },
+  newest_is,
+  slot_is,
+)
+
+-- the newest of what two slots hold may have been saved, and its gate is open
+pub found_store_is_newest_save : (settings : StoreSettings) (slots : KnownSlotsState) (first second : Option Saved) (found : Option Newest)
+    → is_some first ≡ known_slot_open slots 0 → is_some second ≡ known_slot_open slots 1
+    → IfSome first (λ (saved : Saved). IsSaved settings.shards (settings_shape settings) (saved_value saved))
+    → IfSome second (λ (saved : Saved). IsSaved settings.shards (settings_shape settings) (saved_value saved))
+    → option_map saved_in found ≡ newest_in (option_map saved_value first) (option_map saved_value second)
+    → IfSome found (λ (last : Newest). last.slot ≡ newest_slot_in (option_map saved_value first) (option_map saved_value second))
+    → IsNewestSave settings slots found
+found_store_is_newest_save settings slots None None None gate other may too is at = (sym gate, sym other)
+found_store_is_newest_save settings slots None None (Some last) gate other may too is at = absurd (cc is)
+found_store_is_newest_save settings slots (Some one) None None gate other may too is at = absurd (cc is)
+found_store_is_newest_save settings slots (Some one) None (Some last) gate other may too is at =
+    found_store_is_save_at settings slots last 0 (saved_value one) (omega arith) (sym gate) may is at
+found_store_is_newest_save settings slots None (Some two) None gate other may too is at = absurd (cc is)
+found_store_is_newest_save settings slots None (Some two) (Some last) gate other may too is at =
+    found_store_is_save_at settings slots last 1 (saved_value two) (omega arith) (sym other) too is at
+found_store_is_newest_save settings slots (Some one) (Some two) None gate other may too is at = by_test (nat_lt one.sequence two.sequence) is
+  where
+    by_test : (b : Bool) → None ≡ (if b then Some (saved_value two) else Some (saved_value one)) → IsNewestSave settings slots None
+    by_test true none = absurd (cc none)
+    by_test false none = absurd (cc none)
+found_store_is_newest_save settings slots (Some one) (Some two) (Some last) gate other may too is at =
+    by_test (nat_lt one.sequence two.sequence) is at
+  where
+    by_test : (b : Bool) → Some (saved_in last) ≡ (if b then Some (saved_value two) else Some (saved_value one))
+        → last.slot ≡ (let n : ℕ = (if b then 1 else 0) in n) → IsNewestSave settings slots (Some last)
+    by_test true is at = found_store_is_save_at settings slots last 1 (saved_value two) (omega arith) (sym other) too is at
+    by_test false is at = found_store_is_save_at settings slots last 0 (saved_value one) (omega arith) (sym gate) may is at
 
 -- the newest slot of a store that was found
 found_store_has_newest : (header : StoreHeader) (image : List ℕ) (found : Option Newest) (last : Newest) (slot : ℕ)
