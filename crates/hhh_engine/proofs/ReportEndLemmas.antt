@@ -57,16 +57,22 @@ module _ {S T K D : Type 0} (s : SourceOf S) (t : SourceOf T) (k : SinkOf K) (d 
         → ReportWrites status
     report_end_in_part status failed part =
         let same : part.command ≡ Report settings = one words part.command (Report settings) part.asked asked in
-        inr (failed, inr (subst
-        (λ command. WritesAnswer (IsAnswerInPart rules (run_keeping s t k d old new) command (run_inputs s t k d old new))
-        (k.taken old.sink) (k.taken new.sink)) same part.answer))
+        inr (
+          failed,
+          inr (subst
+              (λ command. WritesAnswer (IsAnswerInPart rules (run_keeping s t k d old new) command (run_inputs s t k d old new))
+              (k.taken old.sink) (k.taken new.sink)) same part.answer),
+        )
 
     report_end_done : WritesText s t k d old new words rules → ReportWrites Done
     report_end_done text =
         let same : text.command ≡ Report settings = one words text.command (Report settings) text.asked asked in
-        inl (refl, subst
-        (λ command. WritesAnswer (IsAnswer rules (run_keeping s t k d old new) command (run_inputs s t k d old new))
-        (k.taken old.sink) (k.taken new.sink)) same text.answer)
+        inl (
+          refl,
+          subst
+              (λ command. WritesAnswer (IsAnswer rules (run_keeping s t k d old new) command (run_inputs s t k d old new))
+              (k.taken old.sink) (k.taken new.sink)) same text.answer,
+        )
 
     -- so it is for every status
     pub report_end_by_status : (status : Status) → RunEnds s t k d old new words rules status → ReportWrites status
@@ -89,17 +95,29 @@ module _ {S T K D : Type 0} (s : SourceOf S) (t : SourceOf T) (k : SinkOf K) (d 
         (λ nothing. inr (refl, inl (nothing.0, subst (λ command. EndsAsBefore command (IsAsBefore d old.disk new.disk)) same nothing.1)))
         (λ part. report_end_in_part DiskFault refl part) failed.in_part
     report_end_by_status NotFormatted ends =
-        inr (refl, inl (ends.bad_store opening.NotFormatted
-        (record { not_of_disk = λ is. cc is; not_of_memory = λ is. cc is }) refl).nothing)
+        inr (
+          refl,
+          inl (ends.bad_store opening.NotFormatted
+              (record { not_of_disk = λ is. cc is; not_of_memory = λ is. cc is }) refl).nothing,
+        )
     report_end_by_status (Damaged slot) ends =
-        inr (refl, inl (ends.bad_store (opening.Damaged slot)
-        (record { not_of_disk = λ is. cc is; not_of_memory = λ is. cc is }) refl).nothing)
+        inr (
+          refl,
+          inl (ends.bad_store (opening.Damaged slot)
+              (record { not_of_disk = λ is. cc is; not_of_memory = λ is. cc is }) refl).nothing,
+        )
     report_end_by_status (OtherSettings stored other) ends =
-        inr (refl, inl (ends.bad_store (opening.OtherSettings stored other)
-        (record { not_of_disk = λ is. cc is; not_of_memory = λ is. cc is }) refl).nothing)
+        inr (
+          refl,
+          inl (ends.bad_store (opening.OtherSettings stored other)
+              (record { not_of_disk = λ is. cc is; not_of_memory = λ is. cc is }) refl).nothing,
+        )
     report_end_by_status (OtherCapture stored other) ends =
-        inr (refl, inl (ends.bad_store (opening.OtherCapture stored other)
-        (record { not_of_disk = λ is. cc is; not_of_memory = λ is. cc is }) refl).nothing)
+        inr (
+          refl,
+          inl (ends.bad_store (opening.OtherCapture stored other)
+              (record { not_of_disk = λ is. cc is; not_of_memory = λ is. cc is }) refl).nothing,
+        )
     report_end_by_status (AuditNo report verdict) ends =
         let found = ends.audit_no report verdict refl in
         let same : Audit found.settings ≡ Report settings =
