@@ -13,21 +13,18 @@ use Rattle.prefix_lattice.specs.{RecordValue}
 use Rattle.hhh_report.specs.{AreNotPast}
 use Rattle.shard_state.specs.{CutValue, ShardValue, core_shape}
 use Rattle.pass_tokens.specs.{first_view}
-use Rattle.checkpoint.specs.{AreSettings, SaverState, DiskMatches}
+use Rattle.checkpoint.specs.{AreSettings, SaverState, DiskMatches, settings_shape}
 use Rattle.recovery.specs.{CanGoOn, IsBaseFor, OpensToBase, base_positions, greatest_opened}
 use Rattle.command_words.specs.declared.settings.Settings.{Settings}
 use Rattle.report_session.specs.DealtFeed.{FeedGoesOn, HasNoBase, IsFeedBase, IsFeedSaver}
 use Rattle.report_session.specs.Saving.{saves_settings-allowed, CanMakeSaves, saves_settings}
-use Rattle.report_session.specs.Session.{session_opening, session_start}
+use Rattle.report_session.specs.Session.{session_opening, session_start, asked_shape, GoesOnFrom}
 use Rattle.report_session.specs.declared.base.Base.{Base}
 use Rattle.run_status.specs.declared.status.Status.{Status}
 use Rattle.run_status.specs.declared.status.Status.TheVariants.{OutOfMemory}
 use Rattle.report_session.proofs.OpeningShardLemmas.{resumed_opening_shards_at_cut, opening_shards_start_at_zero}
 use Rattle.report_session.proofs.SeenPositionLemmas.{seen_positions_not_past_self}
 use Rattle.report_session.proofs.SessionThreadLemmas.{first_session_thread_sees_starts}
-use Rattle.report_session.specs.Session.{asked_shape}
-use Rattle.checkpoint.specs.{settings_shape}
-use Rattle.report_session.specs.Session.{GoesOnFrom}
 
 -- shards may go on from the base
 pub base_goes_on : (settings : Settings) (lists : List (List RecordValue)) (store : Option (List ℕ)) (base : Option CutValue)
@@ -87,8 +84,7 @@ opened_base settings lists store opened base used many goes_on opens cut positio
       positions ∙ goes_on.positions_are ∙ base_starts settings lists opened.base many goes_on.base
       ∙ ap (λ o. session_start (session_opening (asked_shape settings) lists o)) (sym cut);
   saver =
-      subst (λ o. IfSome o (IsFeedSaver settings lists base.positions)) (sym saver)
-      (record {
+      subst (λ o. IfSome o (IsFeedSaver settings lists base.positions)) (sym saver) (record {
         settings_are = goes_on.saver_settings;
         digest_is = goes_on.saver_digest;
         early = goes_on.early;
@@ -101,8 +97,7 @@ pub new_base : (settings : Settings) (lists : List (List RecordValue)) (store : 
     → settings.store ≡ false → base ≡ record { cut = None; positions = replicate (length lists) 0; saver = None }
     → IsFeedBase settings lists store base
 new_base settings lists store base unused is =
-    subst (IsFeedBase settings lists store) (sym is)
-    (record {
+    subst (IsFeedBase settings lists store) (sym is) (record {
       begins = record {
         unused = λ without. refl;
         fits = tt;

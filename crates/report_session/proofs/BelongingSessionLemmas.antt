@@ -4,7 +4,7 @@ use Rattle.std.proofs.Common.{⊎_elim, refl, sym, subst, length, All}
 use Rattle.std.specs.Prelude.{option_map, IfSome}
 use Rattle.std.proofs.lemmas.List.Elements.{All-append, All-cons, All-head, All-nil, All-tail}
 use Rattle.prefix_lattice.specs.{RecordValue, shard_limit}
-use Rattle.shard_state.specs.{AreCoreShards, CutRepresents, CutValue, ShardValue}
+use Rattle.shard_state.specs.{AreCoreShards, CutRepresents, CutValue, ShardValue, TableShape}
 use Rattle.hhh_report.specs.declared.reports.Reported.{Reported}
 use Rattle.slot_disk.specs.{CrashLeaves-weaker}
 use Rattle.slot_disk.specs.declared.disk.Disk.{Ghosts as DiskOf}
@@ -20,9 +20,9 @@ use Rattle.report_session.specs.DealtFeed.{FeedGoesOn}
 use Rattle.report_session.specs.Saving.{BelongThroughout, BelongsToLists, AreKeptOnDisk, last_of_saves, saves_after}
 use Rattle.report_session.specs.Saving.{IsAsBefore, saves_settings, saves_settings-allowed}
 use Rattle.report_session.specs.KeptStore.{SessionsBelong}
-use Rattle.report_session.specs.Session.{AreOfCaller, GoesOnFrom, IsSession, IsSessionInPart}
-use Rattle.report_session.specs.Session.{IsShownInSession, GoesOnSoundly, SessionSaving}
-use Rattle.report_session.specs.Session.{caller_reports, session_opening, saved_cuts}
+use Rattle.report_session.specs.Session.{AreOfCaller, GoesOnFrom, IsSession, IsSessionInPart, IsShownInSession}
+use Rattle.report_session.specs.Session.{GoesOnSoundly, SessionSaving, caller_reports, session_opening, saved_cuts}
+use Rattle.report_session.specs.Session.{asked_shape}
 use Rattle.dealt_capture.specs.{DealingRules}
 use Rattle.report_session.proofs.BaseLemmas.{base_goes_on}
 use Rattle.report_session.proofs.LastReportLemmas.{last_report_is_among_all}
@@ -32,8 +32,6 @@ use Rattle.report_session.proofs.OpeningShardLemmas.{new_opening_shards_are_shar
 use Rattle.report_session.proofs.OwnReportLemmas.{own_report_lists_of_opening}
 use Rattle.report_session.proofs.ShownSessionLemmas.{shown_session_front_of_all}
 use Rattle.report_session.proofs.SessionTextLemmas.{session_text_whatever_was_saved, session_text_begins_saying_less}
-use Rattle.report_session.specs.Session.{asked_shape}
-use Rattle.shard_state.specs.{TableShape}
 
 -- the shards of a run, whose base represents the lists
 belonging_session_opens_shards : (shape : TableShape) (lists : List (List RecordValue)) (base : Option CutValue) → 1 ≤ length lists
@@ -101,11 +99,9 @@ belonging_session_keeps_belonging one shown d read_is_image settings lists base 
     record {
       base_represents = represents;
       any_moment = CrashLeaves-weaker d.moment d.image_since old new _ (BelongsToLists asked lists) keeps.any_moment
-          (λ image was. ⊎_elim (belonged image)
-          (λ among. belonging_session_by_its_bytes shown of_store lists image
+          (λ image was. ⊎_elim (belonged image) (λ among. belonging_session_by_its_bytes shown of_store lists image
           (saved_store_belongs of_store lists opened sequence (saved ++ unfinished) image is all among)) was);
-      afterwards = λ image possible.
-          belonging_session_by_its_bytes shown of_store lists image
+      afterwards = λ image possible. belonging_session_by_its_bytes shown of_store lists image
           (saved_store_belongs of_store lists (last_of_saves opened (saves_after sequence digest saved)) (sequence + length saved)
           unfinished image (belonging_session_saves_of_lists of_store lists opened sequence saved is (of_saved represents))
           (of_unfinished represents) (keeps.afterwards image possible));
@@ -130,8 +126,7 @@ belonging_session_cuts_represent represent settings lists store base reports lim
 
 -- the same, with or without a store
 belonging_session_kept_cuts : (store : Bool) (opening : List ShardValue) (lists : List (List RecordValue))
-    (reports : List Reported) → store ≡ true
-    → All (λ cut. CutRepresents cut lists) (saved_cuts true opening reports)
+    (reports : List Reported) → store ≡ true → All (λ cut. CutRepresents cut lists) (saved_cuts true opening reports)
     → All (λ cut. CutRepresents cut lists) (saved_cuts store opening reports)
 belonging_session_kept_cuts store opening lists reports used all =
     subst (λ b. All (λ (cut : CutValue). CutRepresents cut lists) (saved_cuts b opening reports)) (sym used) all
@@ -203,15 +198,12 @@ belonging_session_broken_off one shown represent d read_is_image rules settings 
       before = λ count rounds next are.
           belongs (cuts rounds ++ []) [] (λ standing. both (cuts rounds) [] (of_rounds rounds next count are standing) no_cut)
           (λ standing. no_cut);
-      unfinished = λ count rounds next are.
-          belongs (cuts rounds ++ []) (cuts (next ∷ []))
+      unfinished = λ count rounds next are. belongs (cuts rounds ++ []) (cuts (next ∷ []))
           (λ standing. both (cuts rounds) [] (of_rounds rounds next count are standing) no_cut)
           (of_next rounds next count are);
-      saved = λ count rounds next are.
-          belongs (cuts rounds ++ cuts (next ∷ [])) []
+      saved = λ count rounds next are. belongs (cuts rounds ++ cuts (next ∷ [])) []
           (λ standing. both (cuts rounds) (cuts (next ∷ [])) (of_rounds rounds next count are standing)
-          (of_next rounds next count are standing))
-          (λ standing. no_cut);
+          (of_next rounds next count are standing)) (λ standing. no_cut);
     }) is.begun)
 
 -- sessions of both kinds

@@ -2,15 +2,13 @@
 use Rattle.std.proofs.Common.{◌≡◌, ◌∙◌, ◌+◌, ◌-◌, ◌*◌, ◌^◌, ◌<◌, ◌≤◌, ℕ, not, List, [], ◌∷◌, length, take, get_or, All}
 use Rattle.std.proofs.Common.{refl, sym, subst, arith}
 use Rattle.std.proofs.lemmas.Nat.{mul-le}
-use Rattle.std.proofs.lemmas.List.Elements.{All-cons, All-head, All-nil, All-tail, All-weaker}
-use Rattle.std.proofs.lemmas.List.Elements.{Contains-get_or}
+use Rattle.std.proofs.lemmas.List.Elements.{All-cons, All-head, All-nil, All-tail, All-weaker, Contains-get_or}
 use Rattle.std.proofs.lemmas.List.Filters.{sum_by-filter_both}
 use Rattle.std.proofs.lemmas.List.Sums.{sum_by-append, sum_by-le, sum_by-take-le}
-use Rattle.prefix_lattice.specs.{HoldsWeight, IsNarrow, IsPrefix, PrefixValue, RecordValue, covers}
-use Rattle.prefix_lattice.specs.{record_limit}
+use Rattle.prefix_lattice.specs.{HoldsWeight, IsNarrow, IsPrefix, PrefixValue, RecordValue, covers, record_limit}
 use Rattle.prefix_lattice.specs.{total_weight, prefix_weight}
 use Rattle.hhh_report.specs.{IsSound, records_before, AreWithinLists, IsThreshold, million}
-use Rattle.shard_state.specs.{IsShard, ShardValue, shard_state_at}
+use Rattle.shard_state.specs.{IsShard, ShardValue, shard_state_at, core_shape, TableShape}
 use Rattle.hhh_report.specs.declared.line.Line.{Line}
 use Rattle.hhh_report.specs.declared.report.Report.{Report}
 use Rattle.hhh_report.specs.declared.reports.Reported.{Reported}
@@ -18,11 +16,8 @@ use Rattle.gate_workers.specs.{states_at}
 use Rattle.report_text.specs.{ShowsPositions}
 use Rattle.command_words.specs.{AreLimited}
 use Rattle.command_words.specs.declared.settings.Settings.{Settings}
-use Rattle.report_session.specs.Session.{IsShownInSession}
+use Rattle.report_session.specs.Session.{IsShownInSession, asked_shape}
 use Rattle.prefix_lattice.specs.declared.grain.Grain.{Grain}
-use Rattle.shard_state.specs.{core_shape}
-use Rattle.shard_state.specs.{TableShape}
-use Rattle.report_session.specs.Session.{asked_shape}
 
 -- the list of a shard: at most 2^24 records, each of a weight below 2^32
 pub record IsBoundedReportList (list : List RecordValue) : Type 0 where
@@ -144,8 +139,7 @@ bounded_report_if_sound opening settings lists reported limited many many_lists 
           (omega (arith, capacity)) (omega (arith, weight, total_is)) holds (sound.width k d lt) in
           let is_line = (shown.is_report.is.lines line).0 (Contains-get_or report.lines k d lt) in (
             subst (λ (shape : TableShape). IsPrefix shape.grain line.prefix) alike is_line.is_prefix,
-            omega
-                (arith, holds.low, weight, total_is, total),
+            omega (arith, holds.low, weight, total_is, total),
             omega (arith, high, total),
           );
     }

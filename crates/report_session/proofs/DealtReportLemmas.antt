@@ -6,8 +6,7 @@ use Rattle.std.proofs.lemmas.Bool.{false≢true}
 use Rattle.outside_io.specs.{FaultRose}
 use Rattle.prefix_lattice.specs.{RecordValue}
 use Rattle.shard_state.specs.{CutValue}
-use Rattle.slot_disk.specs.{IfImageKnown, CrashLeaves, CrashLeaves-trans}
-use Rattle.slot_disk.specs.{CrashLeaves-weaker}
+use Rattle.slot_disk.specs.{IfImageKnown, CrashLeaves, CrashLeaves-trans, CrashLeaves-weaker}
 use Rattle.slot_disk.specs.declared.disk.Disk.{Ghosts as DiskOf}
 use Rattle.checkpoint.specs.{ShowsItsHeader, SaverState, lists_digest, store_sequence, stored_header}
 use Rattle.checkpoint.specs.declared.header.StoreHeader.{StoreHeader}
@@ -16,20 +15,16 @@ use Rattle.recovery.specs.declared.fault.OpenFault.{OpenFault}
 use Rattle.recovery.specs.declared.fault.OpenFault.TheVariants as opening
 use Rattle.command_words.specs.declared.settings.Settings.{Settings}
 use Rattle.report_session.specs.Session.{AreSessionShards, WritesAnswer, BeginsSession, GoesOnFrom, SessionKeeping}
-use Rattle.report_session.specs.Session.{GoesOnSoundly, SessionSaving, IsOverShards, session_opening}
-use Rattle.report_session.specs.DealtFeed.{FeedEnds, HasNoBase, IsFeedFault, IsFeedSaver}
-use Rattle.report_session.specs.DealtFeed.{FeedWrites, FeedWritesPart}
+use Rattle.report_session.specs.Session.{GoesOnSoundly, SessionSaving, IsOverShards, session_opening, asked_shape}
+use Rattle.report_session.specs.DealtFeed.{FeedEnds, HasNoBase, IsFeedFault, IsFeedSaver, FeedWrites, FeedWritesPart}
 use Rattle.report_session.specs.LiveRounds.{round_faults}
-use Rattle.report_session.specs.Saving.{KeepsSaves, OpensToSaves, SavesInPart, AreKeptOnDisk}
-use Rattle.report_session.specs.Saving.{saves_after, saves_settings}
+use Rattle.report_session.specs.Saving.{KeepsSaves, OpensToSaves, SavesInPart, AreKeptOnDisk, saves_after}
+use Rattle.report_session.specs.Saving.{saves_settings, IsAsBefore}
 use Rattle.run_status.specs.{status_of_opening}
 use Rattle.run_status.specs.declared.status.Status.{Status}
 use Rattle.run_status.specs.declared.status.Status.TheVariants.{WriteFault, DiskFault, OutOfMemory}
-use Rattle.report_session.proofs.SessionTextLemmas.{session_text_begins_weaker}
-use Rattle.report_session.proofs.SessionTextLemmas.{spelled_session_text_says_less}
+use Rattle.report_session.proofs.SessionTextLemmas.{session_text_begins_weaker, spelled_session_text_says_less}
 use Rattle.outside_io.specs.declared.sink.Sink.{Ghosts as SinkOf}
-use Rattle.report_session.specs.Saving.{IsAsBefore}
-use Rattle.report_session.specs.Session.{asked_shape}
 
 -- what a run keeps of its store, from the opening of the store and the saves after it
 pub dealt_report_keeps_saves : ShowsItsHeader → {D : Type 0} (d : DiskOf D) (settings : Settings) (lists : List (List RecordValue))
@@ -56,8 +51,7 @@ dealt_report_keeps_saves shown d settings lists positions (Some saver) saved unf
       opens = kept.opens;
       any_moment = CrashLeaves-trans d.moment d.image_since old mid new (λ image. d.image_now old image ⊎ among image)
           (CrashLeaves-weaker d.moment d.image_since old mid (d.image_now old) (λ image. d.image_now old image ⊎ among image) leaves
-          (λ image was. inl was))
-          (CrashLeaves-weaker d.moment d.image_since mid new (λ image. ⊥ ⊎ among image)
+          (λ image was. inl was)) (CrashLeaves-weaker d.moment d.image_since mid new (λ image. ⊥ ⊎ among image)
           (λ image. d.image_now old image ⊎ among image) kept.any_moment
           (λ image. ⊎_elim (λ never. absurd never) (λ held. inr held)));
       afterwards = kept.afterwards;

@@ -12,15 +12,12 @@ use Rattle.pass_tokens.specs.{IsOddWord, SeatValue, ShardRead, WordsValue, after
 use Rattle.gate_workers.specs.{Calls, HasSeenEnds, IsCoreReport, ReadsOnce, View, cut_at}
 use Rattle.gate_workers.specs.declared.gathered.Gathered.{Gathered}
 use Rattle.report_text.specs.{tail_text}
-use Rattle.report_session.specs.Session.{AreOfCaller, BreaksOffInRounds, SessionSaving}
-use Rattle.report_session.specs.Session.{session_part, session_parts}
+use Rattle.report_session.specs.Session.{AreOfCaller, BreaksOffInRounds, SessionSaving, session_part, session_parts}
 use Rattle.report_session.specs.LiveRounds.{BreaksRound, DiskFailed, EndRounds, RoundFaults, RoundSide, RoundsBreakOff}
 use Rattle.report_session.specs.LiveRounds.{IsInVain, ReportsOnce, SinkFailed, BreaksInLine}
 use Rattle.report_session.specs.LiveRounds.{BreaksInReport, WritesRounds, WritesUnsaved}
-use Rattle.report_session.specs.DealtFeed.{IsFeedCapture}
-use Rattle.report_session.specs.DealtFeed.{IsFeedFault, IsFeedResult, IsGathered}
-use Rattle.report_session.specs.DealtFeed.{IsFeedOpening, IsSaveFault, StartsBefore}
-use Rattle.report_session.specs.DealtFeed.{FeedBreaksOff, other_reports}
+use Rattle.report_session.specs.DealtFeed.{IsFeedCapture, IsFeedFault, IsFeedResult, IsGathered, IsFeedOpening}
+use Rattle.report_session.specs.DealtFeed.{IsSaveFault, StartsBefore, FeedBreaksOff, other_reports}
 use Rattle.report_session.specs.declared.session.Opened.{Opened}
 use Rattle.report_session.specs.declared.feed.Fed.{Fed}
 use Rattle.run_status.specs.declared.status.Status.TheVariants.{Done, BadWords, ReadFault, WriteFault, DiskFault}
@@ -142,8 +139,7 @@ last_is_sound : All (λ (reported : Reported). IsSound Byte reported.report list
 last_is_sound =
     All-cons (λ (reported : Reported). IsSound Byte reported.report lists 512 10000) last [] nothing_is_sound (All-nil _)
 
-pub one_round_is_written :
-    WritesRounds opening 10000 false 1 at_first (took (session_part false last) calm) none_saved
+pub one_round_is_written : WritesRounds opening 10000 false 1 at_first (took (session_part false last) calm) none_saved
 unfolding digits
 one_round_is_written = record {
   reports = last ∷ [];
@@ -162,8 +158,7 @@ one_round_of_one = one_round_is_written
 abbrev one_saved : List CutValue → Type 0
 one_saved cuts = cuts ≡ cut_at opening (0 ∷ 0 ∷ 0 ∷ 0 ∷ []) ∷ []
 
-pub one_round_is_saved :
-    WritesRounds opening 10000 true 1 at_first (took (session_part true last) calm) one_saved
+pub one_round_is_saved : WritesRounds opening 10000 true 1 at_first (took (session_part true last) calm) one_saved
 unfolding digits
 one_round_is_saved = record {
   reports = last ∷ [];
@@ -198,8 +193,7 @@ report_in_part = record {
 abbrev saved_the_one : SessionSaving
 saved_the_one saved unfinished = one_saved saved × (unfinished ≡ [])
 
-pub line_in_part :
-    BreaksInLine opening 10000 true at_first (took (session_part false last) sink_rose) saved_the_one
+pub line_in_part : BreaksInLine opening 10000 true at_first (took (session_part false last) sink_rose) saved_the_one
 unfolding digits
 line_in_part = record {
   report = report;
@@ -242,14 +236,12 @@ round_in_vain = record { reads = each_shard_was_read_once; unwritten = refl; kep
 pub round_in_vain_writes_nothing : IsInVain opening at_first (took (codes "report\n") calm) none_unfinished → ⊥
 round_in_vain_writes_nothing vain = cc vain.unwritten
 
-pub sink_breaks_a_round :
-    BreaksRound opening 10000 false at_first (took (codes "report\n") sink_rose) none_unfinished
+pub sink_breaks_a_round : BreaksRound opening 10000 false at_first (took (codes "report\n") sink_rose) none_unfinished
     WriteFault
 sink_breaks_a_round = (inl report_in_part, sink_failed)
 
 pub sink_breaks_the_line :
-    BreaksRound opening 10000 true at_first (took (session_part false last) sink_rose) saved_the_one
-    WriteFault
+    BreaksRound opening 10000 true at_first (took (session_part false last) sink_rose) saved_the_one WriteFault
 sink_breaks_the_line = (inr line_in_part, sink_failed)
 
 -- a sink that failed has counted it
@@ -258,39 +250,32 @@ pub sink_that_did_not_fail :
 sink_that_did_not_fail breaks = omega (arith, breaks.1.rose)
 
 pub disk_breaks_a_round :
-    BreaksRound opening 10000 true at_first (took (session_part false last) disk_rose) unfinished_the_one
-    DiskFault
+    BreaksRound opening 10000 true at_first (took (session_part false last) disk_rose) unfinished_the_one DiskFault
 disk_breaks_a_round = (refl, unsaved_round, disk_failed)
 
 -- without a store no disk is written to
 pub disk_breaks_no_round_without_a_store :
-    BreaksRound opening 10000 false at_first (took (session_part false last) disk_rose) unfinished_the_one
-    DiskFault → ⊥
+    BreaksRound opening 10000 false at_first (took (session_part false last) disk_rose) unfinished_the_one DiskFault → ⊥
 disk_breaks_no_round_without_a_store breaks = cc breaks.0
 
-pub memory_breaks_a_round :
-    BreaksRound opening 10000 false at_first (took [] calm) none_unfinished OutOfMemory
+pub memory_breaks_a_round : BreaksRound opening 10000 false at_first (took [] calm) none_unfinished OutOfMemory
 memory_breaks_a_round = (inl round_in_vain, refl)
 
 -- memory may also run out in a save
-pub memory_breaks_a_save :
-    BreaksRound opening 10000 true at_first (took (session_part false last) calm) none_unfinished
+pub memory_breaks_a_save : BreaksRound opening 10000 true at_first (took (session_part false last) calm) none_unfinished
     OutOfMemory
 memory_breaks_a_save = (inr (refl, round_not_saved), refl)
 
 -- then no save was made, or begun
 pub memory_ran_out_after_a_save :
-    BreaksRound opening 10000 true at_first (took (session_part false last) calm) saved_the_one
-    OutOfMemory → ⊥
+    BreaksRound opening 10000 true at_first (took (session_part false last) calm) saved_the_one OutOfMemory → ⊥
 memory_ran_out_after_a_save (inl vain, same) = cc vain.kept.0
 memory_ran_out_after_a_save (inr unsaved, same) = cc unsaved.1.kept.0
 
-pub success_breaks_no_round :
-    BreaksRound opening 10000 false at_first (took [] calm) none_unfinished Done → ⊥
+pub success_breaks_no_round : BreaksRound opening 10000 false at_first (took [] calm) none_unfinished Done → ⊥
 success_breaks_no_round breaks = breaks
 
-pub source_breaks_no_round :
-    BreaksRound opening 10000 false at_first (took [] sink_rose) none_unfinished ReadFault → ⊥
+pub source_breaks_no_round : BreaksRound opening 10000 false at_first (took [] sink_rose) none_unfinished ReadFault → ⊥
 source_breaks_no_round breaks = breaks
 
 -- the first of two rounds broke off
@@ -305,8 +290,7 @@ first_round_broke_off = record {
 }
 
 pub no_round_breaks_off :
-    RoundsBreakOff opening 10000 false 0 at_first (took (codes "report\n") sink_rose) none_unfinished WriteFault
-    → ⊥
+    RoundsBreakOff opening 10000 false 0 at_first (took (codes "report\n") sink_rose) none_unfinished WriteFault → ⊥
 no_round_breaks_off breaks = omega (arith, breaks.few)
 
 pub two_rounds_ended_in_the_first :

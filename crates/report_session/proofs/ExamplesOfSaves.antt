@@ -3,9 +3,9 @@ use Rattle.std.proofs.Common.{◌≡◌, ◌≤◌, ℕ, List, [], ◌∷◌, �
 use Rattle.std.specs.Prelude.{⊤, ◌⊎◌, true, false}
 use Rattle.std.specs.Fmt.{digits}
 use Rattle.std.proofs.lemmas.List.Elements.{All-nil, All-cons}
-use Rattle.prefix_lattice.specs.{RecordValue}
+use Rattle.prefix_lattice.specs.{RecordValue, address_bits}
 use Rattle.deal_rules.specs.declared.deal_kind.DealKind.TheVariants.{RoundRobin}
-use Rattle.shard_state.specs.{CutValue, ShardValue, SnapshotValue, empty_snapshot, no_entries}
+use Rattle.shard_state.specs.{CutValue, ShardValue, SnapshotValue, empty_snapshot, no_entries, TableShape}
 use Rattle.hhh_report.specs.{AreReportLines}
 use Rattle.hhh_report.specs.declared.line.Line.{Line}
 use Rattle.hhh_report.specs.declared.report.Report.{Report}
@@ -29,16 +29,12 @@ use Rattle.prefix_lattice.specs.declared.grain.Grain.TheVariants.{Byte}
 use Rattle.report_session.specs.Saving.{KeepsSaves, OpensToSaves, SavesReopen, Saves, SavesBreakOff}
 use Rattle.report_session.specs.Saving.{SavesInPart, after_saves, after_broken, AreKeptOnDisk}
 use Rattle.report_session.specs.Saving.{last_of_saves, AreReopened, ReopenFromStore, saves_after, saves_settings}
-use Rattle.report_session.specs.Session.{GoesOnFrom, SessionReports, caller_reports}
-use Rattle.report_session.specs.Session.{session_ends, last_positions, new_shards, session_opening}
-use Rattle.report_session.specs.Session.{session_part, resumed_shards, saved_cuts, saves_of}
-use Rattle.report_session.specs.Session.{text_of_reports, session_start}
+use Rattle.report_session.specs.Session.{GoesOnFrom, SessionReports, caller_reports, session_ends, last_positions}
+use Rattle.report_session.specs.Session.{new_shards, session_opening, session_part, resumed_shards, saved_cuts}
+use Rattle.report_session.specs.Session.{saves_of, text_of_reports, session_start, asked_shape}
 use Rattle.run_status.specs.declared.status.Status.TheVariants.{NotFormatted}
 use Rattle.dealt_capture.proofs.Examples.{packet}
 use Rattle.report_session.proofs.ExamplesOfSessions.{last, opening as four_shards, settings}
-use Rattle.report_session.specs.Session.{asked_shape}
-use Rattle.shard_state.specs.{TableShape}
-use Rattle.prefix_lattice.specs.{address_bits}
 use Rattle.std.proofs.Common.{ap}
 
 -- `report --store`, with one shard and tables of two entries
@@ -154,8 +150,7 @@ unknown_disk = record {
 abbrev formatted_since : ℕ → ℕ → List ℕ → Type 0
 formatted_since disk moment image = image ≡ formatted
 
-pub no_saves_keep_the_store :
-    KeepsSaves (disk_of formatted) 7 7 of_one (9 ∷ []) (λ image. ⊥) [] [] formatted
+pub no_saves_keep_the_store : KeepsSaves (disk_of formatted) 7 7 of_one (9 ∷ []) (λ image. ⊥) [] [] formatted
 no_saves_keep_the_store = record {
   opened = None;
   opens = formatted_opens_to_nothing;
@@ -202,8 +197,7 @@ empty_disk_reopens reopens = omega (arith, reopens.opens.2.long)
 pub first_save_may_be_unfinished : AreReopened (disk_of formatted) 7 7 one [] [] (none_counted ∷ [])
 first_save_may_be_unfinished store known =
     subst (λ bytes. ReopenFromStore (λ image. image ≡ formatted) (stored_header one bytes)
-    (lists_digest (stored_header one bytes) []) [] (none_counted ∷ []) bytes) (cc known)
-    (record {
+    (lists_digest (stored_header one bytes) []) [] (none_counted ∷ []) bytes) (cc known) (record {
       opened = None;
       opens = formatted_opens_to_nothing;
       again = λ image is. subst (SavesReopen of_one None (none_counted ∷ [])) (sym is) (formatted_reopens (none_counted ∷ []));
@@ -246,8 +240,7 @@ pub no_saver_after_an_unfinished_save : after_broken (Some saver) (one_counted �
 no_saver_after_an_unfinished_save = refl
 
 -- nothing was saved, and the saver is lost all the same
-pub saver_was_dropped :
-    SavesBreakOff unknown_disk (Some saver) None 7 7 [] [] → ⊥
+pub saver_was_dropped : SavesBreakOff unknown_disk (Some saver) None 7 7 [] [] → ⊥
 saver_was_dropped broke = cc broke.saver
 
 pub two_saves_use_two_sequences : (after_saves saver (none_counted ∷ one_counted ∷ [])).sequence ≡ 2
@@ -257,17 +250,14 @@ pub two_saves_end_at_the_later_cut : (after_saves saver (none_counted ∷ one_co
 two_saves_end_at_the_later_cut = refl
 
 -- without a saver the disk stays
-pub nothing_is_saved_without_a_saver :
-    Saves unknown_disk None [] 7 8 → ⊥
+pub nothing_is_saved_without_a_saver : Saves unknown_disk None [] 7 8 → ⊥
 nothing_is_saved_without_a_saver same = omega (arith, same)
 
-pub nothing_is_begun_without_a_saver :
-    SavesInPart unknown_disk None 7 8 [] (none_counted ∷ []) → ⊥
+pub nothing_is_begun_without_a_saver : SavesInPart unknown_disk None 7 8 [] (none_counted ∷ []) → ⊥
 nothing_is_begun_without_a_saver part = let same = part.unused refl in omega (arith, same)
 
 -- where nothing is known of a disk, nothing is said of what it keeps
-pub unknown_disk_keeps_anything :
-    AreKeptOnDisk unknown_disk 7 8 one [] (none_counted ∷ []) []
+pub unknown_disk_keeps_anything : AreKeptOnDisk unknown_disk 7 8 one [] (none_counted ∷ []) []
 unknown_disk_keeps_anything bytes told = absurd (cc told)
 
 -- ---- what a run goes on from

@@ -11,8 +11,7 @@ use Rattle.prefix_lattice.specs.{RecordValue, NodeValue, IsPrefixKey, IsNode, no
 use Rattle.deal_rules.specs.declared.deal_kind.DealKind.TheVariants.{RoundRobin}
 use Rattle.deal_rules.specs.{IsDealing}
 use Rattle.shard_state.specs.{CutValue, IsShard, IsSnapshot, ShardValue, TableShape, empty_snapshot, entries_at}
-use Rattle.shard_state.specs.{no_entries}
-use Rattle.shard_state.specs.{BasesRepresent, SnapshotRepresents, table_at}
+use Rattle.shard_state.specs.{no_entries, BasesRepresent, SnapshotRepresents, table_at}
 use Rattle.space_saving.specs.declared.entry.Entry.{Entry}
 use Rattle.space_saving.specs.{AreTableEntries, interval_in, table_total}
 use Rattle.hhh_report.specs.{AreReportLines, IsSound, IsThreshold}
@@ -30,19 +29,16 @@ use Rattle.report_text.specs.{tail_text}
 use Rattle.command_words.specs.declared.settings.Settings.{Settings}
 use Rattle.dealt_capture.specs.{AreDealtRecords, DealingRules}
 use Rattle.report_session.specs.Session.{AreOfCaller, AreReports, AreSessionShards, BeginsSession, BeginsWholeSession}
-use Rattle.report_session.specs.Session.{BreaksOffInRounds, BreaksOffAround, BreaksOffLater}
-use Rattle.report_session.specs.Session.{GoesOnFrom, IsSession, IsSessionInPart, IsShownInSession}
-use Rattle.report_session.specs.Session.{IsStrictBeginning, SessionKeeping, rest_after_saves}
-use Rattle.report_session.specs.Session.{saved_cuts, ReportsNeverFall, GoesOnSoundly, SessionSaving}
-use Rattle.report_session.specs.Session.{SessionReports, IsOverShards, caller_reports}
-use Rattle.report_session.specs.Session.{caller_parts, new_shards, session_opening, session_part}
-use Rattle.report_session.specs.Session.{session_parts, session_rest, save_line, text_of_reports}
-use Rattle.report_session.specs.Session.{session_start}
+use Rattle.report_session.specs.Session.{BreaksOffInRounds, BreaksOffAround, BreaksOffLater, GoesOnFrom, IsSession}
+use Rattle.report_session.specs.Session.{IsSessionInPart, IsShownInSession, IsStrictBeginning, SessionKeeping}
+use Rattle.report_session.specs.Session.{rest_after_saves, saved_cuts, ReportsNeverFall, GoesOnSoundly, SessionSaving}
+use Rattle.report_session.specs.Session.{SessionReports, IsOverShards, caller_reports, caller_parts, new_shards}
+use Rattle.report_session.specs.Session.{session_opening, session_part, session_parts, session_rest, save_line}
+use Rattle.report_session.specs.Session.{text_of_reports, session_start, asked_shape}
 use Rattle.report_session.proofs.Examples.{header, two_shards}
 use Rattle.report_session.proofs.ShownSessionLemmas.{shown_session_report, shown_session_reports}
 use Rattle.prefix_lattice.proofs.NodePlaceLemmas.{node_place_is_small}
 use Rattle.prefix_lattice.specs.declared.grain.Grain.TheVariants.{Byte}
-use Rattle.report_session.specs.Session.{asked_shape}
 
 -- `report`, with defaults filled in
 abbrev pub settings : Settings
@@ -158,8 +154,7 @@ least_threshold = record {
 high_of_nothing : (node : NodeValue) (key : ℕ) → IsNode Byte node
     → (interval_in (table_at node (empty_snapshot shape)) key).high ≡ 0
 high_of_nothing node key is_node =
-    ap (λ entries. (interval_in (record { capacity = 512; entries = entries }) key).high)
-    (nothing_counted node is_node)
+    ap (λ entries. (interval_in (record { capacity = 512; entries = entries }) key).high) (nothing_counted node is_node)
 
 nothing_is_heavy : (line : Line) → IsLineOf cut 1 [] line → ⊥
 unfolding no_entries
@@ -421,8 +416,7 @@ abbrev pub saves_nothing : SessionSaving
 saves_nothing saved unfinished = (saved ≡ []) × (unfinished ≡ [])
 
 -- a sink with room for 12 bytes took a part of the first line
-pub first_bytes_of_the_session :
-    BeginsSession opening settings saves_nothing (tail_text records) (codes "opened 0 0 0")
+pub first_bytes_of_the_session : BeginsSession opening settings saves_nothing (tail_text records) (codes "opened 0 0 0")
 unfolding digits
 first_bytes_of_the_session = inl (((codes " 0\n", refl), omega arith), (refl, refl))
 

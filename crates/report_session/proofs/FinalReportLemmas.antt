@@ -15,11 +15,10 @@ use Rattle.gate_workers.specs.{IsCoreReport, cut_at, states_at}
 use Rattle.command_words.specs.{HaveWideShare}
 use Rattle.command_words.specs.declared.settings.Settings.{Settings}
 use Rattle.report_session.specs.DealtFeed.{StartsBefore}
-use Rattle.report_session.specs.Session.{AreOfCaller, AreReports, AreSessionShards, IsShownInSession}
-use Rattle.report_session.specs.Session.{SessionReports, session_ends}
+use Rattle.report_session.specs.Session.{AreOfCaller, AreReports, AreSessionShards, IsShownInSession, SessionReports}
+use Rattle.report_session.specs.Session.{session_ends, asked_shape}
 use Rattle.report_session.proofs.SeenPositionLemmas.{seen_positions_of_cut}
 use Rattle.report_session.proofs.SessionTextLemmas.{session_text_with_last}
-use Rattle.report_session.specs.Session.{asked_shape}
 use Rattle.shard_state.specs.{TableShape}
 
 -- what the existence of a final report takes: each cut has a report; it is sound where the cut represents the records,
@@ -58,10 +57,8 @@ final_report_shapes : (shape : TableShape) (opening : List ShardValue)
 final_report_shapes shape [] alike = All-nil (λ (snapshot : SnapshotValue). snapshot.shape ≡ shape)
 final_report_shapes shape (shard ∷ rest) alike =
     All-cons (λ (snapshot : SnapshotValue). snapshot.shape ≡ shape)
-    (snapshot_of (shard_state_at (length shard.list) shard))
-    (map snapshot_of (states_at rest (session_ends rest)))
-    (All-head (λ (shard : ShardValue). shard.base.shape ≡ shape) shard rest alike)
-    (final_report_shapes shape rest
+    (snapshot_of (shard_state_at (length shard.list) shard)) (map snapshot_of (states_at rest (session_ends rest)))
+    (All-head (λ (shard : ShardValue). shard.base.shape ≡ shape) shard rest alike) (final_report_shapes shape rest
     (All-tail (λ (shard : ShardValue). shard.base.shape ≡ shape) shard rest alike))
 
 -- the cut at the ends is a cut

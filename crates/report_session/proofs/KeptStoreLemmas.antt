@@ -25,8 +25,7 @@ use Rattle.dealt_capture.specs.{DealingRules}
 use Rattle.report_text.specs.{LinesShowSaves, ShowsSaves, mark_text, report_text, tail_text, whole_lines}
 use Rattle.report_text.specs.declared.mark.Mark.{Mark}
 use Rattle.report_text.specs.declared.mark.Mark.TheVariants.{Opened, Saved}
-use Rattle.report_session.specs.KeptStore.{IsBeingSaved, OpensToSave, ReopensAfterSaves, StoreIsKept}
-use Rattle.report_session.specs.KeptStore.{last_shown}
+use Rattle.report_session.specs.KeptStore.{IsBeingSaved, OpensToSave, ReopensAfterSaves, StoreIsKept, last_shown}
 use Rattle.report_session.specs.Saving.{IsAsBefore, KeepsSaves, OpensToSaves, AreKeptOnDisk, last_of_saves, saves_after}
 use Rattle.report_session.specs.Saving.{saves_settings}
 use Rattle.report_session.specs.Session.{AreOfCaller, BreaksOffAround, BreaksOffBetween, BreaksOffLater}
@@ -71,8 +70,7 @@ rounds_show_kept_saves texts (first ∷ rounds) rest saves shows =
     let positions : List ℕ = first.report.positions in
     subst (λ text. ShowsSaves text (positions ∷ (positions_of_kept rounds ++ saves)))
     (sym (kept_store_groups (report_text first.report) (mark_text Saved positions) (session_parts true rounds) rest))
-    (texts.report first.report _ _
-    (texts.saved positions _ _ (rounds_show_kept_saves texts rounds rest saves shows)))
+    (texts.report first.report _ _ (texts.saved positions _ _ (rounds_show_kept_saves texts rounds rest saves shows)))
 
 -- the reports of the other callers show none
 caller_shows_no_kept_save : KeptStoreTexts → (reports : List Reported) (rest : List ℕ) (saves : List (List ℕ)) → ShowsSaves rest saves
@@ -151,8 +149,7 @@ kept_store_front_of_two [] (byte ∷ first) second rest same = inl ((byte ∷ fi
 kept_store_front_of_two (other ∷ line) (byte ∷ first) second rest same =
     let head : byte ≡ other = cc in
     let behind : first ++ second ≡ line ++ rest = cc in
-    ⊎_elim
-    (λ strict. inl ((strict.0.0, ap₂ (λ b l. b ∷ l) head strict.0.1), omega (arith, strict.1)))
+    ⊎_elim (λ strict. inl ((strict.0.0, ap₂ (λ b l. b ∷ l) head strict.0.1), omega (arith, strict.1)))
     (λ after. inr (after.0, ap₂ (λ b l. b ∷ l) (sym head) after.1, after.2))
     (kept_store_front_of_two line first second rest behind)
 
@@ -182,15 +179,12 @@ kept_store_around : KeptStoreTexts → (opening : List ShardValue) (settings : S
     (rounds : List Reported) (next : Reported) (before : List ℕ) (after more front : List ℕ)
     → AreOfCaller opening settings count (rounds ++ next ∷ [])
     → front ≡ mark_text Opened (session_start opening) ++ (session_parts true rounds ++ more)
-    → ShowsSaves (before ++ report_text next.report) []
-    → ((line : List ℕ) → IsStrictBeginning line after
+    → ShowsSaves (before ++ report_text next.report) [] → ((line : List ℕ) → IsStrictBeginning line after
     → (IsStrictBeginning line (mark_text Saved next.report.positions) × ShowsSaves line [])
-    ⊎ ShowsSaves line (next.report.positions ∷ []))
-    → ((line : List ℕ) (saves : List (List ℕ)) → ShowsSaves line saves
+    ⊎ ShowsSaves line (next.report.positions ∷ [])) → ((line : List ℕ) (saves : List (List ℕ)) → ShowsSaves line saves
     → ShowsSaves ((before ++ report_text next.report) ++ line) saves)
     → BreaksOffAround (before ++ report_text next.report) after (saved_cuts true opening (next ∷ []))
-    (rest_after_saves true opening rounds Kept) more
-    → KeptStoreShape opening settings Kept front
+    (rest_after_saves true opening rounds Kept) more → KeptStoreShape opening settings Kept front
 kept_store_around texts opening settings Kept count rounds next before after more front are is shows line_is behind =
     let start : List ℕ = session_start opening in
     let cuts : List CutValue = saved_cuts true opening rounds in
@@ -198,8 +192,7 @@ kept_store_around texts opening settings Kept count rounds next before after mor
     → front ≡ (mark_text Opened start ++ (session_parts true rounds ++ before)) ++ (report_text next.report ++ end) = λ end ends.
     is ∙ ap (λ m. mark_text Opened start ++ (session_parts true rounds ++ m)) ends
     ∙ kept_store_line_groups (mark_text Opened start) (session_parts true rounds) before (report_text next.report) end in
-    let shape : ShowsSaves more []
-    → (Kept cuts []
+    let shape : ShowsSaves more [] → (Kept cuts []
     ⊎ ((other : Reported) × (next ∷ [] ≡ other ∷ []) × IsBeingSaved front other.report.positions
     × (Kept cuts (saved_cuts true opening (other ∷ [])) ⊎ Kept (cuts ++ saved_cuts true opening (other ∷ [])) [])))
     → KeptStoreShape opening settings Kept front = λ none kept. record {
@@ -212,12 +205,9 @@ kept_store_around texts opening settings Kept count rounds next before after mor
       shown = kept_store_shows_rounds texts start rounds more front is none;
       kept = kept;
     } in
-    ⊎_elim
-    (λ part. shape (kept_store_front texts more (before ++ report_text next.report) part.0 shows)
-    (inl (subst (λ l. Kept l []) (append-nil cuts) part.1)))
-    (⊎_elim
-    (λ whole. shape (subst (λ t. ShowsSaves t []) (sym whole.0) shows)
-    (inr (
+    ⊎_elim (λ part. shape (kept_store_front texts more (before ++ report_text next.report) part.0 shows)
+    (inl (subst (λ l. Kept l []) (append-nil cuts) part.1))) (⊎_elim
+    (λ whole. shape (subst (λ t. ShowsSaves t []) (sym whole.0) shows) (inr (
       next,
       refl,
       record {
@@ -229,11 +219,8 @@ kept_store_around texts opening settings Kept count rounds next before after mor
         unfinished = kept_store_line_begins next.report.positions;
       },
       inl (subst (λ l. Kept l (saved_cuts true opening (next ∷ []))) (append-nil cuts) whole.1),
-    )))
-    (λ behind_it. ⊎_elim
-    (λ strict. shape
-    (subst (λ t. ShowsSaves t []) (sym behind_it.2) (behind behind_it.0 [] strict.1))
-    (inr (
+    ))) (λ behind_it. ⊎_elim (λ strict. shape
+    (subst (λ t. ShowsSaves t []) (sym behind_it.2) (behind behind_it.0 [] strict.1)) (inr (
       next,
       refl,
       record {
@@ -245,8 +232,7 @@ kept_store_around texts opening settings Kept count rounds next before after mor
         unfinished = strict.0;
       },
       inr behind_it.3,
-    )))
-    (λ whole. record {
+    ))) (λ whole. record {
       reports = rounds ++ next ∷ [];
       others = [];
       count = count;
@@ -262,8 +248,7 @@ kept_store_around texts opening settings Kept count rounds next before after mor
           (behind behind_it.0 (next.report.positions ∷ []) whole))));
       kept = inl (subst (λ l. Kept l []) (sym (map-append (λ (reported : Reported). cut_at opening reported.report.positions) rounds
           (next ∷ []))) behind_it.3);
-    })
-    (line_is behind_it.0 behind_it.1)))
+    }) (line_is behind_it.0 behind_it.1)))
 
 -- rounds that broke off within one
 kept_store_within : KeptStoreTexts → (opening : List ShardValue) (settings : Settings) (Kept : SessionSaving) (more front : List ℕ)
@@ -307,13 +292,11 @@ kept_store_later texts opening settings Kept records front used breaks =
     kept_store_around texts opening settings Kept (settings.rounds + 1) rounds last callers
     (save_line true positions ++ tail_text records) breaks.more front breaks.are_reports.calling written
     (subst (λ text. ShowsSaves text []) (append-nil (callers ++ report_text last.report)) (behind [] [] refl))
-    (λ line strict. ⊎_elim
-    (λ begins. inl (begins, kept_store_strict_front texts Saved positions line begins))
+    (λ line strict. ⊎_elim (λ begins. inl (begins, kept_store_strict_front texts Saved positions line begins))
     (λ after. inr (subst (λ text. ShowsSaves text (positions ∷ [])) (sym after.1)
     (texts.saved positions after.0 [] (texts.front after.0 strict.0.0
     (subst (λ text. ShowsSaves text []) after.2 (texts.tail records))))))
-    (kept_store_front_of_two line (mark_text Saved positions) (tail_text records) strict.0.0 strict.0.1))
-    behind around
+    (kept_store_front_of_two line (mark_text Saved positions) (tail_text records) strict.0.0 strict.0.1)) behind around
 
 -- a whole session
 kept_store_whole : KeptStoreTexts → (opening : List ShardValue) (settings : Settings) (Kept : SessionSaving) (records : Records)
@@ -331,8 +314,7 @@ kept_store_whole texts opening settings Kept records text used is =
     subst (λ b. text ≡ mark_text Opened start ++ (session_parts b rounds ++ (callers ++ (session_part b last ++ tail_text records))))
     used is.spelled in
     let shows : ShowsSaves (callers ++ ((report_text last.report ++ mark_text Saved positions) ++ tail_text records)) (positions ∷ []) =
-    callers_show_no_kept_save texts is.reports.callers _ (positions ∷ [])
-    (subst (λ t. ShowsSaves t (positions ∷ []))
+    callers_show_no_kept_save texts is.reports.callers _ (positions ∷ []) (subst (λ t. ShowsSaves t (positions ∷ []))
     (sym (append_assoc (report_text last.report) (mark_text Saved positions) (tail_text records)))
     (texts.report last.report _ (positions ∷ []) (texts.saved positions (tail_text records) [] (texts.tail records)))) in
     record {
@@ -388,24 +370,20 @@ kept_store_opens_to header opening digest opened sequence (first ∷ reports) mo
     let at : cut_positions saved.cut ≡ first.report.positions =
     seen_positions_of_cut opening first.report.positions
     (All-head (λ (reported : Reported). length reported.report.positions ≡ length opening) first (reports ++ more) each) in
-    ⊎_elim
-    (λ before. (opened, before, inl refl))
-    (λ later.
+    ⊎_elim (λ before. (opened, before, inl refl)) (λ later.
     let found = kept_store_opens_to header opening digest (Some saved) (sequence + 1) reports more image
     (All-tail (λ (reported : Reported). length reported.report.positions ≡ length opening) first (reports ++ more) each) later in (
       found.0,
       found.1,
-      ⊎_elim
-          (λ same. inr (
-            saved,
-            subst (Contains (first.report.positions ∷ positions_of_kept reports)) (sym at)
-                (Contains-list_head first.report.positions (positions_of_kept reports)),
-            same,
-          ))
+      ⊎_elim (λ same. inr (
+        saved,
+        subst (Contains (first.report.positions ∷ positions_of_kept reports)) (sym at)
+            (Contains-list_head first.report.positions (positions_of_kept reports)),
+        same,
+      ))
           (λ other. inr (other.0, Contains-list_tail first.report.positions (positions_of_kept reports) _ other.1, other.2))
           found.2,
-    ))
-    opens
+    )) opens
 
 -- what reopens at positions that aren't before the last that are shown
 kept_store_reopens_to : (header : StoreHeader) (opened found : Option SavedValue) (start : List ℕ) (reports : List Reported)
@@ -458,16 +436,14 @@ module _ (one : OpenToOne) {D : Type 0} (d : DiskOf D) (settings : Settings) (li
 
   -- what whole saves of reports leave
   kept_store_last : (opened : Option SavedValue) (reports more : List Reported) → AreOfKept (reports ++ more)
-      → StoreOpensTo header_of_kept store opened
-      → store_positions (saves_settings settings)
+      → StoreOpensTo header_of_kept store opened → store_positions (saves_settings settings)
       (last_of_saves opened (saves_after (store_sequence opened) digest_of_kept (saved_cuts true opening_of_kept reports)))
       ≡ last_positions (session_start opening_of_kept) reports
   kept_store_last opened reports more each opens =
       reopened_store_positions header_of_kept opening_of_kept digest_of_kept (session_start opening_of_kept) opened
       (store_sequence opened) reports more (kept_store_starts opened opens) each
 
-  kept_store_counts : (opened : Option SavedValue) (reports : List Reported)
-      → store_sequence
+  kept_store_counts : (opened : Option SavedValue) (reports : List Reported) → store_sequence
       (last_of_saves opened (saves_after (store_sequence opened) digest_of_kept (saved_cuts true opening_of_kept reports)))
       ≡ store_sequence opened + length reports
   kept_store_counts opened reports =
@@ -475,8 +451,7 @@ module _ (one : OpenToOne) {D : Type 0} (d : DiskOf D) (settings : Settings) (li
       ∙ ap (λ n. store_sequence opened + n) (length-map reports _)
 
   kept_store_after_saves : (reports more : List Reported) (whole : Bool) (opened : Option SavedValue) (image : List ℕ)
-      → AreOfKept (reports ++ more) → StoreOpensTo header_of_kept store opened
-      → StoreOpensTo header_of_kept image
+      → AreOfKept (reports ++ more) → StoreOpensTo header_of_kept store opened → StoreOpensTo header_of_kept image
       (last_of_saves opened (saves_after (store_sequence opened) digest_of_kept (saved_cuts true opening_of_kept reports)))
       → ReopensAfterSaves header_of_kept opened (positions_of_kept reports) whole image
   kept_store_after_saves reports more whole opened image each opens found =
@@ -484,8 +459,7 @@ module _ (one : OpenToOne) {D : Type 0} (d : DiskOf D) (settings : Settings) (li
       kept_store_reopens_to header_of_kept opened _ (session_start opening_of_kept) reports whole image
       (kept_store_starts opened opens) found
       (subst (AreNotPast (last_positions (session_start opening_of_kept) reports)) (sym (kept_store_last opened reports more each opens))
-      (seen_positions_not_past_self _))
-      (omega (arith, counts)) (λ is. counts)
+      (seen_positions_not_past_self _)) (omega (arith, counts)) (λ is. counts)
 
   -- what the saves of reports and of the next one leave, where the last may be unfinished: it isn't said to be made
   kept_store_after_next : (reports : List Reported) (next : Reported) (whole : Bool) (opened found : Option SavedValue)
@@ -504,8 +478,7 @@ module _ (one : OpenToOne) {D : Type 0} (d : DiskOf D) (settings : Settings) (li
 
   -- the images at any moment, where these reports are said to be saved
   kept_store_any_moment : (reports : List Reported) (opened : Option SavedValue) (image : List ℕ) → AreOfKept (reports ++ [])
-      → StoreOpensTo header_of_kept store opened
-      → OpensToSaves header_of_kept opened
+      → StoreOpensTo header_of_kept store opened → OpensToSaves header_of_kept opened
       (saves_after (store_sequence opened) digest_of_kept (saved_cuts true opening_of_kept reports)) image
       → OpensToSave header_of_kept store written (positions_of_kept reports) image
   kept_store_any_moment reports opened image each opens is =
@@ -521,8 +494,7 @@ module _ (one : OpenToOne) {D : Type 0} (d : DiskOf D) (settings : Settings) (li
   -- and where the next one is being saved
   kept_store_any_moment_of_next : (reports : List Reported) (next : Reported) (opened : Option SavedValue) (image : List ℕ)
       → AreOfKept ((reports ++ next ∷ []) ++ []) → IsBeingSaved written next.report.positions
-      → StoreOpensTo header_of_kept store opened
-      → OpensToSaves header_of_kept opened
+      → StoreOpensTo header_of_kept store opened → OpensToSaves header_of_kept opened
       (saves_after (store_sequence opened) digest_of_kept (saved_cuts true opening_of_kept (reports ++ next ∷ []))) image
       → OpensToSave header_of_kept store written (positions_of_kept reports) image
   kept_store_any_moment_of_next reports next opened image each being opens is =
@@ -531,20 +503,16 @@ module _ (one : OpenToOne) {D : Type 0} (d : DiskOf D) (settings : Settings) (li
       record {
         found = found.0;
         opens = found.1;
-        is = ⊎_elim (λ same. inl (subst (StoreOpensTo header_of_kept store) (sym same) opens))
-            (λ other. inr (
-              other.0,
-              other.2,
-              ⊎_elim
-                  (λ among. inl among)
-                  (λ last. inr (subst (IsBeingSaved written)
-                  (⊎_elim (λ same. same) (λ none. absurd (Contains-empty_list _ none))
-                  (Contains-list_cons next.report.positions [] _ last)) being))
-                  (Contains-append_cases (positions_of_kept reports) (next.report.positions ∷ []) _
-                  (subst (λ l. Contains l (cut_positions other.0.cut))
-                  (map-append (λ (reported : Reported). reported.report.positions) reports (next ∷ [])) other.1)),
-            ))
-            found.2;
+        is = ⊎_elim (λ same. inl (subst (StoreOpensTo header_of_kept store) (sym same) opens)) (λ other. inr (
+          other.0,
+          other.2,
+          ⊎_elim (λ among. inl among) (λ last. inr (subst (IsBeingSaved written)
+              (⊎_elim (λ same. same) (λ none. absurd (Contains-empty_list _ none))
+              (Contains-list_cons next.report.positions [] _ last)) being))
+              (Contains-append_cases (positions_of_kept reports) (next.report.positions ∷ []) _
+              (subst (λ l. Contains l (cut_positions other.0.cut))
+              (map-append (λ (reported : Reported). reported.report.positions) reports (next ∷ [])) other.1)),
+        )) found.2;
       }
 
   -- the promise, where all saves are said to be made
@@ -612,31 +580,27 @@ module _ (one : OpenToOne) {D : Type 0} (d : DiskOf D) (settings : Settings) (li
             (subst (λ saved. OpensToSaves header_of_kept opened
             (saves_after (store_sequence opened) digest_of_kept saved) image) (sym all) is))));
       } in
-      ⊎_elim
-      (λ keeps. promise keeps.opened keeps.opens keeps.any_moment (λ image possible. ⊎_elim
+      ⊎_elim (λ keeps. promise keeps.opened keeps.opens keeps.any_moment (λ image possible. ⊎_elim
       (λ opens. let counts = kept_store_counts keeps.opened reports in
       kept_store_reopens_to header_of_kept keeps.opened _ (session_start opening_of_kept) reports whole image
       (kept_store_starts keeps.opened keeps.opens) opens
       (subst (AreNotPast (last_positions (session_start opening_of_kept) reports))
       (sym (kept_store_last keeps.opened reports (next ∷ []) rises.each keeps.opens)) (seen_positions_not_past_self _))
-      (omega (arith, counts)) (λ is. counts))
-      (λ opens. kept_store_after_next reports next whole keeps.opened
+      (omega (arith, counts)) (λ is. counts)) (λ opens. kept_store_after_next reports next whole keeps.opened
       (Some (record {
         sequence = store_sequence keeps.opened + length cuts + 1;
         digest = digest_of_kept;
         cut = cut_at opening_of_kept next.report.positions;
       })) image part rises keeps.opens opens at
       (let same : length cuts ≡ length reports = length-map reports _ in omega (arith, same)))
-      (keeps.afterwards image possible)))
-      (λ keeps. promise keeps.opened keeps.opens
+      (keeps.afterwards image possible))) (λ keeps. promise keeps.opened keeps.opens
       (CrashLeaves-weaker d.moment d.image_since old new _ _ keeps.any_moment
       (λ image. ⊎_elim (λ earlier. inl earlier) (λ is. inr (subst (λ saved. OpensToSaves header_of_kept keeps.opened
       (saves_after (store_sequence keeps.opened) digest_of_kept saved) image) (append-nil (cuts ++ of_next)) is))))
       (λ image possible. kept_store_after_next reports next whole keeps.opened _ image part rises keeps.opens
       (subst (λ saved. StoreOpensTo header_of_kept image
       (last_of_saves keeps.opened (saves_after (store_sequence keeps.opened) digest_of_kept saved))) (sym all)
-      (keeps.afterwards image possible))
-      (kept_store_last keeps.opened (reports ++ next ∷ []) [] each keeps.opens
+      (keeps.afterwards image possible)) (kept_store_last keeps.opened (reports ++ next ∷ []) [] each keeps.opens
       ∙ last_kept_positions_after (session_start opening_of_kept) reports next)
       (kept_store_counts keeps.opened (reports ++ next ∷ [])
       ∙ kept_store_one_more (store_sequence keeps.opened) reports next)))
@@ -652,7 +616,7 @@ module _ (one : OpenToOne) {D : Type 0} (d : DiskOf D) (settings : Settings) (li
       let same : [] ≡ mark_text Opened (session_start opening_of_kept) ∷ whole_lines shape.rest =
       sym none ∙ ap whole_lines shape.begun ∙ texts.line Opened (session_start opening_of_kept) shape.rest in cc same in
       let each : AreOfKept (shape.reports ++ shape.others) = λ k d lt. (shape.are.shown k d lt).is_report.as_many in
-      ⊎_elim
+      ⊎_elim {C = StoreIsKept d header_of_kept old new store written whole}
       (λ kept. kept_store_said shape.reports shape.others whole shape.rest each
       (subst AreOfKept (sym (append-nil shape.reports))
       (shown_session_front_of_all (λ (reported : Reported). length reported.report.positions ≡ length opening_of_kept) shape.reports shape.others
@@ -662,8 +626,7 @@ module _ (one : OpenToOne) {D : Type 0} (d : DiskOf D) (settings : Settings) (li
       (kept_store_rises opening_of_kept settings shape.count (shape.reports ++ next.0 ∷ [])
       (subst (λ others. AreOfCaller opening_of_kept settings shape.count (shape.reports ++ others)) next.1 shape.are))
       shape.begun some shape.shown next.2
-      (⊎_elim (λ begun. inl (begun used store known)) (λ made. inr (made used store known)) next.3))
-      shape.kept
+      (⊎_elim (λ begun. inl (begun used store known)) (λ made. inr (made used store known)) next.3)) shape.kept
 
   -- a session that broke off in its first line
   kept_store_in_first_line : KeptStoreTexts → ((disk : D) (bytes : List ℕ) → d.reads disk ≡ Some bytes → d.image_now disk bytes)
@@ -697,8 +660,7 @@ kept_store_after_session one texts d rules settings old new store file text limi
     kept_store_of_shape one d settings is.lists is.base old new store text limited is.as_many used is.begins known texts true
     (kept_store_whole texts (session_opening (asked_shape settings) is.lists is.base) settings
     (λ saved unfinished. settings.store ≡ true → AreKeptOnDisk d old new (saves_settings settings) is.lists saved unfinished)
-    is.records text used is.spelled)
-    (λ whole. refl)
+    is.records text used is.spelled) (λ whole. refl)
 
 -- so does one that broke off
 pub kept_store_after_part : OpenToOne → KeptStoreTexts → {D : Type 0} (d : DiskOf D)
@@ -716,13 +678,10 @@ kept_store_after_part one texts d reading_is_image rules settings old new store 
     false shape (λ no. absurd (false≢true no)) in
     ⊎_elim
     (λ first. kept_store_in_first_line one d settings is.lists is.base old new store front limited is.as_many used is.begins known
-    texts reading_is_image false first.0 first.1)
-    (⊎_elim
-    (λ rounds. of_shape (⊎_elim
+    texts reading_is_image false first.0 first.1) (⊎_elim (λ rounds. of_shape (⊎_elim
     (λ between. kept_store_between texts opening settings Kept rounds.0 front used between rounds.2)
     (λ within. kept_store_within texts opening settings Kept rounds.0 front used within rounds.2) rounds.1))
-    (λ later. of_shape (kept_store_later texts opening settings Kept is.records front used later)))
-    is.begun
+    (λ later. of_shape (kept_store_later texts opening settings Kept is.records front used later))) is.begun
 
 -- and a run that left it as before
 pub kept_store_as_before : {D : Type 0} (d : DiskOf D)

@@ -10,9 +10,8 @@ use Rattle.gate_workers.specs.{cut_at}
 use Rattle.command_words.specs.declared.settings.Settings.{Settings}
 use Rattle.report_text.specs.{mark_text, report_text}
 use Rattle.report_text.specs.declared.mark.Mark.TheVariants.{Opened}
-use Rattle.report_session.specs.Session.{AreOfCaller, AreReports, IsShownInSession}
-use Rattle.report_session.specs.Session.{SessionReports, caller_parts, session_part, session_parts}
-use Rattle.report_session.specs.Session.{text_of_reports, session_start}
+use Rattle.report_session.specs.Session.{AreOfCaller, AreReports, IsShownInSession, SessionReports, caller_parts}
+use Rattle.report_session.specs.Session.{session_part, session_parts, text_of_reports, session_start}
 
 -- what holds of all elements holds of the last one
 pub last_report_is_among_all : {A : Type 0} (P : A → Type 0) (xs : List A) (x : A) → All P (xs ++ x ∷ []) → P x

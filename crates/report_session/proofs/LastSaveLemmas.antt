@@ -10,13 +10,11 @@ use Rattle.hhh_report.specs.declared.reports.Reported.{Reported}
 use Rattle.pass_tokens.specs.{WordsValue, first_view}
 use Rattle.gate_workers.specs.{IsCoreReport, View, cut_at}
 use Rattle.gate_workers.specs.declared.gathered.Called.{Called}
-use Rattle.checkpoint.specs.{AreSettings, SaverState, OpenToOne, saver_after}
-use Rattle.checkpoint.specs.{greatest_sequence}
+use Rattle.checkpoint.specs.{AreSettings, SaverState, OpenToOne, saver_after, greatest_sequence, settings_shape}
 use Rattle.command_words.specs.declared.settings.Settings.{Settings}
 use Rattle.report_session.specs.DealtFeed.{CanSaveCut, IsFeedRest, StartsBefore}
 use Rattle.report_session.specs.Saving.{CanMakeSaves, Saves, SavesInPart, SavesInTurn, after_saves}
-use Rattle.report_session.specs.Session.{AreOfCaller, IsShownInSession, session_ends}
-use Rattle.report_session.specs.Session.{saved_cuts, session_start}
+use Rattle.report_session.specs.Session.{AreOfCaller, IsShownInSession, session_ends, saved_cuts, session_start}
 use Rattle.report_session.specs.declared.session.Rest.{Rest}
 use Rattle.report_session.proofs.SaveLemmas.{broken_off_save_follows, saves_raise_sequence, saves_leave_header}
 use Rattle.report_session.proofs.SeenPositionLemmas.{seen_positions_of_cut, seen_position_is_not_past}
@@ -24,7 +22,6 @@ use Rattle.report_session.proofs.SeenPositionLemmas.{seen_positions_are_not_past
 use Rattle.report_session.proofs.SessionThreadLemmas.{first_session_thread_sees_starts}
 use Rattle.report_session.proofs.SessionTextLemmas.{SessionTextFollowsSaves, session_text_within_ends}
 use Rattle.slot_disk.specs.declared.disk.Disk.{Ghosts as DiskOf}
-use Rattle.checkpoint.specs.{settings_shape}
 
 -- a saver that may make more saves may make fewer
 pub last_save_after_fewer_saves : (reads : Option (List ℕ)) (possible : List ℕ → Type 0) (opening : List ShardValue)
@@ -42,8 +39,7 @@ last_save_starts_within_ends opening positions starts past =
     let long : length positions ≡ length (session_start opening) = seen_positions_same_length positions (session_start opening) past in
     let many : length (session_start opening) ≡ length opening = length-map opening _ in
     let ends : length (session_ends opening) ≡ length opening = length-map opening _ in
-    seen_positions_are_not_past positions (session_ends opening) (omega (arith, long, many, ends))
-    (λ shard inside.
+    seen_positions_are_not_past positions (session_ends opening) (omega (arith, long, many, ends)) (λ shard inside.
     let first : slice_index positions shard ≤ slice_index (session_start opening) shard =
     seen_position_is_not_past positions (session_start opening) shard past (omega (arith, inside, many, ends)) in
     let second : slice_index (session_start opening) shard ≤ slice_index (session_ends opening) shard = starts shard in
@@ -92,8 +88,7 @@ last_save_is_possible d board settings called tail rest rounds (Some saver) now 
     let opening : List ShardValue = board.opening in
     let cuts : List CutValue = saved_cuts true opening rounds in
     let done : SavesInTurn d (Some saver) now old new cuts =
-    subst (λ store. SavesInTurn d (Some saver) now old new
-    (saved_cuts store opening rounds)) (sym used) saves in
+    subst (λ store. SavesInTurn d (Some saver) now old new (saved_cuts store opening rounds)) (sym used) saves in
     let after : SaverState = after_saves saver cuts in
     let sequence : after.sequence ≡ saver.sequence + length cuts = saves_raise_sequence saver cuts in
     let many : length cuts ≡ length rounds = last_save_count opening rounds in
@@ -105,8 +100,7 @@ last_save_is_possible d board settings called tail rest rounds (Some saver) now 
     let positions : cut_positions rest.cut ≡ session_ends opening =
     ap cut_positions end.cut_is ∙ seen_positions_of_cut opening end.last.report.positions at.as_many ∙ end.at_ends in
     let same : after.header ≡ saver.header = saves_leave_header saver cuts in
-    subst (λ o. IfSome o (CanSaveCut (d.reads new) (d.image_now new) rest.cut)) (sym done.saver)
-    (record {
+    subst (λ o. IfSome o (CanSaveCut (d.reads new) (d.image_now new) rest.cut)) (sym done.saver) (record {
       settings = subst (λ h. AreSettings h.settings) (sym same) can.fits.settings;
       stands = done.saves.stands;
       early = omega (arith, sequence, many, as_many, early);
@@ -126,10 +120,8 @@ pub last_save_completes_session : {D : Type 0} (d : DiskOf D) (opening : List Sh
 last_save_completes_session d opening store rounds last cut None after old new used is saves = saves.saves
 last_save_completes_session d opening store rounds last cut (Some saver) after old new used is saves =
     let position : Reported → CutValue = λ reported. cut_at opening reported.report.positions in
-    subst (λ b. Saves d (Some saver) (saved_cuts b opening (rounds ++ last ∷ [])) old new)
-    used
-    (subst (λ cuts. Saves d (Some saver) cuts old new)
-    (sym (map-append position rounds (last ∷ [])))
+    subst (λ b. Saves d (Some saver) (saved_cuts b opening (rounds ++ last ∷ [])) old new) used
+    (subst (λ cuts. Saves d (Some saver) cuts old new) (sym (map-append position rounds (last ∷ [])))
     (subst (λ c. Saves d (Some saver) (map position rounds ++ c ∷ []) old new) is
     (subst (λ b. SavesInTurn d (Some saver) after old new
     (saved_cuts b opening rounds ++ cut ∷ [])) (sym used) saves).saves))
@@ -159,11 +151,8 @@ last_save_broken_off one d opening store rounds last cut (Some saver) between ol
     let all : (saved unfinished : List CutValue) → SavesInPart d between mid new saved unfinished
     → SavesInPart d (Some saver) old new (cuts ++ saved) unfinished =
     λ saved unfinished.
-    broken_off_save_follows one d (Some saver) between cuts saved unfinished old mid new are is_image
-    saves in (
+    broken_off_save_follows one d (Some saver) between cuts saved unfinished old mid new are is_image saves in (
       all [] [],
-      λ part. subst (SavesInPart d (Some saver) old new (cuts ++ [])) same
-          (all [] (cut ∷ []) part),
-      λ part. subst (λ list. SavesInPart d (Some saver) old new (cuts ++ list) []) same
-          (all (cut ∷ []) [] part),
+      λ part. subst (SavesInPart d (Some saver) old new (cuts ++ [])) same (all [] (cut ∷ []) part),
+      λ part. subst (λ list. SavesInPart d (Some saver) old new (cuts ++ list) []) same (all (cut ∷ []) [] part),
     )

@@ -1,29 +1,22 @@
 -- Shards before any record is counted.
 use Rattle.std.proofs.Common.{◌≡◌, ◌∙◌, ◌≤◌, ℕ, zero, suc, List, [], ◌∷◌, ◌++◌, All, refl, sym, ap, subst, arith}
-use Rattle.std.proofs.Common.{length, map}
-use Rattle.std.proofs.Common.{append_assoc, replicate}
-use Rattle.std.specs.List.{sum_by}
+use Rattle.std.proofs.Common.{length, map, append_assoc, replicate, Option, None, Some}
+use Rattle.std.specs.List.{sum_by, AllZip}
 use Rattle.std.proofs.lemmas.List.{length-map, map-append, length-replicate}
-use Rattle.std.proofs.lemmas.List.Elements.{All-map, All-replicate}
+use Rattle.std.proofs.lemmas.List.Elements.{All-map, All-replicate, All-cons, All-head, All-nil, All-tail}
 use Rattle.std.proofs.lemmas.List.Sums.{get_or-le-sum_by}
 use Rattle.prefix_lattice.specs.{RecordValue, record_limit, shard_limit}
 use Rattle.deal_rules.specs.{AreDealings}
-use Rattle.std.proofs.Common.{Option, None, Some}
 use Rattle.std.specs.Prelude.{IfSome}
-use Rattle.std.specs.List.{AllZip}
-use Rattle.std.proofs.lemmas.List.Elements.{All-cons, All-head, All-nil, All-tail}
 use Rattle.shard_state.specs.{AreCoreShards, BasesRepresent, CutValue, IsCut, ShardValue, SnapshotRepresents}
-use Rattle.shard_state.specs.{IsSnapshot, SnapshotValue, core_shape, empty_snapshot, cut_positions}
-use Rattle.shard_state.specs.{core_lists}
+use Rattle.shard_state.specs.{IsSnapshot, SnapshotValue, core_shape, empty_snapshot, cut_positions, core_lists}
+use Rattle.shard_state.specs.{TableShape, CutRepresents}
 use Rattle.report_text.specs.{ShowsPositions}
 use Rattle.recovery.specs.{ContinuesList}
 use Rattle.report_session.specs.DealtFeed.{FeedGoesOn, StartsBefore}
-use Rattle.report_session.specs.Session.{GoesOnSoundly, new_shards, session_opening}
-use Rattle.report_session.specs.Session.{resumed_shards, session_start}
+use Rattle.report_session.specs.Session.{GoesOnSoundly, new_shards, session_opening, resumed_shards, session_start}
 use Rattle.report_session.specs.Session.{asked_shape}
-use Rattle.shard_state.specs.{TableShape}
 use Rattle.command_words.specs.declared.settings.Settings.{Settings}
-use Rattle.shard_state.specs.{CutRepresents}
 
 -- of few records in all each list has few
 pub opening_shards_have_few_records : (most : ℕ) (lists : List (List RecordValue)) → sum_by (λ list. length list) lists ≤ most

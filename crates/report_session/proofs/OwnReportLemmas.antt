@@ -8,12 +8,10 @@ use Rattle.hhh_report.specs.{IsSound}
 use Rattle.hhh_report.specs.declared.reports.Reported.{Reported}
 use Rattle.recovery.specs.{ContinuesList}
 use Rattle.command_words.specs.declared.settings.Settings.{Settings}
-use Rattle.report_session.specs.Session.{AreOfCaller, GoesOnFrom, IsSession, IsShownInSession}
-use Rattle.report_session.specs.Session.{SessionKeeping, caller_reports, session_opening}
-use Rattle.report_session.specs.Session.{reports_in, resumed_shards}
+use Rattle.report_session.specs.Session.{AreOfCaller, GoesOnFrom, IsSession, IsShownInSession, SessionKeeping}
+use Rattle.report_session.specs.Session.{caller_reports, session_opening, reports_in, resumed_shards, asked_shape}
 use Rattle.dealt_capture.specs.{DealingRules}
 use Rattle.report_session.proofs.OpeningShardLemmas.{new_opening_shards_as_dealt}
-use Rattle.report_session.specs.Session.{asked_shape}
 
 -- the lists of shards that go on are those that were dealt
 own_report_lists_when_resumed : (lists : List (List RecordValue)) (bases : List SnapshotValue) → AllZip ContinuesList bases lists

@@ -6,19 +6,18 @@ use Rattle.std.proofs.lemmas.List.{length-append, length-map}
 use Rattle.std.proofs.lemmas.List.Elements.{All-from_get_or, All-get_or, All-map}
 use Rattle.std.proofs.lemmas.List.Sums.{count_by-le-length}
 use Rattle.prefix_lattice.specs.{record_limit}
-use Rattle.shard_state.specs.{CutRepresents, ShardValue}
+use Rattle.shard_state.specs.{CutRepresents, ShardValue, core_shape}
 use Rattle.pcap_frames.specs.{FrameValue, frame_count_limit}
 use Rattle.frame_records.specs.{AreRecordsOf, FileGives}
 use Rattle.frame_records.specs.declared.records.Records.{Records}
 use Rattle.hhh_report.specs.declared.reports.Reported.{Reported}
-use Rattle.report_text.specs.{ShowsPositions, IsTextSession as IsShowableSession, IsSessionText}
-use Rattle.report_text.specs.{printed_text}
+use Rattle.report_text.specs.{ShowsPositions, IsTextSession as IsShowableSession, IsSessionText, printed_text}
 use Rattle.report_text.specs.{session_text}
 use Rattle.report_text.specs.declared.session.Session.{Session}
 use Rattle.command_words.specs.{AreLimited}
 use Rattle.command_words.specs.declared.settings.Settings.{Settings}
 use Rattle.report_session.specs.Session.{IsSession, IsShownInSession, SessionKeeping, SessionReports, session_ends}
-use Rattle.report_session.specs.Session.{session_opening, reports_in, session_start}
+use Rattle.report_session.specs.Session.{session_opening, reports_in, session_start, asked_shape}
 use Rattle.dealt_capture.specs.{DealingRules}
 use Rattle.report_session.proofs.BaseLemmas.{base_goes_on}
 use Rattle.report_session.proofs.LastReportLemmas.{last_report_is_among_all}
@@ -30,8 +29,6 @@ use Rattle.report_session.proofs.ShownSessionLemmas.{shown_session_report, shown
 use Rattle.report_session.proofs.ShownSessionLemmas.{shown_session_report_count, shown_session_reports, shown_session}
 use Rattle.report_session.proofs.BoundedReportLemmas.{IsBoundedReport, IsBoundedReportList}
 use Rattle.report_session.proofs.BoundedReportLemmas.{bounded_report_lists_if_kept, bounded_report_if_sound}
-use Rattle.report_session.specs.Session.{asked_shape}
-use Rattle.shard_state.specs.{core_shape}
 use Rattle.report_session.proofs.OpeningShardLemmas.{session_opening_has_shape}
 
 -- a session is printed as its text

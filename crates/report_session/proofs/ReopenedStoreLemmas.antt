@@ -20,9 +20,9 @@ use Rattle.command_words.specs.{AreLimited}
 use Rattle.command_words.specs.declared.settings.Settings.{Settings}
 use Rattle.report_session.specs.Saving.{AreKeptOnDisk, last_of_saves, AreReopened, saves_after}
 use Rattle.report_session.specs.Saving.{saves_settings, saves_settings-allowed}
-use Rattle.report_session.specs.Session.{AreOfCaller, GoesOnFrom, IsSession, IsSessionInPart}
-use Rattle.report_session.specs.Session.{SessionSaving, rest_after_saves, last_positions, session_opening}
-use Rattle.report_session.specs.Session.{saved_cuts, session_start}
+use Rattle.report_session.specs.Session.{AreOfCaller, GoesOnFrom, IsSession, IsSessionInPart, SessionSaving}
+use Rattle.report_session.specs.Session.{rest_after_saves, last_positions, session_opening, saved_cuts, session_start}
+use Rattle.report_session.specs.Session.{asked_shape}
 use Rattle.dealt_capture.specs.{DealingRules}
 use Rattle.report_session.proofs.BaseLemmas.{base_starts}
 use Rattle.report_session.proofs.LastReportLemmas.{last_report_is_among_all}
@@ -30,7 +30,6 @@ use Rattle.report_session.proofs.SessionTextLemmas.{session_text_begins_saying_l
 use Rattle.report_session.proofs.SeenPositionLemmas.{seen_positions_of_cut, seen_positions_are_not_past}
 use Rattle.report_session.proofs.SeenPositionLemmas.{seen_positions_not_past_self}
 use Rattle.slot_disk.specs.declared.disk.Disk.{Ghosts as DiskOf}
-use Rattle.report_session.specs.Session.{asked_shape}
 
 -- from these positions on, those of these reports never fall, and each report has one for each shard
 pub record RisesInReopenedStore (shards : ℕ) (positions : List ℕ) (reports : List Reported) : Type 0 where
@@ -84,8 +83,7 @@ reopened_store_positions header opening digest positions opened sequence [] more
 reopened_store_positions header opening digest positions opened sequence (next ∷ later) more same each =
     reopened_store_positions header opening digest next.report.positions
     (Some (record { sequence = sequence + 1; digest = digest; cut = cut_at opening next.report.positions })) (sequence + 1)
-    later more
-    (seen_positions_of_cut opening next.report.positions
+    later more (seen_positions_of_cut opening next.report.positions
     (All-head (λ (reported : Reported). length reported.report.positions ≡ length opening) next (later ++ more) each))
     (All-tail (λ (reported : Reported). length reported.report.positions ≡ length opening) next (later ++ more) each)
 
@@ -163,30 +161,27 @@ reopened_store_after_broken_save one d settings lists base count rounds next old
     record {
       opened = keeps.opened;
       opens = keeps.opens;
-      again = λ image possible. ⊎_elim
-          (λ (opens : StoreOpensTo header image last). record {
-            found = last;
-            opens = opens;
-            no_earlier = record {
-              sequence = omega arith;
-              positions = seen_positions_not_past_self (store_positions (saves_settings settings) last);
-            };
-            exact = λ none. refl;
-          })
-          (λ opens. record {
-            found = Some (record { sequence = sequence + length cuts + 1; digest = digest; cut = cut });
-            opens = opens;
-            no_earlier = record {
-              sequence = omega (arith, counted);
-              positions = subst (λ ps. AreNotPast ps (cut_positions cut)) (sym positions)
-                  (subst (AreNotPast (last_positions (session_start opening) rounds))
-                  (sym (seen_positions_of_cut opening next.report.positions (last_report_is_among_all
-                  (λ (reported : Reported). length reported.report.positions ≡ length opening) rounds next rises.each)))
-                  (reopened_store_next_not_before (length opening) (session_start opening) rounds next rises));
-            };
-            exact = λ none. let one : 1 ≡ 0 = ap length none in absurd (omega (arith, one));
-          })
-          (keeps.afterwards image possible);
+      again = λ image possible. ⊎_elim (λ (opens : StoreOpensTo header image last). record {
+        found = last;
+        opens = opens;
+        no_earlier = record {
+          sequence = omega arith;
+          positions = seen_positions_not_past_self (store_positions (saves_settings settings) last);
+        };
+        exact = λ none. refl;
+      }) (λ opens. record {
+        found = Some (record { sequence = sequence + length cuts + 1; digest = digest; cut = cut });
+        opens = opens;
+        no_earlier = record {
+          sequence = omega (arith, counted);
+          positions = subst (λ ps. AreNotPast ps (cut_positions cut)) (sym positions)
+              (subst (AreNotPast (last_positions (session_start opening) rounds))
+              (sym (seen_positions_of_cut opening next.report.positions (last_report_is_among_all
+              (λ (reported : Reported). length reported.report.positions ≡ length opening) rounds next rises.each)))
+              (reopened_store_next_not_before (length opening) (session_start opening) rounds next rises));
+        };
+        exact = λ none. let one : 1 ≡ 0 = ap length none in absurd (omega (arith, one));
+      }) (keeps.afterwards image possible);
     }
 
 -- the same of what a session keeps, with or without a store
@@ -195,8 +190,7 @@ reopened_store_of_session : OpenToOne → {D : Type 0} (d : DiskOf D) (settings 
     → length lists ≡ settings.shards → GoesOnFrom settings lists (d.reads old) base
     → AreOfCaller (session_opening (asked_shape settings) lists base) settings count (rounds ++ next ∷ [])
     → rest_after_saves settings.store (session_opening (asked_shape settings) lists base) rounds (λ saved unfinished.
-    settings.store ≡ true
-    → AreKeptOnDisk d old new (saves_settings settings) lists saved unfinished)
+    settings.store ≡ true → AreKeptOnDisk d old new (saves_settings settings) lists saved unfinished)
     [] (saved_cuts settings.store (session_opening (asked_shape settings) lists base) (next ∷ []))
     → rest_after_saves settings.store (session_opening (asked_shape settings) lists base) rounds (λ saved unfinished.
     settings.store ≡ true → AreReopened d old new (saves_settings settings) lists saved unfinished)
@@ -211,8 +205,7 @@ reopened_store_of_session one d settings lists base count rounds next old new li
     let one_more : List CutValue = saved_cuts true opening (next ∷ []) in
     subst (λ b. Less (saved_cuts b opening rounds ++ []) (saved_cuts b opening (next ∷ []))) (sym used)
     (subst (λ list. Less list one_more) (sym (append-nil cuts))
-    (reopened_store_after_broken_save one d settings lists base count rounds next old new limited many used
-    begins are
+    (reopened_store_after_broken_save one d settings lists base count rounds next old new limited many used begins are
     (subst (λ list. Kept list one_more) (append-nil cuts)
     (subst (λ b. Kept (saved_cuts b opening rounds ++ []) (saved_cuts b opening (next ∷ []))) used (kept used)))))
 
@@ -230,8 +223,7 @@ reopened_store_after_completion d rules settings old new file text session = rec
   begins = session.begins;
   represents = session.represents;
   spelled = spelled_session_text_says_less (session_opening (asked_shape settings) session.lists session.base) settings
-      (λ cuts. settings.store ≡ true
-      → AreKeptOnDisk d old new (saves_settings settings) session.lists cuts [])
+      (λ cuts. settings.store ≡ true → AreKeptOnDisk d old new (saves_settings settings) session.lists cuts [])
       (λ cuts. settings.store ≡ true → AreReopened d old new (saves_settings settings) session.lists cuts [])
       (tail_text session.records) text
       (λ cuts kept used. reopened_store_after_whole_saves d (saves_settings settings) session.lists cuts
@@ -264,14 +256,13 @@ reopened_store_after_breaking_off one d rules settings old new file front limite
       begins = session.begins;
       represents = session.represents;
       shards = session.shards;
-      begun = session_text_begins_saying_less opening settings Kept Less (tail_text session.records) front
-          (record {
-            none = finished [];
-            between = λ rounds are. finished (cuts rounds);
-            before = λ count rounds next are. finished (cuts rounds ++ []);
-            unfinished = λ count rounds next are.
-                reopened_store_of_session one d settings lists base count rounds next old new
-                limited many session.begins are;
-            saved = λ count rounds next are. finished (cuts rounds ++ cuts (next ∷ []));
-          }) session.begun;
+      begun = session_text_begins_saying_less opening settings Kept Less (tail_text session.records) front (record {
+        none = finished [];
+        between = λ rounds are. finished (cuts rounds);
+        before = λ count rounds next are. finished (cuts rounds ++ []);
+        unfinished = λ count rounds next are.
+            reopened_store_of_session one d settings lists base count rounds next old new
+            limited many session.begins are;
+        saved = λ count rounds next are. finished (cuts rounds ++ cuts (next ∷ []));
+      }) session.begun;
     }

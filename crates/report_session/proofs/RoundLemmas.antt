@@ -1,18 +1,16 @@
 -- The rounds of the calling thread, and the texts of their reports.
 use Rattle.std.proofs.Common.{◌≡◌, ◌∙◌, ◌≤◌, ◌<◌, ◌+◌, ℕ, List, [], ◌∷◌, ◌++◌, Option, None, Some, All, refl, sym, ap}
-use Rattle.std.proofs.Common.{subst, arith}
-use Rattle.std.proofs.Common.{Bool, true, false, ◌⊎◌, inl, inr, ⊎_elim, ap₂}
+use Rattle.std.proofs.Common.{subst, arith, Bool, true, false, ◌⊎◌, inl, inr, ⊎_elim, ap₂, Ok, Err, length, append-nil}
+use Rattle.std.proofs.Common.{append_assoc}
 use Rattle.std.specs.Prelude.{is_some, option_map}
-use Rattle.std.proofs.Common.{Ok, Err}
 use Rattle.std.specs.Result.{IfErr, IsErrAnd}
 use Rattle.std.specs.declared.result.Result.{Result}
 use Rattle.outside_io.specs.{FaultRose}
-use Rattle.std.proofs.Common.{length, append-nil, append_assoc}
 use Rattle.std.specs.List.{flat_map}
 use Rattle.std.specs.Io.KnownBytes.{Appends}
 use Rattle.std.proofs.KnownBytes.{Appends-trans, Appends-nil}
 use Rattle.std.proofs.lemmas.List.Elements.{All-nil, All-cons, All-head, All-tail, All-append}
-use Rattle.shard_state.specs.{AreCoreShards, BasesRepresent, CutValue, IsShard, ShardValue, core_shape}
+use Rattle.shard_state.specs.{AreCoreShards, CutValue, IsShard, ShardValue, core_shape}
 use Rattle.shard_state.specs.{core_lists, shard_state_at}
 use Rattle.prefix_lattice.specs.{record_limit}
 use Rattle.hhh_report.specs.{IsSound}
@@ -23,8 +21,7 @@ use Rattle.report_text.specs.{ShowsPositions}
 use Rattle.report_session.specs.DealtFeed.{IsSaveFault}
 use Rattle.report_session.specs.LiveRounds.{BreaksInLine, BreaksInReport, BreaksRound, EndRounds, IsInVain}
 use Rattle.report_session.specs.LiveRounds.{ReportsOnce, RoundSide, RoundsBreakOff, WritesRounds, WritesUnsaved}
-use Rattle.report_session.specs.Session.{SessionSaving, rest_after_saves, session_part, session_parts}
-use Rattle.report_session.specs.Session.{saved_cuts}
+use Rattle.report_session.specs.Session.{SessionSaving, rest_after_saves, session_part, session_parts, saved_cuts}
 use Rattle.run_status.specs.declared.status.Status.{Status}
 use Rattle.run_status.specs.declared.status.Status.TheVariants.{WriteFault, DiskFault, OutOfMemory}
 use Rattle.report_session.proofs.SaveLemmas.{saved_cuts-append_saves}
@@ -38,8 +35,7 @@ round_positions_are_within (shard ∷ rest) [] many kept = absurd (omega (arith,
 round_positions_are_within (shard ∷ rest) (position ∷ positions) many kept =
     let is_shard : IsShard (shard_state_at position shard) =
     All-head IsShard (shard_state_at position shard) (states_at rest positions) kept in
-    All-cons (λ position. position ≤ record_limit) position positions
-    (omega (arith, is_shard.few, is_shard.within))
+    All-cons (λ position. position ≤ record_limit) position positions (omega (arith, is_shard.few, is_shard.within))
     (round_positions_are_within rest positions (omega (arith, many))
     (All-tail IsShard (shard_state_at position shard) (states_at rest positions) kept))
 
@@ -170,28 +166,25 @@ module _ (opening : List ShardValue) (phi : ℕ) (store : Bool) where
       → RoundSavesImply Kept Less → BreaksRound opening phi store before now Kept status
       → BreaksRound opening phi store before now Less status
   broken_round_says_less before now Kept Less WriteFault less broken = (
-    ⊎_elim
-        (λ (part : BreaksInReport opening phi before now Kept). inl (record {
-          report = part.report;
-          reports = part.reports;
-          written = part.written;
-          kept = less [] [] part.kept;
-        }))
-        (λ (part : BreaksInLine opening phi store before now Kept). inr (record {
-          report = part.report;
-          reports = part.reports;
-          between = part.between;
-          whole = part.whole;
-          written = part.written;
-          kept = less (saved_cuts store opening (round_of part.report ∷ [])) [] part.kept;
-        })) broken.0,
+    ⊎_elim (λ (part : BreaksInReport opening phi before now Kept). inl (record {
+      report = part.report;
+      reports = part.reports;
+      written = part.written;
+      kept = less [] [] part.kept;
+    })) (λ (part : BreaksInLine opening phi store before now Kept). inr (record {
+      report = part.report;
+      reports = part.reports;
+      between = part.between;
+      whole = part.whole;
+      written = part.written;
+      kept = less (saved_cuts store opening (round_of part.report ∷ [])) [] part.kept;
+    })) broken.0,
     broken.1,
   )
   broken_round_says_less before now Kept Less DiskFault less broken =
       (broken.0, unsaved_round_says_less before now true Kept Less less broken.1, broken.2)
   broken_round_says_less before now Kept Less OutOfMemory less broken = (
-    ⊎_elim
-        (λ (vain : IsInVain opening before now Kept).
+    ⊎_elim (λ (vain : IsInVain opening before now Kept).
         inl (record { reads = vain.reads; unwritten = vain.unwritten; kept = less [] [] vain.kept }))
         (λ unsaved. inr (unsaved.0, unsaved_round_says_less before now false Kept Less less unsaved.1)) broken.0,
     broken.1,
@@ -220,8 +213,7 @@ module _ (opening : List ShardValue) (phi : ℕ) (store : Bool) where
       (stored : Bool) (Kept : List CutValue → Type 0) (KeptInRound KeptInPart : SessionSaving) (status : Status)
       → shards ≡ opening → share ≡ phi → stored ≡ store → made < rounds
       → ((cuts saved unfinished : List CutValue) → Kept cuts → KeptInRound saved unfinished
-      → KeptInPart (cuts ++ saved) unfinished)
-      → WritesRounds opening phi store made before middle Kept
+      → KeptInPart (cuts ++ saved) unfinished) → WritesRounds opening phi store made before middle Kept
       → BreaksRound opening share stored middle now KeptInRound status
       → RoundsBreakOff shards phi store rounds before now KeptInPart status
   one_round_broke_off shards share made rounds before middle now stored Kept KeptInRound KeptInPart status same same_share

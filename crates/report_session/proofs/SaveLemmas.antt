@@ -1,24 +1,20 @@
 -- Saves into a store, one after the other.
 use Rattle.std.proofs.Common.{◌≡◌, ◌∙◌, ◌+◌, ◌⊎◌, inl, inr, ⊎_elim, ℕ, Bool, true, false, List, [], ◌∷◌, ◌++◌, Option}
-use Rattle.std.proofs.Common.{None, Some}
-use Rattle.std.proofs.Common.{◌≤◌, refl, sym, ap, subst, arith, length, fold, append_assoc, append-nil}
+use Rattle.std.proofs.Common.{None, Some, ◌≤◌, refl, sym, ap, subst, arith, length, fold, append_assoc, append-nil}
 use Rattle.std.specs.Prelude.{IfSome, is_some, option_map}
 use Rattle.std.proofs.lemmas.List.{length-append, map-append}
 use Rattle.shard_state.specs.{CutValue, ShardValue}
 use Rattle.hhh_report.specs.declared.report.Report.{Report}
 use Rattle.hhh_report.specs.declared.reports.Reported.{Reported}
 use Rattle.gate_workers.specs.{cut_at}
-use Rattle.slot_disk.specs.{IfImageKnown, CrashLeaves, CrashLeaves-none}
-use Rattle.slot_disk.specs.{CrashLeaves-trans, CrashLeaves-weaker}
+use Rattle.slot_disk.specs.{IfImageKnown, CrashLeaves, CrashLeaves-none, CrashLeaves-trans, CrashLeaves-weaker}
 use Rattle.slot_disk.specs.declared.disk.Disk.{Ghosts as DiskOf}
-use Rattle.checkpoint.specs.{AreSettings, IsKnownSaver, OpensOldOrNew, StoreOpensTo, SavedValue}
-use Rattle.checkpoint.specs.{SaverState, DiskMatches, OpenToOne}
-use Rattle.checkpoint.specs.{saver_after, newest_in, next_saved, store_sequence}
+use Rattle.checkpoint.specs.{AreSettings, IsKnownSaver, OpensOldOrNew, StoreOpensTo, SavedValue, SaverState}
+use Rattle.checkpoint.specs.{DiskMatches, OpenToOne, saver_after, newest_in, next_saved, store_sequence}
 use Rattle.checkpoint.specs.declared.header.StoreHeader.{StoreHeader}
 use Rattle.report_session.specs.DealtFeed.{CanSaveCut}
-use Rattle.report_session.specs.Saving.{KeepsSaves, OpensToSaves, Saves, SavesCuts, SavesInPart}
-use Rattle.report_session.specs.Saving.{SavesBreakOff, SavesInTurn, after_saves, after_broken}
-use Rattle.report_session.specs.Saving.{last_of_saves, saves_after}
+use Rattle.report_session.specs.Saving.{KeepsSaves, OpensToSaves, Saves, SavesCuts, SavesInPart, SavesBreakOff}
+use Rattle.report_session.specs.Saving.{SavesInTurn, after_saves, after_broken, last_of_saves, saves_after}
 use Rattle.report_session.specs.Session.{saved_cuts}
 
 -- one save after others
@@ -103,15 +99,13 @@ kept_saves_follow one {D} d header digest Earlier cuts later unfinished old mid 
           (λ among. inr (subst (λ list. OpensToSaves header opened list image) (sym parted)
           (opens_at_earlier_saves header opened saves next image
           (subst (λ list. OpensToSaves header opened (saves_after start digest list) image) (append-nil cuts) among))))))
-          (CrashLeaves-weaker d.moment d.image_since mid new
-          (λ image. ⊥ ⊎ OpensToSaves header second.opened next image)
+          (CrashLeaves-weaker d.moment d.image_since mid new (λ image. ⊥ ⊎ OpensToSaves header second.opened next image)
           (λ image. Earlier image ⊎ OpensToSaves header opened all image) second.any_moment
           (λ image. ⊎_elim (λ never. absurd never)
           (λ among. inr (subst (λ list. OpensToSaves header opened list image) (sym parted)
           (opens_at_later_saves header opened saves next image
           (subst (λ held. OpensToSaves header held next image) same among))))));
-      afterwards = λ image is.
-          subst (λ held. OpensToSaves header held
+      afterwards = λ image is. subst (λ held. OpensToSaves header held
           (saves_after (start + length (cuts ++ later)) digest unfinished) image) (sym last)
           (subst (λ n. OpensToSaves header (last_of_saves second.opened (saves_after then digest later))
           (saves_after n digest unfinished) image) (omega (arith, sequence, length-append cuts later))
@@ -133,8 +127,7 @@ save_leaves one d saver cut old new bytes are store any_moment =
     let was : StoreOpensTo saver.header bytes opened = (store.first, store.second, store.holds, refl) in
     CrashLeaves-weaker d.moment d.image_since old new (OpensOldOrNew saver.header bytes saved)
     (λ image. ⊥ ⊎ OpensToSaves saver.header opened
-    (saves_after (store_sequence opened) saver.digest (cut ∷ [])) image) any_moment
-    (λ image. ⊎_elim
+    (saves_after (store_sequence opened) saver.digest (cut ∷ [])) image) any_moment (λ image. ⊎_elim
     (λ alike. inr (inl (subst (StoreOpensTo saver.header image)
     (one saver.header bytes alike.0 opened are alike.1 was) alike.2)))
     (λ is_new. inr (inr (subst (λ s. StoreOpensTo saver.header image (Some s)) same is_new))))
@@ -145,8 +138,7 @@ pub one_save : OpenToOne → {D : Type 0} (d : DiskOf D) (saver : SaverState) (c
     → is_some (d.reads new) ≡ is_some (d.reads old)
     → DiskMatches (d.reads new) (d.image_now new) (saver_after saver cut)
     → IfImageKnown (d.reads new) (λ bytes. (image : List ℕ) → d.image_now new image
-    → StoreOpensTo saver.header image (Some (next_saved saver cut)))
-    → IfImageKnown (d.reads old)
+    → StoreOpensTo saver.header image (Some (next_saved saver cut))) → IfImageKnown (d.reads old)
     (λ bytes. CrashLeaves d.moment d.image_since old new (OpensOldOrNew saver.header bytes (next_saved saver cut)))
     → SavesCuts d saver (cut ∷ []) old new
 one_save one d saver cut old new are before known stands opens any_moment = record {
@@ -208,8 +200,7 @@ unfinished_save_of one d before saver cut old new is can now_is_since any_moment
 -- no save
 pub no_save : {D : Type 0} (d : DiskOf D) (before : Option SaverState) (disk : D)
     → ((image : List ℕ) → d.image_since disk (d.moment disk) image → d.image_now disk image)
-    → IfSome before (DiskMatches (d.reads disk) (d.image_now disk))
-    → SavesInTurn d before before disk disk []
+    → IfSome before (DiskMatches (d.reads disk) (d.image_now disk)) → SavesInTurn d before before disk disk []
 no_save d None disk only_now stands = record { saver = refl; saves = refl }
 no_save d (Some saver) disk only_now stands = record {
   saver = refl;
@@ -257,8 +248,7 @@ saves_raise_sequence saver (cut ∷ cuts) = saves_raise_sequence (saver_after sa
 saves_kept_as_before : {D : Type 0} (d : DiskOf D)
     (saver : SaverState) (cuts saved unfinished : List CutValue) (mid new : D) (store : List ℕ)
     → KeepsSaves d mid new (after_saves saver cuts).header (after_saves saver cuts).digest (λ image. ⊥)
-    saved unfinished store
-    → KeepsSaves d mid new saver.header saver.digest (λ image. ⊥) saved unfinished store
+    saved unfinished store → KeepsSaves d mid new saver.header saver.digest (λ image. ⊥) saved unfinished store
 saves_kept_as_before d saver cuts saved unfinished mid new store kept =
     subst (λ header. KeepsSaves d mid new header saver.digest (λ image. ⊥) saved unfinished store)
     (saves_leave_header saver cuts)
@@ -268,8 +258,7 @@ saves_kept_as_before d saver cuts saved unfinished mid new store kept =
 saves_of_cuts_follow : OpenToOne → {D : Type 0} (d : DiskOf D) (saver : SaverState) (cuts later : List CutValue)
     (old mid new : D) → AreSettings saver.header.settings
     → ((disk : D) (bytes : List ℕ) → d.reads disk ≡ Some bytes → d.image_now disk bytes)
-    → SavesCuts d saver cuts old mid
-    → SavesCuts d (after_saves saver cuts) later mid new
+    → SavesCuts d saver cuts old mid → SavesCuts d (after_saves saver cuts) later mid new
     → SavesCuts d saver (cuts ++ later) old new
 saves_of_cuts_follow one d saver cuts later old mid new are is_image first second = record {
   known = second.known ∙ first.known;
@@ -279,16 +268,14 @@ saves_of_cuts_follow one d saver cuts later old mid new are is_image first secon
       let between = save_leaves_bytes_known (d.reads old) (d.reads mid) bytes first.known is in
       kept_saves_follow one d saver.header saver.digest (λ image. ⊥) cuts later [] old mid new bytes
       between.0 are (is_image mid between.0 between.1) (first.kept bytes is)
-      (saves_kept_as_before d saver cuts later [] mid new between.0
-      (second.kept between.0 between.1));
+      (saves_kept_as_before d saver cuts later [] mid new between.0 (second.kept between.0 between.1));
 }
 
 -- saves after saves
 pub saves_follow : OpenToOne → {D : Type 0} (d : DiskOf D) (before between after : Option SaverState)
     (cuts later : List CutValue) (old mid new : D) → IfSome before (λ saver. AreSettings saver.header.settings)
     → ((disk : D) (bytes : List ℕ) → d.reads disk ≡ Some bytes → d.image_now disk bytes)
-    → SavesInTurn d before between old mid cuts
-    → SavesInTurn d between after mid new later
+    → SavesInTurn d before between old mid cuts → SavesInTurn d between after mid new later
     → SavesInTurn d before after old new (cuts ++ later)
 saves_follow one d None between after cuts later old mid new are is_image first second =
     let none : between ≡ None = first.saver in
@@ -301,14 +288,12 @@ saves_follow one d (Some saver) between after cuts later old mid new are is_imag
     subst (λ s. SavesInTurn d s after mid new later) first.saver second in
     record {
       saver = then.saver ∙ ap Some (sym (fold-append_saves saver_after saver cuts later));
-      saves = saves_of_cuts_follow one d saver cuts later old mid new are is_image first.saves
-          then.saves;
+      saves = saves_of_cuts_follow one d saver cuts later old mid new are is_image first.saves then.saves;
     }
 
 -- saves that were made leave none unfinished
 pub part_of_saves : {D : Type 0} (d : DiskOf D) (before : Option SaverState) (old new : D) (cuts : List CutValue)
-    → Saves d before cuts old new
-    → SavesInPart d before old new cuts []
+    → Saves d before cuts old new → SavesInPart d before old new cuts []
 part_of_saves d None old new cuts saves =
     record { unused = λ none. saves; kept = tt }
 part_of_saves d (Some saver) old new cuts saves =
@@ -317,11 +302,9 @@ part_of_saves d (Some saver) old new cuts saves =
 -- nothing was saved into a disk that is untouched
 pub no_save_into_untouched_disk : {D : Type 0} (d : DiskOf D) (before : Option SaverState) (old new : D)
     → ((disk : D) (image : List ℕ) → d.image_since disk (d.moment disk) image → d.image_now disk image)
-    → IfSome before (DiskMatches (d.reads old) (d.image_now old)) → new ≡ old
-    → SavesInPart d before old new [] []
+    → IfSome before (DiskMatches (d.reads old) (d.image_now old)) → new ≡ old → SavesInPart d before old new [] []
 no_save_into_untouched_disk d before old new only_now stands same =
-    subst (λ disk. SavesInPart d before old disk [] []) (sym same)
-    (part_of_saves d before old old []
+    subst (λ disk. SavesInPart d before old disk [] []) (sym same) (part_of_saves d before old old []
     (no_save d before old (only_now old) stands).saves)
 
 -- the saver after no save
@@ -341,8 +324,7 @@ no_save_broke_off d before after old new only_now stands same_saver same = recor
 
 -- saves that were made before what broke off
 pub whole_saves_broke_off : {D : Type 0} (d : DiskOf D) (before after : Option SaverState) (old new : D) (cuts : List CutValue)
-    → SavesInTurn d before after old new cuts
-    → SavesBreakOff d before after old new cuts []
+    → SavesInTurn d before after old new cuts → SavesBreakOff d before after old new cuts []
 whole_saves_broke_off d before after old new cuts saves = record {
   saver = saves.saver;
   saves = part_of_saves d before old new cuts saves.saves;
@@ -361,8 +343,7 @@ saver_after_more_saves (Some saver) between cuts saved [] is =
 pub broken_off_save_follows : OpenToOne → {D : Type 0} (d : DiskOf D) (before between : Option SaverState)
     (cuts saved unfinished : List CutValue) (old mid new : D) → IfSome before (λ saver. AreSettings saver.header.settings)
     → ((disk : D) (bytes : List ℕ) → d.reads disk ≡ Some bytes → d.image_now disk bytes)
-    → SavesInTurn d before between old mid cuts
-    → SavesInPart d between mid new saved unfinished
+    → SavesInTurn d before between old mid cuts → SavesInPart d between mid new saved unfinished
     → SavesInPart d before old new (cuts ++ saved) unfinished
 broken_off_save_follows one d None between cuts saved unfinished old mid new are is_image first second =
     record { unused = λ none. second.unused first.saver ∙ first.saves; kept = tt }
@@ -382,8 +363,7 @@ broken_off_save_follows one d (Some saver) between cuts saved unfinished old mid
 pub broken_saves_follow : OpenToOne → {D : Type 0} (d : DiskOf D) (before between after : Option SaverState)
     (cuts saved unfinished : List CutValue) (old mid new : D) → IfSome before (λ saver. AreSettings saver.header.settings)
     → ((disk : D) (bytes : List ℕ) → d.reads disk ≡ Some bytes → d.image_now disk bytes)
-    → SavesInTurn d before between old mid cuts
-    → SavesBreakOff d between after mid new saved unfinished
+    → SavesInTurn d before between old mid cuts → SavesBreakOff d between after mid new saved unfinished
     → SavesBreakOff d before after old new (cuts ++ saved) unfinished
 broken_saves_follow one d before between after cuts saved unfinished old mid new are is_image first
     second = record {
@@ -400,8 +380,7 @@ saved_cuts-append_saves true opening reports later = map-append (λ (r : Reporte
 
 -- without a saver there are no cuts
 pub no_saver_no_save : {D : Type 0} (d : DiskOf D) (before after : Option SaverState) (old new : D) (cuts : List CutValue)
-    → is_some before ≡ false → SavesInTurn d before after old new cuts
-    → SavesInTurn d before after old new []
+    → is_some before ≡ false → SavesInTurn d before after old new cuts → SavesInTurn d before after old new []
 no_saver_no_save d None after old new cuts none saves =
     record { saver = saves.saver; saves = saves.saves }
 no_saver_no_save d (Some saver) after old new cuts none saves = cc none
@@ -416,7 +395,6 @@ save_of_reported_cut true opening report cut Kept is none kept = subst (λ c. Ke
 
 -- without a saver nothing was done
 pub save_needs_saver : {D : Type 0} (d : DiskOf D) (before after : Option SaverState) (old new : D) (cuts : List CutValue)
-    → SavesInTurn d before after old new cuts → before ≡ None
-    → (after ≡ None) × (new ≡ old)
+    → SavesInTurn d before after old new cuts → before ≡ None → (after ≡ None) × (new ≡ old)
 save_needs_saver d None after old new cuts saves none = (saves.saver, saves.saves)
 save_needs_saver d (Some saver) after old new cuts saves none = cc none

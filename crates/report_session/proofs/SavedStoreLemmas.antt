@@ -6,8 +6,7 @@ use Rattle.std.proofs.lemmas.List.{length-append, length-map, map-append}
 use Rattle.std.proofs.lemmas.List.Elements.{All-head, All-map, All-tail}
 use Rattle.prefix_lattice.specs.{RecordValue}
 use Rattle.shard_state.specs.{AreCoreShards, BasesRepresent, CutRepresents, CutValue, ShardValue, core_shape}
-use Rattle.shard_state.specs.{core_lists}
-use Rattle.shard_state.specs.{cut_positions}
+use Rattle.shard_state.specs.{core_lists, cut_positions}
 use Rattle.hhh_report.specs.{AreReportLines, IsSameReport}
 use Rattle.hhh_output.specs.{IsReportOf}
 use Rattle.hhh_report.specs.declared.report.Report.{Report}
@@ -18,9 +17,8 @@ use Rattle.checkpoint.specs.declared.header.StoreHeader.{StoreHeader}
 use Rattle.command_words.specs.declared.settings.Settings.{Settings}
 use Rattle.report_text.specs.{report_text}
 use Rattle.report_session.specs.Saving.{OpensToSaves, last_of_saves, saves_after}
-use Rattle.report_session.specs.Session.{AreReports, IsShownInSession, SessionReports}
-use Rattle.report_session.specs.Session.{caller_reports, session_ends, saved_cuts}
-use Rattle.report_session.specs.Session.{saves_of}
+use Rattle.report_session.specs.Session.{AreReports, IsShownInSession, SessionReports, caller_reports, session_ends}
+use Rattle.report_session.specs.Session.{saved_cuts, saves_of}
 use Rattle.report_session.proofs.LastReportLemmas.{LastReportTextIsUnique, last_report_is_among_all}
 use Rattle.report_session.proofs.SeenPositionLemmas.{seen_positions_of_cut}
 

@@ -1,25 +1,22 @@
 -- What a view has seen after a round, and the positions that a saver may save then.
 use Rattle.std.proofs.Common.{◌≡◌, ◌∙◌, ◌≤◌, ◌<◌, ◌+◌, ℕ, zero, suc, List, [], ◌∷◌, Option, None, Some, refl, sym, ap}
-use Rattle.std.proofs.Common.{subst, arith}
-use Rattle.std.proofs.Common.{length, map, fold, get_or, true}
+use Rattle.std.proofs.Common.{subst, arith, length, map, fold, get_or, true}
 use Rattle.std.specs.Prelude.{IfSome, is_some, option_map, slice_index}
 use Rattle.std.specs.List.Sorted.{IsNonDecreasing}
 use Rattle.std.proofs.lemmas.List.{length-map}
 use Rattle.hhh_report.specs.{AreNotPast}
-use Rattle.shard_state.specs.{CutValue, HasCoreShape, ShardValue, core_shape, cut_positions}
-use Rattle.shard_state.specs.{snapshot_of}
+use Rattle.shard_state.specs.{CutValue, HasCoreShape, ShardValue, core_shape, cut_positions, snapshot_of}
 use Rattle.hhh_report.specs.declared.report.Report.{Report}
 use Rattle.hhh_report.specs.declared.reports.Reported.{Reported}
 use Rattle.pass_tokens.specs.{ShardRead, after_reads, seen_in}
 use Rattle.gate_workers.specs.{Calls, Trail, View, cut_at, states_at}
-use Rattle.checkpoint.specs.{AreSettings, SaverState, DiskMatches, greatest_sequence}
+use Rattle.checkpoint.specs.{AreSettings, SaverState, DiskMatches, greatest_sequence, settings_shape}
 use Rattle.report_session.specs.DealtFeed.{CanSaveCut}
 use Rattle.report_session.specs.Saving.{CanMakeSaves, SavesFitBoard, SavesInTurn, after_saves}
 use Rattle.report_session.specs.Session.{saved_cuts}
 use Rattle.report_session.proofs.RoundLemmas.{round_makes_report}
 use Rattle.report_session.proofs.SaveLemmas.{saves_raise_sequence}
 use Rattle.slot_disk.specs.declared.disk.Disk.{Ghosts as DiskOf}
-use Rattle.checkpoint.specs.{settings_shape}
 
 -- the positions of the cut of the pure core
 pub seen_positions_of_cut : (opening : List ShardValue) (positions : List ℕ) → length positions ≡ length opening
@@ -136,8 +133,7 @@ seen_positions_not_past_report opening phi before now report positions trails ca
     length-map before.trails (λ (trail : Trail). trail.seen) in
     let long : length positions ≡ length (map (λ (trail : Trail). trail.seen) before.trails) =
     seen_positions_same_length positions (map (λ (trail : Trail). trail.seen) before.trails) past in
-    seen_positions_are_not_past positions report.positions (omega (arith, many, seen, long, trails))
-    (λ shard inside.
+    seen_positions_are_not_past positions report.positions (omega (arith, many, seen, long, trails)) (λ shard inside.
     let first : slice_index positions shard ≤ seen_in shard before =
     seen_position_is_not_past positions (map (λ (trail : Trail). trail.seen) before.trails) shard past
     (omega (arith, inside, many, seen, trails)) in
@@ -183,8 +179,7 @@ seen_positions_fit_next_saver reads possible opening phi before now report (Some
     let positions : cut_positions cut ≡ map (λ (trail : Trail). trail.seen) now.trails =
     ap cut_positions is ∙ seen_positions_of_cut opening report.positions at.as_many
     ∙ sym (seen_positions_are_reported opening phi before now report trails calls) in
-    subst (λ o. IfSome o (SavesFitBoard opening now)) (sym saved)
-    (record {
+    subst (λ o. IfSome o (SavesFitBoard opening now)) (sym saved) (record {
       settings = can.fits.settings;
       shards = can.fits.shards;
       shape = can.fits.shape;
@@ -212,8 +207,7 @@ seen_positions_allow_more_saves d opening view (Some first) saver reports old ne
     let now : SaverState = after_saves first cuts in
     let sequence : now.sequence ≡ first.sequence + length cuts = saves_raise_sequence first cuts in
     let as_many : length cuts ≡ length reports = seen_position_saved_count opening reports in
-    subst (λ o. IfSome o (CanMakeSaves (d.reads new) (d.image_now new) opening view count)) (sym saves.saver)
-    (record {
+    subst (λ o. IfSome o (CanMakeSaves (d.reads new) (d.image_now new) opening view count)) (sym saves.saver) (record {
       fits = subst (λ o. IfSome o (SavesFitBoard opening view)) saves.saver fits;
       stands = saves.saves.stands;
       early = omega (arith, sequence, as_many, many, few, early);

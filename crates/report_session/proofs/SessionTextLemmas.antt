@@ -1,6 +1,6 @@
 -- The bytes of a session, as they are written.
-use Rattle.std.proofs.Common.{◌≡◌, ◌∙◌, ◌≤◌, ◌+◌, ◌-◌, inl, inr, ℕ, zero, suc, List, [], ◌∷◌, ◌++◌, Option, All}
-use Rattle.std.proofs.Common.{refl, sym, ap, ap₂, subst, arith, length, map, append_assoc, get_or}
+use Rattle.std.proofs.Common.{◌≡◌, ◌∙◌, ◌≤◌, ◌+◌, ◌-◌, inl, inr, ℕ, zero, suc, List, [], ◌∷◌, ◌++◌, Option, All, refl}
+use Rattle.std.proofs.Common.{sym, ap, ap₂, subst, arith, length, map, append_assoc, get_or, Bool}
 use Rattle.std.specs.Prelude.{slice_index}
 use Rattle.std.specs.List.Sorted.{IsNonDecreasing}
 use Rattle.std.specs.Io.KnownBytes.{Appends}
@@ -9,7 +9,6 @@ use Rattle.std.proofs.lemmas.List.{length-append, length-map, map-append}
 use Rattle.std.proofs.lemmas.List.Elements.{All-append, All-cons, All-head, All-map, All-nil, All-tail}
 use Rattle.std.proofs.lemmas.List.Sorted.{IsNonDecreasingBy-push}
 use Rattle.outside_io.specs.{AppendsPart, IsBeginning}
-use Rattle.std.proofs.Common.{Bool}
 use Rattle.shard_state.specs.{CutValue, IsShard, ShardValue, shard_state_at}
 use Rattle.hhh_report.specs.declared.reports.Reported.{Reported}
 use Rattle.gate_workers.specs.{states_at}
@@ -17,14 +16,11 @@ use Rattle.pass_tokens.specs.{WordsValue}
 use Rattle.command_words.specs.declared.settings.Settings.{Settings}
 use Rattle.report_text.specs.{mark_text, report_text}
 use Rattle.report_text.specs.declared.mark.Mark.TheVariants.{Opened}
-use Rattle.report_session.specs.Session.{WritesAnswer, AreOfCaller, AreReports, BeginsSession}
-use Rattle.report_session.specs.Session.{BreaksOffAround, BreaksOffInRounds, IsShownInSession}
-use Rattle.report_session.specs.Session.{IsStrictBeginning, SessionSaving, IsOverShards}
-use Rattle.report_session.specs.Session.{rest_after_saves, caller_reports, caller_parts}
-use Rattle.report_session.specs.Session.{session_ends, session_parts, saved_cuts, save_line}
-use Rattle.report_session.specs.Session.{session_start}
-use Rattle.report_session.specs.DealtFeed.{IsFeedResult, IsFeedRest, StartsBefore}
-use Rattle.report_session.specs.DealtFeed.{FeedBreaksOff, other_reports}
+use Rattle.report_session.specs.Session.{WritesAnswer, AreOfCaller, AreReports, BeginsSession, BreaksOffAround}
+use Rattle.report_session.specs.Session.{BreaksOffInRounds, IsShownInSession, IsStrictBeginning, SessionSaving}
+use Rattle.report_session.specs.Session.{IsOverShards, rest_after_saves, caller_reports, caller_parts, session_ends}
+use Rattle.report_session.specs.Session.{session_parts, saved_cuts, save_line, session_start}
+use Rattle.report_session.specs.DealtFeed.{IsFeedResult, IsFeedRest, StartsBefore, FeedBreaksOff, other_reports}
 use Rattle.report_session.specs.declared.feed.Fed.{Fed}
 use Rattle.report_session.specs.declared.session.Rest.{Rest}
 
@@ -100,10 +96,8 @@ session_text_with_last opening settings count reports last starts are shown ends
       let end : ℕ = slice_index (session_ends opening) shard in
       let is_end : position last ≡ end = ap (λ positions. slice_index positions shard) ends in
       let below : All (λ number. number ≤ position last) (first ∷ map position reports) =
-      All-cons (λ number. number ≤ position last) first (map position reports)
-      (omega (arith, starts shard, is_end))
-      (All-map (λ number. number ≤ position last) position reports
-      (λ k d lt.
+      All-cons (λ number. number ≤ position last) first (map position reports) (omega (arith, starts shard, is_end))
+      (All-map (λ number. number ≤ position last) position reports (λ k d lt.
       let at = (are.shown k d lt).is_report in
       let within = session_text_within_ends opening (get_or reports k d).report.positions shard at.as_many at.kept in
       omega (arith, within, is_end))) in
@@ -327,8 +321,7 @@ pub session_text_begins_weaker : (opening : List ShardValue) (settings : Setting
     → BeginsSession opening settings Kept tail front → BeginsSession opening settings Less tail front
 session_text_begins_weaker opening settings Kept Less tail front less =
     let cuts : List Reported → List CutValue = saved_cuts settings.store opening in
-    session_text_begins_saying_less opening settings Kept Less tail front
-    (record {
+    session_text_begins_saying_less opening settings Kept Less tail front (record {
       none = less [] [];
       between = λ rounds are. less (cuts rounds) [];
       before = λ count rounds next are. less (cuts rounds ++ []) [];

@@ -1,8 +1,7 @@
 -- The reports of a session, by what threads did.
-use Rattle.std.proofs.Common.{Bool, true, false, ⊎_elim}
-use Rattle.std.proofs.Common.{◌≡◌, ◌∙◌, ◌≤◌, ◌<◌, ◌+◌, ◌⊎◌, inl, inr, ℕ, List, [], ◌∷◌, ◌++◌, Option, None, Some}
-use Rattle.std.proofs.Common.{Ok, Err, All, refl, sym, ap, ap₂, subst, arith, length, map, append-nil, get_or, take}
-use Rattle.std.proofs.Common.{zero, suc, slice_get}
+use Rattle.std.proofs.Common.{Bool, false, ⊎_elim, ◌≡◌, ◌∙◌, ◌≤◌, ◌<◌, ◌+◌, ◌⊎◌, inl, inr, ℕ, List, [], ◌∷◌, ◌++◌}
+use Rattle.std.proofs.Common.{Option, None, Some, Ok, Err, All, refl, sym, ap, ap₂, subst, arith, length, map}
+use Rattle.std.proofs.Common.{append-nil, get_or, take, zero, suc, slice_get}
 use Rattle.std.specs.Prelude.{slice_index, ⊤}
 use Rattle.std.specs.Result.{IfErr, IfOk, OnErr, OnOk}
 use Rattle.std.specs.List.Sorted.{IsNonDecreasing}
@@ -12,14 +11,12 @@ use Rattle.std.proofs.KnownBytes.{Appends-trans, Appends-nil}
 use Rattle.std.proofs.lemmas.List.{length-map, take_more}
 use Rattle.std.proofs.lemmas.List.Elements.{All-map, All-append, All-cons, All-head, All-nil, All-tail}
 use Rattle.std.proofs.lemmas.List.Sorted.{IsNonDecreasingBy-short}
-use Rattle.shard_state.specs.{BasesRepresent, CutValue, IsShard, ShardValue, core_shape, core_lists}
-use Rattle.shard_state.specs.{shard_state_at}
+use Rattle.shard_state.specs.{BasesRepresent, CutValue, IsShard, ShardValue, core_shape, core_lists, shard_state_at}
 use Rattle.hhh_report.specs.{IsSound}
 use Rattle.hhh_report.specs.declared.report.Report.{Report}
 use Rattle.hhh_report.specs.declared.reports.Reported.{Reported}
 use Rattle.pass_tokens.specs.{first_view, newcomer_view, seen_in, view as view_of}
-use Rattle.gate_workers.specs.{AreSoundReports, Calls, BringBack, MakesRounds}
-use Rattle.gate_workers.specs.{HasSeenEnds, View, states_at}
+use Rattle.gate_workers.specs.{AreSoundReports, Calls, BringBack, MakesRounds, HasSeenEnds, View, states_at}
 use Rattle.gate_workers.specs.declared.gathered.Called.{Called}
 use Rattle.gate_workers.specs.declared.gathered.Gathered.{Gathered}
 use Rattle.gate_workers.specs.declared.plan.ThreadPlan.{ThreadPlan}
@@ -28,16 +25,14 @@ use Rattle.report_text.specs.{report_text}
 use Rattle.report_session.specs.DealtFeed.{FeedBreaksOff, MakesSteps, other_reports}
 use Rattle.report_session.specs.LiveRounds.{BreaksInLine, BreaksInReport, EndRounds, IsInVain, ReportsOnce}
 use Rattle.report_session.specs.LiveRounds.{RoundFaults, RoundSide, RoundsBreakOff, WritesRounds}
-use Rattle.report_session.specs.Session.{AreOfCaller, BreaksOffAround, IsShownInSession}
-use Rattle.report_session.specs.Session.{SessionSaving, rest_after_saves, caller_parts, session_ends}
-use Rattle.report_session.specs.Session.{session_part, session_parts, saved_cuts, save_line}
-use Rattle.report_session.specs.Session.{session_start}
+use Rattle.report_session.specs.Session.{AreOfCaller, BreaksOffAround, IsShownInSession, SessionSaving}
+use Rattle.report_session.specs.Session.{rest_after_saves, caller_parts, session_ends, session_part, session_parts}
+use Rattle.report_session.specs.Session.{saved_cuts, save_line, session_start, asked_shape}
 use Rattle.run_status.specs.declared.status.Status.{Status}
 use Rattle.run_status.specs.declared.status.Status.TheVariants.{WriteFault, DiskFault, OutOfMemory}
 use Rattle.report_session.proofs.RoundLemmas.{IsSoundRound, RoundsFollowRounds, flat_map-append_rounds, round_makes_report}
 use Rattle.report_session.proofs.RoundLemmas.{round_of, saved_cuts-no_rounds}
 use Rattle.report_session.proofs.SeenPositionLemmas.{seen_position_report_count, seen_position_before_one_read}
-use Rattle.report_session.specs.Session.{asked_shape}
 
 -- a view has seen the positions at which shards start, and no others
 abbrev pub HasSessionThreadSeenStarts : List ShardValue → View → Type 0
@@ -145,8 +140,7 @@ module _ (opening : List ShardValue) (settings : Settings) (alike : core_shape o
         → FeedBreaksOff opening settings Kept before.taken now.taken
     session_thread_broken_rounds WriteFault off =
         let After : SessionSaving = rest_after_saves settings.store opening off.written.reports Kept in
-        ⊎_elim
-        (λ (part : BreaksInReport opening settings.phi off.middle now After).
+        ⊎_elim (λ (part : BreaksInReport opening settings.phi off.middle now After).
         session_thread_breaks_in_round WriteFault off part.report part.written.front part.reports
         (inl (part.written.is_beginning, part.kept)) part.written.appended)
         (λ (part : BreaksInLine opening settings.phi settings.store off.middle now After).
@@ -166,8 +160,7 @@ module _ (opening : List ShardValue) (settings : Settings) (alike : core_shape o
     session_thread_broken_rounds OutOfMemory off =
         let whole = off.written in
         let few : off.whole < settings.rounds = off.few in
-        ⊎_elim
-        (λ (vain : IsInVain opening off.middle now (rest_after_saves settings.store opening whole.reports Kept)).
+        ⊎_elim (λ (vain : IsInVain opening off.middle now (rest_after_saves settings.store opening whole.reports Kept)).
         session_thread_between_rounds Kept (λ cuts. ⊤) off.whole off.middle now.taken (omega (arith, few)) whole
         vain.unwritten (subst (λ cuts. Kept cuts []) (append-nil (saved_cuts settings.store opening whole.reports)) vain.kept))
         (λ unsaved.
@@ -241,8 +234,7 @@ session_threads_leave_rounds same relates opening settings passes view Kept Kept
 
 -- either the threads were run, or memory ran out before
 pub session_threads_ran_or_not : {E : Type 0} (same : Type 0) (relates : View → View → Type 0) (opening : List ShardValue)
-    (plan : ThreadPlan) (view : View) (result : Result Gathered E)
-    → IfOk result (BringBack opening plan relates view)
+    (plan : ThreadPlan) (view : View) (result : Result Gathered E) → IfOk result (BringBack opening plan relates view)
     → OnErr result (same ⊎ MakesRounds relates (plan.workers + plan.callers) view)
     → same ⊎ MakesRounds relates (plan.workers + plan.callers) view
 session_threads_ran_or_not same relates opening plan view (Ok gathered) gathers memory = inr gathers.rounds
@@ -255,8 +247,7 @@ session_thread_on_err (Err error) P holds = holds
 -- the share, the rounds and the store that settings ask for
 pub session_thread_ended_as_set : (shards : List ShardValue) (share phi made rounds : ℕ) (before now : RoundSide)
     (stored store : Bool) (Kept : List CutValue → Type 0) (KeptInPart : SessionSaving) (stop : Option Status)
-    → share ≡ phi → made ≡ rounds → stored ≡ store
-    → EndRounds shards share stored made before now Kept KeptInPart stop
+    → share ≡ phi → made ≡ rounds → stored ≡ store → EndRounds shards share stored made before now Kept KeptInPart stop
     → EndRounds shards phi store rounds before now Kept KeptInPart stop
 session_thread_ended_as_set shards share phi made rounds before now stored store Kept KeptInPart stop same_share same_rounds
     same_store ended =
@@ -280,8 +271,7 @@ pub session_threads_gathered_all : (relates : View → View → Type 0) (opening
     → ((before now : View) → relates before now
     → WritesRounds before.opening settings.phi settings.store settings.rounds
     (record { view = before; taken = old; faults = faults_before })
-    (record { view = now; taken = new; faults = faults_now }) Kept)
-    → BringBack opening plan relates view gathered
+    (record { view = now; taken = new; faults = faults_now }) Kept) → BringBack opening plan relates view gathered
     → (BasesRepresent opening → All (λ (called : Called). AreSoundReports opening plan.phi called.reports) gathered.called.items)
     → (rounds : List Reported) × AreOfCaller opening settings settings.rounds rounds
     × Appends old new (session_parts settings.store rounds) × (length gathered.called.items ≡ settings.callers)
@@ -304,8 +294,7 @@ session_threads_gathered_all relates opening settings plan view gathered Kept ol
           whole.sound,
       whole.written,
       gathers.as_many_callers ∙ callers,
-      All-map (AreOfCaller opening settings settings.rounds) (λ (called : Called). called.reports)
-          gathered.called.items
+      All-map (AreOfCaller opening settings settings.rounds) (λ (called : Called). called.reports) gathered.called.items
           (λ k d lt.
           let called : Called = get_or gathered.called.items k d in
           let start : View = record view { splits = view.splits + (plan.workers + k) } in
@@ -322,8 +311,7 @@ session_threads_gathered_all relates opening settings plan view gathered Kept ol
 pub session_thread_rounds_make_steps : (opening : List ShardValue) (phi rounds : ℕ) (before now : View) (store : Bool)
     (Kept : List CutValue → Type 0) (old new : Option (List ℕ)) (faults_before faults_now : RoundFaults)
     → WritesRounds opening phi store rounds (record { view = before; taken = old; faults = faults_before })
-    (record { view = now; taken = new; faults = faults_now }) Kept
-    → MakesSteps before now
+    (record { view = now; taken = new; faults = faults_now }) Kept → MakesSteps before now
 session_thread_rounds_make_steps opening phi rounds before now store Kept old new faults_before faults_now written =
     subst (MakesSteps before) (sym written.calls.view) refl
 
@@ -395,8 +383,7 @@ session_thread_index_is_inside (first ∷ rest) (suc index) x is = let within : 
 session_thread_positions_at_ends : (opening : List ShardValue) (positions : List ℕ) → length positions ≡ length opening
     → All IsShard (states_at opening positions)
     → ((shard : ℕ) (state : ShardValue) → slice_get opening shard ≡ Some state
-    → length state.list ≤ slice_index positions shard)
-    → positions ≡ session_ends opening
+    → length state.list ≤ slice_index positions shard) → positions ≡ session_ends opening
 session_thread_positions_at_ends [] [] many kept behind = refl
 session_thread_positions_at_ends [] (position ∷ positions) many kept behind = absurd (omega (arith, many))
 session_thread_positions_at_ends (shard ∷ rest) [] many kept behind = absurd (omega (arith, many))
@@ -404,8 +391,7 @@ session_thread_positions_at_ends (shard ∷ rest) (position ∷ positions) many 
     let is_shard : IsShard (shard_state_at position shard) =
     All-head IsShard (shard_state_at position shard) (states_at rest positions) kept in
     let first : position ≡ length shard.list = omega (arith, is_shard.within, behind 0 shard refl) in
-    ap₂ (λ p ps. p ∷ ps) first
-    (session_thread_positions_at_ends rest positions (omega (arith, many))
+    ap₂ (λ p ps. p ∷ ps) first (session_thread_positions_at_ends rest positions (omega (arith, many))
     (All-tail IsShard (shard_state_at position shard) (states_at rest positions) kept)
     (λ index state is. behind (suc index) state is))
 
@@ -422,8 +408,7 @@ session_thread_reports_at_ends opening settings before now report alike ends cal
         is_sound = λ bases.
             subst (λ shape. IsSound shape.grain report (core_lists opening) shape.capacity settings.phi) alike (sound bases);
       },
-      session_thread_positions_at_ends opening report.positions is_report.as_many is_report.kept
-          (λ shard state is.
+      session_thread_positions_at_ends opening report.positions is_report.as_many is_report.kept (λ shard state is.
           let seen : length state.list ≤ seen_in shard before = ends shard state is in
           let read = seen_position_before_one_read calls.reads report.positions shard (seen_in shard before) calls.positions
           (calls.never_fall shard (session_thread_index_is_inside opening shard state is)) in omega (arith, seen, read)),

@@ -1,7 +1,6 @@
 -- The text of a session that `report` writes, as that of a session which a text can show.
 use Rattle.std.proofs.Common.{◌≡◌, ◌∙◌, ◌⊎◌, ◌+◌, ◌*◌, ℕ, Bool, true, false, List, [], ◌∷◌, ◌++◌, Option, None, Some}
-use Rattle.std.proofs.Common.{All}
-use Rattle.std.proofs.Common.{length, map, get_or, add-mul, append-nil, append_assoc, inl, inr, refl, sym, ap, ap₂}
+use Rattle.std.proofs.Common.{All, length, map, get_or, add-mul, append-nil, append_assoc, inl, inr, refl, sym, ap, ap₂}
 use Rattle.std.proofs.Common.{arith}
 use Rattle.std.specs.Prelude.{if◌then◌else◌}
 use Rattle.std.specs.List.{flat_map}
@@ -15,9 +14,8 @@ use Rattle.report_text.specs.{mark_text, printed_text, report_text, tail_text}
 use Rattle.report_text.specs.declared.mark.Mark.TheVariants.{Opened, Saved}
 use Rattle.report_text.specs.declared.session.Session.{Session}
 use Rattle.command_words.specs.declared.settings.Settings.{Settings}
-use Rattle.report_session.specs.Session.{AreOfCaller, AreReports, SessionReports}
-use Rattle.report_session.specs.Session.{caller_reports, caller_parts, session_part}
-use Rattle.report_session.specs.Session.{session_parts, reports_in, text_of_reports}
+use Rattle.report_session.specs.Session.{AreOfCaller, AreReports, SessionReports, caller_reports, caller_parts}
+use Rattle.report_session.specs.Session.{session_part, session_parts, reports_in, text_of_reports}
 use Rattle.report_session.proofs.LastReportLemmas.{last_report_is_among_all}
 
 -- a report of a session as its text shows it: with the positions of its cut, if that was saved
@@ -92,8 +90,7 @@ shown_session_groups rounds callers last tail = simp append_assoc
 pub shown_session_prints_the_same : (store : Bool) (opened : List ℕ) (reports : SessionReports) (records : Records)
     → text_of_reports store opened reports (tail_text records) ≡ printed_text (shown_session store opened reports records)
 shown_session_prints_the_same store opened reports records =
-    sym
-    (ap (λ text. mark_text Opened opened ++ text)
+    sym (ap (λ text. mark_text Opened opened ++ text)
     (ap (λ text. text ++ tail_text records) (shown_session_prints_all store reports)
     ∙ shown_session_groups (session_parts store reports.rounds) (caller_parts reports.callers) (session_part store reports.last)
     (tail_text records)))

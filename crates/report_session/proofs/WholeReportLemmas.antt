@@ -1,24 +1,16 @@
 -- The report over all dealt records.
-use Rattle.std.proofs.Common.{◌≡◌, ◌∙◌, ℕ, List, ap, subst, sym}
+use Rattle.std.proofs.Common.{◌≡◌, ◌∙◌, ℕ, List, ap, subst, sym, None, get_or}
 use Rattle.prefix_lattice.specs.{RecordValue}
-use Rattle.shard_state.specs.{ShardValue}
-use Rattle.hhh_report.specs.{IsSameReport}
+use Rattle.shard_state.specs.{ShardValue, BasesRepresent, core_lists, core_shape, TableShape}
+use Rattle.hhh_report.specs.{IsSameReport, IsSound, AreOfGrain}
 use Rattle.hhh_output.specs.{IsReportOf}
 use Rattle.hhh_report.specs.declared.report.Report.{Report}
 use Rattle.gate_workers.specs.{IsCoreReport, cut_at}
 use Rattle.command_words.specs.declared.settings.Settings.{Settings}
-use Rattle.report_session.specs.Session.{session_ends, new_shards, IsWholeReport, IsShownInSession}
+use Rattle.report_session.specs.Session.{session_ends, new_shards, IsWholeReport, IsShownInSession, asked_shape}
 use Rattle.report_session.proofs.LastReportLemmas.{LastReportIsUnique}
-use Rattle.std.proofs.Common.{None}
-use Rattle.shard_state.specs.{BasesRepresent, core_lists}
-use Rattle.hhh_report.specs.{IsSound}
 use Rattle.report_session.proofs.OpeningShardLemmas.{new_opening_shards_as_dealt}
-use Rattle.report_session.specs.Session.{asked_shape}
-use Rattle.hhh_report.specs.{AreOfGrain}
-use Rattle.shard_state.specs.{core_shape}
-use Rattle.shard_state.specs.{TableShape}
 use Rattle.std.proofs.lemmas.List.{get_or_default}
-use Rattle.std.proofs.Common.{get_or}
 
 -- the lines of a report of shards are of their grain
 pub core_report_is_of_grain : (opening : List ShardValue) (phi : ℕ) (report : Report) → IsCoreReport opening phi report

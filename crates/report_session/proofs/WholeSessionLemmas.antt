@@ -11,16 +11,15 @@ use Rattle.command_words.specs.declared.settings.Settings.{Settings}
 use Rattle.report_text.specs.{mark_text, report_text, tail_text}
 use Rattle.report_text.specs.declared.mark.Mark.TheVariants.{Opened}
 use Rattle.dealt_capture.specs.{DealingRules}
-use Rattle.report_session.specs.Session.{AreOfCaller, AreReports, BeginsSession, BeginsWholeSession}
-use Rattle.report_session.specs.Session.{BreaksOffAround, BreaksOffInRounds, IsSessionInPart}
-use Rattle.report_session.specs.Session.{SessionKeeping, SessionReports, SessionSaving}
-use Rattle.report_session.specs.Session.{caller_parts, rest_after_saves, save_line, saved_cuts, session_opening}
-use Rattle.report_session.specs.Session.{session_part, session_parts, session_rest, session_start, text_of_reports}
+use Rattle.report_session.specs.Session.{AreOfCaller, AreReports, BeginsSession, BeginsWholeSession, BreaksOffAround}
+use Rattle.report_session.specs.Session.{BreaksOffInRounds, IsSessionInPart, SessionKeeping, SessionReports}
+use Rattle.report_session.specs.Session.{SessionSaving, caller_parts, rest_after_saves, save_line, saved_cuts}
+use Rattle.report_session.specs.Session.{session_opening, session_part, session_parts, session_rest, session_start}
+use Rattle.report_session.specs.Session.{text_of_reports, asked_shape}
 use Rattle.report_session.specs.Saving.{saves_settings}
 use Rattle.report_session.proofs.FinalReportLemmas.{FinalReport, FinalReportLaws, final_report_after_none}
 use Rattle.report_session.proofs.FinalReportLemmas.{final_report_exists, final_report_makes_whole}
 use Rattle.report_session.proofs.FinalReportLemmas.{reports_with_final_report}
-use Rattle.report_session.specs.Session.{asked_shape}
 
 -- a beginning of a text begins a longer one, and so it does behind another text
 whole_session_goes_on : (front text more : List ℕ) → IsBeginning front text → IsBeginning front (text ++ more)
@@ -90,8 +89,7 @@ whole_session_in_rounds opening settings Kept tail more final kept (inr within) 
     whole_session_after_rounds opening settings final rounds tail more kept (omega (arith, many, within.few))
     (subst (λ n. AreOfCaller opening settings n rounds) (sym many) within.are_reports)
     (subst (λ text. IsBeginning text (session_parts settings.store rounds)) (sym within.written)
-    (subst (IsBeginning (parts ++ within.more)) (sym parted)
-    (whole_session_stands_behind parts within.more part
+    (subst (IsBeginning (parts ++ within.more)) (sym parted) (whole_session_stands_behind parts within.more part
     (whole_session_around_save (report_text next.report) (save_line settings.store next.report.positions)
     (saved_cuts settings.store opening (next ∷ [])) (rest_after_saves settings.store opening within.rounds Kept)
     within.more within.breaks_off))))
@@ -116,8 +114,7 @@ whole_session_text_exists opening settings Kept tail front final kept (inl ((beg
       reports = reports;
       are_reports = whole.are_reports;
       begins =
-          whole_session_goes_on front line
-          (session_parts settings.store reports.rounds
+          whole_session_goes_on front line (session_parts settings.store reports.rounds
           ++ session_rest settings.store reports.callers reports.last tail) begins;
     }
 whole_session_text_exists opening settings Kept tail front final kept (inr (inl (more, rounds, is))) =

@@ -12,5 +12,4 @@ pub returns-else-settings-clause-refused : goal.returns-else-settings-clause-ref
 returns-else-settings-clause-refused g c =
     session_thread_if_err_implies c.new_base.result _ _
     (λ status is. no_base c.args.settings.now c.args.dealt.now (g.D.Disk.reads c.args.disk.now)
-    (g.D.Disk.faults c.args.disk.now) status is)
-    c.new_base.ensures.memory
+    (g.D.Disk.faults c.args.disk.now) status is) c.new_base.ensures.memory

@@ -11,5 +11,4 @@ returns-in-Ok-clause-base g c =
     c.requires.used c.requires.shards
     (subst (λ s. CanGoOn s c.args.dealt.now c.in-Ok.opened) are c.in-Ok.ensures.goes_on)
     (subst (λ s. IfImageKnown (g.D.Disk.reads c.args.disk.now) (λ image. OpensToBase s c.args.dealt.now image c.in-Ok.opened.base))
-    are c.in-Ok.ensures.opens)
-    c.base_from.ensures.cut c.base_from.ensures.positions c.base_from.ensures.saver
+    are c.in-Ok.ensures.opens) c.base_from.ensures.cut c.base_from.ensures.positions c.base_from.ensures.saver

@@ -1,7 +1,6 @@
 use Rattle.std.proofs.Common.{subst, sym}
-use Rattle.report_session.specs.Session.{AreReports, new_shards}
+use Rattle.report_session.specs.Session.{AreReports, new_shards, asked_shape}
 use Rattle.report_session.proofs.LastReportLemmas.{last_reports_agree}
-use Rattle.report_session.specs.Session.{asked_shape}
 use Rattle.report_session.proofs.OpeningShardLemmas.{opening_shards_have_same_shape}
 use Rattle.report_session.proofs.laws.last_reports_are_one.Goals as goal
 

@@ -5,5 +5,4 @@ use Rattle.report_session.proofs.laws.own_reports_are_sound.Goals as goal
 
 pub returns : goal.returns
 returns g c = λ formula before now settings store file text is represents.
-    own_reports_are_sound settings (rules_by formula) (AreKeptOnDisk g.D.Disk before now) store file text is
-    represents
+    own_reports_are_sound settings (rules_by formula) (AreKeptOnDisk g.D.Disk before now) store file text is represents

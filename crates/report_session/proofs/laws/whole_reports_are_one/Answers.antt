@@ -1,7 +1,6 @@
 use Rattle.std.proofs.Common.{ap}
-use Rattle.report_session.specs.Session.{new_shards}
+use Rattle.report_session.specs.Session.{new_shards, asked_shape}
 use Rattle.report_session.proofs.WholeReportLemmas.{whole_reports_agree}
-use Rattle.report_session.specs.Session.{asked_shape}
 use Rattle.report_session.proofs.OpeningShardLemmas.{opening_shards_have_same_shape}
 use Rattle.report_session.proofs.laws.whole_reports_are_one.Goals as goal
 

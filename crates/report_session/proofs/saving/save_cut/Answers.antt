@@ -15,8 +15,7 @@ returns-in-Ok-clause-saved g c =
     c.args.cut.now)) is c.requires in
     let done = c.in-Ok.ensures in
     subst (λ before. SavesInTurn g.D.Disk before
-    (Some c.in-Ok.next) c.args.disk.now c.save.new.disk (c.args.cut.now ∷ [])) (sym is)
-    (record {
+    (Some c.in-Ok.next) c.args.disk.now c.save.new.disk (c.args.cut.now ∷ [])) (sym is) (record {
       saver = ap Some done.saved;
       saves = one_save c.stores_open_to_one.ensures g.D.Disk saver c.args.cut.now c.args.disk.now c.save.new.disk can.settings can.stands
           done.known

@@ -4,9 +4,8 @@ use Rattle.std.specs.Vec.Iter.{into_iter_items}
 use Rattle.std.proofs.lemmas.List.{nil_from_length}
 use Rattle.std.proofs.lemmas.List.Elements.{All-append, All-cons, All-drop, All-nil}
 use Rattle.shard_state.specs.{IsShard}
-use Rattle.report_session.specs.Session.{new_shards}
+use Rattle.report_session.specs.Session.{new_shards, asked_shape}
 use Rattle.report_session.proofs.OpeningShardLemmas.{opening_shards_have_few_records, opening_shards_grow_by_one}
-use Rattle.report_session.specs.Session.{asked_shape}
 use Rattle.report_session.proofs.session.new_states.Goals as goal
 
 pub loop-list-init : goal.loop-list-init
@@ -31,8 +30,7 @@ loop-list-preserved c =
           kept.parted ∙ ap (λ xs. done ++ xs) parted
           ∙ sym (append_assoc done (c.in-Some.list ∷ []) (into_iter_items c.next.new.self));
       states =
-          c.in_ok-push.ensures.items
-          ∙ ap₂ (λ states state. states ++ state ∷ []) kept.states c.in_ok-state.ensures
+          c.in_ok-push.ensures.items ∙ ap₂ (λ states state. states ++ state ∷ []) kept.states c.in_ok-state.ensures
           ∙ sym (opening_shards_grow_by_one (asked_shape c.args.settings.now) done c.in-Some.list);
       kept = subst (All IsShard) (sym c.in_ok-push.ensures.items)
           (All-append IsShard c.loop-list.states.items (c.in_ok-state.state ∷ []) kept.kept

@@ -2,8 +2,7 @@ use Rattle.std.proofs.Common.{◌≡◌, ◌≤◌, ◌^◌, ◌++◌, length}
 use Rattle.std.specs.List.{All}
 use Rattle.std.specs.Vec.Iter.{into_iter_items}
 use Rattle.shard_state.specs.{IsShard}
-use Rattle.report_session.specs.Session.{new_shards}
-use Rattle.report_session.specs.Session.{asked_shape}
+use Rattle.report_session.specs.Session.{new_shards, asked_shape}
 use Rattle.report_session.proofs.session.new_states.Given as goal
 
 -- the states of the lists so far

@@ -38,7 +38,6 @@ loop-reported-preserved c =
 
 pub returns : goal.returns
 returns c =
-    c.loop-reported.invariant
-    ∙ ap (λ reports. c.args.text.now.items ++ session_parts false reports)
+    c.loop-reported.invariant ∙ ap (λ reports. c.args.text.now.items ++ session_parts false reports)
     (take_all c.loop-reported.reported-index c.as_slice-all.result.now
     (omega (arith, c.loop-reported.auto.reported-index-end, c.loop-reported-test.false)) ∙ c.as_slice-all.ensures)

@@ -26,16 +26,12 @@ loop-caller-preserved c =
     let d = c.caller-item.result in
     c.in_ok-put_reports.ensures ∙ ap (λ bytes. bytes ++ session_parts false d.reports) c.loop-caller.invariant
     ∙ ap (λ (caller : Called). caller_parts (take index (other_reports called)) ++ session_parts false caller.reports)
-    c.caller-item.is
-    ∙ sym (session_thread_adds_caller called index d c.loop-caller-test.true)
+    c.caller-item.is ∙ sym (session_thread_adds_caller called index d c.loop-caller-test.true)
 
 pub returns : goal.returns
 returns c =
     let called = c.args.called.now in
-    c.loop-caller.invariant
-    ∙ ap (caller_parts)
-    (take_all c.loop-caller.caller-index (other_reports called)
-    (omega (
+    c.loop-caller.invariant ∙ ap (caller_parts) (take_all c.loop-caller.caller-index (other_reports called) (omega (
       arith,
       c.loop-caller.auto.caller-index-end,
       c.loop-caller-test.false,

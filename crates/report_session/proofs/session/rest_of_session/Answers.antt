@@ -32,8 +32,7 @@ returns-clause-rest g c =
       at_ends = shown.1;
       cut_is = c.in_ok-last.ensures.cut;
       front_is =
-          c.in_ok-print.ensures.ok
-          ∙ ap (λ text. text ++ report_text last)
+          c.in_ok-print.ensures.ok ∙ ap (λ text. text ++ report_text last)
           (c.in_ok-front.ensures ∙ ap (λ called. caller_parts (other_reports called)) c.deref.ensures.value);
       back_is =
           c.in_ok-extend_from_slice.ensures.items ∙ ap (λ text. text ++ c.args.tail.now) c.in_ok-back.ensures;

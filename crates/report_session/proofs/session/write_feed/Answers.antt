@@ -20,8 +20,7 @@ feed-requires-clause-can_save g c = λ lifetimes outlive.
 pub returns-in-Err-clause-part : goal.returns-in-Err-clause-part
 returns-in-Err-clause-part g c =
     session_text_breaks_in_line c.args.opened.board.opening c.args.setup.now.settings.now _ c.args.tail.now c.args.line.now _ _ c.requires.line
-    c.in-Err.ensures.beginning
-    (no_save_into_untouched_disk g.D.Disk c.args.saver c.args.disk.now
+    c.in-Err.ensures.beginning (no_save_into_untouched_disk g.D.Disk c.args.saver c.args.disk.now
     c.args.disk.now g.met.D.Disk.only_now
     (seen_positions_saver_stands _ _ c.args.opened.board.opening _ _ c.args.saver c.requires.can_save) refl)
 
@@ -45,8 +44,7 @@ returns-in_err-rest-clause-part g c =
     (session_text_breaks_in_rounds c.args.opened.board.opening c.args.setup.now.settings.now _ c.args.tail.now c.args.line.now _ _ _
     c.requires.line c.in_default.ensures.whole
     (session_text_of_fed_rounds c.args.opened.board c.args.setup.now.settings.now _
-    (SavesInPart g.D.Disk c.args.saver c.args.disk.now
-    c.feed.new.disk) _ _ c.in-Ok.fed
+    (SavesInPart g.D.Disk c.args.saver c.args.disk.now c.feed.new.disk) _ _ c.in-Ok.fed
     (λ cuts saves. part_of_saves g.D.Disk _ _ _ cuts saves.saves) c.in-Ok.ensures.fed))
 
 pub write_rest-requires : goal.write_rest-requires
@@ -66,14 +64,12 @@ returns-in-Ok-write_rest-clause-whole g c =
     let end = c.in_ok-rest.ensures.rest in
     let kept = last_save_completes_session g.D.Disk board.opening
     settings.store gathered.rounds end.last rest.cut c.args.saver c.write_rest.new.saver c.args.disk.now
-    c.write_rest.new.disk c.requires.used end.cut_is
-    (saves_follow c.stores_open_to_one.ensures g.D.Disk
+    c.write_rest.new.disk c.requires.used end.cut_is (saves_follow c.stores_open_to_one.ensures g.D.Disk
     c.args.saver c.feed.new.saver c.write_rest.new.saver
     (saved_cuts settings.store board.opening gathered.rounds) (rest.cut ∷ []) c.args.disk.now c.feed.new.disk
     c.write_rest.new.disk (seen_positions_allowed_settings _ _ board.opening _ _ c.args.saver c.requires.can_save) g.met.D.Disk.reading_is_image
     gathered.kept c.in-Ok-write_rest.ensures.saved) in
-    session_text_is_written board.opening settings
-    (λ cuts. Saves g.D.Disk c.args.saver cuts
+    session_text_is_written board.opening settings (λ cuts. Saves g.D.Disk c.args.saver cuts
     c.args.disk.now c.write_rest.new.disk) c.args.tail.now c.args.line.now
     (session_parts settings.store gathered.rounds) (rest.front.items ++ rest.back.items) _ _ _ _
     (session_text_is_spelled board settings _ _ c.args.tail.now c.args.line.now _ _ c.in-Ok.fed rest c.requires.starts
@@ -87,11 +83,9 @@ returns-clause-part g c =
     let gathered = c.in-Ok.ensures.fed.gathered in
     let rest = c.in_ok-rest.rest in
     let end = c.in_ok-rest.ensures.rest in
-    session_text_breaks_in_rest board settings _
-    (SavesInPart g.D.Disk c.feed.new.saver c.feed.new.disk
+    session_text_breaks_in_rest board settings _ (SavesInPart g.D.Disk c.feed.new.saver c.feed.new.disk
     c.write_rest.new.disk) _ c.args.tail.now c.args.line.now _ _ _ _ c.in-Ok.fed rest c.requires.starts c.requires.line
-    c.in-Ok.ensures.fed end c.in_default.ensures.whole
-    (last_save_broken_off c.stores_open_to_one.ensures g.D.Disk
+    c.in-Ok.ensures.fed end c.in_default.ensures.whole (last_save_broken_off c.stores_open_to_one.ensures g.D.Disk
     board.opening settings.store gathered.rounds end.last rest.cut c.args.saver c.feed.new.saver c.args.disk.now
     c.feed.new.disk c.write_rest.new.disk c.requires.used end.cut_is
     (seen_positions_allowed_settings _ _ board.opening _ _ c.args.saver c.requires.can_save) g.met.D.Disk.reading_is_image gathered.kept)

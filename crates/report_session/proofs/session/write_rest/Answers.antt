@@ -14,8 +14,7 @@ returns-in-Err-clause-part g c =
       text = begun.front;
       is_text = inl (
         begun.is_beginning,
-        no_save_into_untouched_disk g.D.Disk c.args.saver.now
-            c.args.disk.now c.args.disk.now g.met.D.Disk.only_now
+        no_save_into_untouched_disk g.D.Disk c.args.saver.now c.args.disk.now c.args.disk.now g.met.D.Disk.only_now
             (seen_positions_cut_saver_stands _ _ c.args.rest.now.cut c.args.saver.now c.requires) refl,
       );
       written = begun.appended;

@@ -52,20 +52,16 @@ returns-clause-whole g c =
     (subst (λ shards. WritesAnswer (IsOverShards shards c.args.setup.now.settings.now
     (λ cuts. Saves g.D.Disk c.args.base.saver cuts
     c.args.disk.now c.write_feed.new.disk) c.args.tail.now) (g.K.Sink.taken c.args.sink.now)
-    (g.K.Sink.taken c.write_feed.new.sink)) c.in_ok-opened.ensures.opening)
-    c.write_feed.ensures.whole
+    (g.K.Sink.taken c.write_feed.new.sink)) c.in_ok-opened.ensures.opening) c.write_feed.ensures.whole
 
 pub returns-clause-part : goal.returns-clause-part
 returns-clause-part g c =
-    session_thread_err_implies_each c.write_feed.result _ _
-    (λ status part. inr (
+    session_thread_err_implies_each c.write_feed.result _ _ (λ status part. inr (
       record {
         core = record { are_shards = c.openings_stand.ensures.shards; kept = c.in_ok-opened.ensures.kept };
         alike = c.openings_stand.ensures.alike;
       },
       subst (λ shards. WritesAnswer (BeginsSession shards c.args.setup.now.settings.now
-          (SavesInPart g.D.Disk c.args.base.saver c.args.disk.now
-          c.write_feed.new.disk) c.args.tail.now)
+          (SavesInPart g.D.Disk c.args.base.saver c.args.disk.now c.write_feed.new.disk) c.args.tail.now)
           (g.K.Sink.taken c.args.sink.now) (g.K.Sink.taken c.write_feed.new.sink)) c.in_ok-opened.ensures.opening part,
-    ))
-    c.write_feed.ensures.part
+    )) c.write_feed.ensures.part

@@ -7,5 +7,4 @@ pub returns : goal.returns
 returns g c =
     whole_report_counts_all_records c.args.settings.now c.args.dealt c.in_ok-opened.opened.board.opening c.in_ok-report.report
     c.in_ok-opened.ensures.opening (ap core_shape c.in_ok-opened.ensures.opening ∙ c.openings_stand.ensures.alike)
-    (c.openings_stand.ensures.represents tt) c.in_ok-report.ensures.shown
-    c.in_ok-report.ensures.at_ends
+    (c.openings_stand.ensures.represents tt) c.in_ok-report.ensures.shown c.in_ok-report.ensures.at_ends

@@ -4,7 +4,7 @@ use Rattle.std.specs.Io.KnownBytes.{Appends}
 use Rattle.std.proofs.KnownBytes.{Appends-trans}
 use Rattle.outside_io.specs.{AppendsPart}
 use Rattle.report_text.specs.{report_text}
-use Rattle.report_session.specs.Saving.{SavesInPart, SavesInTurn}
+use Rattle.report_session.specs.Saving.{SavesBreakOff, SavesInPart, SavesInTurn}
 use Rattle.report_session.specs.Session.{save_line}
 use Rattle.report_session.proofs.RoundLemmas.{round_broken_by_memory, round_makes_report, round_report_has_positions}
 use Rattle.report_session.proofs.RoundLemmas.{round_broken_at_saving, round_broken_by_sink, writes_one_round}
@@ -37,8 +37,9 @@ pub returns-in-Err-clause-broken : goal.returns-in-Err-clause-broken
 returns-in-Err-clause-broken g c =
     let report = c.in_ok-report.report in
     let text = c.deref.ensures.value ∙ c.in_ok-print.ensures.ok ∙ ap (λ bytes. bytes ++ report_text report) c.new-text.ensures.items in
-    round_broken_by_sink _ _ (is_some c.args.self.now.saver.now) _ _ _ _ c.in-Err.status c.in-Err.ensures.fault refl refl
-    (inl (record {
+    round_broken_by_sink _ _ (is_some c.args.self.now.saver.now) _ _
+    (SavesBreakOff g.D.Disk c.args.self.now.saver.now c.args.self.now.saver.now
+    c.args.self.now.disk.now c.args.self.now.disk.now) _ c.in-Err.status c.in-Err.ensures.fault refl refl (inl (record {
       report = report;
       reports = record { calls = c.in_ok-report.ensures.calls; sound = c.in_ok-report.ensures.sound };
       written = subst (AppendsPart _ _) text c.in-Err.ensures.beginning;
@@ -52,9 +53,10 @@ returns-in-Err-save_cut-clause-broken g c =
     let report = c.in_ok-report.report in
     let text = c.deref.ensures.value ∙ c.in_ok-print.ensures.ok ∙ ap (λ bytes. bytes ++ report_text report) c.new-text.ensures.items in
     let written = subst (Appends _ _) text c.in_default.ensures.whole in
-    round_broken_at_saving _ _ (is_some c.args.self.now.saver.now) _ _ _ c.in-Err-save_cut.status c.in-Err-save_cut.ensures.used
-    c.in-Err-save_cut.ensures.fault c.in_default.ensures.faults
-    (λ is. record {
+    round_broken_at_saving _ _ (is_some c.args.self.now.saver.now) _ _
+    (SavesBreakOff g.D.Disk c.args.self.now.saver.now c.save_cut.new.saver
+    c.args.self.now.disk.now c.save_cut.new.disk) c.in-Err-save_cut.status c.in-Err-save_cut.ensures.used
+    c.in-Err-save_cut.ensures.fault c.in_default.ensures.faults (λ is. record {
       report = report;
       reports = record { calls = c.in_ok-report.ensures.calls; sound = c.in_ok-report.ensures.sound };
       written = written;
@@ -64,8 +66,7 @@ returns-in-Err-save_cut-clause-broken g c =
             c.args.self.now.saver.now c.args.self.now.disk.now c.save_cut.new.disk [] (cut ∷ [])) c.in_ok-report.ensures.cut
             c.in-Err-save_cut.ensures.in_part;
       };
-    })
-    (λ is. record {
+    }) (λ is. record {
       report = report;
       reports = record { calls = c.in_ok-report.ensures.calls; sound = c.in_ok-report.ensures.sound };
       written = written;
@@ -80,9 +81,10 @@ returns-clause-broken g c =
     let report = c.in_ok-report.report in
     let text = c.deref.ensures.value ∙ c.in_ok-print.ensures.ok ∙ ap (λ bytes. bytes ++ report_text report) c.new-text.ensures.items in
     let line = c.deref-2.ensures.value ∙ c.in_ok-line.ensures ∙ ap (λ store. save_line store report.positions) c.is_some.ensures in
-    round_broken_by_sink _ _ (is_some c.args.self.now.saver.now) _ _ _ _ c.in-Err-write.status c.in-Err-write.ensures.fault
-    c.in_default.ensures.faults c.in_default-save_cut.ensures.no_fault
-    (inr (record {
+    round_broken_by_sink _ _ (is_some c.args.self.now.saver.now) _ _
+    (SavesBreakOff g.D.Disk c.args.self.now.saver.now c.save_cut.new.saver
+    c.args.self.now.disk.now c.save_cut.new.disk) _ c.in-Err-write.status c.in-Err-write.ensures.fault
+    c.in_default.ensures.faults c.in_default-save_cut.ensures.no_fault (inr (record {
       report = report;
       reports = record { calls = c.in_ok-report.ensures.calls; sound = c.in_ok-report.ensures.sound };
       between = _;
@@ -101,7 +103,8 @@ returns-in-Ok-clause-whole g c =
     let report = c.in_ok-report.report in
     let text = c.deref.ensures.value ∙ c.in_ok-print.ensures.ok ∙ ap (λ bytes. bytes ++ report_text report) c.new-text.ensures.items in
     let line = c.deref-2.ensures.value ∙ c.in_ok-line.ensures ∙ ap (λ store. save_line store report.positions) c.is_some.ensures in
-    writes_one_round _ _ (is_some c.args.self.now.saver.now) _ _ _ report
+    writes_one_round _ _ (is_some c.args.self.now.saver.now) _ _
+    (SavesInTurn g.D.Disk c.args.self.now.saver.now c.save_cut.new.saver c.args.self.now.disk.now c.save_cut.new.disk) report
     (record { calls = c.in_ok-report.ensures.calls; sound = c.in_ok-report.ensures.sound })
     (Appends-trans _ _ _ (report_text report) (save_line (is_some c.args.self.now.saver.now) report.positions)
     (subst (Appends _ _) text c.in_default.ensures.whole) (subst (Appends _ _) line c.in-Ok.ensures.whole))
@@ -120,7 +123,9 @@ returns-in-Ok-clause-fits g c =
 pub returns-in_err-report-clause-broken : goal.returns-in_err-report-clause-broken
 returns-in_err-report-clause-broken g c =
     round_broken_by_memory c.args.board.now.opening c.args.self.now.phi (is_some c.args.self.now.saver.now)
-    c.from_residual.result _ _ _ c.from_residual.ensures.1 c.report_once.ensures.reads refl refl
+    c.from_residual.result _ _
+    (SavesBreakOff g.D.Disk c.args.self.now.saver.now c.args.self.now.saver.now
+    c.args.self.now.disk.now c.args.self.now.disk.now) c.from_residual.ensures.1 c.report_once.ensures.reads refl refl
     (no_save_broke_off g.D.Disk c.args.self.now.saver.now c.args.self.now.saver.now
     c.args.self.now.disk.now c.args.self.now.disk.now g.met.D.Disk.only_now
     (seen_positions_saver_stands _ _ c.args.board.now.opening _ _ c.args.self.now.saver.now c.requires.can_save) refl refl)
@@ -128,7 +133,9 @@ returns-in_err-report-clause-broken g c =
 pub returns-in_err-print-clause-broken : goal.returns-in_err-print-clause-broken
 returns-in_err-print-clause-broken g c =
     round_broken_by_memory c.args.board.now.opening c.args.self.now.phi (is_some c.args.self.now.saver.now)
-    c.from_residual-in_err-print.result _ _ _ c.from_residual-in_err-print.ensures.1 c.report_once.ensures.reads refl refl
+    c.from_residual-in_err-print.result _ _
+    (SavesBreakOff g.D.Disk c.args.self.now.saver.now c.args.self.now.saver.now
+    c.args.self.now.disk.now c.args.self.now.disk.now) c.from_residual-in_err-print.ensures.1 c.report_once.ensures.reads refl refl
     (no_save_broke_off g.D.Disk c.args.self.now.saver.now c.args.self.now.saver.now
     c.args.self.now.disk.now c.args.self.now.disk.now g.met.D.Disk.only_now
     (seen_positions_saver_stands _ _ c.args.board.now.opening _ _ c.args.self.now.saver.now c.requires.can_save) refl refl)
@@ -136,7 +143,9 @@ returns-in_err-print-clause-broken g c =
 pub returns-in_err-line-clause-broken : goal.returns-in_err-line-clause-broken
 returns-in_err-line-clause-broken g c =
     round_broken_by_memory c.args.board.now.opening c.args.self.now.phi (is_some c.args.self.now.saver.now)
-    c.from_residual-in_err-line.result _ _ _ c.from_residual-in_err-line.ensures.1 c.report_once.ensures.reads refl refl
+    c.from_residual-in_err-line.result _ _
+    (SavesBreakOff g.D.Disk c.args.self.now.saver.now c.args.self.now.saver.now
+    c.args.self.now.disk.now c.args.self.now.disk.now) c.from_residual-in_err-line.ensures.1 c.report_once.ensures.reads refl refl
     (no_save_broke_off g.D.Disk c.args.self.now.saver.now c.args.self.now.saver.now
     c.args.self.now.disk.now c.args.self.now.disk.now g.met.D.Disk.only_now
     (seen_positions_saver_stands _ _ c.args.board.now.opening _ _ c.args.self.now.saver.now c.requires.can_save) refl refl)

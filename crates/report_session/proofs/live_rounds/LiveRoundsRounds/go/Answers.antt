@@ -26,9 +26,10 @@ loop-round-init g c = record {
   unstopped = c.requires.ready.4;
   fits = seen_positions_fit_saver _ _ c.args.board.now.opening _ _ c.args.self.now.saver.now c.requires.ready.5;
   written =
-      writes_no_round _ _ _ _ _ (c.calls_follow_calls.ensures.none _ _ _)
-      (no_save g.D.Disk c.args.self.now.saver.now
-      c.args.self.now.disk.now (g.met.D.Disk.only_now c.args.self.now.disk.now)
+      writes_no_round _ _ _ _
+      (SavesInTurn g.D.Disk c.args.self.now.saver.now c.args.self.now.saver.now c.args.self.now.disk.now c.args.self.now.disk.now)
+      (c.calls_follow_calls.ensures.none _ _ _)
+      (no_save g.D.Disk c.args.self.now.saver.now c.args.self.now.disk.now (g.met.D.Disk.only_now c.args.self.now.disk.now)
       (seen_positions_saver_stands _ _ c.args.board.now.opening _ _ c.args.self.now.saver.now c.requires.ready.5));
 }
 
@@ -72,13 +73,11 @@ returns-in-Err-clause-does g c =
           (SavesBreakOff g.D.Disk c.args.self.now.saver.now c.make_round.new.self.saver.now
           c.args.self.now.disk.now c.make_round.new.self.disk.now) c.in-Err.status opening far.same_share
           (round_saver_stays_or_none c.args.self.now.saver.now c.loop-round.self.saver.now _ far.written.kept.saver)
-          c.loop-round-test.true
-          (λ cuts saved unfinished first second.
+          c.loop-round-test.true (λ cuts saved unfinished first second.
           broken_saves_follow c.stores_open_to_one.ensures g.D.Disk c.args.self.now.saver.now c.loop-round.self.saver.now
           c.make_round.new.self.saver.now cuts saved unfinished c.args.self.now.disk.now c.loop-round.self.disk.now c.make_round.new.self.disk.now
           (seen_positions_allowed_settings _ _ c.args.board.now.opening _ _ c.args.self.now.saver.now c.requires.ready.5)
-          g.met.D.Disk.reading_is_image first second)
-          far.written c.in-Err.ensures.broken,
+          g.met.D.Disk.reading_is_image first second) far.written c.in-Err.ensures.broken,
       λ none.
           let done = save_needs_saver g.D.Disk _ _ _ _ _ far.written.kept none in
           let round = c.in-Err.ensures.unused done.0 in (round.0, round.1 ∙ done.1),
@@ -109,18 +108,15 @@ loop-round-preserved g c =
           (SavesInTurn g.D.Disk c.loop-round.self.saver.now c.make_round.new.self.saver.now
           c.loop-round.self.disk.now c.make_round.new.self.disk.now)
           (SavesInTurn g.D.Disk c.args.self.now.saver.now c.make_round.new.self.saver.now
-          c.args.self.now.disk.now c.make_round.new.self.disk.now)
-          far.same_share
+          c.args.self.now.disk.now c.make_round.new.self.disk.now) far.same_share
           (round_saver_stays_or_none c.args.self.now.saver.now c.loop-round.self.saver.now _ far.written.kept.saver)
           (λ phi rounds more middle now reports later.
           c.calls_follow_calls.ensures.more opening phi rounds more (view c.args.pass.now) middle now reports later
-          c.requires.pass.seat.trails)
-          (λ cuts later first second.
+          c.requires.pass.seat.trails) (λ cuts later first second.
           saves_follow c.stores_open_to_one.ensures g.D.Disk c.args.self.now.saver.now c.loop-round.self.saver.now c.make_round.new.self.saver.now cuts later
           c.args.self.now.disk.now c.loop-round.self.disk.now c.make_round.new.self.disk.now
           (seen_positions_allowed_settings _ _ opening _ _ c.args.self.now.saver.now c.requires.ready.5) g.met.D.Disk.reading_is_image first
-          second)
-          far.written c.in_default.ensures.whole;
+          second) far.written c.in_default.ensures.whole;
     }
 
 pub returns-clause-does : goal.returns-clause-does
@@ -132,7 +128,11 @@ returns-clause-does g c =
       far.same_saver,
       far.same_cut,
       subst (λ shards. HasCoreShape (length shards) (core_shape shards) c.loop-round.self.cut.now) (sym opening) far.shape,
-      all_rounds_were_made _ _ _ _ _ _ _ _ _ _ c.loop-round.self.stop opening far.unstopped
+      all_rounds_were_made _ _ _ _ _ _ _ _
+          (SavesInTurn g.D.Disk c.args.self.now.saver.now c.loop-round.self.saver.now
+          c.args.self.now.disk.now c.loop-round.self.disk.now)
+          (SavesBreakOff g.D.Disk c.args.self.now.saver.now c.loop-round.self.saver.now
+          c.args.self.now.disk.now c.loop-round.self.disk.now) c.loop-round.self.stop opening far.unstopped
           (omega (arith, c.loop-round.auto.round-end, c.loop-round-test.false)) far.written,
       save_needs_saver g.D.Disk _ _ _ _ _ far.written.kept,
       far.same_share,
