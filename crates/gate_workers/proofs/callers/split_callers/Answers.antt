@@ -37,32 +37,3 @@ loop-caller-preserved c =
           kept.1 kept.3 (c.in_ok-made.ensures.newcomer ∙ ap newcomer_view kept.4)),
       c.in_ok-made.ensures.split ∙ ap (after_splits 1) kept.4 ∙ gathered_splits_are_summed number 1 before,
     )
-
-pub new_caller-requires-clause-plan : goal.new_caller-requires-clause-plan
-new_caller-requires-clause-plan c = c.requires.plan
-
-pub new_caller-requires-clause-pass : goal.new_caller-requires-clause-pass
-new_caller-requires-clause-pass c = c.loop-caller.invariant.0
-
-pub returns-in_err-made-clause-pass : goal.returns-in_err-made-clause-pass
-returns-in_err-made-clause-pass c = c.in_err-made.ensures.pass
-
-pub returns-in_err-push-clause-pass : goal.returns-in_err-push-clause-pass
-returns-in_err-push-clause-pass c = c.in_ok-made.ensures.pass
-
-pub returns-clause-callers : goal.returns-clause-callers
-returns-clause-callers c = c.loop-caller.invariant.2
-
-pub returns-clause-newcomers : goal.returns-clause-newcomers
-returns-clause-newcomers c = c.loop-caller.invariant.3
-
-pub returns-clause-count : goal.returns-clause-count
-returns-clause-count c = omega (arith, c.loop-caller.invariant.1)
-
-pub returns-clause-split : goal.returns-clause-split
-returns-clause-split c =
-    let all : c.loop-caller._caller ≡ c.args.plan.now.callers = omega arith in
-    subst (λ number. view c.loop-caller.pass ≡ after_splits number (view c.args.pass.now)) all c.loop-caller.invariant.4
-
-pub returns-clause-pass : goal.returns-clause-pass
-returns-clause-pass c = c.loop-caller.invariant.0

@@ -36,15 +36,3 @@ loop-preserved g c = (
       (feeding_by_fold c.args.board.now.opening c.args.shard c.args.block (view c.loop.pass)
       (view c.try_fold-tried.new.pass) c.in-Done.done c.in-Done.ensures.fold),
 )
-
-pub try_fold-tried-requires-clause-pass : goal.try_fold-tried-requires-clause-pass
-try_fold-tried-requires-clause-pass g c = c.loop.invariant.0
-
-pub returns-in-Busy-clause-end : goal.returns-in-Busy-clause-end
-returns-in-Busy-clause-end g c = λ ended. cc ended
-
-pub returns-in-Busy-clause-pass : goal.returns-in-Busy-clause-pass
-returns-in-Busy-clause-pass g c = c.in-Busy.ensures.pass
-
-pub returns-then-done-clause-pass : goal.returns-then-done-clause-pass
-returns-then-done-clause-pass g c = c.in-Done.ensures.pass

@@ -36,23 +36,3 @@ loop-worker-preserved c =
           })),
       c.split-worker.ensures.split ∙ ap (after_splits 1) kept.3 ∙ gathered_splits_are_summed number 1 before,
     )
-
-pub split-worker-requires : goal.split-worker-requires
-split-worker-requires c = c.loop-worker.invariant.0
-
-pub returns-in_err-push-clause-pass : goal.returns-in_err-push-clause-pass
-returns-in_err-push-clause-pass c = c.split-worker.ensures.pass
-
-pub returns-clause-workers : goal.returns-clause-workers
-returns-clause-workers c = c.loop-worker.invariant.2
-
-pub returns-clause-count : goal.returns-clause-count
-returns-clause-count c = omega (arith, c.loop-worker.invariant.1)
-
-pub returns-clause-split : goal.returns-clause-split
-returns-clause-split c =
-    let all : c.loop-worker._worker ≡ c.args.count = omega arith in
-    subst (λ number. view c.loop-worker.pass ≡ after_splits number (view c.args.pass.now)) all c.loop-worker.invariant.3
-
-pub returns-clause-pass : goal.returns-clause-pass
-returns-clause-pass c = c.loop-worker.invariant.0
