@@ -12,8 +12,8 @@ makes as many calls of this name, that call fails there too. A run must
   the folder of a store can't be opened at first;
 - end with 6 after a call on a store or its folder, over the stores of two sites with the number of the site; with 4 after
   one on the capture or the text of a session; with 5 after a write to standard output;
-- after any other call end with one of these, with 13, or as where nothing fails; where a thread's stack can't be given back,
-  the system's C library may abort.
+- after any other call end with 13 or as where nothing fails; where a thread's stack can't be given back, the system's C
+  library may abort.
 
 It must have written the line of its status, and the beginning of the text, or nothing where the status says so. The whole
 reports of the beginning of a session must have a good audit. A store must be as `failing_allocations.py` says; on 5 `format`
@@ -55,7 +55,7 @@ def statuses_after(made, call, fault):
         return {4}, call.name not in system_calls.INTERRUPTED
     if call.descriptor() == 1:
         return {5}, False
-    return {4, 5, 6, 13, *([ABORTED] if call.name == "munmap" else [])}, True
+    return {13, *([ABORTED] if call.name == "munmap" else [])}, True
 
 
 def fault_of(command, traced, fault):
