@@ -24,6 +24,7 @@
 #define MOST_SECONDS 1.0
 #define MOST_SECONDS_OF_LIMITS 5.0
 #define SECONDS_TO_STOP 600
+#define MOST_PROCESSES 64
 #define SITE_GROUPS 40
 #define SITES_OF_GROUP 12
 
@@ -113,7 +114,9 @@ static struct ending ending;
 // The files of this process: standard input, output and error of a run, and those that its words name.
 static int input_file, output_file, line_file, capture_file, text_file, store_file, site_files[MOST_SITES];
 static const char *const site_names[] = {"site1", "site2", "site3", "site4", "site5", "site6", "site7", "site8"};
-static pid_t running;
+static pid_t running, processes[MOST_PROCESSES];
+static unsigned process_count;
+static volatile sig_atomic_t is_stopped;
 static char word_texts[MOST_WORDS][40], *words[MOST_WORDS + 1];
 static size_t word_count;
 
@@ -967,31 +970,44 @@ static void make_seeds(void) {
 
 // The processes, and what is printed.
 
-static void try_inputs(const uint64_t *numbers, uint64_t first, uint64_t step) {
-    for (uint64_t number = first; number < numbers[CAPTURES]; number += step)
-        try_capture(number);
-    for (uint64_t number = first; number < numbers[TEXTS]; number += step)
-        try_text(number);
-    for (uint64_t number = first; number < numbers[STORES]; number += step)
-        try_store(number);
-    for (uint64_t number = first; number < numbers[SETS]; number += step)
-        try_set(number);
+static void stop_early(int number) {
+    (void)number;
+    is_stopped = 1;
+    for (unsigned process = 0; process < process_count; process++)
+        kill(processes[process], SIGTERM);
 }
 
-static void begin_process(unsigned process, unsigned processes, const uint64_t *numbers) {
+// The inputs of all kinds by their numbers, so that a run which is stopped early has tried some of each.
+static void try_inputs(const uint64_t *numbers, uint64_t first, uint64_t step) {
+    static void (*const tries[])(uint64_t) = {try_capture, try_text, try_store, try_set};
+    int are_left = 1;
+    for (uint64_t number = first; are_left && !is_stopped; number += step) {
+        are_left = 0;
+        for (int kind = CAPTURES; kind <= SETS && !is_stopped; kind++)
+            if (number < numbers[kind]) {
+                tries[kind](number);
+                are_left = 1;
+            }
+    }
+}
+
+static void begin_process(unsigned process, unsigned number, const uint64_t *numbers) {
     char name[40];
     struct rusage usage;
     pid_t made = fork();
     if (made < 0)
         fail("fork");
-    if (made)
+    if (made) {
+        processes[process_count++] = made;
         return;
+    }
+    process_count = 0;
     counts += process;
     snprintf(name, sizeof name, "%u", process);
     use_folder(name);
     if (!process)
         try_limits();
-    try_inputs(numbers, process, processes);
+    try_inputs(numbers, process, number);
     getrusage(RUSAGE_SELF, &usage);
     counts->kilobytes = usage.ru_maxrss;
     exit(0);
@@ -1015,9 +1031,9 @@ static void add_tally(struct tally *sum, const struct tally *other) {
 }
 
 // Adds up what the processes counted, in the place behind theirs.
-static struct counts *add_counts(unsigned processes) {
-    struct counts *sum = counts + processes;
-    for (unsigned process = 0; process < processes; process++) {
+static struct counts *add_counts(void) {
+    struct counts *sum = counts + process_count;
+    for (unsigned process = 0; process < process_count; process++) {
         for (int kind = 0; kind < KINDS; kind++)
             add_tally(&sum->kinds[kind], &counts[process].kinds[kind]);
         if (counts[process].kilobytes > sum->kilobytes)
@@ -1046,8 +1062,10 @@ int main(int number, char **arguments) {
     for (int kind = CAPTURES; kind <= SETS; kind++)
         numbers[kind] = strtoull(arguments[4 + kind], 0, 10);
     seed = strtoull(arguments[8], 0, 10);
-    unsigned processes = strtoul(arguments[9], 0, 10), with_differences = 0;
-    size_t size = (processes + 1) * sizeof *counts;
+    unsigned number_of_processes = strtoul(arguments[9], 0, 10), with_differences = 0;
+    if (!number_of_processes || number_of_processes > MOST_PROCESSES)
+        return 2;
+    size_t size = (number_of_processes + 1) * sizeof *counts;
     counts = mmap(0, size, PROT_READ | PROT_WRITE, MAP_SHARED | MAP_ANONYMOUS, -1, 0);
     if (counts == MAP_FAILED)
         fail("mmap");
@@ -1056,10 +1074,11 @@ int main(int number, char **arguments) {
     use_folder("seeds");
     seed_file = open_file("seeds");
     make_seeds();
-    for (unsigned process = 0; process < processes; process++)
-        begin_process(process, processes, numbers);
+    signal(SIGTERM, stop_early);
+    for (unsigned process = 0; process < number_of_processes; process++)
+        begin_process(process, number_of_processes, numbers);
     int are_well = all_end_well();
-    struct counts *sum = add_counts(processes);
+    struct counts *sum = add_counts();
     for (int kind = 0; kind < KINDS; kind++) {
         print_tally(&kinds[kind], &sum->kinds[kind]);
         with_differences += sum->kinds[kind].differences > 0;
@@ -1067,6 +1086,8 @@ int main(int number, char **arguments) {
     printf("%zu captures, %zu texts, %zu stores and %zu stores of sites were changed\n", capture_count, text_count, store_count,
         site_count);
     printf("the driver itself took up to %ld kB; the system shows no less for a run\n", sum->kilobytes);
+    if (is_stopped)
+        printf("stopped early\n");
     if (!are_well)
         printf("a process of the driver failed\n");
     return with_differences || !are_well;

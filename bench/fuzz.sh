@@ -23,8 +23,9 @@
 #
 # One process for each processor, or as many as PROCESSES says; the inputs depend on the seed alone. Prints how many runs
 # ended by each rule, the greatest time and memory, and each difference with its command line, whose files are kept in a
-# folder. Ends with 1 if there was a difference. A store is synced several times a run: TMPDIR may name a folder in memory.
-# PROGRAM may name a program that is built already. Needs cc and python3.
+# folder. SIGTERM to the process `fuzz` ends it early, with the counts so far. Ends with 1 if there was a difference. A
+# store is synced several times a run: TMPDIR may name a folder in memory. PROGRAM may name a program that is built
+# already. Needs cc and python3.
 set -eu
 here=$(dirname "$(readlink -f "$0")")
 . "$here/measure.sh"
