@@ -1,11 +1,12 @@
 // Changes real captures, session texts and stores, runs the program on them, and compares how it ends with what a plain
-// reader predicts: fuzz PROGRAM FOLDER KEPT CAPTURES TEXTS STORES SEED PROCESSES
+// reader predicts: fuzz PROGRAM FOLDER KEPT CAPTURES TEXTS STORES SETS SEED PROCESSES
 //
 // FOLDER/captures has the captures that are changed; KEPT is the folder for what is kept of a difference. `fuzz.sh`
 // makes both, and says what is tested. Each input has a state of its own, which the seed, its kind and its number give.
 // So it is the same for any number of processes, which share the inputs.
 #define _GNU_SOURCE
 #include "mutations.h"
+#include "plain_sites.h"
 #include <dirent.h>
 #include <fcntl.h>
 #include <signal.h>
@@ -22,9 +23,13 @@
 #define MOST_KEPT 200
 #define MOST_SECONDS 1.0
 #define MOST_SECONDS_OF_LIMITS 5.0
-#define SECONDS_TO_STOP 60
+#define SECONDS_TO_STOP 600
+#define MOST_PROCESSES 64
+#define SITE_GROUPS 40
+#define SITES_OF_GROUP 12
 
-enum { CAPTURES, TEXTS, STORES, LIMITS, KINDS };
+// Texts are watched once they are audited.
+enum { CAPTURES, TEXTS, STORES, SETS, WATCHES, LIMITS, KINDS };
 
 // The greatest value, and the number of its input.
 struct most {
@@ -62,6 +67,12 @@ static const struct kind {
             "counts don't add up", "totals differ", "bytes after the last table", "another capture", "no sequence left",
             "a position past the end", "another total", "not a capture", "version", "link", "short header",
             "long frame", "cut frame", "byte order", "block", "block tail", "interface", "cut block"}},
+    {"sets",
+        {"reported, with lines", "reported, without a line", "not formatted", "other settings", "no length", "a wrong length",
+            "too short", "a wrong sequence", "a great position", "a great total", "too many entries", "counts fall",
+            "a key twice", "a great error", "a bit that isn't kept", "counts don't add up", "totals differ",
+            "bytes after the last table", "of one capture", "too heavy"}},
+    {"watches", {"alarms", "no alarm", "bad line", "no end"}},
     {"limits", {"taken", "too many frames", "no end", "too long"}},
 };
 
@@ -70,7 +81,8 @@ struct input {
     int kind, with_front;
     uint64_t number;
     struct settings settings;
-    struct bytes capture, text, store;
+    struct bytes capture, text, store, sites[MOST_SITES];
+    unsigned site_count;
 };
 
 // How a run ended; the signal is 0 where there was none.
@@ -92,16 +104,19 @@ static const char *program, *folder, *kept_folder;
 static uint64_t seed;
 static struct counts *counts;
 static struct bytes captures[MOST_SEEDS];
-static struct seed texts[MOST_SEEDS], stores[MOST_SEEDS];
-static size_t capture_count, text_count, store_count, seeds_length;
+static struct seed texts[MOST_SEEDS], stores[MOST_SEEDS], sites[MOST_SEEDS];
+static size_t capture_count, text_count, store_count, site_count, seeds_length;
 static int seed_file;
 static struct input input;
 static struct run run;
 static struct ending ending;
 
 // The files of this process: standard input, output and error of a run, and those that its words name.
-static int input_file, output_file, line_file, capture_file, text_file, store_file;
-static pid_t running;
+static int input_file, output_file, line_file, capture_file, text_file, store_file, site_files[MOST_SITES];
+static const char *const site_names[] = {"site1", "site2", "site3", "site4", "site5", "site6", "site7", "site8"};
+static pid_t running, processes[MOST_PROCESSES];
+static unsigned process_count;
+static volatile sig_atomic_t is_stopped;
 static char word_texts[MOST_WORDS][40], *words[MOST_WORDS + 1];
 static size_t word_count;
 
@@ -155,6 +170,8 @@ static void use_folder(const char *name) {
     capture_file = open_file("capture");
     text_file = open_file("text");
     store_file = open_file("store");
+    for (unsigned site = 0; site < MOST_SITES; site++)
+        site_files[site] = open_file(site_names[site]);
 }
 
 // Runs.
@@ -261,7 +278,8 @@ static void write_kept(const char *part, const struct bytes *bytes) {
 // The words of the run, with the kept names of its files.
 static void put_words(struct bytes *text) {
     for (size_t i = 0; i < word_count; i++) {
-        int is_file = !strcmp(words[i], "capture") || !strcmp(words[i], "text") || !strcmp(words[i], "store");
+        int is_file = !strcmp(words[i], "capture") || !strcmp(words[i], "text") || !strcmp(words[i], "store")
+            || (!strncmp(words[i], "site", 4) && strcmp(words[i], "sites"));
         put(text, " ");
         if (is_file)
             put_kept_name(text, words[i]);
@@ -299,9 +317,12 @@ static void tell(const char *difference) {
     write_kept("difference", &text);
     if (input.kind == LIMITS)
         return;
-    write_kept("capture", &input.capture);
-    if (input.kind == TEXTS)
+    if (input.kind != SETS && input.kind != WATCHES)
+        write_kept("capture", &input.capture);
+    if (input.kind == TEXTS || input.kind == WATCHES)
         write_kept("text", &input.text);
+    for (unsigned site = 0; site < input.site_count; site++)
+        write_kept(site_names[site], &input.sites[site]);
     if (input.kind == STORES)
         write_kept("store", &input.store);
 }
@@ -321,9 +342,12 @@ static void count_rule(void) {
     counts->kinds[input.kind].rules[rule]++;
 }
 
-// The bytes of memory that a run may take: 10 MB, 30 bytes a frame, five times the text and three times the store.
+// The bytes of memory that a run may take: 10 MB, 30 bytes a frame, five times the text and three times the stores.
 static double memory_bound(void) {
-    return 10e6 + 30.0 * frames + 5.0 * input.text.length + 3.0 * input.store.length;
+    size_t bytes_of_stores = input.store.length;
+    for (unsigned site = 0; site < input.site_count; site++)
+        bytes_of_stores += input.sites[site].length;
+    return 10e6 + 30.0 * frames + 5.0 * input.text.length + 3.0 * bytes_of_stores;
 }
 
 // The longest inputs have a bound of their own, since the system alone may take half a second to read one.
@@ -363,14 +387,20 @@ static void test_ending(void) {
         test(is_same(&run.output, &ending.output) && is_same(&run.line, &ending.line), "another text");
 }
 
-// Begins with an input of a kind: no prediction yet, and the state that its number gives.
+// No prediction yet.
+static void begin_ending(int kind, uint64_t number) {
+    input.kind = kind;
+    input.number = number;
+    ending.output.length = ending.line.length = 0;
+}
+
+// Begins with an input of a kind: the state that its number gives.
 static void begin_input(int kind, uint64_t number) {
     state = seed * KINDS + kind;
     state = draw() + number;
     state = draw();
-    input.kind = kind;
-    input.number = number;
-    input.text.length = input.store.length = ending.output.length = ending.line.length = 0;
+    begin_ending(kind, number);
+    input.text.length = input.store.length = input.site_count = 0;
 }
 
 // Captures.
@@ -408,16 +438,18 @@ static void try_capture(uint64_t number) {
     change_capture(&input.capture);
     draw_prefix(&key, &node);
     int by_packets = one_in(8);
-    input.with_front = one_in(3);
-    predict_weigh(&input.capture, input.with_front, by_packets, key, node, &ending);
-    begin_words("weigh");
-    add_prefix(key, node);
-    add_front();
-    if (by_packets)
-        add_option("weigh", "packets");
     write_file(input_file, &input.capture);
-    run_program();
-    test_ending();
+    for (input.with_front = 0; input.with_front < 2; input.with_front++) {
+        begin_ending(CAPTURES, number);
+        predict_weigh(&input.capture, input.with_front, by_packets, key, node, &ending);
+        begin_words("weigh");
+        add_prefix(key, node);
+        add_front();
+        if (by_packets)
+            add_option("weigh", "packets");
+        run_program();
+        test_ending();
+    }
 }
 
 // Settings.
@@ -476,6 +508,55 @@ static int deal_capture(const struct settings *settings) {
 
 // Texts.
 
+// A rule under which some lines of the text are, mostly, and whose limit some of them reach.
+static void draw_rule(struct rule *rule) {
+    struct session session;
+    struct line line = {.key = draw(), .low = draw_below(1000)};
+    int is_missing;
+    if (!read_session(&input.text, &session, &is_missing)) {
+        const struct report *report = &session.reports[draw_below(session.count)];
+        if (report->count)
+            line = report->lines[draw_below(report->count)];
+    }
+    free_session(&session);
+    const uint64_t limits[] = {line.low, line.low, line.low + 1, line.low / 2, line.low / 7, line.low / 8, 1, UINT64_MAX,
+        draw() >> 24};
+    unsigned source = draw_below(source_units(line.node) + 1), destination = draw_below(destination_units(line.node) + 1);
+    rule->limit = PICK(limits);
+    rule->limit += !rule->limit;
+    rule->node = one_in(3) ? 0 : sides * source + destination;
+    rule->key = (one_in(8) ? draw() : line.key) & mask_of(rule->node);
+}
+
+static void add_side(const char *name, uint32_t address, unsigned units) {
+    static struct bytes side;
+    side.length = 0;
+    put_side(&side, address, units);
+    append(&side, "", 1);
+    if (units || one_in(4))
+        add_option(name, (char *)side.at + 1);
+}
+
+// Watches the text that was audited, now and then as one of the other bits.
+static void try_watch(uint64_t number) {
+    struct rule rule;
+    begin_ending(WATCHES, number);
+    unsigned bits = one_in(10) ? 12 - changed_settings.bits : changed_settings.bits;
+    set_grain(bits);
+    draw_rule(&rule);
+    predict_watch(&input.text, &rule, &ending);
+    begin_words("watch");
+    add_option("report", "text");
+    add_word("--limit");
+    add_word("%llu", (unsigned long long)rule.limit);
+    add_side("src", rule.key >> 32, source_units(rule.node));
+    add_side("dst", rule.key, destination_units(rule.node));
+    if (bits != 8 || one_in(4))
+        add_number("bits", bits);
+    run_program();
+    test_ending();
+}
+
 static void try_text(uint64_t number) {
     begin_input(TEXTS, number);
     const struct seed *from = &texts[draw_below(text_count)];
@@ -499,6 +580,7 @@ static void try_text(uint64_t number) {
     write_file(text_file, &input.text);
     run_program();
     test_ending();
+    try_watch(number);
 }
 
 // Stores.
@@ -574,6 +656,52 @@ static void try_store(uint64_t number) {
         test_session(&opening);
     test_ending();
     test_store(&opening);
+}
+
+// Sets of stores.
+
+// Takes the stores of some sites of a group, which have the same settings and other captures, and changes some of them.
+static void draw_sites(void) {
+    size_t group = draw_below(site_count / SITES_OF_GROUP), first = draw_below(SITES_OF_GROUP);
+    unsigned number = one_in(4) ? MOST_SITES : 1 + draw_below(MOST_SITES);
+    changed_settings = sites[group * SITES_OF_GROUP].settings;
+    set_grain(changed_settings.bits);
+    for (unsigned site = 0; site < number; site++) {
+        size_t place = group * SITES_OF_GROUP + (first + site) % SITES_OF_GROUP;
+        take_seed(&sites[one_in(100) ? draw_below(site_count) : place], &input.sites[site]);
+        if (one_in(3))
+            recount_body(&input.sites[site]);
+    }
+    input.site_count = number;
+    if (one_in(30))
+        copy_bytes(&input.sites[draw_below(number)], &input.sites[draw_below(number)]);
+    for (size_t times = draw_below(3); times; times--)
+        MUTATE(&input.sites[draw_below(number)], mutations_of_sites);
+}
+
+static void try_set(uint64_t number) {
+    begin_input(SETS, number);
+    frames = 0;
+    draw_sites();
+    input.settings = changed_settings;
+    input.settings.share = draw_share(input.settings.capacity);
+    if (one_in(30))
+        change_settings(&input.settings);
+    set_grain(input.settings.bits);
+    predict_sites(input.sites, input.site_count, &input.settings, &ending);
+    begin_words("sites");
+    add_store_settings(&input.settings);
+    add_number("phi", input.settings.share);
+    for (unsigned site = 0; site < input.site_count; site++) {
+        write_file(site_files[site], &input.sites[site]);
+        add_word("%s", site_names[site]);
+    }
+    run_program();
+    test_ending();
+    for (unsigned site = 0; site < input.site_count; site++) {
+        read_whole(site_files[site], &run.store);
+        test(is_same(&run.store, &input.sites[site]), "the store of a site is another one");
+    }
 }
 
 // The longest inputs, of which nearly all bytes are 0, so that they take no disk.
@@ -798,9 +926,32 @@ static const struct {
     unsigned version, bits;
 } kinds_of_stores[] = {{1, 8}, {2, 8}, {2, 4}};
 
+// Stores of the same settings over several captures, some with one save, some with two or with none.
+static void make_site_group(void) {
+    static const unsigned capacities[] = {2, 3, 4, 5, 6, 8, 12, 64};
+    struct header header = {.settings = {.shards = 1 + draw_below(3), .capacity = PICK(capacities)}};
+    struct settings *settings = &header.settings;
+    settings->share = draw_share(settings->capacity);
+    settings->by_packets = one_in(4);
+    settings->deal = draw_below(3);
+    settings->bits = one_in(3) ? 4 : 8;
+    set_grain(settings->bits);
+    for (size_t turn = 0, first = draw_below(capture_count); turn < SITES_OF_GROUP; turn++) {
+        size_t number = (first + turn) % capture_count, saves = one_in(8) ? 0 : 1 + draw_below(2);
+        header.version = settings->bits == 8 ? 1 + draw_below(2) : 2;
+        format_store(&header);
+        for (; saves; saves--)
+            make_report(&captures[number], settings, 1, 0, 0);
+        read_whole(store_file, &run.store);
+        add_seed(sites, &site_count, &run.store, settings, number);
+    }
+}
+
 static void make_seeds(void) {
     static const unsigned capacities[] = {2, 3, 4, 8, 16, 64, 64, 512, 512};
     state = seed;
+    for (int group = 0; group < SITE_GROUPS; group++)
+        make_site_group();
     for (size_t number = 0; number < capture_count; number++)
         for (int turn = 0; turn < 4; turn++) {
             size_t kind = draw_below(LENGTH_OF(kinds_of_stores));
@@ -819,29 +970,44 @@ static void make_seeds(void) {
 
 // The processes, and what is printed.
 
-static void try_inputs(const uint64_t *numbers, uint64_t first, uint64_t step) {
-    for (uint64_t number = first; number < numbers[CAPTURES]; number += step)
-        try_capture(number);
-    for (uint64_t number = first; number < numbers[TEXTS]; number += step)
-        try_text(number);
-    for (uint64_t number = first; number < numbers[STORES]; number += step)
-        try_store(number);
+static void stop_early(int number) {
+    (void)number;
+    is_stopped = 1;
+    for (unsigned process = 0; process < process_count; process++)
+        kill(processes[process], SIGTERM);
 }
 
-static void begin_process(unsigned process, unsigned processes, const uint64_t *numbers) {
+// The inputs of all kinds by their numbers, so that a run which is stopped early has tried some of each.
+static void try_inputs(const uint64_t *numbers, uint64_t first, uint64_t step) {
+    static void (*const tries[])(uint64_t) = {try_capture, try_text, try_store, try_set};
+    int are_left = 1;
+    for (uint64_t number = first; are_left && !is_stopped; number += step) {
+        are_left = 0;
+        for (int kind = CAPTURES; kind <= SETS && !is_stopped; kind++)
+            if (number < numbers[kind]) {
+                tries[kind](number);
+                are_left = 1;
+            }
+    }
+}
+
+static void begin_process(unsigned process, unsigned number, const uint64_t *numbers) {
     char name[40];
     struct rusage usage;
     pid_t made = fork();
     if (made < 0)
         fail("fork");
-    if (made)
+    if (made) {
+        processes[process_count++] = made;
         return;
+    }
+    process_count = 0;
     counts += process;
     snprintf(name, sizeof name, "%u", process);
     use_folder(name);
     if (!process)
         try_limits();
-    try_inputs(numbers, process, processes);
+    try_inputs(numbers, process, number);
     getrusage(RUSAGE_SELF, &usage);
     counts->kilobytes = usage.ru_maxrss;
     exit(0);
@@ -865,9 +1031,9 @@ static void add_tally(struct tally *sum, const struct tally *other) {
 }
 
 // Adds up what the processes counted, in the place behind theirs.
-static struct counts *add_counts(unsigned processes) {
-    struct counts *sum = counts + processes;
-    for (unsigned process = 0; process < processes; process++) {
+static struct counts *add_counts(void) {
+    struct counts *sum = counts + process_count;
+    for (unsigned process = 0; process < process_count; process++) {
         for (int kind = 0; kind < KINDS; kind++)
             add_tally(&sum->kinds[kind], &counts[process].kinds[kind]);
         if (counts[process].kilobytes > sum->kilobytes)
@@ -887,17 +1053,19 @@ static void print_tally(const struct kind *kind, const struct tally *sum) {
 }
 
 int main(int number, char **arguments) {
-    if (number != 9)
+    if (number != 10)
         return 2;
     program = arguments[1];
     folder = arguments[2];
     kept_folder = arguments[3];
     uint64_t numbers[KINDS];
-    for (int kind = CAPTURES; kind <= STORES; kind++)
+    for (int kind = CAPTURES; kind <= SETS; kind++)
         numbers[kind] = strtoull(arguments[4 + kind], 0, 10);
-    seed = strtoull(arguments[7], 0, 10);
-    unsigned processes = strtoul(arguments[8], 0, 10), with_differences = 0;
-    size_t size = (processes + 1) * sizeof *counts;
+    seed = strtoull(arguments[8], 0, 10);
+    unsigned number_of_processes = strtoul(arguments[9], 0, 10), with_differences = 0;
+    if (!number_of_processes || number_of_processes > MOST_PROCESSES)
+        return 2;
+    size_t size = (number_of_processes + 1) * sizeof *counts;
     counts = mmap(0, size, PROT_READ | PROT_WRITE, MAP_SHARED | MAP_ANONYMOUS, -1, 0);
     if (counts == MAP_FAILED)
         fail("mmap");
@@ -906,16 +1074,20 @@ int main(int number, char **arguments) {
     use_folder("seeds");
     seed_file = open_file("seeds");
     make_seeds();
-    for (unsigned process = 0; process < processes; process++)
-        begin_process(process, processes, numbers);
+    signal(SIGTERM, stop_early);
+    for (unsigned process = 0; process < number_of_processes; process++)
+        begin_process(process, number_of_processes, numbers);
     int are_well = all_end_well();
-    struct counts *sum = add_counts(processes);
+    struct counts *sum = add_counts();
     for (int kind = 0; kind < KINDS; kind++) {
         print_tally(&kinds[kind], &sum->kinds[kind]);
         with_differences += sum->kinds[kind].differences > 0;
     }
-    printf("%zu captures, %zu texts and %zu stores were changed\n", capture_count, text_count, store_count);
+    printf("%zu captures, %zu texts, %zu stores and %zu stores of sites were changed\n", capture_count, text_count, store_count,
+        site_count);
     printf("the driver itself took up to %ld kB; the system shows no less for a run\n", sum->kilobytes);
+    if (is_stopped)
+        printf("stopped early\n");
     if (!are_well)
         printf("a process of the driver failed\n");
     return with_differences || !are_well;

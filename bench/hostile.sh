@@ -3,12 +3,16 @@
 # processor time in seconds, and the ratio to an ordinary capture of as many frames with the same options, both the
 # least of three turns, or of TURNS. The ordinary one is `distinct` for the tables (`index`, `ranks`), where each frame
 # has a new key, and else `skewed`. No aim is judged. PART is `index`, `ranks`, `forged`, `query`, `keys`, `lines` or
-# `large`; without one all but `large` are measured, in some five minutes. Needs cc, python3 and /usr/bin/time.
+# `large`; without one all but `large` are measured, in some five minutes. With 4 for BITS in the environment all go by four
+# bits, with the greatest capacity that these allow. Needs cc, python3 and /usr/bin/time.
 set -eu
 here=$(dirname "$(readlink -f "$0")")
 turns=${1:-3}
 . "$here/measure.sh"
 compile hostile_keys
+
+# By four bits the greatest capacity is a quarter, and so are the lines that a report may have.
+fewer=$((4096 / most_capacity))
 
 # Makes a capture of so many frames of this kind, in the file KIND.FRAMES: KIND FRAMES. `listed` ones read pairs.
 make_frames() {
@@ -28,7 +32,9 @@ compare_reports() {
     ordinary=$2.$4
     hostile=$3.$4
     shift 4
-    printf '%s\n' "$hhh report --capture $work/$ordinary $*" "$hhh report --capture $work/$hostile $*" | compare "$name"
+    for capture in $ordinary $hostile; do
+        echo "$hhh report --capture $work/$capture $* $grain"
+    done | compare "$name"
 }
 
 # The session of a report over a capture, in the file SESSION: CAPTURE SESSION OPTION...
@@ -36,7 +42,7 @@ make_session() {
     capture=$1
     session=$2
     shift 2
-    "$hhh" report --capture "$work/$capture" "$@" >"$work/$session"
+    "$hhh" report --capture "$work/$capture" "$@" $grain >"$work/$session"
 }
 
 # The command line of an audit: CAPTURE SESSION OPTION...
@@ -44,7 +50,7 @@ audit_line() {
     capture=$1
     session=$2
     shift 2
-    echo "$hhh audit --capture $work/$capture --report $work/$session $*"
+    echo "$hhh audit --capture $work/$capture --report $work/$session $* $grain"
 }
 
 # A `report` over frames of `hostile_keys`, beside as many with a new key each: NAME FRAMES KIND CAPACITY SHARDS WORD...
@@ -59,7 +65,7 @@ compare_tables() {
 
 # The index of the tables: keys that full homes turn away. Marks are set by twenty frames for each slot.
 index() {
-    for tables in "64 1" "512 1" "512 4" "4096 1"; do
+    for tables in "64 1" "512 1" "512 4" "$most_capacity 1"; do
         set -- $tables
         marking=$((20 * $1 * $2))
         compare_tables "a deep key again and again" 60000 deep "$@"
@@ -73,7 +79,7 @@ index() {
 # The ranks of the tables: counts that are nearly equal, and weights near 2^32, by which counts outgrow a rank.
 ranks() {
     make_frames heavy 60000
-    for capacity in 64 512 4096; do
+    for capacity in 64 512 $most_capacity; do
         compare_tables "nearly equal counts" 60000 even $capacity 1 60000 100
         compare_tables "nearly equal counts, weights near 2^32" 60000 even $capacity 1 60000 4294967288
         compare_reports "weights from 2^31 to 2^32, capacity $capacity, shards 1" distinct heavy 60000 \
@@ -98,10 +104,12 @@ forged() {
 
 # The query: two captures whose lines have many pairs.
 query() {
-    make_frames skewed 20000
+    frames=$((20000 / fewer))
+    make_frames skewed $frames
     for kind in crossed nested; do
-        make_frames $kind 20000
-        compare_reports "$kind, 2,000 a side" skewed $kind 20000 --shards 1 --weigh packets --capacity 4096 --phi 500
+        make_frames $kind $frames
+        compare_reports "$kind, $((frames / 10)) a side" skewed $kind $frames --shards 1 --weigh packets \
+            --capacity $most_capacity --phi $((500 * fewer))
     done
 }
 
@@ -119,14 +127,15 @@ keys() {
 
 # Texts of many lines, in one report and in a report that is repeated, beside the program's own session.
 lines() {
-    make_frames paired 4000
-    set -- --shards 1 --weigh packets --capacity 4000 --phi 500
-    make_session paired.4000 own "$@"
+    frames=$((4000 / fewer))
+    make_frames paired $frames
+    set -- --shards 1 --weigh packets --capacity $frames --phi $((500 * fewer))
+    make_session paired.$frames own "$@"
     for count in 5 10 20; do
-        python3 "$here/hostile_session.py" lines $count "$work/paired.4000" >"$work/lines"
+        python3 "$here/hostile_session.py" lines $count "$work/paired.$frames" >"$work/lines"
         python3 "$here/hostile_session.py" repeat $count "$work/own" >"$work/repeated"
         for text in lines repeated; do
-            { audit_line paired.4000 own "$@" && audit_line paired.4000 $text "$@"; } |
+            { audit_line paired.$frames own "$@" && audit_line paired.$frames $text "$@"; } |
                 compare "audit, $(grep -c '^line' "$work/$text") $text"
         done
     done

@@ -130,11 +130,10 @@ static inline int meet(const struct line *one, const struct line *other, struct 
     return 1;
 }
 
-// The numbers of closest lines and of their kept pairs, added up.
-static inline uint64_t count_widths(const struct report *report, const struct line *line, int with_pairs) {
-    struct line *under_it = zeros(report->count, sizeof *under_it), *closest = zeros(report->count, sizeof *closest);
+// The lines strictly under a line that are under no other of these. Answers how many.
+static inline size_t find_closest(const struct report *report, const struct line *line, struct line *closest) {
+    struct line *under_it = zeros(report->count, sizeof *under_it);
     size_t number = 0, tops = 0;
-    uint64_t pairs = 0;
     for (size_t i = 0; i < report->count; i++)
         if (strictly_under(&report->lines[i], line))
             under_it[number++] = report->lines[i];
@@ -145,15 +144,26 @@ static inline uint64_t count_widths(const struct report *report, const struct li
         if (top)
             closest[tops++] = under_it[i];
     }
-    for (size_t i = 0; with_pairs && i < tops; i++)
-        for (size_t j = i + 1; j < tops; j++) {
-            struct line lowest;
-            int keeps = meet(&closest[i], &closest[j], &lowest);
-            for (size_t k = 0; keeps && k < tops; k++)
-                keeps = k == i || k == j || !under(&lowest, &closest[k]);
-            pairs += keeps;
-        }
     free(under_it);
+    return tops;
+}
+
+// Finds the meet of two of the closest lines. Answers whether there is one and it is under no third.
+static inline int is_kept(const struct line *closest, size_t tops, size_t i, size_t j, struct line *lowest) {
+    int keeps = meet(&closest[i], &closest[j], lowest);
+    for (size_t k = 0; keeps && k < tops; k++)
+        keeps = k == i || k == j || !under(lowest, &closest[k]);
+    return keeps;
+}
+
+// The numbers of closest lines and of their kept pairs, added up.
+static inline uint64_t count_widths(const struct report *report, const struct line *line, int with_pairs) {
+    struct line *closest = zeros(report->count, sizeof *closest), lowest;
+    size_t tops = find_closest(report, line, closest);
+    uint64_t pairs = 0;
+    for (size_t i = 0; with_pairs && i < tops; i++)
+        for (size_t j = i + 1; j < tops; j++)
+            pairs += is_kept(closest, tops, i, j, &lowest);
     free(closest);
     return tops + pairs;
 }

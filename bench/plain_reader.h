@@ -10,6 +10,7 @@
 #define FRONT 64
 #define BODY_FRONT 48
 #define LAST_SEQUENCE ((uint64_t)1 << 62)
+#define MOST_SEVERITY 7
 
 // How a run must end. The output of a report over a store is that without its lines of prefixes.
 struct ending {
@@ -552,21 +553,74 @@ static void audit_session(struct session *session, const struct settings *settin
     end_with(ending, 0, "good");
 }
 
-// The records of the capture have to be read and dealt.
-static void predict_audit(const struct bytes *text, const struct settings *settings, struct ending *ending) {
-    struct session session;
+// Reads a text. Answers whether it is that of a session; if not, the run ends with that.
+static int is_session(const struct bytes *text, struct session *session, struct ending *ending) {
     int is_missing;
     if (text->length > LONGEST_TEXT) {
+        memset(session, 0, sizeof *session);
         put(&ending->line, "hhh: bad report: too long\n");
         end_with(ending, 12, "too long");
-        return;
+        return 0;
     }
-    size_t line = read_session(text, &session, &is_missing);
+    size_t line = read_session(text, session, &is_missing);
     if (line) {
         put(&ending->line, "hhh: bad report: %s %zu\n", is_missing ? "no end at line" : "line", line);
         end_with(ending, 12, is_missing ? "no end" : "bad line");
-    } else
+    }
+    return !line;
+}
+
+// The records of the capture have to be read and dealt.
+static void predict_audit(const struct bytes *text, const struct settings *settings, struct ending *ending) {
+    struct session session;
+    if (is_session(text, &session, ending))
         audit_session(&session, settings, ending);
+    free_session(&session);
+}
+
+// The alarms of `watch`.
+
+// The prefix under which lines are watched, and the least low that raises an alarm.
+struct rule {
+    uint64_t key, limit;
+    unsigned node;
+};
+
+static int has_high_low(const struct report *report, const struct line *prefix, uint64_t limit) {
+    for (size_t i = 0; i < report->count; i++)
+        if (same(&report->lines[i], prefix) && report->lines[i].low >= limit)
+            return 1;
+    return 0;
+}
+
+// Whether a line of report `number`, from 0, raises an alarm.
+static int raises_alarm(const struct session *session, size_t number, const struct line *line, const struct rule *rule) {
+    int is_first = 1;
+    for (size_t i = 0; is_first && i < number; i++)
+        is_first = !has_high_low(&session->reports[i], line, rule->limit);
+    return is_first && line->low >= rule->limit && begins(line->key, line->node, rule->key, rule->node);
+}
+
+static void predict_watch(const struct bytes *text, const struct rule *rule, struct ending *ending) {
+    struct session session;
+    size_t alarms = 0;
+    if (is_session(text, &session, ending)) {
+        for (size_t number = 0; number < session.count; number++) {
+            const struct report *report = &session.reports[number];
+            for (const struct line *line = report->lines; line < report->lines + report->count; line++)
+                if (raises_alarm(&session, number, line, rule)) {
+                    uint64_t severity = line->low / rule->limit;
+                    put(&ending->output, "alarm %zu", number + 1);
+                    put_prefix(&ending->output, line->key, line->node);
+                    put_number(&ending->output, line->low);
+                    put_number(&ending->output, severity < MOST_SEVERITY ? severity : MOST_SEVERITY);
+                    put(&ending->output, "\n");
+                    alarms++;
+                }
+        }
+        put(&ending->output, "alarms %zu\nend\n", alarms);
+        end_with(ending, 0, alarms ? "alarms" : "no alarm");
+    }
     free_session(&session);
 }
 
@@ -836,14 +890,14 @@ static struct opening refused(int status, const char *rule, unsigned slot) {
     return (struct opening){.status = status, .rule = rule, .slot = slot};
 }
 
-// The records of the capture have to be read and dealt.
-static struct opening open_store(const struct bytes *image, const struct settings *settings) {
-    struct header stored;
-    struct body bodies[2] = {{0}}, *newest = 0;
-    unsigned char digest[32];
-    if (image->length < FRONT || !read_store_header(image->at + 2, &stored))
+// Reads the header and the bodies under open gates. Answers how they are refused, or no rule; then the slot is the newest
+// one, or 2 where no gate is open.
+static struct opening read_store(
+    const struct bytes *image, const struct settings *settings, struct header *stored, struct body *bodies) {
+    unsigned newest = 2;
+    if (image->length < FRONT || !read_store_header(image->at + 2, stored))
         return refused(7, "not formatted", 0);
-    if (!have_same_store(&stored.settings, settings))
+    if (!have_same_store(&stored->settings, settings))
         return refused(9, "other settings", 0);
     for (unsigned slot = 0; slot < 2; slot++) {
         if (image->at[slot] != 1)
@@ -851,11 +905,23 @@ static struct opening open_store(const struct bytes *image, const struct setting
         const char *fault = read_body(image, slot, settings, &bodies[slot]);
         if (fault)
             return refused(8, fault, slot);
-        if (!newest || bodies[slot].sequence > newest->sequence)
-            newest = &bodies[slot];
+        if (newest == 2 || bodies[slot].sequence > bodies[newest].sequence)
+            newest = slot;
     }
-    if (!newest)
+    return refused(0, 0, newest);
+}
+
+// The records of the capture have to be read and dealt.
+static struct opening open_store(const struct bytes *image, const struct settings *settings) {
+    struct header stored;
+    struct body bodies[2] = {{0}};
+    unsigned char digest[32];
+    struct opening read = read_store(image, settings, &stored, bodies);
+    if (read.rule)
+        return read;
+    if (read.slot == 2)
         return (struct opening){.rule = "opened, no gate open"};
+    const struct body *newest = &bodies[read.slot];
     digest_records(&stored, digest);
     if (memcmp(newest->digest, digest, sizeof digest))
         return refused(10, "another capture", 0);

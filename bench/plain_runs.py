@@ -11,7 +11,7 @@ from dataclasses import dataclass
 import plain_audit
 import session_text
 
-SECONDS = 60
+SECONDS = 600
 
 
 @dataclass(frozen=True)

@@ -6,7 +6,7 @@ from pathlib import Path
 import session_text
 import store_bytes
 
-SECONDS = 120
+SECONDS = 600
 LINES = {
     4: "hhh: read fault\n",
     5: "hhh: write fault\n",

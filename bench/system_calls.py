@@ -16,6 +16,8 @@ MOVES_BYTES = ("read", "write", "pread64", "pwrite64")
 # Calls that a signal may interrupt, and those that may find a disk full.
 INTERRUPTED = ("openat", "read", "pread64", "write", "pwrite64", "fsync")
 FILLING = ("openat", "write", "pwrite64", "fsync")
+# The faults of calls for memory and for a thread. All others may fail as a disk does.
+OWN_FAULTS = {**dict.fromkeys(("mmap", "mremap", "mprotect", "munmap"), "ENOMEM"), "clone": "EAGAIN", "clone3": "EAGAIN"}
 # Waiting, and ends of threads: so many that they only cost time, and no system lets them fail as a disk does.
 UNSEEN = "!futex,sched_yield,exit,exit_group"
 
@@ -85,7 +87,7 @@ def trace(command, *options):
         run = subprocess.run(command_of(command, *shown, *options), capture_output=True, timeout=SECONDS)
         threads = [calls_of(path) for path in Path(folder).iterdir()]
     threads.sort(key=lambda calls: not calls or calls[0].name != "execve")
-    return Traced(run.returncode, run.stdout.decode(), run.stderr.decode("utf-8", "replace"), threads)
+    return Traced(run.returncode, run.stdout.decode("latin-1"), run.stderr.decode("latin-1"), threads)
 
 
 def looks_for_folder(call, folder):
@@ -96,15 +98,23 @@ def looks_for_folder(call, folder):
 
 def faults_of(threads, paths):
     """The calls that can fail in a run like this one, from the first on that names one of these paths, and their faults."""
+    return faults_from(threads, next(place for place, call in enumerate(threads[0]) if set(paths) & set(call.paths())))
+
+
+def faults_after_start(threads):
+    """The calls that can fail once the system's loader has started the program: the program's first call is on a signal."""
+    return faults_from(threads, next(place for place, call in enumerate(threads[0]) if call.name == "rt_sigaction"))
+
+
+def faults_from(threads, begun):
     first, *others = threads
-    begun = next(place for place, call in enumerate(first) if set(paths) & set(call.paths()))
     before = Counter(call.name for call in first[:begun])
     calls = {}
     for call in [*first[begun:], *(call for thread in others for call in thread)]:
         if call.number > before[call.name]:
             calls.setdefault((call.name, call.number), call)
     for call in calls.values():
-        yield call, "EIO"
+        yield call, OWN_FAULTS.get(call.name, "EIO")
         if call.name in FILLING:
             yield call, "ENOSPC"
         if call.name in INTERRUPTED:
