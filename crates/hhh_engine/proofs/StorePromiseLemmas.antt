@@ -95,6 +95,7 @@ module _ {S T K D : Type 0} (s : SourceOf S) (t : SourceOf T) (k : SinkOf K) (d 
         lists = is.lists;
         dealt = is.dealt;
         base = is.base;
+        begins = is.begins;
         belongs = λ held. sessions.whole old.disk new.disk settings store (s.left old.capture) done.1.text is limited used known held;
       }))
       (λ failed. ⊎_elim
@@ -104,6 +105,7 @@ module _ {S T K D : Type 0} (s : SourceOf S) (t : SourceOf T) (k : SinkOf K) (d 
         lists = is.lists;
         dealt = is.dealt;
         base = is.base;
+        begins = is.begins;
         belongs = λ held. sessions.in_part old.disk new.disk settings store (s.left old.capture) part.text is limited used known held;
       }))
       failed.1)

@@ -10,7 +10,7 @@ use Rattle.slot_disk.specs.declared.disk.Disk.{Ghosts as DiskOf}
 use Rattle.command_words.specs.declared.settings.Settings.{Settings}
 use Rattle.checkpoint.specs.{stored_header}
 use Rattle.dealt_capture.specs.{AreDealtRecords, DealingRules}
-use Rattle.report_session.specs.{BelongThroughout, BelongsToLists, StoreIsKept, saves_settings}
+use Rattle.report_session.specs.{BelongThroughout, BelongsToLists, GoesOnFrom, StoreIsKept, saves_settings}
 use Rattle.run_status.specs.{status_number}
 use Rattle.run_status.specs.declared.status.Status.{Status}
 use Rattle.hhh_engine.specs.TopCall.{Streams}
@@ -30,15 +30,16 @@ pub record KeepsItsStore {S T K D : Type 0} (k : SinkOf K) (d : DiskOf D) (old n
 abbrev pub BelongsBefore : {D : Type 0} → DiskOf D → D → Settings → List (List RecordValue) → Type 0
 BelongsBefore d disk settings lists = (image : List ℕ) → d.image_now disk image → BelongsToLists (saves_settings settings) lists image
 
--- the records of the capture, which are those of its bytes where these are known, were dealt to lists. If the store belonged
--- to these as the run began, then the saved cut that the run went on from represents them, and the store belongs to them at
--- any moment of the run, and after it
+-- the records of the capture, which are those of its bytes where these are known, were dealt to lists, and `base` is the saved
+-- cut that the run went on from, if any. If the store belonged to the lists as the run began, then the base represents them, and
+-- the store belongs to them at any moment of the run, and after it
 pub record BelongsAsDealt {S T K D : Type 0} (s : SourceOf S) (d : DiskOf D) (old new : Streams S T K D) (settings : Settings)
     (rules : DealingRules) : Type 0 where
   pub records : Records
   pub lists : List (List RecordValue)
   pub dealt : IfSome (s.left old.capture) (λ file. AreDealtRecords settings rules file records lists)
   pub base : Option CutValue
+  pub begins : GoesOnFrom settings lists (d.reads old.disk) base
   pub belongs : BelongsBefore d old.disk settings lists
       → BelongThroughout d (saves_settings settings) lists base old.disk new.disk
 
