@@ -59,6 +59,7 @@ header_bytes header =
 abbrev pub written_header : StoreSettings → StoreHeader
 written_header settings = record { version = Second; settings = settings }
 
--- the header of a store that has these settings: it is of the version that byte 6 of the store, byte 4 of its header, names
+-- the header that a store of these settings has: only its version is read from the store, whose byte 6, byte 4 of its header,
+-- names it; whether the store's bytes have these settings isn't said here
 abbrev pub stored_header : StoreSettings → List ℕ → StoreHeader
 stored_header settings image = record { version = version_of_number (slice_index (slot_header image) 4); settings = settings }

@@ -36,7 +36,8 @@ pub record IsLineOf (cut : CutValue) (threshold : ℕ) (lines : List PrefixValue
 
 -- the report of a cut: its positions, its total, the threshold, and a line for exactly the prefixes
 -- that are heavy, monitored, and not explained by the lines themselves. By the invariant of the type `Report`, which is
--- `AreReportLines`, the lines are in strict order, so none comes twice
+-- `AreReportLines`, the lines are in strict order, so none comes twice. For one `phi` a cut has exactly one such report:
+-- `each_cut_has_a_report`, `a_cut_has_one_report`
 pub record IsReportOf (cut : CutValue) (phi : ℕ) (report : Report) : Type 0 where
   pub positions : report.positions ≡ cut_positions cut
   pub total : report.total ≡ total_of_cut cut

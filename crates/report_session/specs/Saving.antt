@@ -48,10 +48,10 @@ OpensToSaves header opened (saved ∷ later) image =
 
 -- a run that found a disk as `old`, and left it as `new`
 module _ {D : Type 0} (d : DiskOf D) (old new : D) where
-  -- The cuts `saved` were saved, and one save may be unfinished. A crash at any moment of the run leaves what it could have left
-  -- before the run (`Earlier`), or a sound store that opens as before or to one of these cuts; which one isn't tied to the lines
-  -- written by then. A crash afterwards leaves a store that opens to the last saved cut, or as before if there is none, or to
-  -- the cut whose save is unfinished
+  -- The cuts `saved` were saved, and one save may be unfinished: `unfinished` has one cut at most. A crash at any moment of the
+  -- run leaves what it could have left before the run (`Earlier`), be that a sound store or not, or a sound store that opens as
+  -- before or to one of these cuts; which one isn't tied to the lines written by then. A crash afterwards leaves a store that
+  -- opens to the last saved cut, or as before if there is none, or to the cut whose save is unfinished
   pub record KeepsSaves (header : StoreHeader) (digest : List ℕ) (Earlier : List ℕ → Type 0)
       (saved unfinished : List CutValue) (store : List ℕ) : Type 0 where
     pub opened : Option SavedValue

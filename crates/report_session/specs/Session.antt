@@ -169,7 +169,8 @@ abbrev pub SessionSaving : Type 1
 SessionSaving = (saved unfinished : List CutValue) → Type 0
 
 -- bytes of a text, a save and a second text, in this order, that broke off: in the first text or after it, when nothing was
--- saved; in the save, which is unfinished; or in the second text, after the save
+-- saved; in the save, which is unfinished; or in the second text, after the save. Of a round the first text is its report, and
+-- the second one its line `saved`: where that line has begun, the cut is saved
 abbrev pub BreaksOffAround : (before after : List ℕ) → (cut : List CutValue) → SessionSaving → (front : List ℕ) → Type 0
 BreaksOffAround before after cut Kept front =
     (IsBeginning front before × Kept [] [])
@@ -233,7 +234,7 @@ abbrev pub SessionKeeping : Type 1
 SessionKeeping = StoreSettings → List (List RecordValue) → SessionSaving
 
 -- if there is no cut that a run goes on from, or it represents the lists, then the base of each shard represents its list,
--- so each report is sound
+-- so each report is sound. Whether the cut represents them isn't said: it does if the store belongs to them
 abbrev pub GoesOnSoundly : List (List RecordValue) → Option CutValue → List ShardValue → Type 0
 GoesOnSoundly lists base opening = IfSome base (λ cut. CutRepresents cut lists) → BasesRepresent opening
 
