@@ -44,12 +44,13 @@ use watch_rules::{Judge, Judges};
 /// `weigh SRC DST` reads a capture to its end, weighs its records, and writes three lines: the least and the
 /// greatest weight of the prefix, as given by its Space-Saving table, and the weight of all records.
 ///
-/// `report` reads a capture to its end, deals its records to shards, and writes a session. While workers count the
-/// records in the tables of the shards, the calling thread writes its reports, and the other callers make theirs, which
-/// are written after the workers have ended, before a last report over all records. A report has a position for each
-/// shard, which is how many of its records are counted. Over these records it names the prefixes that carry heavy load
-/// which no more specific reported prefix explains. With a store `report` goes on from the newest saved cut, and saves
-/// each cut that the calling thread reports on, once the report is written.
+/// `report` reads a capture to its end, deals its records to shards, and writes a session. Workers count the records in
+/// the tables of the shards; meanwhile the calling thread writes its reports, and the other callers make theirs, which
+/// are written after the workers have ended, before a last report over all records. What goes on at the same time is no
+/// promise: the contract says what is written, however the threads are scheduled. A report has a position for each
+/// shard, which is how many of its records are counted. Of these records it leaves out no prefix that carries the
+/// threshold or more, once what its lines explain is subtracted. With a store `report` goes on from the newest saved
+/// cut, and saves each cut that the calling thread reports on, once the report is written.
 ///
 /// `format` makes an empty store on the disk, and writes one line.
 ///
@@ -65,7 +66,7 @@ use watch_rules::{Judge, Judges};
 /// `demo SEED FRAMES` makes that capture in memory, deals its records to shards, counts them by workers, reports on all of
 /// them, and audits the report. It writes a summary, which says that the audit found the report sound.
 ///
-/// `gate` is called around each fold and each read, and changes nothing of what is written.
+/// `gate` is called around each fold and each read. The contract holds for any gate.
 pub fn run<R: Threads + Wait + Sync, S: Source, T: Source, K: Sink, D: Disk, G: Gate + Sync>(
     rt: &R,
     alloc: Global,
