@@ -67,10 +67,6 @@ last_save_positions_within_ends opening settings (reported ∷ reports) saver pa
     (last_save_reported_within_ends opening settings.phi reported first.is_report))
     (All-tail (IsShownInSession opening settings) reported reports shown)
 
-last_save_count : (opening : List ShardValue) (reports : List Reported)
-    → length (saved_cuts true opening reports) ≡ length reports
-last_save_count opening reports = length-map reports _
-
 -- after the rounds of a session its last cut may be saved
 pub last_save_is_possible : {D : Type 0} (d : DiskOf D) (board : WordsValue) (settings : Settings) (called : List Called)
     (tail : List ℕ) (rest : Rest) (rounds : List Reported) (saver now : Option SaverState) (old new : D)
@@ -91,7 +87,7 @@ last_save_is_possible d board settings called tail rest rounds (Some saver) now 
     subst (λ store. SavesInTurn d (Some saver) now old new (saved_cuts store opening rounds)) (sym used) saves in
     let after : SaverState = after_saves saver cuts in
     let sequence : after.sequence ≡ saver.sequence + length cuts = saves_raise_sequence saver cuts in
-    let many : length cuts ≡ length rounds = last_save_count opening rounds in
+    let many : length cuts ≡ length rounds = length-map rounds _ in
     let as_many : length rounds ≡ settings.rounds = are.as_many in
     let early : saver.sequence + (settings.rounds + 1) ≤ greatest_sequence = can.early in
     let seen : AreNotPast saver.positions (session_start opening) =
@@ -151,7 +147,7 @@ last_save_broken_off one d opening store rounds last cut (Some saver) between ol
     let all : (saved unfinished : List CutValue) → SavesInPart d between mid new saved unfinished
     → SavesInPart d (Some saver) old new (cuts ++ saved) unfinished =
     λ saved unfinished.
-    broken_off_save_follows one d (Some saver) between cuts saved unfinished old mid new are is_image saves in (
+    broken_off_save_follows one d is_image (Some saver) between cuts saved unfinished old mid new are saves in (
       all [] [],
       λ part. subst (SavesInPart d (Some saver) old new (cuts ++ [])) same (all [] (cut ∷ []) part),
       λ part. subst (λ list. SavesInPart d (Some saver) old new (cuts ++ list) []) same (all (cut ∷ []) [] part),
