@@ -2,9 +2,10 @@
 use Rattle.std.proofs.Common.{◌≡◌, ◌+◌, ◌≤◌, ◌++◌, ℕ, Bool, true, List, [], ◌∷◌, Option, None, Some}
 use Rattle.std.proofs.Common.{⊎_elim, refl, sym, subst, length, All}
 use Rattle.std.specs.Prelude.{option_map, IfSome}
+use Rattle.std.proofs.lemmas.Option.{IfSome_then}
 use Rattle.std.proofs.lemmas.List.Elements.{All-append, All-head, All-nil, All-tail}
 use Rattle.prefix_lattice.specs.{RecordValue, shard_limit}
-use Rattle.shard_state.specs.{AreCoreShards, CutRepresents, CutValue, ShardValue, TableShape}
+use Rattle.shard_state.specs.{CutRepresents, CutValue, ShardValue}
 use Rattle.hhh_report.specs.declared.reports.Reported.{Reported}
 use Rattle.slot_disk.specs.{CrashLeaves-weaker}
 use Rattle.slot_disk.specs.declared.disk.Disk.{Ghosts as DiskOf}
@@ -16,7 +17,6 @@ use Rattle.recovery.specs.{OpensToBase}
 use Rattle.command_words.specs.{AreLimited}
 use Rattle.command_words.specs.declared.settings.Settings.{Settings}
 use Rattle.report_text.specs.{tail_text}
-use Rattle.report_session.specs.DealtFeed.{FeedGoesOn}
 use Rattle.report_session.specs.Saving.{BelongThroughout, BelongsToLists, AreKeptOnDisk, last_of_saves, saves_after}
 use Rattle.report_session.specs.Saving.{IsAsBefore, saves_settings, saves_settings-allowed}
 use Rattle.report_session.specs.KeptStore.{SessionsBelong}
@@ -27,18 +27,10 @@ use Rattle.dealt_capture.specs.{DealingRules}
 use Rattle.report_session.proofs.BaseLemmas.{base_goes_on}
 use Rattle.report_session.proofs.SavedStoreLemmas.{SavedStoreCutsRepresent, saved_store_belongs}
 use Rattle.report_session.proofs.SavedStoreLemmas.{saved_store_cuts_represent}
-use Rattle.report_session.proofs.OpeningShardLemmas.{new_opening_shards_are_shards, resumed_opening_shards_are_shards}
+use Rattle.report_session.proofs.OpeningShardLemmas.{opening_shards_are_shards}
 use Rattle.report_session.proofs.OwnReportLemmas.{own_report_lists_of_opening}
 use Rattle.report_session.proofs.ShownSessionLemmas.{shown_session_back_of_all, shown_session_front_of_all}
 use Rattle.report_session.proofs.SessionTextLemmas.{session_text_whatever_was_saved, session_text_begins_saying_less}
-
--- the shards of a run, whose base represents the lists
-belonging_session_opens_shards : (shape : TableShape) (lists : List (List RecordValue)) (base : Option CutValue) → 1 ≤ length lists
-    → length lists ≤ shard_limit → IfSome base (FeedGoesOn shape lists) → IfSome base (λ cut. CutRepresents cut lists)
-    → AreCoreShards (session_opening shape lists base)
-belonging_session_opens_shards shape lists None some few goes_on represents = new_opening_shards_are_shards shape lists some few
-belonging_session_opens_shards shape lists (Some cut) some few goes_on represents =
-    resumed_opening_shards_are_shards cut lists some few goes_on.continues represents.alike
 
 -- the base that a store of the lists opened to represents them
 belonging_session_base_of_lists : (header : StoreHeader) (lists : List (List RecordValue)) (opened : Option SavedValue)
@@ -119,8 +111,9 @@ belonging_session_cuts_represent represent settings lists store base reports lim
     subst (λ l. All (λ (cut : CutValue). CutRepresents cut l) (saved_cuts true opening reports))
     (own_report_lists_of_opening settings lists store base begins)
     (saved_store_cuts_represent represent opening settings reports
-    (belonging_session_opens_shards (asked_shape settings) lists base (subst (λ n. 1 ≤ n) (sym many) limited.some_shards)
-    (subst (λ n. n ≤ shard_limit) (sym many) limited.few_shards) (base_goes_on settings lists store base limited begins) standing)
+    (opening_shards_are_shards (asked_shape settings) lists base (subst (λ n. 1 ≤ n) (sym many) limited.some_shards)
+    (subst (λ n. n ≤ shard_limit) (sym many) limited.few_shards) (base_goes_on settings lists store base limited begins)
+    (IfSome_then base standing (λ cut stands. stands.alike)))
     (represents standing) shown)
 
 -- the same, with or without a store

@@ -5,7 +5,6 @@ use Rattle.std.specs.List.{join_with_byte}
 use Rattle.std.proofs.lemmas.List.{length-map, length_push, map-append}
 use Rattle.std.proofs.lemmas.Bool.{false≢true}
 use Rattle.std.proofs.lemmas.List.Elements.{All-cons, All-contains, All-head, All-map, All-nil, All-tail, Contains-append_cases}
-use Rattle.outside_io.specs.{IsBeginning}
 use Rattle.prefix_lattice.specs.{RecordValue}
 use Rattle.prefix_lattice.proofs.ListLemmas.{Contains-list_head, Contains-list_tail}
 use Rattle.hhh_report.specs.{AreNotPast}
@@ -14,7 +13,7 @@ use Rattle.hhh_report.specs.declared.reports.Reported.{Reported}
 use Rattle.frame_records.specs.declared.records.Records.{Records}
 use Rattle.shard_state.specs.{CutValue, ShardValue, cut_positions}
 use Rattle.gate_workers.specs.{cut_at}
-use Rattle.slot_disk.specs.{CrashLeaves, CrashLeaves-weaker}
+use Rattle.slot_disk.specs.{CrashLeaves-weaker}
 use Rattle.slot_disk.specs.declared.disk.Disk.{Ghosts as DiskOf}
 use Rattle.checkpoint.specs.{OpenToOne, SavedValue, StoreOpensTo, lists_digest, store_positions, store_sequence, stored_header}
 use Rattle.checkpoint.specs.declared.header.StoreHeader.{StoreHeader}
@@ -27,7 +26,7 @@ use Rattle.report_text.specs.declared.mark.Mark.TheVariants.{Opened, Saved}
 use Rattle.report_session.specs.KeptStore.{IsBeingSaved, OpensToSave, ReopensAfterSaves, StoreIsKept, last_shown}
 use Rattle.report_session.specs.Saving.{IsAsBefore, KeepsSaves, OpensToSaves, AreKeptOnDisk, last_of_saves, saves_after}
 use Rattle.report_session.specs.Saving.{saves_settings}
-use Rattle.report_session.specs.Session.{AreOfCaller, BreaksOffAround, BreaksOffBetween, BreaksOffInRounds, GoesOnFrom}
+use Rattle.report_session.specs.Session.{AreOfCaller, BreaksOffAround, BreaksOffInRounds, GoesOnFrom}
 use Rattle.report_session.specs.Session.{IsOverShards, IsSession, IsSessionInPart, IsStrictBeginning, SessionSaving}
 use Rattle.report_session.specs.Session.{asked_shape, caller_parts, last_positions, rest_after_saves, saved_cuts}
 use Rattle.report_session.specs.Session.{session_opening, session_parts, session_start}
@@ -172,21 +171,6 @@ module _ (texts : KeptStoreTexts) (opening : List ShardValue) (settings : Settin
   kept_store_shows_rounds rounds more front is shows =
       subst (ShowsSaves front) (append-nil (positions_of_kept rounds)) (kept_store_shows rounds more front [] is shows)
 
-  -- rounds that broke off between two of them
-  kept_store_between : (more front : List ℕ) → BreaksOffBetween opening (with_kept_store settings) Kept more
-      → front ≡ first_kept_line ++ more → ShapesKeptStore front
-  kept_store_between more front breaks is = record {
-    reports = breaks.rounds;
-    others = [];
-    count = length breaks.rounds;
-    are = subst (AreKeptReports (length breaks.rounds)) (sym (append-nil breaks.rounds)) breaks.are_reports;
-    rest = more;
-    begun = is;
-    shown = kept_store_shows_rounds breaks.rounds [] front
-        (is ∙ ap (λ m. first_kept_line ++ m) (breaks.written ∙ sym (append-nil (session_parts true breaks.rounds)))) refl;
-    kept = inl breaks.kept;
-  }
-
   -- rounds, the reports of other callers, and a report with the line that says that it was saved
   kept_store_saved : (count : ℕ) (rounds : List Reported) (next : Reported) (callers : List (List Reported))
       (more front rest : List ℕ) → AreKeptReports count (rounds ++ next ∷ [])
@@ -263,7 +247,17 @@ module _ (texts : KeptStoreTexts) (opening : List ShardValue) (settings : Settin
   -- rounds that broke off
   kept_store_in_rounds : (more front : List ℕ) → BreaksOffInRounds opening (with_kept_store settings) Kept more
       → front ≡ first_kept_line ++ more → ShapesKeptStore front
-  kept_store_in_rounds more front (inl between) is = kept_store_between more front between is
+  kept_store_in_rounds more front (inl between) is = record {
+    reports = between.rounds;
+    others = [];
+    count = length between.rounds;
+    are = subst (AreKeptReports (length between.rounds)) (sym (append-nil between.rounds)) between.are_reports;
+    rest = more;
+    begun = is;
+    shown = kept_store_shows_rounds between.rounds [] front
+        (is ∙ ap (λ m. first_kept_line ++ m) (between.written ∙ sym (append-nil (session_parts true between.rounds)))) refl;
+    kept = inl between.kept;
+  }
   kept_store_in_rounds more front (inr within) is =
       kept_store_around (length within.rounds + 1) within.rounds within.next [] [] within.more front within.are_reports
       (is ∙ ap (λ m. first_kept_line ++ m) within.written) refl
@@ -476,8 +470,8 @@ module _ (one : OpenToOne) (texts : KeptStoreTexts) {D : Type 0} (d : DiskOf D) 
 
   -- a session that broke off in its first line
   kept_store_in_first_line : ((disk : D) (bytes : List ℕ) → d.reads disk ≡ Some bytes → d.image_now disk bytes)
-      → (whole : Bool) → IsStrictBeginning written (mark_text Opened start_of_kept) → KeptOnDisk [] [] → KeepsItsStore whole
-  kept_store_in_first_line reading_is_image whole begins kept =
+      → IsStrictBeginning written (mark_text Opened start_of_kept) → KeptOnDisk [] [] → KeepsItsStore false
+  kept_store_in_first_line reading_is_image begins kept =
       let keeps = kept store known in
       record {
         saves = [];
@@ -523,7 +517,7 @@ kept_store_after_part one texts d reading_is_image rules settings old new store 
     false shape (λ no. absurd (false≢true no)) in
     ⊎_elim
     (λ first. kept_store_in_first_line one texts d settings is.lists is.base old new store front limited is.as_many is.begins known
-    reading_is_image false first.0 (first.1 refl))
+    reading_is_image first.0 (first.1 refl))
     (⊎_elim (λ (more, rounds, parted). of_shape (kept_store_in_rounds texts opening settings Kept more front rounds parted))
     (λ later. of_shape (kept_store_around texts opening settings Kept (settings.rounds + 1) later.reports.rounds later.reports.last
     later.reports.callers (tail_text is.records) later.more front later.are_reports.calling later.written (texts.tail is.records)

@@ -114,8 +114,10 @@ loop-round-preserved g c =
           c.calls_follow_calls.ensures.more opening phi rounds more (view c.args.pass.now) middle now reports later
           c.requires.pass.seat.trails) (λ cuts later first second.
           saves_follow c.stores_open_to_one.ensures g.D.Disk g.met.D.Disk.reading_is_image c.args.self.now.saver.now
-          c.loop-round.self.saver.now c.make_round.new.self.saver.now cuts later c.args.self.now.disk.now c.loop-round.self.disk.now c.make_round.new.self.disk.now
-          (IfSome_then c.args.self.now.saver.now c.requires.ready.5 (λ saver can. can.fits.settings)) first second) far.written c.in_default.ensures.whole;
+          c.loop-round.self.saver.now c.make_round.new.self.saver.now cuts later c.args.self.now.disk.now
+          c.loop-round.self.disk.now c.make_round.new.self.disk.now
+          (IfSome_then c.args.self.now.saver.now c.requires.ready.5 (λ saver can. can.fits.settings)) first second)
+          far.written c.in_default.ensures.whole;
     }
 
 pub returns-clause-does : goal.returns-clause-does
