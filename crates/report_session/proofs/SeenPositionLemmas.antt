@@ -10,7 +10,7 @@ use Rattle.hhh_report.specs.declared.report.Report.{Report}
 use Rattle.hhh_report.specs.declared.reports.Reported.{Reported}
 use Rattle.pass_tokens.specs.{ShardRead, after_reads, seen_in}
 use Rattle.gate_workers.specs.{Calls, Trail, View, cut_at, states_at}
-use Rattle.checkpoint.specs.{AreSettings, SaverState, DiskMatches, greatest_sequence, settings_shape}
+use Rattle.checkpoint.specs.{SaverState, greatest_sequence, settings_shape}
 use Rattle.report_session.specs.DealtFeed.{CanSaveCut}
 use Rattle.report_session.specs.Saving.{CanMakeSaves, SavesFitBoard, SavesInTurn, after_saves}
 use Rattle.report_session.specs.Session.{saved_cuts}

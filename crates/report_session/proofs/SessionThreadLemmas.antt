@@ -3,7 +3,7 @@ use Rattle.std.proofs.Common.{Bool, false, ⊎_elim, ◌≡◌, ◌∙◌, ◌�
 use Rattle.std.proofs.Common.{Option, None, Some, Ok, Err, All, refl, sym, ap, ap₂, subst, arith, length, map}
 use Rattle.std.proofs.Common.{append-nil, get_or, take, zero, suc, slice_get}
 use Rattle.std.specs.Prelude.{slice_index, ⊤}
-use Rattle.std.specs.Result.{IfErr, IfOk, OnErr, OnOk}
+use Rattle.std.specs.Result.{IfOk, OnErr}
 use Rattle.std.specs.List.Sorted.{IsNonDecreasing}
 use Rattle.std.specs.declared.result.Result.{Result}
 use Rattle.std.specs.Io.KnownBytes.{Appends}
