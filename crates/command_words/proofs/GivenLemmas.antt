@@ -79,31 +79,26 @@ not_given_sets_default : (at : Opt) (default : ℕ) (told : Option ArgumentText)
     → SetsNumber at told default
 not_given_sets_default at default told is_default none = subst (λ t. SetsNumber at t default) (sym none) is_default
 
--- a command without made traffic, and without a limit
-pub record IsGivenSettings (word : CommandWord) : Type 0 where
-  pub no_seed : list_any (λ other. bytes_eq other (codes "SEED")) (form_of word).positionals ≡ false
-  pub no_frames : list_any (λ other. bytes_eq other (codes "FRAMES")) (form_of word).positionals ≡ false
-  pub seed_unknown : list_any (λ other. bytes_eq other (codes "SEED")) (form_of word).options ≡ false
-  pub frames_unknown : list_any (λ other. bytes_eq other (codes "FRAMES")) (form_of word).options ≡ false
-  pub no_limit : list_any (λ other. bytes_eq other (codes "limit")) (form_of word).positionals ≡ false
-  pub limit_unknown : list_any (λ other. bytes_eq other (codes "limit")) (form_of word).options ≡ false
+-- a command doesn't take this option
+abbrev pub HasNotGiven : CommandWord → Opt → Type 0
+HasNotGiven word at =
+    (list_any (λ other. bytes_eq other (name_of at)) (form_of word).positionals ≡ false)
+    × (list_any (λ other. bytes_eq other (name_of at)) (form_of word).options ≡ false)
 
 -- settings, and nothing else
 abbrev pub given_settings_alone : Settings → Given
 given_settings_alone settings = record { seed = 0; frames = 1; settings = settings; limit = 1; some_limit = omega arith }
 
--- settings that are set are what the arguments of such a command give
-pub settings_given : (word : CommandWord) (arguments : List Argument) (settings : Settings) → IsGivenSettings word
-    → AreOfForm (form_of word) arguments
+-- settings that are set are what the arguments give of a command without made traffic, and without a limit
+pub settings_given : (word : CommandWord) (arguments : List Argument) (settings : Settings) → HasNotGiven word opt.Seed
+    → HasNotGiven word opt.Frames → HasNotGiven word opt.Limit → AreOfForm (form_of word) arguments
     → SetsAll (settings_in word arguments) (store_setting arguments) settings
     → SetsGiven (settings_in word arguments) (store_setting arguments) (given_settings_alone settings)
-settings_given word arguments settings lacks of_form set = record {
-  seed_set = not_given_sets_default opt.Seed 0 _ refl (not_given_outside_form word arguments opt.Seed of_form lacks.no_seed lacks.seed_unknown);
-  frames_set =
-      not_given_sets_default opt.Frames 1 _ refl (not_given_outside_form word arguments opt.Frames of_form lacks.no_frames lacks.frames_unknown);
+settings_given word arguments settings seed frames limit of_form set = record {
+  seed_set = not_given_sets_default opt.Seed 0 _ refl (not_given_outside_form word arguments opt.Seed of_form seed.0 seed.1);
+  frames_set = not_given_sets_default opt.Frames 1 _ refl (not_given_outside_form word arguments opt.Frames of_form frames.0 frames.1);
   settings_set = set;
-  limit_set =
-      not_given_sets_default opt.Limit 1 _ refl (not_given_outside_form word arguments opt.Limit of_form lacks.no_limit lacks.limit_unknown);
+  limit_set = not_given_sets_default opt.Limit 1 _ refl (not_given_outside_form word arguments opt.Limit of_form limit.0 limit.1);
 }
 
 -- the settings if nothing but the grain is set

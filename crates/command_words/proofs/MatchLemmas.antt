@@ -1,7 +1,7 @@
 -- What `clap` finds in words is what the words say.
 use Rattle.std.proofs.Common.{◌≡◌, ◌<◌, ◌≤◌, ℕ, zero, suc, List, [], ◌∷◌, length, Option, Some, None, Bor, refl, sym}
-use Rattle.std.proofs.Common.{ap}
-use Rattle.std.proofs.Common.{ap₂, ◌∙◌, subst, arith, codes, slice_index_or, Bool, true, false, true≢false}
+use Rattle.std.proofs.lemmas.Option.{same_Some}
+use Rattle.std.proofs.Common.{ap, ap₂, ◌∙◌, subst, arith, codes, slice_index_or, Bool, true, false, true≢false}
 use Rattle.std.specs.Str.{bytes_eq}
 use Rattle.prefix_lattice.specs.{SpellsPrefix}
 use Rattle.watch_rules.specs.declared.rule.Rule.{Rule}
@@ -22,7 +22,7 @@ use Rattle.command_words.specs.Matches.{AreMatchesOf, MatchWords, values_in, sto
 use Rattle.command_words.specs.PathTexts.{NamesPath}
 use Rattle.command_words.specs.Values.{AreGood, HasValueFault}
 use Rattle.command_words.specs.Command.{HasSides, HasGoodPrefix, prefix_grain, whole_side}
-use Rattle.command_words.specs.WordsRefusal.{HasWordsFault}
+use Rattle.command_words.specs.WordsRefusal.{HasBadValue, HasWordsFault}
 use Rattle.command_words.specs.Command.{AskToMake, AskToDemo, AskToWatch, IsBounded}
 use Rattle.command_words.specs.declared.command_word.CommandWord.{CommandWord}
 use Rattle.command_words.specs.declared.command_word.CommandWord.TheVariants.{Weigh, Report, Format, Audit, Make, Demo, Watch}
@@ -109,28 +109,19 @@ matches_tell_fault words word matches tells kind good has =
     go kind
     (subst (λ values. HasValueFault values kind) (matches_tell_values word tells.arguments matches tells.told) has)
   where
+    bad : (kind : WordsKind) → HasValueFault (settings_in word tells.arguments) kind → HasBadValue words kind
+    bad kind fault = record {
+      command = word;
+      arguments = tells.arguments;
+      are_words = tells.are_words;
+      good_prefix = good;
+      has_fault = fault;
+    }
+
     go : (kind : WordsKind) → HasValueFault (settings_in word tells.arguments) kind → HasWordsFault words kind
-    go (BadNumber at) fault = record {
-      command = word;
-      arguments = tells.arguments;
-      are_words = tells.are_words;
-      good_prefix = good;
-      has_fault = fault;
-    }
-    go (OutOfLimits at) fault = record {
-      command = word;
-      arguments = tells.arguments;
-      are_words = tells.are_words;
-      good_prefix = good;
-      has_fault = fault;
-    }
-    go (BadChoice at) fault = record {
-      command = word;
-      arguments = tells.arguments;
-      are_words = tells.are_words;
-      good_prefix = good;
-      has_fault = fault;
-    }
+    go (BadNumber at) fault = bad (BadNumber at) fault
+    go (OutOfLimits at) fault = bad (OutOfLimits at) fault
+    go (BadChoice at) fault = bad (BadChoice at) fault
     go _ fault = absurd fault
 
 -- a fault of the two sides that the arguments have is the fault of the words
@@ -251,11 +242,7 @@ match_told_is_found (Some word) told text is told_is = refl
 -- what is found is the text that matches hold
 match_found_is_told : (found : Option (Bor ArgumentText)) (told : Option ArgumentText) (text : ArgumentText) (word : Bor ArgumentText)
     → text_at found ≡ told → told ≡ Some text → found ≡ Some word → word.now ≡ text
-match_found_is_told found told text word is told_is found_is =
-    same_some word.now text (sym (ap text_at found_is) ∙ is ∙ told_is)
-  where
-    same_some : (text other : ArgumentText) → Path (Option ArgumentText) (Some text) (Some other) → text ≡ other
-    same_some text other same = cc
+match_found_is_told found told text word is told_is found_is = same_Some word.now text (sym (ap text_at found_is) ∙ is ∙ told_is)
 
 -- what is found for SRC and DST are the sides of `weigh`
 pub matches_found_are_sides : (words : List ArgumentText) (matches : ArgMatches) (tells : MatchWords words Weigh matches)

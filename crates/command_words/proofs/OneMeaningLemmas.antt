@@ -1,6 +1,5 @@
 -- Words ask for at most one command, or have at most one fault, and never both.
-use Rattle.std.proofs.Common.{◌≡◌, ◌≢◌, ◌⊎◌, inl, inr, ◌==◌, cond, Option, List, [], ◌∷◌, Ok}
-use Rattle.std.proofs.Common.{Err}
+use Rattle.std.proofs.Common.{◌≡◌, ◌≢◌, ◌⊎◌, inl, inr, ◌==◌, cond, Option, List, [], ◌∷◌, Ok, Err}
 use Rattle.std.proofs.Common.{Result, refl, sym, ap, ap₂, ◌∙◌, subst, arith}
 use Rattle.std.specs.Result.{IfOk, IsOk}
 use Rattle.prefix_lattice.specs.{PrefixValue, SpellsPrefix, HasPrefixFault}
@@ -112,29 +111,6 @@ abbrev command_meaning_of_values : (Given → Command) → Result Given WordsKin
 command_meaning_of_values asked (Ok given) = Ok (asked given)
 command_meaning_of_values asked (Err kind) = Err kind
 
--- the command that the given values ask for
-abbrev weigh_command_meaning : PrefixValue → Given → Command
-weigh_command_meaning prefix given = command.Weigh prefix given.settings
-
-abbrev report_command_meaning : Given → Command
-report_command_meaning given = command.Report given.settings
-
-abbrev format_command_meaning : Given → Command
-format_command_meaning given = command.Format given.settings
-
-abbrev audit_command_meaning : Given → Command
-audit_command_meaning given = command.Audit given.settings
-
-abbrev make_command_meaning : Given → Command
-make_command_meaning given = command.Make given.seed given.frames
-
-abbrev demo_command_meaning : Given → Command
-demo_command_meaning given = command.Demo given.seed given.frames given.settings
-
-abbrev watch_command_meaning : PrefixValue → Given → Command
-watch_command_meaning prefix given =
-    command.Watch (record { prefix = prefix; limit = given.limit; some = given.some_limit }) given.settings.grain
-
 -- what the arguments of a command that takes a prefix mean
 data PrefixedHasMeaning (word : CommandWord) (asked : PrefixValue → Given → Command) (arguments : List Argument)
     (outcome : MeaningOfWords) : Type 0 where
@@ -239,33 +215,37 @@ unbounded_has_one_meaning word asked arguments outcome other one two =
     one.comes_to ∙ ap (command_meaning_of_values asked) (one_meaning_of_argument_values word arguments one.read two.read one.told two.told)
     ∙ sym two.comes_to
 
--- what the arguments of a command mean
-abbrev ArgumentsHaveMeaning : CommandWord → List Argument → MeaningOfWords → Type 0
-ArgumentsHaveMeaning Weigh arguments outcome = PrefixedHasMeaning Weigh weigh_command_meaning arguments outcome
-ArgumentsHaveMeaning Report arguments outcome = BoundedHasMeaning Report report_command_meaning arguments outcome
-ArgumentsHaveMeaning Format arguments outcome = UnboundedHasMeaning Format format_command_meaning arguments outcome
-ArgumentsHaveMeaning Audit arguments outcome = BoundedHasMeaning Audit audit_command_meaning arguments outcome
-ArgumentsHaveMeaning Make arguments outcome = UnboundedHasMeaning Make make_command_meaning arguments outcome
-ArgumentsHaveMeaning Demo arguments outcome = BoundedHasMeaning Demo demo_command_meaning arguments outcome
-ArgumentsHaveMeaning Watch arguments outcome = PrefixedHasMeaning Watch watch_command_meaning arguments outcome
+-- what is checked of a command's arguments, and the command that the given values ask for
+data MeaningKind : Type 0 where
+  with_prefix : (PrefixValue → Given → Command) → MeaningKind
+  with_bound : (Given → Command) → MeaningKind
+  without_bound : (Given → Command) → MeaningKind
 
-arguments_have_one_meaning : PrefixHasOneMeaning → (word : CommandWord) (arguments : List Argument) (outcome other : MeaningOfWords)
-    → ArgumentsHaveMeaning word arguments outcome → ArgumentsHaveMeaning word arguments other
-    → outcome ≡ other
-arguments_have_one_meaning reading Weigh arguments outcome other one two =
-    prefixed_has_one_meaning reading Weigh weigh_command_meaning arguments outcome other one two
-arguments_have_one_meaning reading Report arguments outcome other one two =
-    bounded_has_one_meaning Report report_command_meaning arguments outcome other one two
-arguments_have_one_meaning reading Format arguments outcome other one two =
-    unbounded_has_one_meaning Format format_command_meaning arguments outcome other one two
-arguments_have_one_meaning reading Audit arguments outcome other one two =
-    bounded_has_one_meaning Audit audit_command_meaning arguments outcome other one two
-arguments_have_one_meaning reading Make arguments outcome other one two =
-    unbounded_has_one_meaning Make make_command_meaning arguments outcome other one two
-arguments_have_one_meaning reading Demo arguments outcome other one two =
-    bounded_has_one_meaning Demo demo_command_meaning arguments outcome other one two
-arguments_have_one_meaning reading Watch arguments outcome other one two =
-    prefixed_has_one_meaning reading Watch watch_command_meaning arguments outcome other one two
+abbrev meaning_kind : CommandWord → MeaningKind
+meaning_kind Weigh = with_prefix (λ prefix given. command.Weigh prefix given.settings)
+meaning_kind Report = with_bound (λ given. command.Report given.settings)
+meaning_kind Format = without_bound (λ given. command.Format given.settings)
+meaning_kind Audit = with_bound (λ given. command.Audit given.settings)
+meaning_kind Make = without_bound (λ given. command.Make given.seed given.frames)
+meaning_kind Demo = with_bound (λ given. command.Demo given.seed given.frames given.settings)
+meaning_kind Watch = with_prefix (λ prefix given.
+    command.Watch (record { prefix = prefix; limit = given.limit; some = given.some_limit }) given.settings.grain)
+
+-- what the arguments of a command mean
+abbrev HaveMeaningOfKind : MeaningKind → CommandWord → List Argument → MeaningOfWords → Type 0
+HaveMeaningOfKind (with_prefix asked) word arguments outcome = PrefixedHasMeaning word asked arguments outcome
+HaveMeaningOfKind (with_bound asked) word arguments outcome = BoundedHasMeaning word asked arguments outcome
+HaveMeaningOfKind (without_bound asked) word arguments outcome = UnboundedHasMeaning word asked arguments outcome
+
+abbrev ArgumentsHaveMeaning : CommandWord → List Argument → MeaningOfWords → Type 0
+ArgumentsHaveMeaning word = HaveMeaningOfKind (meaning_kind word) word
+
+arguments_have_one_meaning : PrefixHasOneMeaning → (kind : MeaningKind) (word : CommandWord) (arguments : List Argument)
+    (outcome other : MeaningOfWords) → HaveMeaningOfKind kind word arguments outcome
+    → HaveMeaningOfKind kind word arguments other → outcome ≡ other
+arguments_have_one_meaning reading (with_prefix asked) word = prefixed_has_one_meaning reading word asked
+arguments_have_one_meaning reading (with_bound asked) word = bounded_has_one_meaning word asked
+arguments_have_one_meaning reading (without_bound asked) word = unbounded_has_one_meaning word asked
 
 -- what words mean, by the first test that decides it
 data WordsHaveMeaning (words : List ArgumentText) (outcome : MeaningOfWords) : Type 0 where
@@ -338,7 +318,7 @@ words_have_one_meaning reading words outcome other (told word' arguments are_wor
     absurd (refused_words_lack_meaning words behind word word' arguments are no_form are_words)
 words_have_one_meaning reading words outcome other (told word arguments are_words tell) (told word' more are_words' tell') =
     let same = command_line_has_one_meaning words word word' arguments more are_words are_words' in
-    arguments_have_one_meaning reading word arguments outcome other tell
+    arguments_have_one_meaning reading (meaning_kind word) word arguments outcome other tell
     (subst (λ w. ArgumentsHaveMeaning w arguments other) (sym same.0)
     (subst (λ a. ArgumentsHaveMeaning word' a other) (sym same.1) tell'))
 
@@ -348,60 +328,25 @@ asked_command_is_meaning words (command.Weigh prefix settings) asks =
     told Weigh asks.arguments asks.are_words
     (well asks.source asks.dest prefix (Ok (given_settings_alone settings)) asks.sides asks.spelled
     (settings_given Weigh asks.arguments settings
-    (record {
-      no_seed = refl;
-      no_frames = refl;
-      seed_unknown = refl;
-      frames_unknown = refl;
-      no_limit = refl;
-      limit_unknown = refl;
-    })
-    asks.are_words.well_formed.of_form asks.set) refl)
+    (refl, refl) (refl, refl) (refl, refl) asks.are_words.well_formed.of_form asks.set) refl)
 asked_command_is_meaning words (command.Report settings) asks =
     told Report asks.arguments asks.are_words record {
       read = Ok (given_settings_alone settings);
-      told =
-          settings_given Report asks.arguments settings
-          (record {
-            no_seed = refl;
-            no_frames = refl;
-            seed_unknown = refl;
-            frames_unknown = refl;
-            no_limit = refl;
-            limit_unknown = refl;
-          })
+      told = settings_given Report asks.arguments settings (refl, refl) (refl, refl) (refl, refl)
           asks.are_words.well_formed.of_form asks.set;
       comes_to = inl (asks.wide, refl);
     }
 asked_command_is_meaning words (command.Format settings) asks =
     told Format asks.arguments asks.are_words record {
       read = Ok (given_settings_alone settings);
-      told =
-          settings_given Format asks.arguments settings
-          (record {
-            no_seed = refl;
-            no_frames = refl;
-            seed_unknown = refl;
-            frames_unknown = refl;
-            no_limit = refl;
-            limit_unknown = refl;
-          })
+      told = settings_given Format asks.arguments settings (refl, refl) (refl, refl) (refl, refl)
           asks.are_words.well_formed.of_form asks.set;
       comes_to = refl;
     }
 asked_command_is_meaning words (command.Audit settings) asks =
     told Audit asks.arguments asks.are_words record {
       read = Ok (given_settings_alone settings);
-      told =
-          settings_given Audit asks.arguments settings
-          (record {
-            no_seed = refl;
-            no_frames = refl;
-            seed_unknown = refl;
-            frames_unknown = refl;
-            no_limit = refl;
-            limit_unknown = refl;
-          })
+      told = settings_given Audit asks.arguments settings (refl, refl) (refl, refl) (refl, refl)
           asks.are_words.well_formed.of_form asks.set;
       comes_to = inl (asks.wide, refl);
     }
@@ -469,13 +414,13 @@ narrow_is_argument_meaning : (word : CommandWord) (arguments : List Argument) (s
     → (HaveWideShare settings → ⊥) → ArgumentsHaveMeaning word arguments (Err Bound)
 narrow_is_argument_meaning Weigh arguments settings bounded good set narrow = absurd bounded
 narrow_is_argument_meaning Report arguments settings bounded good set narrow =
-    narrow_is_bounded_meaning Report report_command_meaning arguments settings good set narrow
+    narrow_is_bounded_meaning Report _ arguments settings good set narrow
 narrow_is_argument_meaning Format arguments settings bounded good set narrow = absurd bounded
 narrow_is_argument_meaning Audit arguments settings bounded good set narrow =
-    narrow_is_bounded_meaning Audit audit_command_meaning arguments settings good set narrow
+    narrow_is_bounded_meaning Audit _ arguments settings good set narrow
 narrow_is_argument_meaning Make arguments settings bounded good set narrow = absurd bounded
 narrow_is_argument_meaning Demo arguments settings bounded good set narrow =
-    narrow_is_bounded_meaning Demo demo_command_meaning arguments settings good set narrow
+    narrow_is_bounded_meaning Demo _ arguments settings good set narrow
 narrow_is_argument_meaning Watch arguments settings bounded good set narrow = absurd bounded
 
 -- a fault of the prefix is what words mean

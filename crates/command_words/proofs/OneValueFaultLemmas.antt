@@ -4,6 +4,7 @@ use Rattle.std.proofs.Common.{arith}
 use Rattle.std.specs.Prelude.{◌∷◌, Contains}
 use Rattle.std.proofs.lemmas.Bool.{cases_lt}
 use Rattle.std.proofs.lemmas.Fmt.{decimal_injective}
+use Rattle.std.proofs.lemmas.Option.{same_Some}
 use Rattle.std.specs.Coded.{le_prop}
 use Rattle.std.specs.Fmt.{digits}
 use Rattle.prefix_lattice.specs.{grain_bits}
@@ -109,11 +110,7 @@ value_fault_of_one_option : (IsBad IsWorse : OptionKind → ArgumentText → Typ
     → IsFirstBad IsBad values opt → IsFirstBad IsWorse values opt → ⊥
 value_fault_of_one_option IsBad IsWorse values opt apart bad worse =
     apart (kind_of opt) bad.text bad.is_bad
-    (subst (λ t. IsWorse (kind_of opt) t) (same_some worse.text bad.text (sym worse.value ∙ bad.value))
-    worse.is_bad)
-  where
-    same_some : (text other : ArgumentText) → Path (Option ArgumentText) (Some text) (Some other) → text ≡ other
-    same_some text other same = cc
+    (subst (λ t. IsWorse (kind_of opt) t) (same_Some worse.text bad.text (sym worse.value ∙ bad.value)) worse.is_bad)
 
 -- values don't have two first faults that exclude each other
 value_faults_in_one_way : (IsBad IsWorse : OptionKind → ArgumentText → Type 0) (values : SettingValues) (opt other : Opt) → IsValueFault IsBad

@@ -2,9 +2,10 @@
 use Rattle.std.proofs.Common.{◌≡◌, ◌+◌, ◌≤◌, ◌++◌, ℕ, Bool, true, List, [], ◌∷◌, Option, None, Some}
 use Rattle.std.proofs.Common.{⊎_elim, refl, sym, subst, length, All}
 use Rattle.std.specs.Prelude.{option_map, IfSome}
-use Rattle.std.proofs.lemmas.List.Elements.{All-append, All-cons, All-head, All-nil, All-tail}
+use Rattle.std.proofs.lemmas.Option.{IfSome_then}
+use Rattle.std.proofs.lemmas.List.Elements.{All-append, All-head, All-nil, All-tail}
 use Rattle.prefix_lattice.specs.{RecordValue, shard_limit}
-use Rattle.shard_state.specs.{AreCoreShards, CutRepresents, CutValue, ShardValue, TableShape}
+use Rattle.shard_state.specs.{CutRepresents, CutValue, ShardValue}
 use Rattle.hhh_report.specs.declared.reports.Reported.{Reported}
 use Rattle.slot_disk.specs.{CrashLeaves-weaker}
 use Rattle.slot_disk.specs.declared.disk.Disk.{Ghosts as DiskOf}
@@ -16,30 +17,20 @@ use Rattle.recovery.specs.{OpensToBase}
 use Rattle.command_words.specs.{AreLimited}
 use Rattle.command_words.specs.declared.settings.Settings.{Settings}
 use Rattle.report_text.specs.{tail_text}
-use Rattle.report_session.specs.DealtFeed.{FeedGoesOn}
 use Rattle.report_session.specs.Saving.{BelongThroughout, BelongsToLists, AreKeptOnDisk, last_of_saves, saves_after}
 use Rattle.report_session.specs.Saving.{IsAsBefore, saves_settings, saves_settings-allowed}
 use Rattle.report_session.specs.KeptStore.{SessionsBelong}
-use Rattle.report_session.specs.Session.{AreOfCaller, GoesOnFrom, IsSession, IsSessionInPart, IsShownInSession}
+use Rattle.report_session.specs.Session.{GoesOnFrom, IsSession, IsSessionInPart, IsShownInSession}
 use Rattle.report_session.specs.Session.{GoesOnSoundly, SessionSaving, caller_reports, session_opening, saved_cuts}
 use Rattle.report_session.specs.Session.{asked_shape}
 use Rattle.dealt_capture.specs.{DealingRules}
 use Rattle.report_session.proofs.BaseLemmas.{base_goes_on}
-use Rattle.report_session.proofs.LastReportLemmas.{last_report_is_among_all}
 use Rattle.report_session.proofs.SavedStoreLemmas.{SavedStoreCutsRepresent, saved_store_belongs}
 use Rattle.report_session.proofs.SavedStoreLemmas.{saved_store_cuts_represent}
-use Rattle.report_session.proofs.OpeningShardLemmas.{new_opening_shards_are_shards, resumed_opening_shards_are_shards}
+use Rattle.report_session.proofs.OpeningShardLemmas.{opening_shards_are_shards}
 use Rattle.report_session.proofs.OwnReportLemmas.{own_report_lists_of_opening}
-use Rattle.report_session.proofs.ShownSessionLemmas.{shown_session_front_of_all}
+use Rattle.report_session.proofs.ShownSessionLemmas.{shown_session_back_of_all, shown_session_front_of_all}
 use Rattle.report_session.proofs.SessionTextLemmas.{session_text_whatever_was_saved, session_text_begins_saying_less}
-
--- the shards of a run, whose base represents the lists
-belonging_session_opens_shards : (shape : TableShape) (lists : List (List RecordValue)) (base : Option CutValue) → 1 ≤ length lists
-    → length lists ≤ shard_limit → IfSome base (FeedGoesOn shape lists) → IfSome base (λ cut. CutRepresents cut lists)
-    → AreCoreShards (session_opening shape lists base)
-belonging_session_opens_shards shape lists None some few goes_on represents = new_opening_shards_are_shards shape lists some few
-belonging_session_opens_shards shape lists (Some cut) some few goes_on represents =
-    resumed_opening_shards_are_shards cut lists some few goes_on.continues represents.alike
 
 -- the base that a store of the lists opened to represents them
 belonging_session_base_of_lists : (header : StoreHeader) (lists : List (List RecordValue)) (opened : Option SavedValue)
@@ -120,8 +111,9 @@ belonging_session_cuts_represent represent settings lists store base reports lim
     subst (λ l. All (λ (cut : CutValue). CutRepresents cut l) (saved_cuts true opening reports))
     (own_report_lists_of_opening settings lists store base begins)
     (saved_store_cuts_represent represent opening settings reports
-    (belonging_session_opens_shards (asked_shape settings) lists base (subst (λ n. 1 ≤ n) (sym many) limited.some_shards)
-    (subst (λ n. n ≤ shard_limit) (sym many) limited.few_shards) (base_goes_on settings lists store base limited begins) standing)
+    (opening_shards_are_shards (asked_shape settings) lists base (subst (λ n. 1 ≤ n) (sym many) limited.some_shards)
+    (subst (λ n. n ≤ shard_limit) (sym many) limited.few_shards) (base_goes_on settings lists store base limited begins)
+    (IfSome_then base standing (λ cut stands. stands.alike)))
     (represents standing) shown)
 
 -- the same, with or without a store
@@ -176,35 +168,17 @@ belonging_session_broken_off one shown represent d read_is_image rules settings 
     λ reports shown standing. belonging_session_kept_cuts settings.store opening lists reports used
     (belonging_session_cuts_represent represent settings lists (d.reads old) base reports limited many is.begins is.represents shown
     standing) in
-    let of_rounds : (rounds : List Reported) (next : Reported) (count : ℕ)
-    → AreOfCaller opening settings count (rounds ++ next ∷ []) → Standing → Stand (cuts rounds) = λ rounds next count are.
-    of rounds (shown_session_front_of_all (IsShownInSession opening settings) rounds (next ∷ []) are.shown) in
-    let of_next : (rounds : List Reported) (next : Reported) (count : ℕ)
-    → AreOfCaller opening settings count (rounds ++ next ∷ []) → Standing → Stand (cuts (next ∷ [])) =
-    λ rounds next count are.
-    of (next ∷ []) (All-cons (IsShownInSession opening settings) next [] (last_report_is_among_all (IsShownInSession opening settings) rounds next are.shown)
-    (All-nil (IsShownInSession opening settings))) in
-    let both : (first second : List CutValue) → Stand first → Stand second → Stand (first ++ second) =
-    λ first second. All-append (λ (cut : CutValue). CutRepresents cut lists) first second in
     let belongs : (saved unfinished : List CutValue) → (Standing → Stand saved) → (Standing → Stand unfinished)
     → Kept saved unfinished → Belonging = λ saved unfinished of_saved of_unfinished kept.
     belonging_session_keeps_belonging one shown d read_is_image settings lists base saved unfinished old new limited
     used is.begins of_saved of_unfinished store known belonged (kept used) in
     session_text_whatever_was_saved opening settings Belonging (tail_text is.records) front
-    (session_text_begins_saying_less opening settings Kept (λ saved unfinished. Belonging) (tail_text is.records) front
-    (record {
-      none = belongs [] [] (λ standing. no_cut) (λ standing. no_cut);
-      between = λ rounds are. belongs (cuts rounds) [] (of rounds are.shown) (λ standing. no_cut);
-      before = λ count rounds next are.
-          belongs (cuts rounds ++ []) [] (λ standing. both (cuts rounds) [] (of_rounds rounds next count are standing) no_cut)
-          (λ standing. no_cut);
-      unfinished = λ count rounds next are. belongs (cuts rounds ++ []) (cuts (next ∷ []))
-          (λ standing. both (cuts rounds) [] (of_rounds rounds next count are standing) no_cut)
-          (of_next rounds next count are);
-      saved = λ count rounds next are. belongs (cuts rounds ++ cuts (next ∷ [])) []
-          (λ standing. both (cuts rounds) (cuts (next ∷ [])) (of_rounds rounds next count are standing)
-          (of_next rounds next count are standing)) (λ standing. no_cut);
-    }) is.begun)
+    (session_text_begins_saying_less opening settings Kept (λ saved unfinished. Belonging) (record {
+      saved = λ reports shown. belongs (cuts reports) [] (of reports shown) (λ standing. no_cut);
+      unfinished = λ count rounds next are. belongs (cuts rounds) (cuts (next ∷ []))
+          (of rounds (shown_session_front_of_all (IsShownInSession opening settings) rounds (next ∷ []) are.shown))
+          (of (next ∷ []) (shown_session_back_of_all (IsShownInSession opening settings) rounds (next ∷ []) are.shown));
+    }) (tail_text is.records) front is.begun)
 
 -- sessions of both kinds
 pub belonging_sessions : OpenToOne → ShowsItsHeader → SavedStoreCutsRepresent → {D : Type 0} (d : DiskOf D)

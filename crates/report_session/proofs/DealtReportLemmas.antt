@@ -85,29 +85,6 @@ module _ {K D : Type 0} (k : SinkOf K) (d : DiskOf D) (settings : Settings) (lis
       subst (FeedEnds k d settings lists tail sink sink old new) (sym none.status_is)
       (dealt_report_stops_at_fault none.fault same none.used none.refused none.rose none.kept)
 
--- bytes of a session, from the base on
-dealt_report_in_part : (settings : Settings) (lists : List (List RecordValue)) (tail : List ℕ) (keeping : SessionKeeping)
-    (store : Option (List ℕ)) (base : Option CutValue) (Kept : SessionSaving) (old new : Option (List ℕ))
-    → GoesOnFrom settings lists store base → GoesOnSoundly lists base (session_opening (asked_shape settings) lists base)
-    → ((saved unfinished : List CutValue) → Kept saved unfinished → settings.store ≡ true
-    → keeping (saves_settings settings) lists saved unfinished)
-    → AreSessionShards (asked_shape settings) (session_opening (asked_shape settings) lists base)
-    × WritesAnswer (BeginsSession (session_opening (asked_shape settings) lists base) settings Kept tail) old new
-    → FeedWritesPart settings lists tail keeping store old new
-dealt_report_in_part settings lists tail keeping store base Kept old new begins represents keeps (shards, part) = record {
-  base = base;
-  begins = begins;
-  represents = represents;
-  shards = shards;
-  writes = record {
-    text = part.text;
-    is_text = session_text_begins_weaker (session_opening (asked_shape settings) lists base) settings Kept
-        (λ saved unfinished. settings.store ≡ true → keeping (saves_settings settings) lists saved unfinished) tail part.text keeps
-        part.is_text;
-    written = part.written;
-  };
-}
-
 -- the session broke off
 module _ {K D : Type 0} (k : SinkOf K) (d : DiskOf D) (settings : Settings) (lists : List (List RecordValue))
     (tail : List ℕ) (base : Option CutValue) (Kept : SessionSaving) (Same : Type 0) (sink written : K) (old new : D)
@@ -123,9 +100,19 @@ module _ {K D : Type 0} (k : SinkOf K) (d : DiskOf D) (settings : Settings) (lis
 
   dealt_report_of_part : DealtInPart
       → FeedWritesPart settings lists tail (AreKeptOnDisk d old new) (d.reads old) (k.taken sink) (k.taken written)
-  dealt_report_of_part part =
-      dealt_report_in_part settings lists tail (AreKeptOnDisk d old new) (d.reads old) base Kept (k.taken sink)
-      (k.taken written) begins represents keeps part
+  dealt_report_of_part (shards, part) = record {
+    base = base;
+    begins = begins;
+    represents = represents;
+    shards = shards;
+    writes = record {
+      text = part.text;
+      is_text = session_text_begins_weaker (session_opening (asked_shape settings) lists base) settings Kept
+          (λ saved unfinished. settings.store ≡ true → AreKeptOnDisk d old new (saves_settings settings) lists saved unfinished)
+          tail part.text keeps part.is_text;
+      written = part.written;
+    };
+  }
 
   pub dealt_report_ends_broken_off : (status : Status)
       → (((written ≡ sink) × Same) × (status ≡ OutOfMemory)) ⊎ DealtInPart

@@ -1,10 +1,10 @@
 -- Worked examples of the rounds of the calling thread, and of the feed around them, over four shards without records.
 use Rattle.std.proofs.Common.{◌≡◌, ◌≤◌, ℕ, zero, suc, List, [], ◌∷◌, Some, None, length, refl, sym, ap, subst}
-use Rattle.std.proofs.Common.{codes, arith, Bool, true, false, inl, inr, ◌∙◌}
+use Rattle.std.proofs.Common.{codes, arith, Bool, true, false, inl, inr, ◌∙◌, append-nil, get_or, replicate}
 use Rattle.std.specs.Fmt.{digits}
 use Rattle.std.proofs.lemmas.List.Elements.{All-nil, All-cons, All-from_recursion}
 use Rattle.std.proofs.lemmas.Option.{same_Some}
-use Rattle.std.specs.Prelude.{⊤, All}
+use Rattle.std.specs.Prelude.{⊤, All, slice_get}
 use Rattle.shard_state.specs.{CutValue, ShardValue}
 use Rattle.hhh_report.specs.{IsSound}
 use Rattle.hhh_report.specs.declared.reports.Reported.{Reported}
@@ -12,7 +12,8 @@ use Rattle.pass_tokens.specs.{IsOddWord, SeatValue, ShardRead, WordsValue, after
 use Rattle.gate_workers.specs.{Calls, HasSeenEnds, IsCoreReport, ReadsOnce, View, cut_at}
 use Rattle.gate_workers.specs.declared.gathered.Gathered.{Gathered}
 use Rattle.report_text.specs.{tail_text}
-use Rattle.report_session.specs.Session.{AreOfCaller, BreaksOffInRounds, SessionSaving, session_part, session_parts}
+use Rattle.report_session.specs.Session.{AreOfCaller, BreaksOffInRounds, SessionSaving, saved_cuts, session_part}
+use Rattle.report_session.specs.Session.{session_parts}
 use Rattle.report_session.specs.LiveRounds.{BreaksRound, DiskFailed, EndRounds, RoundFaults, RoundSide, RoundsBreakOff}
 use Rattle.report_session.specs.LiveRounds.{IsInVain, ReportsOnce, SinkFailed, BreaksInLine}
 use Rattle.report_session.specs.LiveRounds.{BreaksInReport, WritesRounds, WritesUnsaved}
@@ -26,10 +27,10 @@ use Rattle.command_words.specs.declared.words_kind.WordsKind.TheVariants.{NoComm
 use Rattle.report_session.proofs.RoundLemmas.{saved_cuts-no_rounds}
 use Rattle.report_session.proofs.OpeningShardLemmas.{new_opening_shards_before_ends}
 use Rattle.report_session.proofs.Examples.{header, two_lists, two_shards}
-use Rattle.report_session.proofs.ExamplesOfSessions.{dealt_from_the_header, in_turn, last, lists, nothing_is_sound}
-use Rattle.report_session.proofs.ExamplesOfSessions.{no_reports, once_more, one_number, one_report_with, opening}
-use Rattle.report_session.proofs.ExamplesOfSessions.{records, report, report_at_the_ends, running, session_shards}
-use Rattle.report_session.proofs.ExamplesOfSessions.{settings, shard}
+use Rattle.report_session.proofs.ExamplesOfSessions.{broken_off_in_a_round, dealt_from_the_header, in_turn, last, lists}
+use Rattle.report_session.proofs.ExamplesOfSessions.{no_reports, nothing_is_sound, once_more, one_number, opening}
+use Rattle.report_session.proofs.ExamplesOfSessions.{records, report, report_at_the_ends, running, saves_nothing}
+use Rattle.report_session.proofs.ExamplesOfSessions.{session_shards, settings, shard}
 use Rattle.prefix_lattice.specs.declared.grain.Grain.TheVariants.{Byte}
 
 -- what the calling thread knows before its first round
@@ -63,10 +64,6 @@ at_first = record { view = first; taken = Some []; faults = calm }
 abbrev none_saved : List CutValue → Type 0
 none_saved cuts = cuts ≡ []
 
--- and no save is unfinished
-abbrev none_unfinished : SessionSaving
-none_unfinished saved unfinished = (saved ≡ []) × (unfinished ≡ [])
-
 -- no round was made
 
 no_calls : Calls opening 10000 0 first first []
@@ -91,12 +88,12 @@ no_round_with store Kept kept = record {
   faultless = refl;
 }
 
-pub no_round_of_none : EndRounds opening 10000 false 0 at_first at_first none_saved none_unfinished None
+pub no_round_of_none : EndRounds opening 10000 false 0 at_first at_first none_saved saves_nothing None
 no_round_of_none = no_round_with false none_saved refl
 
 -- a fault would have ended them
 pub fault_without_a_stop :
-    EndRounds opening 10000 false 0 at_first (record at_first { faults = sink_rose }) none_saved none_unfinished None → ⊥
+    EndRounds opening 10000 false 0 at_first (record at_first { faults = sink_rose }) none_saved saves_nothing None → ⊥
 fault_without_a_stop ended =
     let same : 4 ≡ 3 = ap (λ (faults : RoundFaults). faults.sink) ended.faultless in omega (arith, same)
 
@@ -139,19 +136,22 @@ last_is_sound : All (λ (reported : Reported). IsSound Byte reported.report list
 last_is_sound =
     All-cons (λ (reported : Reported). IsSound Byte reported.report lists 512 10000) last [] nothing_is_sound (All-nil _)
 
-pub one_round_is_written : WritesRounds opening 10000 false 1 at_first (took (session_part false last) calm) none_saved
-unfolding digits
-one_round_is_written = record {
+one_round_with : (store : Bool) (Kept : List CutValue → Type 0) → Kept (saved_cuts store opening (last ∷ []))
+    → WritesRounds opening 10000 store 1 at_first (took (session_part store last) calm) Kept
+one_round_with store Kept kept = record {
   reports = last ∷ [];
   calls = one_call;
   sound = λ bases. last_is_sound;
-  written = refl;
-  kept = refl;
+  written = sym (append-nil (session_part store last));
+  kept = kept;
   faultless = refl;
 }
 
+pub one_round_is_written : WritesRounds opening 10000 false 1 at_first (took (session_part false last) calm) none_saved
+one_round_is_written = one_round_with false none_saved refl
+
 pub one_round_of_one :
-    EndRounds opening 10000 false 1 at_first (took (session_part false last) calm) none_saved none_unfinished None
+    EndRounds opening 10000 false 1 at_first (took (session_part false last) calm) none_saved saves_nothing None
 one_round_of_one = one_round_is_written
 
 -- with a store the cut at the positions of the report is saved, and they are written
@@ -159,15 +159,7 @@ abbrev one_saved : List CutValue → Type 0
 one_saved cuts = cuts ≡ cut_at opening (0 ∷ 0 ∷ 0 ∷ 0 ∷ []) ∷ []
 
 pub one_round_is_saved : WritesRounds opening 10000 true 1 at_first (took (session_part true last) calm) one_saved
-unfolding digits
-one_round_is_saved = record {
-  reports = last ∷ [];
-  calls = one_call;
-  sound = λ bases. last_is_sound;
-  written = refl;
-  kept = refl;
-  faultless = refl;
-}
+one_round_is_saved = one_round_with true one_saved refl
 
 -- ---- a round that broke off
 
@@ -175,7 +167,7 @@ pub report_of_one_round : ReportsOnce opening 10000 first after_one report
 report_of_one_round = record { calls = one_call; sound = λ bases. nothing_is_sound }
 
 -- a sink with room for 7 bytes took the first line of the report
-pub report_in_part : BreaksInReport opening 10000 at_first (took (codes "report\n") sink_rose) none_unfinished
+pub report_in_part : BreaksInReport opening 10000 at_first (took (codes "report\n") sink_rose) saves_nothing
 unfolding digits
 report_in_part = record {
   report = report;
@@ -223,20 +215,20 @@ pub saved_round_is_not_unsaved :
 saved_round_is_not_unsaved unsaved = cc unsaved.kept.1
 
 -- where memory ran out, it was not begun
-pub round_not_saved : WritesUnsaved opening 10000 at_first (took (session_part false last) calm) false none_unfinished
+pub round_not_saved : WritesUnsaved opening 10000 at_first (took (session_part false last) calm) false saves_nothing
 unfolding digits
 round_not_saved = record { report = report; reports = report_of_one_round; written = refl; kept = (refl, refl) }
 
 pub each_shard_was_read_once : ReadsOnce opening first after_one
 each_shard_was_read_once = record { reads = reads; as_many = refl; odd = no_losses; view = refl }
 
-pub round_in_vain : IsInVain opening at_first (took [] calm) none_unfinished
+pub round_in_vain : IsInVain opening at_first (took [] calm) saves_nothing
 round_in_vain = record { reads = each_shard_was_read_once; unwritten = refl; kept = (refl, refl) }
 
-pub round_in_vain_writes_nothing : IsInVain opening at_first (took (codes "report\n") calm) none_unfinished → ⊥
+pub round_in_vain_writes_nothing : IsInVain opening at_first (took (codes "report\n") calm) saves_nothing → ⊥
 round_in_vain_writes_nothing vain = cc vain.unwritten
 
-pub sink_breaks_a_round : BreaksRound opening 10000 false at_first (took (codes "report\n") sink_rose) none_unfinished
+pub sink_breaks_a_round : BreaksRound opening 10000 false at_first (took (codes "report\n") sink_rose) saves_nothing
     WriteFault
 sink_breaks_a_round = (inl report_in_part, sink_failed)
 
@@ -246,7 +238,7 @@ sink_breaks_the_line = (inr line_in_part, sink_failed)
 
 -- a sink that failed has counted it
 pub sink_that_did_not_fail :
-    BreaksRound opening 10000 false at_first (took (codes "report\n") calm) none_unfinished WriteFault → ⊥
+    BreaksRound opening 10000 false at_first (took (codes "report\n") calm) saves_nothing WriteFault → ⊥
 sink_that_did_not_fail breaks = omega (arith, breaks.1.rose)
 
 pub disk_breaks_a_round :
@@ -258,11 +250,11 @@ pub disk_breaks_no_round_without_a_store :
     BreaksRound opening 10000 false at_first (took (session_part false last) disk_rose) unfinished_the_one DiskFault → ⊥
 disk_breaks_no_round_without_a_store breaks = cc breaks.0
 
-pub memory_breaks_a_round : BreaksRound opening 10000 false at_first (took [] calm) none_unfinished OutOfMemory
+pub memory_breaks_a_round : BreaksRound opening 10000 false at_first (took [] calm) saves_nothing OutOfMemory
 memory_breaks_a_round = (inl round_in_vain, refl)
 
 -- memory may also run out in a save
-pub memory_breaks_a_save : BreaksRound opening 10000 true at_first (took (session_part false last) calm) none_unfinished
+pub memory_breaks_a_save : BreaksRound opening 10000 true at_first (took (session_part false last) calm) saves_nothing
     OutOfMemory
 memory_breaks_a_save = (inr (refl, round_not_saved), refl)
 
@@ -272,15 +264,15 @@ pub memory_ran_out_after_a_save :
 memory_ran_out_after_a_save (inl vain, same) = cc vain.kept.0
 memory_ran_out_after_a_save (inr unsaved, same) = cc unsaved.1.kept.0
 
-pub success_breaks_no_round : BreaksRound opening 10000 false at_first (took [] calm) none_unfinished Done → ⊥
+pub success_breaks_no_round : BreaksRound opening 10000 false at_first (took [] calm) saves_nothing Done → ⊥
 success_breaks_no_round breaks = breaks
 
-pub source_breaks_no_round : BreaksRound opening 10000 false at_first (took [] sink_rose) none_unfinished ReadFault → ⊥
+pub source_breaks_no_round : BreaksRound opening 10000 false at_first (took [] sink_rose) saves_nothing ReadFault → ⊥
 source_breaks_no_round breaks = breaks
 
 -- the first of two rounds broke off
 pub first_round_broke_off :
-    RoundsBreakOff opening 10000 false 2 at_first (took (codes "report\n") sink_rose) none_unfinished WriteFault
+    RoundsBreakOff opening 10000 false 2 at_first (took (codes "report\n") sink_rose) saves_nothing WriteFault
 first_round_broke_off = record {
   whole = 0;
   few = omega arith;
@@ -290,11 +282,11 @@ first_round_broke_off = record {
 }
 
 pub no_round_breaks_off :
-    RoundsBreakOff opening 10000 false 0 at_first (took (codes "report\n") sink_rose) none_unfinished WriteFault → ⊥
+    RoundsBreakOff opening 10000 false 0 at_first (took (codes "report\n") sink_rose) saves_nothing WriteFault → ⊥
 no_round_breaks_off breaks = omega (arith, breaks.few)
 
 pub two_rounds_ended_in_the_first :
-    EndRounds opening 10000 false 2 at_first (took (codes "report\n") sink_rose) none_saved none_unfinished
+    EndRounds opening 10000 false 2 at_first (took (codes "report\n") sink_rose) none_saved saves_nothing
     (Some WriteFault)
 two_rounds_ended_in_the_first = first_round_broke_off
 
@@ -381,14 +373,14 @@ opened_with_another_cut seat is = cc is.shape.as_many
 
 -- lists without records are at their ends
 ends_were_seen : HasSeenEnds opening first
-ends_were_seen zero state is = subst (λ (s : ShardValue). length s.list ≤ 0) (same_Some shard state is) (omega arith)
-ends_were_seen (suc zero) state is =
-    subst (λ (s : ShardValue). length s.list ≤ 0) (same_Some shard state is) (omega arith)
-ends_were_seen (suc (suc zero)) state is =
-    subst (λ (s : ShardValue). length s.list ≤ 0) (same_Some shard state is) (omega arith)
-ends_were_seen (suc (suc (suc zero))) state is =
-    subst (λ (s : ShardValue). length s.list ≤ 0) (same_Some shard state is) (omega arith)
-ends_were_seen (suc (suc (suc (suc place)))) state is = cc is
+ends_were_seen = no_records 4
+  where
+    no_records : (count place : ℕ) (state : ShardValue) → slice_get (replicate count shard) place ≡ Some state
+        → length state.list ≤ get_or (replicate count 0) place 0
+    no_records zero place state is = cc is
+    no_records (suc count) zero state is =
+        subst (λ (s : ShardValue). length s.list ≤ 0) (same_Some shard state is) (omega arith)
+    no_records (suc count) (suc place) state is = no_records count place state is
 
 -- nothing was reported, as the settings ask
 pub gathered_without_a_round : (seat : SeatValue) (gathered : Gathered) → gathered.called.items ≡ []
@@ -422,30 +414,17 @@ pub fed_with_another_cut : (seat : SeatValue) (fed : Fed)
 fed_with_another_cut seat fed is = cc is.shape.as_many
 
 -- a sink with room for 7 bytes took the first line of the only round's report
-pub rounds_in_part : FeedBreaksOff opening running none_unfinished (Some []) (Some (codes "report\n"))
-unfolding digits
-rounds_in_part = record {
-  front = codes "report\n";
-  breaks_off = inr (record {
-    rounds = [];
-    next = last;
-    few = omega arith;
-    are_reports = one_report_with 1 1;
-    more = codes "report\n";
-    breaks_off = inl ((codes "at 0 0 0 0\ntotal 0\nthreshold 1\ndone\n", refl), (refl, refl));
-    written = refl;
-  });
-  written = refl;
-}
+pub rounds_in_part : FeedBreaksOff opening running saves_nothing (Some []) (Some (codes "report\n"))
+rounds_in_part = record { front = codes "report\n"; breaks_off = broken_off_in_a_round; written = refl }
 
 -- without rounds nothing of them is written
-pub no_rounds_in_part : FeedBreaksOff opening settings none_unfinished (Some []) (Some (codes "report\n")) → ⊥
+pub no_rounds_in_part : FeedBreaksOff opening settings saves_nothing (Some []) (Some (codes "report\n")) → ⊥
 no_rounds_in_part in_part = none in_part.front in_part.breaks_off in_part.written
   where
     whole : (rounds : List Reported) → length rounds ≤ 0 → codes "report\n" ≡ session_parts false rounds → ⊥
     whole [] few written = cc written
     whole (one ∷ rounds) few written = omega (arith, few)
 
-    none : (text : List ℕ) → BreaksOffInRounds opening settings none_unfinished text → codes "report\n" ≡ text → ⊥
+    none : (text : List ℕ) → BreaksOffInRounds opening settings saves_nothing text → codes "report\n" ≡ text → ⊥
     none text (inl between) written = whole between.rounds between.few (written ∙ between.written)
     none text (inr within) written = omega (arith, within.few)

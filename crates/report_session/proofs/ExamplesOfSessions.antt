@@ -14,7 +14,8 @@ use Rattle.shard_state.specs.{CutValue, IsShard, IsSnapshot, ShardValue, TableSh
 use Rattle.shard_state.specs.{no_entries, BasesRepresent, SnapshotRepresents, table_at}
 use Rattle.space_saving.specs.declared.entry.Entry.{Entry}
 use Rattle.space_saving.specs.{AreTableEntries, interval_in, table_total}
-use Rattle.hhh_report.specs.{AreReportLines, IsSound, IsThreshold}
+use Rattle.hhh_report.specs.{IsSound}
+use Rattle.hhh_report.proofs.Examples.{no_lines, threshold_of_nothing}
 use Rattle.hhh_output.specs.{IsLineOf, IsReportOf}
 use Rattle.hhh_report.specs.declared.line.Line.{Line}
 use Rattle.hhh_report.specs.declared.report.Report.{Report}
@@ -132,24 +133,11 @@ abbrev cut : CutValue
 cut = cut_at opening (0 ∷ 0 ∷ 0 ∷ 0 ∷ [])
 
 -- its report has no line
-pub no_lines : AreReportLines []
-no_lines = record {
-  few = omega arith;
-  ordered = All-nil _;
-  rising = λ i j d before within. absurd (omega (arith, within));
-}
-
 abbrev pub report : Report
 report = record { positions = 0 ∷ 0 ∷ 0 ∷ 0 ∷ []; total = 0; threshold = 1; lines = []; are_lines = no_lines }
 
 abbrev pub last : Reported
 last = record { report = report; saved = None }
-
-least_threshold : IsThreshold 10000 0 1
-least_threshold = record {
-  heavy = record { some = omega arith; share = omega arith };
-  least = λ weight heavy. heavy.some;
-}
 
 high_of_nothing : (node : NodeValue) (key : ℕ) → IsNode Byte node
     → (interval_in (table_at node (empty_snapshot shape)) key).high ≡ 0
@@ -173,7 +161,7 @@ unfolding no_entries
 report_of_nothing = record {
   positions = refl;
   total = refl;
-  threshold = least_threshold;
+  threshold = threshold_of_nothing;
   lines = λ line. (λ h. absurd (omega (arith, h.1)), λ is_line. absurd (nothing_is_heavy line is_line));
 }
 
@@ -181,7 +169,7 @@ pub nothing_is_sound : IsSound Byte report lists 512 10000
 nothing_is_sound = record {
   positions = (omega arith, (omega arith, (omega arith, (omega arith, tt))));
   total = refl;
-  threshold = least_threshold;
+  threshold = threshold_of_nothing;
   interval = All-nil _;
   width = All-nil _;
   heavy = All-nil _;
@@ -397,8 +385,8 @@ tables_of_no_records = All-replicate (λ shard. SnapshotRepresents shard.base sh
 pub new_shards_represent : GoesOnSoundly lists None (session_opening shape lists None)
 new_shards_represent none = tables_of_no_records
 
-pub session_over_the_header : IsSession settings in_turn keeps_nothing None (Some header) text
-session_over_the_header = record {
+session_keeping : (keeping : SessionKeeping) → IsSession settings in_turn keeping None (Some header) text
+session_keeping keeping = record {
   records = records;
   lists = lists;
   dealt = dealt_from_the_header;
@@ -406,8 +394,11 @@ session_over_the_header = record {
   base = None;
   begins = begins_anew None;
   represents = new_shards_represent;
-  spelled = spelled_where (λ cuts. settings.store ≡ true → ⊥) (λ used. absurd (cc used));
+  spelled = spelled_where (λ cuts. settings.store ≡ true → keeping _ lists cuts []) (λ used. absurd (cc used));
 }
+
+pub session_over_the_header : IsSession settings in_turn keeps_nothing None (Some header) text
+session_over_the_header = session_keeping keeps_nothing
 
 -- ---- a session that broke off
 
@@ -541,16 +532,7 @@ unfolding digits
 session_in_part_begins_it = (
   text,
   (codes " 0\nreport\nat 0 0 0 0\ntotal 0\nthreshold 1\ndone\nframes 0\nskipped 0 0 0\nend\n", refl),
-  record {
-    records = records;
-    lists = lists;
-    dealt = dealt_from_the_header;
-    as_many = refl;
-    base = None;
-    begins = begins_anew None;
-    represents = new_shards_represent;
-    spelled = spelled_where (λ cuts. settings.store ≡ true → ⊤) (λ used. tt);
-  },
+  session_keeping (λ asked dealt saved unfinished. ⊤),
 )
 
 -- ---- the text of a session, as it is read

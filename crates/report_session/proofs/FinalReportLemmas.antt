@@ -1,7 +1,8 @@
 -- The report over all records of the shards of a session: it exists, whether or not there is memory to make it.
 use Rattle.std.proofs.Common.{◌≡◌, ◌∙◌, ◌≤◌, ◌+◌, ◌-◌, ℕ, zero, suc, List, [], ◌∷◌, ◌++◌, All, None}
 use Rattle.std.proofs.Common.{refl, sym, ap, subst, arith, length, map, replicate, append-nil, append_assoc}
-use Rattle.std.specs.List.Sorted.{IsNonDecreasing}
+use Rattle.std.specs.Prelude.{slice_index}
+use Rattle.std.proofs.lemmas.List.Sorted.{IsNonDecreasingBy-short}
 use Rattle.std.proofs.lemmas.List.{length-map, length-replicate}
 use Rattle.std.proofs.lemmas.List.Elements.{All-cons, All-head, All-map, All-nil, All-replicate, All-tail}
 use Rattle.prefix_lattice.specs.{RecordValue}
@@ -16,8 +17,8 @@ use Rattle.command_words.specs.{HaveWideShare}
 use Rattle.command_words.specs.declared.settings.Settings.{Settings}
 use Rattle.report_session.specs.DealtFeed.{StartsBefore}
 use Rattle.report_session.specs.Session.{AreOfCaller, AreReports, AreSessionShards, IsShownInSession, SessionReports}
-use Rattle.report_session.specs.Session.{session_ends, asked_shape}
-use Rattle.report_session.proofs.SeenPositionLemmas.{seen_positions_of_cut}
+use Rattle.report_session.specs.Session.{asked_shape, session_ends, session_start}
+use Rattle.report_session.proofs.SeenPositionLemmas.{seen_position_snapshot_count, seen_positions_of_cut}
 use Rattle.report_session.proofs.SessionTextLemmas.{session_text_with_last}
 use Rattle.shard_state.specs.{TableShape}
 
@@ -45,11 +46,6 @@ final_report_shards laws (shard ∷ rest) kept =
     (laws.goes_on shard (length shard.list) is is.within (omega arith))
     (final_report_shards laws rest (All-tail IsShard shard rest kept))
 
-final_report_state_count : (opening : List ShardValue)
-    → length (states_at opening (session_ends opening)) ≡ length opening
-final_report_state_count [] = refl
-final_report_state_count (shard ∷ rest) = ap suc (final_report_state_count rest)
-
 final_report_shapes : (shape : TableShape) (opening : List ShardValue)
     → All (λ (shard : ShardValue). shard.base.shape ≡ shape) opening
     → All (λ (snapshot : SnapshotValue). snapshot.shape ≡ shape)
@@ -70,7 +66,7 @@ final_report_cut_is_cut laws (shard ∷ rest) are kept =
     let states : List ShardValue = states_at opening (session_ends opening) in
     let first : IsShard shard = All-head IsShard shard rest kept in
     let many : length (map snapshot_of states) ≡ length opening =
-    length-map states snapshot_of ∙ final_report_state_count opening in
+    seen_position_snapshot_count opening (session_ends opening) (length-map opening _) in
     let at_ends : All IsShard states = final_report_shards laws opening kept in
     record {
       least = first.tables.least;
@@ -129,18 +125,12 @@ final_report_is_after_start (first ∷ rest) kept zero = (All-head IsShard first
 final_report_is_after_start (first ∷ rest) kept (suc shard) =
     final_report_is_after_start rest (All-tail IsShard first rest kept) shard
 
-final_report_after_one_number : (number : ℕ) → IsNonDecreasing (number ∷ [])
-final_report_after_one_number number zero zero d le inside = omega arith
-final_report_after_one_number number zero (suc j) d le inside = absurd (omega (arith, inside))
-final_report_after_one_number number (suc i) zero d le inside = absurd (omega (arith, le))
-final_report_after_one_number number (suc i) (suc j) d le inside = absurd (omega (arith, inside))
-
 -- no report yet
 pub final_report_after_none : (opening : List ShardValue) (settings : Settings) → AreOfCaller opening settings 0 []
 final_report_after_none opening settings = record {
   as_many = refl;
   shown = All-nil (IsShownInSession opening settings);
-  never_fall = λ shard inside. final_report_after_one_number _;
+  never_fall = λ shard inside. IsNonDecreasingBy-short (λ x. x) (slice_index (session_start opening) shard ∷ []) (omega arith);
 }
 
 -- the final report, this many times after some reports

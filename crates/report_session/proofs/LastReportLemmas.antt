@@ -1,5 +1,6 @@
 -- The last report of a session.
 use Rattle.std.proofs.Common.{◌≡◌, ◌∙◌, ◌+◌, ℕ, List, [], ◌∷◌, ◌++◌, All, refl, sym, ap, ap₂, subst, arith, length}
+use Rattle.std.proofs.lemmas.List.{length_push}
 use Rattle.std.proofs.lemmas.List.Elements.{All-head, All-tail}
 use Rattle.shard_state.specs.{CutValue, ShardValue}
 use Rattle.hhh_report.specs.{AreReportLines, IsSameReport}
@@ -50,11 +51,7 @@ last_reports_agree one text opening settings other reports others phi are are_ot
 last_report_without_rounds : (rounds : List Reported) (last : Reported) (count : ℕ) → length (rounds ++ last ∷ []) ≡ count + 1
     → count ≡ 0 → rounds ≡ []
 last_report_without_rounds [] last count many none = refl
-last_report_without_rounds (first ∷ rounds) last count many none = absurd (omega (arith, many, none, length-snoc rounds last))
-  where
-    length-snoc : (xs : List Reported) (x : Reported) → length (xs ++ x ∷ []) ≡ length xs + 1
-    length-snoc [] x = refl
-    length-snoc (y ∷ ys) x = let rest : length (ys ++ x ∷ []) ≡ length ys + 1 = length-snoc ys x in omega (arith, rest)
+last_report_without_rounds (first ∷ rounds) last count many none = absurd (omega (arith, many, none, length_push rounds last))
 
 -- and none of the other callers
 last_report_without_callers : (opening : List ShardValue) (settings : Settings) (count : ℕ) (callers : List (List Reported))

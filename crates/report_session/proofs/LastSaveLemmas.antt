@@ -8,7 +8,7 @@ use Rattle.hhh_report.specs.{AreNotPast}
 use Rattle.shard_state.specs.{CutValue, HasCoreShape, ShardValue, core_shape, cut_positions}
 use Rattle.hhh_report.specs.declared.reports.Reported.{Reported}
 use Rattle.pass_tokens.specs.{WordsValue, first_view}
-use Rattle.gate_workers.specs.{IsCoreReport, View, cut_at}
+use Rattle.gate_workers.specs.{View, cut_at}
 use Rattle.gate_workers.specs.declared.gathered.Called.{Called}
 use Rattle.checkpoint.specs.{AreSettings, SaverState, OpenToOne, saver_after, greatest_sequence, settings_shape}
 use Rattle.command_words.specs.declared.settings.Settings.{Settings}
@@ -45,31 +45,19 @@ last_save_starts_within_ends opening positions starts past =
     let second : slice_index (session_start opening) shard ≤ slice_index (session_ends opening) shard = starts shard in
     omega (arith, first, second))
 
-last_save_reported_within_ends : (opening : List ShardValue) (phi : ℕ) (reported : Reported) → IsCoreReport opening phi reported.report
-    → AreNotPast reported.report.positions (session_ends opening)
-last_save_reported_within_ends opening phi reported at =
-    let many : length reported.report.positions ≡ length opening = at.as_many in
-    let ends : length (session_ends opening) ≡ length opening = length-map opening _ in
-    seen_positions_are_not_past reported.report.positions (session_ends opening) (omega (arith, many, ends))
-    (λ shard inside. session_text_within_ends opening reported.report.positions shard many at.kept)
-
 -- the positions of a saver after the rounds of a session aren't past the ends
 last_save_positions_within_ends : (opening : List ShardValue) (settings : Settings) (reports : List Reported) (saver : SaverState)
     → AreNotPast saver.positions (session_ends opening) → All (IsShownInSession opening settings) reports
     → AreNotPast (after_saves saver (saved_cuts true opening reports)).positions (session_ends opening)
 last_save_positions_within_ends opening settings [] saver past shown = past
 last_save_positions_within_ends opening settings (reported ∷ reports) saver past shown =
-    let first : IsShownInSession opening settings reported = All-head (IsShownInSession opening settings) reported reports shown in
-    let cut : CutValue = cut_at opening reported.report.positions in
-    last_save_positions_within_ends opening settings reports (saver_after saver cut)
-    (subst (λ ps. AreNotPast ps (session_ends opening))
-    (sym (seen_positions_of_cut opening reported.report.positions first.is_report.as_many))
-    (last_save_reported_within_ends opening settings.phi reported first.is_report))
+    let at = (All-head (IsShownInSession opening settings) reported reports shown).is_report in
+    let positions : List ℕ = reported.report.positions in
+    last_save_positions_within_ends opening settings reports (saver_after saver (cut_at opening positions))
+    (subst (λ ps. AreNotPast ps (session_ends opening)) (sym (seen_positions_of_cut opening positions at.as_many))
+    (seen_positions_are_not_past positions (session_ends opening) (at.as_many ∙ sym (length-map opening _))
+    (λ shard inside. session_text_within_ends opening positions shard at.as_many at.kept)))
     (All-tail (IsShownInSession opening settings) reported reports shown)
-
-last_save_count : (opening : List ShardValue) (reports : List Reported)
-    → length (saved_cuts true opening reports) ≡ length reports
-last_save_count opening reports = length-map reports _
 
 -- after the rounds of a session its last cut may be saved
 pub last_save_is_possible : {D : Type 0} (d : DiskOf D) (board : WordsValue) (settings : Settings) (called : List Called)
@@ -91,7 +79,7 @@ last_save_is_possible d board settings called tail rest rounds (Some saver) now 
     subst (λ store. SavesInTurn d (Some saver) now old new (saved_cuts store opening rounds)) (sym used) saves in
     let after : SaverState = after_saves saver cuts in
     let sequence : after.sequence ≡ saver.sequence + length cuts = saves_raise_sequence saver cuts in
-    let many : length cuts ≡ length rounds = last_save_count opening rounds in
+    let many : length cuts ≡ length rounds = length-map rounds _ in
     let as_many : length rounds ≡ settings.rounds = are.as_many in
     let early : saver.sequence + (settings.rounds + 1) ≤ greatest_sequence = can.early in
     let seen : AreNotPast saver.positions (session_start opening) =
@@ -151,7 +139,7 @@ last_save_broken_off one d opening store rounds last cut (Some saver) between ol
     let all : (saved unfinished : List CutValue) → SavesInPart d between mid new saved unfinished
     → SavesInPart d (Some saver) old new (cuts ++ saved) unfinished =
     λ saved unfinished.
-    broken_off_save_follows one d (Some saver) between cuts saved unfinished old mid new are is_image saves in (
+    broken_off_save_follows one d is_image (Some saver) between cuts saved unfinished old mid new are saves in (
       all [] [],
       λ part. subst (SavesInPart d (Some saver) old new (cuts ++ [])) same (all [] (cut ∷ []) part),
       λ part. subst (λ list. SavesInPart d (Some saver) old new (cuts ++ list) []) same (all (cut ∷ []) [] part),

@@ -2,20 +2,19 @@
 use Rattle.std.proofs.Common.{◌≡◌, ◌∙◌, ◌≤◌, ℕ, zero, suc, List, [], ◌∷◌, ◌++◌, All, refl, sym, ap, subst, arith}
 use Rattle.std.proofs.Common.{length, map, append_assoc, replicate, Option, None, Some}
 use Rattle.std.specs.List.{sum_by, AllZip}
-use Rattle.std.proofs.lemmas.List.{length-map, map-append, length-replicate}
-use Rattle.std.proofs.lemmas.List.Elements.{All-map, All-replicate, All-cons, All-head, All-nil, All-tail}
+use Rattle.std.proofs.lemmas.List.{length-map, map-append}
+use Rattle.std.proofs.lemmas.List.Elements.{All-cons, All-from_get_or, All-get_or, All-head, All-map, All-nil, All-tail}
 use Rattle.std.proofs.lemmas.List.Sums.{get_or-le-sum_by}
 use Rattle.prefix_lattice.specs.{RecordValue, record_limit, shard_limit}
 use Rattle.deal_rules.specs.{AreDealings}
 use Rattle.std.specs.Prelude.{IfSome}
-use Rattle.shard_state.specs.{AreCoreShards, BasesRepresent, CutValue, IsCut, ShardValue, SnapshotRepresents}
-use Rattle.shard_state.specs.{IsSnapshot, SnapshotValue, core_shape, empty_snapshot, cut_positions, core_lists}
-use Rattle.shard_state.specs.{TableShape, CutRepresents}
+use Rattle.shard_state.specs.{AreCoreShards, BasesRepresent, CutValue, ShardValue, SnapshotRepresents, SnapshotValue}
+use Rattle.shard_state.specs.{TableShape, core_lists, core_shape, empty_snapshot}
 use Rattle.report_text.specs.{ShowsPositions}
 use Rattle.recovery.specs.{ContinuesList}
 use Rattle.report_session.specs.DealtFeed.{FeedGoesOn, StartsBefore}
-use Rattle.report_session.specs.Session.{GoesOnSoundly, new_shards, session_opening, resumed_shards, session_start}
-use Rattle.report_session.specs.Session.{asked_shape}
+use Rattle.report_session.specs.Session.{GoesOnSoundly, asked_shape, new_shards, resumed_shards, session_ends}
+use Rattle.report_session.specs.Session.{session_opening, session_start}
 use Rattle.command_words.specs.declared.settings.Settings.{Settings}
 
 -- of few records in all each list has few
@@ -37,16 +36,6 @@ pub opening_shards_start_at_zero : (shape : TableShape) (lists : List (List Reco
 opening_shards_start_at_zero shape [] = refl
 opening_shards_start_at_zero shape (list ∷ lists) = ap (λ zeros. 0 ∷ zeros) (opening_shards_start_at_zero shape lists)
 
--- zeros for 1 to 16 lists are positions that a text can show
-pub opening_shard_zeros_are_positions : (lists : List (List RecordValue)) → AreDealings lists
-    → ShowsPositions (replicate (length lists) 0)
-opening_shard_zeros_are_positions lists shards = record {
-  some = subst (λ n. 1 ≤ n) (sym (length-replicate (length lists) 0)) shards.some;
-  few = subst (λ n. n ≤ 16) (sym (length-replicate (length lists) 0)) shards.few;
-  within = All-replicate (λ position. position ≤ 16777216) (length lists) 0 (omega arith);
-}
-
--- their lists are those that were dealt
 -- settings of one grain and one capacity ask for tables of one shape
 pub opening_shards_have_same_shape : (settings other : Settings) → settings.grain ≡ other.grain → settings.capacity ≡ other.capacity
     → asked_shape settings ≡ asked_shape other
@@ -54,6 +43,7 @@ opening_shards_have_same_shape settings other grain capacity =
     ap (λ g. record { grain = g; capacity = settings.capacity }) grain
     ∙ ap (λ n. record { grain = other.grain; capacity = n }) capacity
 
+-- their lists are those that were dealt
 pub new_opening_shards_as_dealt : (shape : TableShape) (lists : List (List RecordValue)) → core_lists (new_shards shape lists) ≡ lists
 new_opening_shards_as_dealt shape [] = refl
 new_opening_shards_as_dealt shape (list ∷ lists) = ap (λ rest. list ∷ rest) (new_opening_shards_as_dealt shape lists)
@@ -165,20 +155,24 @@ pub opening_shards_count : (shape : TableShape) (lists : List (List RecordValue)
 opening_shards_count shape lists None goes_on = length-map lists _
 opening_shards_count shape lists (Some cut) goes_on = resumed_opening_shards_count lists cut.shards goes_on.continues
 
+-- the snapshots of a cut are of its shape
+abbrev pub HasAlikeOpeningShards : CutValue → Type 0
+HasAlikeOpeningShards cut = All (λ snapshot. snapshot.shape ≡ cut.shape) cut.shards
+
 pub opening_shards_have_shape : (shape : TableShape) (lists : List (List RecordValue)) (base : Option CutValue)
-    → AreDealings lists → IfSome base (FeedGoesOn shape lists) → IfSome base IsCut
+    → 1 ≤ length lists → IfSome base (FeedGoesOn shape lists) → IfSome base HasAlikeOpeningShards
     → core_shape (session_opening shape lists base) ≡ shape
-opening_shards_have_shape shape lists None shards goes_on kept = new_opening_shards_have_shape shape lists shards.some
-opening_shards_have_shape shape lists (Some cut) shards goes_on kept =
-    resumed_opening_shards_shape shape lists cut.shards shards.some goes_on.continues
-    (subst (λ n. All (λ (snapshot : SnapshotValue). snapshot.shape ≡ n) cut.shards) goes_on.alike kept.alike)
+opening_shards_have_shape shape lists None some goes_on alike = new_opening_shards_have_shape shape lists some
+opening_shards_have_shape shape lists (Some cut) some goes_on alike =
+    resumed_opening_shards_shape shape lists cut.shards some goes_on.continues
+    (subst (λ n. All (λ (snapshot : SnapshotValue). snapshot.shape ≡ n) cut.shards) goes_on.alike alike)
 
 pub opening_shards_are_shards : (shape : TableShape) (lists : List (List RecordValue)) (base : Option CutValue)
-    → AreDealings lists → IfSome base (FeedGoesOn shape lists) → IfSome base IsCut
-    → AreCoreShards (session_opening shape lists base)
-opening_shards_are_shards shape lists None shards goes_on kept = new_opening_shards_are_shards shape lists shards.some shards.few
-opening_shards_are_shards shape lists (Some cut) shards goes_on kept =
-    resumed_opening_shards_are_shards cut lists shards.some shards.few goes_on.continues kept.alike
+    → 1 ≤ length lists → length lists ≤ shard_limit → IfSome base (FeedGoesOn shape lists)
+    → IfSome base HasAlikeOpeningShards → AreCoreShards (session_opening shape lists base)
+opening_shards_are_shards shape lists None some few goes_on alike = new_opening_shards_are_shards shape lists some few
+opening_shards_are_shards shape lists (Some cut) some few goes_on alike =
+    resumed_opening_shards_are_shards cut lists some few goes_on.continues alike
 
 pub opening_shards_before_ends : (shape : TableShape) (lists : List (List RecordValue)) (base : Option CutValue)
     → IfSome base (FeedGoesOn shape lists) → StartsBefore (session_opening shape lists base)
@@ -192,13 +186,6 @@ pub opening_shards_represent : (shape : TableShape) (lists : List (List RecordVa
 opening_shards_represent shape lists None begins = λ of_lists. new_opening_shards_represent shape lists begins
 opening_shards_represent shape lists (Some cut) begins = λ of_lists. resumed_opening_shards_represent lists cut.shards of_lists.shards
 
--- what a match on the base shows
-pub opening_shards_without_base : (base : Option CutValue) → None ≡ base → IfSome base IsCut
-opening_shards_without_base base is = subst (λ o. IfSome o IsCut) is tt
-
-pub opening_shards_with_base_cut : (base : Option CutValue) (cut : CutValue) → Some cut ≡ base → IsCut cut → IfSome base IsCut
-opening_shards_with_base_cut base cut is kept = subst (λ o. IfSome o IsCut) is kept
-
 -- one more shard is resumed
 pub resumed_opening_shards_grow : (states all : List ShardValue) (state : ShardValue) (list : List RecordValue) (base : SnapshotValue)
     (lists : List (List RecordValue)) (bases : List SnapshotValue)
@@ -209,34 +196,47 @@ resumed_opening_shards_grow states all state list base lists bases is before =
     append_assoc states (state ∷ []) (resumed_shards lists bases)
     ∙ ap (λ s. states ++ s ∷ resumed_shards lists bases) is ∙ before
 
-opening_shard_positions_are_small : (bases : List SnapshotValue) → All IsSnapshot bases
-    → All (λ position. position ≤ record_limit) (map (λ (snapshot : SnapshotValue). snapshot.position) bases)
-opening_shard_positions_are_small bases kept =
-    All-map (λ position. position ≤ record_limit) (λ (snapshot : SnapshotValue). snapshot.position) bases
-    (λ k d lt. (kept k d lt).placed)
-
--- a text can show the positions at which the shards of a run start
-pub opening_shards_have_positions : (shape : TableShape) (lists : List (List RecordValue)) (base : Option CutValue)
-    → AreDealings lists → IfSome base (FeedGoesOn shape lists) → IfSome base IsCut
-    → ShowsPositions (session_start (session_opening shape lists base))
-opening_shards_have_positions shape lists None shards goes_on kept =
-    subst ShowsPositions (sym (opening_shards_start_at_zero shape lists)) (opening_shard_zeros_are_positions lists shards)
-opening_shards_have_positions shape lists (Some cut) shards goes_on kept =
-    let starts : session_start (resumed_shards lists cut.shards) ≡ cut_positions cut =
-    resumed_opening_shards_at_cut lists cut.shards goes_on.continues in
-    let many : length (session_start (resumed_shards lists cut.shards)) ≡ length lists =
-    length-map (resumed_shards lists cut.shards) _ ∙ resumed_opening_shards_count lists cut.shards goes_on.continues in
+-- a text can show the positions at which shards with short lists start
+pub opening_shard_starts_are_positions : (opening : List ShardValue) → 1 ≤ length opening → length opening ≤ shard_limit
+    → StartsBefore opening → All (λ shard. length shard.list ≤ record_limit) opening → ShowsPositions (session_start opening)
+opening_shard_starts_are_positions opening some few before short =
+    let many : length (session_start opening) ≡ length opening = length-map opening _ in
+    let ends : All (λ position. position ≤ record_limit) (session_ends opening) =
+    All-map (λ position. position ≤ record_limit) (λ (shard : ShardValue). length shard.list) opening short in
     record {
-      some = subst (λ n. 1 ≤ n) (sym many) shards.some;
-      few = subst (λ n. n ≤ 16) (sym many) shards.few;
-      within = subst (All (λ position. position ≤ record_limit)) (sym starts) (opening_shard_positions_are_small cut.shards kept.kept);
+      some = subst (λ n. 1 ≤ n) (sym many) some;
+      few = subst (λ n. n ≤ shard_limit) (sym many) few;
+      within = All-from_get_or (λ position. position ≤ record_limit) (session_start opening) 0 (λ shard lt.
+          let end = All-get_or (λ position. position ≤ record_limit) (session_ends opening) shard 0
+          (omega (arith, lt, many, length-map opening (λ (shard : ShardValue). length shard.list))) ends in
+          omega (arith, before shard, end));
     }
 
--- the shards with which a session begins have the tables asked for, if its base represents the lists
-pub session_opening_has_shape : (shape : TableShape) (lists : List (List RecordValue)) (base : Option CutValue)
-    → 1 ≤ length lists → IfSome base (FeedGoesOn shape lists) → IfSome base (λ cut. CutRepresents cut lists)
-    → core_shape (session_opening shape lists base) ≡ shape
-session_opening_has_shape shape lists None some goes_on represents = new_opening_shards_have_shape shape lists some
-session_opening_has_shape shape lists (Some cut) some goes_on represents =
-    resumed_opening_shards_shape shape lists cut.shards some goes_on.continues
-    (subst (λ s. All (λ (snapshot : SnapshotValue). snapshot.shape ≡ s) cut.shards) goes_on.alike represents.alike)
+resumed_opening_shards_are_short : (lists : List (List RecordValue)) (bases : List SnapshotValue)
+    → All (λ list. length list ≤ record_limit) lists → AllZip ContinuesList bases lists
+    → All (λ shard. length shard.list ≤ record_limit) (resumed_shards lists bases)
+resumed_opening_shards_are_short [] bases short continues = All-nil (λ (shard : ShardValue). length shard.list ≤ record_limit)
+resumed_opening_shards_are_short (list ∷ lists) [] short continues = absurd continues
+resumed_opening_shards_are_short (list ∷ lists) (base ∷ bases) short continues =
+    All-cons (λ (shard : ShardValue). length shard.list ≤ record_limit)
+    (record { list = list; base = base; position = base.position }) (resumed_shards lists bases)
+    (All-head (λ (list : List RecordValue). length list ≤ record_limit) list lists short)
+    (resumed_opening_shards_are_short lists bases
+    (All-tail (λ (list : List RecordValue). length list ≤ record_limit) list lists short) continues.1)
+
+opening_shards_are_short : (shape : TableShape) (lists : List (List RecordValue)) (base : Option CutValue)
+    → All (λ list. length list ≤ record_limit) lists → IfSome base (FeedGoesOn shape lists)
+    → All (λ shard. length shard.list ≤ record_limit) (session_opening shape lists base)
+opening_shards_are_short shape lists None short goes_on =
+    All-map (λ (shard : ShardValue). length shard.list ≤ record_limit) _ lists short
+opening_shards_are_short shape lists (Some cut) short goes_on =
+    resumed_opening_shards_are_short lists cut.shards short goes_on.continues
+
+-- so it can show those at which the shards of a run start
+pub opening_shards_have_positions : (shape : TableShape) (lists : List (List RecordValue)) (base : Option CutValue)
+    → AreDealings lists → IfSome base (FeedGoesOn shape lists) → ShowsPositions (session_start (session_opening shape lists base))
+opening_shards_have_positions shape lists base shards goes_on =
+    let many = opening_shards_count shape lists base goes_on in
+    opening_shard_starts_are_positions (session_opening shape lists base) (subst (λ n. 1 ≤ n) (sym many) shards.some)
+    (subst (λ n. n ≤ shard_limit) (sym many) shards.few) (opening_shards_before_ends shape lists base goes_on)
+    (opening_shards_are_short shape lists base (opening_shards_have_few_records record_limit lists shards.small) goes_on)

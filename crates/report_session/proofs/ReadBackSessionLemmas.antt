@@ -3,9 +3,9 @@ use Rattle.std.proofs.Common.{◌≡◌, ◌∙◌, ◌+◌, ◌*◌, ◌^◌, �
 use Rattle.std.proofs.Common.{inl, inr, All, length, map, get_or, count_by, sym, subst, arith}
 use Rattle.std.specs.List.{flat_map}
 use Rattle.std.proofs.lemmas.List.{length-append, length-map}
-use Rattle.std.proofs.lemmas.List.Elements.{All-from_get_or, All-get_or, All-map}
+use Rattle.std.proofs.lemmas.List.Elements.{All-map}
 use Rattle.std.proofs.lemmas.List.Sums.{count_by-le-length}
-use Rattle.prefix_lattice.specs.{record_limit}
+use Rattle.std.proofs.lemmas.Option.{IfSome_then}
 use Rattle.shard_state.specs.{CutRepresents, ShardValue, core_shape}
 use Rattle.pcap_frames.specs.{FrameValue, frame_count_limit}
 use Rattle.frame_records.specs.{AreRecordsOf, FileGives}
@@ -16,12 +16,13 @@ use Rattle.report_text.specs.{session_text}
 use Rattle.report_text.specs.declared.session.Session.{Session}
 use Rattle.command_words.specs.{AreLimited}
 use Rattle.command_words.specs.declared.settings.Settings.{Settings}
-use Rattle.report_session.specs.Session.{IsSession, IsShownInSession, SessionKeeping, SessionReports, session_ends}
+use Rattle.report_session.specs.Session.{IsSession, IsShownInSession, SessionKeeping, SessionReports}
 use Rattle.report_session.specs.Session.{session_opening, reports_in, session_start, asked_shape}
 use Rattle.dealt_capture.specs.{DealingRules}
 use Rattle.report_session.proofs.BaseLemmas.{base_goes_on}
 use Rattle.report_session.proofs.LastReportLemmas.{last_report_is_among_all}
-use Rattle.report_session.proofs.OpeningShardLemmas.{opening_shards_count, opening_shards_before_ends}
+use Rattle.report_session.proofs.OpeningShardLemmas.{opening_shards_before_ends, opening_shards_count}
+use Rattle.report_session.proofs.OpeningShardLemmas.{opening_shard_starts_are_positions, opening_shards_have_shape}
 use Rattle.report_session.proofs.OwnReportLemmas.{IsOwnReportSound, own_report_lists_of_opening}
 use Rattle.report_session.proofs.OwnReportLemmas.{own_reports_are_shown, own_reports_are_sound}
 use Rattle.report_session.proofs.ShownSessionLemmas.{shown_session_prints_the_same, shown_session_reports_are_shown}
@@ -29,7 +30,6 @@ use Rattle.report_session.proofs.ShownSessionLemmas.{shown_session_report, shown
 use Rattle.report_session.proofs.ShownSessionLemmas.{shown_session_report_count, shown_session_reports, shown_session}
 use Rattle.report_session.proofs.BoundedReportLemmas.{IsBoundedReport, IsBoundedReportList}
 use Rattle.report_session.proofs.BoundedReportLemmas.{bounded_report_lists_if_kept, bounded_report_if_sound}
-use Rattle.report_session.proofs.OpeningShardLemmas.{session_opening_has_shape}
 
 -- a session is printed as its text
 abbrev pub PrintsOwnSession : Type 0
@@ -91,25 +91,6 @@ own_session_is_showable settings opened reports records frames positions many (f
       cut = cut;
     }
 
--- the positions at which shards start, where their lists are small
-own_session_starts_are_positions : (opening : List ShardValue) (settings : Settings) → AreLimited settings
-    → length opening ≡ settings.shards
-    → ((shard : ℕ) → get_or (session_start opening) shard 0 ≤ get_or (session_ends opening) shard 0)
-    → All (λ shard. IsBoundedReportList shard.list) opening → ShowsPositions (session_start opening)
-own_session_starts_are_positions opening settings limited many before small =
-    let as_many : length (session_start opening) ≡ settings.shards = length-map opening _ ∙ many in
-    let ends : All (λ position. position ≤ record_limit) (session_ends opening) =
-    All-map (λ position. position ≤ record_limit) (λ (shard : ShardValue). length shard.list) opening
-    (λ k d lt. (small k d lt).few) in
-    record {
-      some = subst (λ n. 1 ≤ n) (sym as_many) limited.some_shards;
-      few = subst (λ n. n ≤ 16) (sym as_many) limited.few_shards;
-      within = All-from_get_or (λ position. position ≤ record_limit) (session_start opening) 0 (λ shard lt.
-          let end = All-get_or (λ position. position ≤ record_limit) (session_ends opening) shard 0
-          (omega (arith, lt, as_many, many, length-map opening (λ (shard : ShardValue). length shard.list))) ends in
-          omega (arith, before shard, end));
-    }
-
 -- the session that `report` writes is one, if the saved cut that it went on from represents the lists
 pub own_session_is_valid : PrintsOwnSession → ReadFilesAreWithinLimits → (settings : Settings) (rules : DealingRules) (keeping : SessionKeeping)
     (store : Option (List ℕ)) (file text : List ℕ) (is : IsSession settings rules keeping store (Some file) text) → AreLimited settings
@@ -127,16 +108,17 @@ own_session_is_valid prints within settings rules keeping store file text is lim
     let last : IsShownInSession opening settings reports.last =
     last_report_is_among_all (IsShownInSession opening settings) reports.rounds reports.last is.spelled.are_reports.calling.shown in
     let alike : core_shape opening ≡ asked_shape settings =
-    session_opening_has_shape (asked_shape settings) is.lists is.base
-    (subst (λ n. 1 ≤ n) (sym many_lists) limited.some_shards) goes_on represents in
+    opening_shards_have_shape (asked_shape settings) is.lists is.base (subst (λ n. 1 ≤ n) (sym many_lists) limited.some_shards) goes_on
+    (IfSome_then is.base represents (λ cut stands. stands.alike)) in
     let small = bounded_report_lists_if_kept opening reports.last.report.positions last.is_report.as_many last.is_report.kept in
     let small_lists : All IsBoundedReportList is.lists =
     subst (λ lists. All IsBoundedReportList lists) (own_report_lists_of_opening settings is.lists store is.base is.begins)
     (All-map IsBoundedReportList (λ (shard : ShardValue). shard.list) opening small) in
     let shown = own_reports_are_shown settings rules keeping store (Some file) text is in
     let sound = own_reports_are_sound settings rules keeping store (Some file) text is represents in
-    let starts = own_session_starts_are_positions opening settings limited many
-    (opening_shards_before_ends (asked_shape settings) is.lists is.base goes_on) small in
+    let starts = opening_shard_starts_are_positions opening (subst (λ n. 1 ≤ n) (sym many) limited.some_shards)
+    (subst (λ n. n ≤ 16) (sym many) limited.few_shards) (opening_shards_before_ends (asked_shape settings) is.lists is.base goes_on)
+    (λ k d lt. (small k d lt).few) in
     record {
       is_session = own_session_is_showable settings (session_start opening) reports is.records is.dealt.frames starts
           (length-map opening _ ∙ many) (within settings.front file is.dealt.frames is.records.cut is.dealt.capture)

@@ -1,13 +1,13 @@
 -- What a store opens to after a session, whether that was whole or broke off.
 use Rattle.std.proofs.Common.{◌≡◌, ◌∙◌, ◌<◌, ◌+◌, ◌++◌, ℕ, suc, true, List, [], ◌∷◌, Option, None, Some}
-use Rattle.std.proofs.Common.{⊎_elim, refl, sym, ap, subst, arith, length, map, append-nil, All}
+use Rattle.std.proofs.Common.{⊎_elim, refl, sym, ap, subst, arith, length, map, All}
 use Rattle.std.specs.Prelude.{slice_index, option_map, IfSome}
 use Rattle.std.specs.List.Sorted.{IsNonDecreasing}
-use Rattle.std.proofs.lemmas.List.{length-map}
+use Rattle.std.proofs.lemmas.List.{length-append, length-map, map-append}
 use Rattle.std.proofs.lemmas.List.Elements.{All-head, All-tail}
 use Rattle.prefix_lattice.specs.{RecordValue}
 use Rattle.hhh_report.specs.{AreNotPast}
-use Rattle.shard_state.specs.{CutValue, ShardValue, cut_positions}
+use Rattle.shard_state.specs.{CutValue, ShardValue}
 use Rattle.hhh_report.specs.declared.reports.Reported.{Reported}
 use Rattle.gate_workers.specs.{cut_at}
 use Rattle.checkpoint.specs.{StoreOpensTo, SavedValue, OpenToOne, lists_digest, store_positions}
@@ -21,11 +21,11 @@ use Rattle.command_words.specs.declared.settings.Settings.{Settings}
 use Rattle.report_session.specs.Saving.{AreKeptOnDisk, last_of_saves, AreReopened, saves_after}
 use Rattle.report_session.specs.Saving.{saves_settings, saves_settings-allowed}
 use Rattle.report_session.specs.Session.{AreOfCaller, GoesOnFrom, IsSession, IsSessionInPart, SessionSaving}
-use Rattle.report_session.specs.Session.{rest_after_saves, last_positions, session_opening, saved_cuts, session_start}
-use Rattle.report_session.specs.Session.{asked_shape}
+use Rattle.report_session.specs.Session.{asked_shape, last_positions, session_opening, saved_cuts, session_start}
 use Rattle.dealt_capture.specs.{DealingRules}
 use Rattle.report_session.proofs.BaseLemmas.{base_starts}
-use Rattle.report_session.proofs.LastReportLemmas.{last_report_is_among_all}
+use Rattle.report_session.proofs.SaveLemmas.{last_save_after_saves, save_takes_next_sequence}
+use Rattle.report_session.proofs.ShownSessionLemmas.{shown_session_front_of_all}
 use Rattle.report_session.proofs.SessionTextLemmas.{session_text_begins_saying_less, spelled_session_text_says_less}
 use Rattle.report_session.proofs.SeenPositionLemmas.{seen_positions_of_cut, seen_positions_are_not_past}
 use Rattle.report_session.proofs.SeenPositionLemmas.{seen_positions_not_past_self}
@@ -38,54 +38,47 @@ pub record RisesInReopenedStore (shards : ℕ) (positions : List ℕ) (reports :
   pub never_fall : (shard : ℕ) → shard < shards → IsNonDecreasing
       (slice_index positions shard ∷ map (λ reported. slice_index reported.report.positions shard) reports)
 
--- the reports after the next one
-reopened_store_rises_on : (shards : ℕ) (positions : List ℕ) (next : Reported) (later : List Reported)
-    → RisesInReopenedStore shards positions (next ∷ later) → RisesInReopenedStore shards next.report.positions later
-reopened_store_rises_on shards positions next later rises = record {
-  many = All-head (λ (reported : Reported). length reported.report.positions ≡ shards) next later rises.each;
-  each = All-tail (λ (reported : Reported). length reported.report.positions ≡ shards) next later rises.each;
-  never_fall = λ shard inside i j d le lt.
-      rises.never_fall shard inside (suc i) (suc j) d (omega (arith, le)) (omega (arith, lt));
-}
+-- so do those of one caller
+pub reopened_store_rises : (opening : List ShardValue) (settings : Settings) (count : ℕ) (reports : List Reported)
+    → AreOfCaller opening settings count reports → RisesInReopenedStore (length opening) (session_start opening) reports
+reopened_store_rises opening settings count reports are =
+    let starts : length (session_start opening) ≡ length opening = length-map opening _ in
+    record {
+      many = starts;
+      each = λ k d lt. (are.shown k d lt).is_report.as_many;
+      never_fall = λ shard inside. are.never_fall shard (omega (arith, inside, starts));
+    }
 
 -- the report after these isn't before the last of them
 pub reopened_store_next_not_before : (shards : ℕ) (positions : List ℕ) (reports : List Reported) (next : Reported)
     → RisesInReopenedStore shards positions (reports ++ next ∷ [])
-    → AreNotPast (last_positions positions reports) next.report.positions
+    → AreNotPast (last_positions positions reports) (last_positions positions (reports ++ next ∷ []))
 reopened_store_next_not_before shards positions [] next rises =
-    let many : length positions ≡ shards = rises.many in
     let of_next : length next.report.positions ≡ shards =
     All-head (λ (reported : Reported). length reported.report.positions ≡ shards) next [] rises.each in
-    seen_positions_are_not_past positions next.report.positions (omega (arith, many, of_next))
+    seen_positions_are_not_past positions next.report.positions (rises.many ∙ sym of_next)
     (λ shard inside. rises.never_fall shard (omega (arith, inside, of_next)) 0 1 0 (omega arith) (omega arith))
 reopened_store_next_not_before shards positions (first ∷ reports) next rises =
-    reopened_store_next_not_before shards first.report.positions reports next (reopened_store_rises_on shards positions first (reports ++ next ∷ []) rises)
-
--- the sequence of the last save counts the saves
-pub reopened_store_sequence : (opened : Option SavedValue) (sequence : ℕ) (digest : List ℕ) (cuts : List CutValue)
-    → store_sequence opened ≡ sequence
-    → store_sequence (last_of_saves opened (saves_after sequence digest cuts)) ≡ sequence + length cuts
-reopened_store_sequence opened sequence digest [] same = omega (arith, same)
-reopened_store_sequence opened sequence digest (cut ∷ later) same =
-    let counted : store_sequence (last_of_saves (Some (record { sequence = sequence + 1; digest = digest; cut = cut }))
-    (saves_after (sequence + 1) digest later)) ≡ sequence + 1 + length later =
-    reopened_store_sequence (Some (record { sequence = sequence + 1; digest = digest; cut = cut })) (sequence + 1) digest later refl
-    in
-    omega (arith, counted)
+    reopened_store_next_not_before shards first.report.positions reports next (record {
+      many = All-head (λ (reported : Reported). length reported.report.positions ≡ shards) first (reports ++ next ∷ []) rises.each;
+      each = All-tail (λ (reported : Reported). length reported.report.positions ≡ shards) first (reports ++ next ∷ []) rises.each;
+      never_fall = λ shard inside i j d le lt.
+          rises.never_fall shard inside (suc i) (suc j) d (omega (arith, le)) (omega (arith, lt));
+    })
 
 -- the positions of the last save are those of the last report that was saved
 pub reopened_store_positions : (header : StoreHeader) (opening : List ShardValue) (digest positions : List ℕ)
-    (opened : Option SavedValue) (sequence : ℕ) (reports more : List Reported) → store_positions header.settings opened ≡ positions
-    → All (λ reported. length reported.report.positions ≡ length opening) (reports ++ more)
+    (opened : Option SavedValue) (sequence : ℕ) (reports : List Reported) → store_positions header.settings opened ≡ positions
+    → All (λ reported. length reported.report.positions ≡ length opening) reports
     → store_positions header.settings (last_of_saves opened (saves_after sequence digest (saved_cuts true opening reports)))
     ≡ last_positions positions reports
-reopened_store_positions header opening digest positions opened sequence [] more same each = same
-reopened_store_positions header opening digest positions opened sequence (next ∷ later) more same each =
+reopened_store_positions header opening digest positions opened sequence [] same each = same
+reopened_store_positions header opening digest positions opened sequence (next ∷ later) same each =
     reopened_store_positions header opening digest next.report.positions
     (Some (record { sequence = sequence + 1; digest = digest; cut = cut_at opening next.report.positions })) (sequence + 1)
-    later more (seen_positions_of_cut opening next.report.positions
-    (All-head (λ (reported : Reported). length reported.report.positions ≡ length opening) next (later ++ more) each))
-    (All-tail (λ (reported : Reported). length reported.report.positions ≡ length opening) next (later ++ more) each)
+    later (seen_positions_of_cut opening next.report.positions
+    (All-head (λ (reported : Reported). length reported.report.positions ≡ length opening) next later each))
+    (All-tail (λ (reported : Reported). length reported.report.positions ≡ length opening) next later each)
 
 -- the positions of a base are those that the store opened to
 reopened_store_base_positions : (header : StoreHeader) (opened : Option SavedValue)
@@ -144,70 +137,46 @@ reopened_store_after_broken_save one d settings lists base count rounds next old
     let header : StoreHeader = stored_header (saves_settings settings) store in
     let digest : List ℕ = lists_digest header lists in
     let sequence : ℕ = store_sequence keeps.opened in
-    let cuts : List CutValue = saved_cuts true opening rounds in
-    let last : Option SavedValue = last_of_saves keeps.opened (saves_after sequence digest cuts) in
-    let cut : CutValue = cut_at opening next.report.positions in
-    let starts : length (session_start opening) ≡ length opening = length-map opening _ in
-    let rises : RisesInReopenedStore (length opening) (session_start opening) (rounds ++ next ∷ []) = record {
-      many = starts;
-      each = λ k d lt. (are.shown k d lt).is_report.as_many;
-      never_fall = λ shard inside. are.never_fall shard (omega (arith, inside, starts));
-    } in
-    let positions : store_positions (saves_settings settings) last ≡ last_positions (session_start opening) rounds =
-    reopened_store_positions header opening digest (session_start opening) keeps.opened sequence rounds (next ∷ [])
+    let all : List Reported = rounds ++ next ∷ [] in
+    let cuts : List Reported → List CutValue = saved_cuts true opening in
+    let last : List CutValue → Option SavedValue = λ saved. last_of_saves keeps.opened (saves_after sequence digest saved) in
+    let rises = reopened_store_rises opening settings count all are in
+    let positions : (reports : List Reported) → All (λ reported. length reported.report.positions ≡ length opening) reports
+    → store_positions (saves_settings settings) (last (cuts reports)) ≡ last_positions (session_start opening) reports = λ reports.
+    reopened_store_positions header opening digest (session_start opening) keeps.opened sequence reports
     (reopened_store_start_positions one settings lists store base keeps.opened limited many begins.fits (begins.opens used store known)
-    keeps.opens) rises.each in
-    let counted : store_sequence last ≡ sequence + length cuts = reopened_store_sequence keeps.opened sequence digest cuts refl in
+    keeps.opens) in
+    let parted : cuts all ≡ cuts rounds ++ cuts (next ∷ []) =
+    map-append (λ (reported : Reported). cut_at opening reported.report.positions) rounds (next ∷ []) in
     record {
       opened = keeps.opened;
       opens = keeps.opens;
-      again = λ image possible. ⊎_elim (λ (opens : StoreOpensTo header image last). record {
-        found = last;
+      again = λ image possible. ⊎_elim (λ (opens : StoreOpensTo header image (last (cuts rounds))). record {
+        found = last (cuts rounds);
         opens = opens;
-        no_earlier = record {
-          sequence = omega arith;
-          positions = seen_positions_not_past_self (store_positions (saves_settings settings) last);
-        };
+        no_earlier = record { sequence = omega arith; positions = seen_positions_not_past_self _ };
         exact = λ none. refl;
       }) (λ opens. record {
-        found = Some (record { sequence = sequence + length cuts + 1; digest = digest; cut = cut });
-        opens = opens;
+        found = last (cuts all);
+        opens = subst (StoreOpensTo header image)
+            (sym (ap last parted ∙ last_save_after_saves keeps.opened sequence digest (cuts rounds) (cuts (next ∷ [])))) opens;
         no_earlier = record {
-          sequence = omega (arith, counted);
-          positions = subst (λ ps. AreNotPast ps (cut_positions cut)) (sym positions)
-              (subst (AreNotPast (last_positions (session_start opening) rounds))
-              (sym (seen_positions_of_cut opening next.report.positions (last_report_is_among_all
-              (λ (reported : Reported). length reported.report.positions ≡ length opening) rounds next rises.each)))
+          sequence = omega (
+            arith,
+            save_takes_next_sequence keeps.opened digest (cuts rounds),
+            save_takes_next_sequence keeps.opened digest (cuts all),
+            ap length parted,
+            length-append (cuts rounds) (cuts (next ∷ [])),
+          );
+          positions = subst (λ ps. AreNotPast ps (store_positions (saves_settings settings) (last (cuts all))))
+              (sym (positions rounds (shown_session_front_of_all (λ (reported : Reported). length reported.report.positions ≡ length opening)
+              rounds (next ∷ []) rises.each)))
+              (subst (AreNotPast (last_positions (session_start opening) rounds)) (sym (positions all rises.each))
               (reopened_store_next_not_before (length opening) (session_start opening) rounds next rises));
         };
         exact = λ none. let one : 1 ≡ 0 = ap length none in absurd (omega (arith, one));
       }) (keeps.afterwards image possible);
     }
-
--- the same of what a session keeps, with or without a store
-reopened_store_of_session : OpenToOne → {D : Type 0} (d : DiskOf D) (settings : Settings) (lists : List (List RecordValue))
-    (base : Option CutValue) (count : ℕ) (rounds : List Reported) (next : Reported) (old new : D) → AreLimited settings
-    → length lists ≡ settings.shards → GoesOnFrom settings lists (d.reads old) base
-    → AreOfCaller (session_opening (asked_shape settings) lists base) settings count (rounds ++ next ∷ [])
-    → rest_after_saves settings.store (session_opening (asked_shape settings) lists base) rounds (λ saved unfinished.
-    settings.store ≡ true → AreKeptOnDisk d old new (saves_settings settings) lists saved unfinished)
-    [] (saved_cuts settings.store (session_opening (asked_shape settings) lists base) (next ∷ []))
-    → rest_after_saves settings.store (session_opening (asked_shape settings) lists base) rounds (λ saved unfinished.
-    settings.store ≡ true → AreReopened d old new (saves_settings settings) lists saved unfinished)
-    [] (saved_cuts settings.store (session_opening (asked_shape settings) lists base) (next ∷ []))
-reopened_store_of_session one d settings lists base count rounds next old new limited many begins are
-    kept = λ used.
-    let opening : List ShardValue = session_opening (asked_shape settings) lists base in
-    let Kept : List CutValue → List CutValue → Type 0 =
-    AreKeptOnDisk d old new (saves_settings settings) lists in
-    let Less : List CutValue → List CutValue → Type 0 = AreReopened d old new (saves_settings settings) lists in
-    let cuts : List CutValue = saved_cuts true opening rounds in
-    let one_more : List CutValue = saved_cuts true opening (next ∷ []) in
-    subst (λ b. Less (saved_cuts b opening rounds ++ []) (saved_cuts b opening (next ∷ []))) (sym used)
-    (subst (λ list. Less list one_more) (sym (append-nil cuts))
-    (reopened_store_after_broken_save one d settings lists base count rounds next old new limited many used begins are
-    (subst (λ list. Kept list one_more) (append-nil cuts)
-    (subst (λ b. Kept (saved_cuts b opening rounds ++ []) (saved_cuts b opening (next ∷ []))) used (kept used)))))
 
 -- a whole session
 pub reopened_store_after_completion : {D : Type 0} (d : DiskOf D) (rules : DealingRules) (settings : Settings) (old new : D)
@@ -239,14 +208,10 @@ reopened_store_after_breaking_off one d rules settings old new file front limite
     let lists : List (List RecordValue) = session.lists in
     let base : Option CutValue = session.base in
     let opening : List ShardValue = session_opening (asked_shape settings) lists base in
-    let many : length lists ≡ settings.shards = session.as_many in
     let Kept : SessionSaving = λ saved unfinished. settings.store ≡ true
     → AreKeptOnDisk d old new (saves_settings settings) lists saved unfinished in
     let Less : SessionSaving = λ saved unfinished. settings.store ≡ true
     → AreReopened d old new (saves_settings settings) lists saved unfinished in
-    let finished : (saved : List CutValue) → Kept saved [] → Less saved [] = λ saved kept used.
-    reopened_store_after_whole_saves d (saves_settings settings) lists saved old new (kept used) in
-    let cuts : List Reported → List CutValue = saved_cuts settings.store opening in
     record {
       records = session.records;
       lists = lists;
@@ -256,13 +221,13 @@ reopened_store_after_breaking_off one d rules settings old new file front limite
       begins = session.begins;
       represents = session.represents;
       shards = session.shards;
-      begun = session_text_begins_saying_less opening settings Kept Less (tail_text session.records) front (record {
-        none = finished [];
-        between = λ rounds are. finished (cuts rounds);
-        before = λ count rounds next are. finished (cuts rounds ++ []);
-        unfinished = λ count rounds next are.
-            reopened_store_of_session one d settings lists base count rounds next old new
-            limited many session.begins are;
-        saved = λ count rounds next are. finished (cuts rounds ++ cuts (next ∷ []));
-      }) session.begun;
+      begun = session_text_begins_saying_less opening settings Kept Less (record {
+        saved = λ reports shown kept used.
+            reopened_store_after_whole_saves d (saves_settings settings) lists (saved_cuts settings.store opening reports) old new (kept used);
+        unfinished = λ count rounds next are kept used.
+            subst (λ b. AreKeptOnDisk d old new (saves_settings settings) lists (saved_cuts b opening rounds) (saved_cuts b opening (next ∷ []))
+            → AreReopened d old new (saves_settings settings) lists (saved_cuts b opening rounds) (saved_cuts b opening (next ∷ []))) (sym used)
+            (reopened_store_after_broken_save one d settings lists base count rounds next old new limited session.as_many used session.begins are)
+            (kept used);
+      }) (tail_text session.records) front session.begun;
     }

@@ -1,14 +1,13 @@
 -- The rounds of the calling thread, and the texts of their reports.
 use Rattle.std.proofs.Common.{◌≡◌, ◌∙◌, ◌≤◌, ◌<◌, ◌+◌, ℕ, List, [], ◌∷◌, ◌++◌, Option, None, Some, All, refl, sym, ap}
 use Rattle.std.proofs.Common.{subst, arith, Bool, true, false, ◌⊎◌, inl, inr, ⊎_elim, ap₂, Ok, Err, length, append-nil}
-use Rattle.std.proofs.Common.{append_assoc}
 use Rattle.std.specs.Prelude.{is_some, option_map}
 use Rattle.std.specs.Result.{IfErr, IsErrAnd}
 use Rattle.std.specs.declared.result.Result.{Result}
 use Rattle.outside_io.specs.{FaultRose}
-use Rattle.std.specs.List.{flat_map}
 use Rattle.std.specs.Io.KnownBytes.{Appends}
 use Rattle.std.proofs.KnownBytes.{Appends-trans, Appends-nil}
+use Rattle.std.proofs.lemmas.List.Concat.{flat_map-append}
 use Rattle.std.proofs.lemmas.List.Elements.{All-nil, All-cons, All-head, All-tail, All-append}
 use Rattle.shard_state.specs.{AreCoreShards, CutValue, IsShard, ShardValue, core_shape}
 use Rattle.shard_state.specs.{core_lists, shard_state_at}
@@ -30,14 +29,13 @@ use Rattle.report_session.proofs.SaveLemmas.{saved_cuts-append_saves}
 round_positions_are_within : (opening : List ShardValue) (positions : List ℕ) → length positions ≡ length opening
     → All IsShard (states_at opening positions) → All (λ position. position ≤ record_limit) positions
 round_positions_are_within [] [] many kept = All-nil (λ position. position ≤ record_limit)
-round_positions_are_within [] (position ∷ positions) many kept = absurd (omega (arith, many))
-round_positions_are_within (shard ∷ rest) [] many kept = absurd (omega (arith, many))
 round_positions_are_within (shard ∷ rest) (position ∷ positions) many kept =
     let is_shard : IsShard (shard_state_at position shard) =
     All-head IsShard (shard_state_at position shard) (states_at rest positions) kept in
     All-cons (λ position. position ≤ record_limit) position positions (omega (arith, is_shard.few, is_shard.within))
     (round_positions_are_within rest positions (omega (arith, many))
     (All-tail IsShard (shard_state_at position shard) (states_at rest positions) kept))
+round_positions_are_within _ _ many kept = absurd (omega (arith, many))
 
 pub round_report_has_positions : (opening : List ShardValue) (phi : ℕ) (report : Report) → AreCoreShards opening
     → IsCoreReport opening phi report → ShowsPositions report.positions
@@ -56,12 +54,6 @@ pub round_makes_report : (opening : List ShardValue) (phi : ℕ) (before now : V
     → Calls opening phi 1 before now (round_of report ∷ []) → IsCoreReport opening phi report
 round_makes_report opening phi before now report calls =
     All-head (λ (reported : Reported). IsCoreReport opening phi reported.report) (round_of report) [] calls.each
-
-pub flat_map-append_rounds : {A B : Type 0} (f : A → List B) (xs ys : List A)
-    → flat_map f (xs ++ ys) ≡ flat_map f xs ++ flat_map f ys
-flat_map-append_rounds f [] ys = refl
-flat_map-append_rounds f (x ∷ xs) ys =
-    ap (λ rest. f x ++ rest) (flat_map-append_rounds f xs ys) ∙ sym (append_assoc (f x) (flat_map f xs) (flat_map f ys))
 
 -- no report, no saved cut
 pub saved_cuts-no_rounds : (store : Bool) (opening : List ShardValue) → saved_cuts store opening [] ≡ []
@@ -131,7 +123,7 @@ module _ (opening : List ShardValue) (phi : ℕ) (store : Bool) where
             All-append (IsSoundRound opening phi) one.reports two.reports (one.sound bases) (two.sound bases);
         written =
             subst (Appends before.taken now.taken)
-            (sym (flat_map-append_rounds (session_part store) one.reports two.reports))
+            (sym (flat_map-append (session_part store) one.reports two.reports))
             (Appends-trans before.taken middle.taken now.taken (session_parts store one.reports)
             (session_parts store two.reports) one.written two.written);
         kept =

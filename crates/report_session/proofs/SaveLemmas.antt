@@ -1,8 +1,9 @@
 -- Saves into a store, one after the other.
 use Rattle.std.proofs.Common.{◌≡◌, ◌∙◌, ◌+◌, ◌⊎◌, inl, inr, ⊎_elim, ℕ, Bool, true, false, List, [], ◌∷◌, ◌++◌, Option}
-use Rattle.std.proofs.Common.{None, Some, ◌≤◌, refl, sym, ap, subst, arith, length, fold, append_assoc, append-nil}
+use Rattle.std.proofs.Common.{None, Some, ◌≤◌, refl, sym, ap, ap₂, subst, arith, length, append_assoc, append-nil}
 use Rattle.std.specs.Prelude.{IfSome, is_some, option_map}
 use Rattle.std.proofs.lemmas.List.{length-append, map-append}
+use Rattle.std.proofs.lemmas.List.Sums.{fold-append}
 use Rattle.shard_state.specs.{CutValue, ShardValue}
 use Rattle.hhh_report.specs.declared.report.Report.{Report}
 use Rattle.hhh_report.specs.declared.reports.Reported.{Reported}
@@ -27,10 +28,16 @@ saves_after-append_saves sequence digest (cut ∷ cuts) later =
     (saves_after-append_saves (sequence + 1) digest cuts later
     ∙ ap (λ n. saves_after (sequence + 1) digest cuts ++ saves_after n digest later) (omega arith))
 
-save_after_saves_is_newest : (opened : Option SavedValue) (saves later : List SavedValue)
-    → last_of_saves opened (saves ++ later) ≡ last_of_saves (last_of_saves opened saves) later
-save_after_saves_is_newest opened [] later = refl
-save_after_saves_is_newest opened (saved ∷ saves) later = save_after_saves_is_newest (Some saved) saves later
+-- what a store opens to after more saves
+pub last_save_after_saves : (opened : Option SavedValue) (sequence : ℕ) (digest : List ℕ) (cuts later : List CutValue)
+    → last_of_saves opened (saves_after sequence digest (cuts ++ later))
+    ≡ last_of_saves (last_of_saves opened (saves_after sequence digest cuts)) (saves_after (sequence + length cuts) digest later)
+last_save_after_saves opened sequence digest [] later = ap (λ n. last_of_saves opened (saves_after n digest later)) (omega arith)
+last_save_after_saves opened sequence digest (cut ∷ cuts) later =
+    let first : SavedValue = record { sequence = sequence + 1; digest = digest; cut = cut } in
+    last_save_after_saves (Some first) (sequence + 1) digest cuts later
+    ∙ ap (λ n. last_of_saves (last_of_saves (Some first) (saves_after (sequence + 1) digest cuts)) (saves_after n digest later))
+    (omega arith)
 
 -- each save takes the next sequence
 pub save_takes_next_sequence : (opened : Option SavedValue) (digest : List ℕ) (cuts : List CutValue)
@@ -61,141 +68,75 @@ pub save_leaves_bytes_known : (old new : Option (List ℕ)) (bytes : List ℕ) �
 save_leaves_bytes_known old None bytes known is = cc (known, is)
 save_leaves_bytes_known old (Some now) bytes known is = (now, refl)
 
--- saves that follow others, into the store that these left
-kept_saves_follow : OpenToOne → {D : Type 0} (d : DiskOf D) (header : StoreHeader) (digest : List ℕ) (Earlier : List ℕ → Type 0)
-    (cuts later unfinished : List CutValue) (old mid new : D) (store between : List ℕ) → AreSettings header.settings
-    → d.image_now mid between → KeepsSaves d old mid header digest Earlier cuts [] store
-    → KeepsSaves d mid new header digest (λ image. ⊥) later unfinished between
-    → KeepsSaves d old new header digest Earlier (cuts ++ later) unfinished store
-kept_saves_follow one {D} d header digest Earlier cuts later unfinished old mid new store between are now
-    first second =
-    let opened : Option SavedValue = first.opened in
-    let start : ℕ = store_sequence opened in
-    let saves : List SavedValue = saves_after start digest cuts in
-    let all : List SavedValue = saves_after start digest ((cuts ++ later) ++ unfinished) in
-    let then : ℕ = store_sequence second.opened in
-    let next : List SavedValue = saves_after then digest (later ++ unfinished) in
-    let same : second.opened ≡ last_of_saves opened saves =
-    one header between second.opened (last_of_saves opened saves) are second.opens (first.afterwards between now) in
-    let sequence : then ≡ start + length cuts = ap store_sequence same ∙ save_takes_next_sequence opened digest cuts in
-    let parted : all ≡ saves ++ next =
-    ap (saves_after start digest) (append_assoc cuts later unfinished) ∙ saves_after-append_saves start digest cuts (later ++ unfinished)
-    ∙ ap (λ n. saves ++ saves_after n digest (later ++ unfinished)) (sym sequence) in
-    let last : last_of_saves opened (saves_after start digest (cuts ++ later))
-    ≡ last_of_saves second.opened (saves_after then digest later) =
-    ap (last_of_saves opened) (saves_after-append_saves start digest cuts later)
-    ∙ save_after_saves_is_newest opened saves (saves_after (start + length cuts) digest later)
-    ∙ ap (λ n. last_of_saves (last_of_saves opened saves) (saves_after n digest later)) (sym sequence)
-    ∙ ap (λ held. last_of_saves held (saves_after then digest later)) (sym same) in
-    record {
-      opened = opened;
-      opens = first.opens;
-      any_moment = CrashLeaves-trans d.moment d.image_since old mid new
-          (λ image. Earlier image ⊎ OpensToSaves header opened all image)
-          (CrashLeaves-weaker d.moment d.image_since old mid
-          (λ image. Earlier image ⊎ OpensToSaves header opened (saves_after start digest (cuts ++ [])) image)
-          (λ image. Earlier image ⊎ OpensToSaves header opened all image) first.any_moment
-          (λ image. ⊎_elim (λ earlier. inl earlier)
-          (λ among. inr (subst (λ list. OpensToSaves header opened list image) (sym parted)
-          (opens_at_earlier_saves header opened saves next image
-          (subst (λ list. OpensToSaves header opened (saves_after start digest list) image) (append-nil cuts) among))))))
-          (CrashLeaves-weaker d.moment d.image_since mid new (λ image. ⊥ ⊎ OpensToSaves header second.opened next image)
-          (λ image. Earlier image ⊎ OpensToSaves header opened all image) second.any_moment
-          (λ image. ⊎_elim (λ never. absurd never)
-          (λ among. inr (subst (λ list. OpensToSaves header opened list image) (sym parted)
-          (opens_at_later_saves header opened saves next image
-          (subst (λ held. OpensToSaves header held next image) same among))))));
-      afterwards = λ image is. subst (λ held. OpensToSaves header held
-          (saves_after (start + length (cuts ++ later)) digest unfinished) image) (sym last)
-          (subst (λ n. OpensToSaves header (last_of_saves second.opened (saves_after then digest later))
-          (saves_after n digest unfinished) image) (omega (arith, sequence, length-append cuts later))
-          (second.afterwards image is));
-    }
-
--- what a save may leave at any moment
-save_leaves : OpenToOne → {D : Type 0} (d : DiskOf D)
-    (saver : SaverState) (cut : CutValue) (old new : D) (bytes : List ℕ) → AreSettings saver.header.settings
-    → (store : IsKnownSaver saver bytes)
-    → CrashLeaves d.moment d.image_since old new (OpensOldOrNew saver.header bytes (next_saved saver cut))
-    → CrashLeaves d.moment d.image_since old new (λ image. ⊥ ⊎ OpensToSaves saver.header (newest_in store.first store.second)
-    (saves_after (store_sequence (newest_in store.first store.second)) saver.digest (cut ∷ [])) image)
-save_leaves one d saver cut old new bytes are store any_moment =
-    let opened : Option SavedValue = newest_in store.first store.second in
-    let saved : SavedValue = next_saved saver cut in
-    let same : saved ≡ record { sequence = store_sequence opened + 1; digest = saver.digest; cut = cut } =
-    ap (λ n. record { sequence = n + 1; digest = saver.digest; cut = cut }) store.sequence_is in
-    let was : StoreOpensTo saver.header bytes opened = (store.first, store.second, store.holds, refl) in
-    CrashLeaves-weaker d.moment d.image_since old new (OpensOldOrNew saver.header bytes saved)
-    (λ image. ⊥ ⊎ OpensToSaves saver.header opened
-    (saves_after (store_sequence opened) saver.digest (cut ∷ [])) image) any_moment (λ image. ⊎_elim
-    (λ alike. inr (inl (subst (StoreOpensTo saver.header image)
-    (one saver.header bytes alike.0 opened are alike.1 was) alike.2)))
-    (λ is_new. inr (inr (subst (λ s. StoreOpensTo saver.header image (Some s)) same is_new))))
-
--- one save, as its contract states it
-pub one_save : OpenToOne → {D : Type 0} (d : DiskOf D) (saver : SaverState) (cut : CutValue) (old new : D)
-    → AreSettings saver.header.settings → DiskMatches (d.reads old) (d.image_now old) saver
-    → is_some (d.reads new) ≡ is_some (d.reads old)
-    → DiskMatches (d.reads new) (d.image_now new) (saver_after saver cut)
-    → IfImageKnown (d.reads new) (λ bytes. (image : List ℕ) → d.image_now new image
-    → StoreOpensTo saver.header image (Some (next_saved saver cut))) → IfImageKnown (d.reads old)
-    (λ bytes. CrashLeaves d.moment d.image_since old new (OpensOldOrNew saver.header bytes (next_saved saver cut)))
-    → SavesCuts d saver (cut ∷ []) old new
-one_save one d saver cut old new are before known stands opens any_moment = record {
-  known = known;
-  stands = stands;
-  kept = λ bytes is.
-      let store = (before bytes is).is_known in
+-- saves into a disk
+module _ (one : OpenToOne) {D : Type 0} (d : DiskOf D) where
+  -- what a save may leave at any moment
+  save_leaves : (saver : SaverState) (cut : CutValue) (old new : D) (bytes : List ℕ) → AreSettings saver.header.settings
+      → (store : IsKnownSaver saver bytes)
+      → CrashLeaves d.moment d.image_since old new (OpensOldOrNew saver.header bytes (next_saved saver cut))
+      → CrashLeaves d.moment d.image_since old new (λ image. ⊥ ⊎ OpensToSaves saver.header (newest_in store.first store.second)
+      (saves_after (store_sequence (newest_in store.first store.second)) saver.digest (cut ∷ [])) image)
+  save_leaves saver cut old new bytes are store any_moment =
       let opened : Option SavedValue = newest_in store.first store.second in
       let same : next_saved saver cut ≡ record { sequence = store_sequence opened + 1; digest = saver.digest; cut = cut } =
       ap (λ n. record { sequence = n + 1; digest = saver.digest; cut = cut }) store.sequence_is in
-      record {
-        opened = opened;
-        opens = (store.first, store.second, store.holds, refl);
-        any_moment = save_leaves one d saver cut old new bytes are store (any_moment bytes is);
-        afterwards = λ image now.
-            let bytes_now = save_leaves_bytes_known (d.reads old) (d.reads new) bytes known is in
-            subst (λ s. StoreOpensTo saver.header image (Some s)) same (opens bytes_now.0 bytes_now.1 image now);
-      };
-}
+      CrashLeaves-weaker d.moment d.image_since old new _ _ any_moment (λ image. ⊎_elim
+      (λ alike. inr (inl (subst (StoreOpensTo saver.header image)
+      (one saver.header bytes alike.0 opened are alike.1 (store.first, store.second, store.holds, refl)) alike.2)))
+      (λ is_new. inr (inr (subst (λ s. StoreOpensTo saver.header image (Some s)) same is_new))))
 
--- an unfinished save, as its contract states it
-unfinished_save : OpenToOne → {D : Type 0} (d : DiskOf D) (saver : SaverState) (cut : CutValue) (old new : D)
-    → AreSettings saver.header.settings → DiskMatches (d.reads old) (d.image_now old) saver
-    → ((disk : D) (t : ℕ) (image : List ℕ) → t ≤ d.moment disk → d.image_now disk image → d.image_since disk t image)
-    → IfImageKnown (d.reads old)
-    (λ bytes. CrashLeaves d.moment d.image_since old new (OpensOldOrNew saver.header bytes (next_saved saver cut)))
-    → SavesInPart d (Some saver) old new [] (cut ∷ [])
-unfinished_save one d saver cut old new are before now_is_since any_moment = record {
-  unused = λ none. cc none;
-  kept = λ bytes is.
-      let store = (before bytes is).is_known in
-      let opened : Option SavedValue = newest_in store.first store.second in
-      let leaves = save_leaves one d saver cut old new bytes are store (any_moment bytes is) in
-      record {
-        opened = opened;
-        opens = (store.first, store.second, store.holds, refl);
-        any_moment = leaves;
-        afterwards = λ image now.
-            subst (λ n. OpensToSaves saver.header opened (saves_after n saver.digest (cut ∷ [])) image) (omega arith)
-            (⊎_elim (λ never. absurd never) (λ among. among)
-            (leaves.each image (now_is_since new (d.moment old) image leaves.later now)));
-      };
-}
+  -- one save, as its contract states it
+  pub one_save : (saver : SaverState) (cut : CutValue) (old new : D)
+      → AreSettings saver.header.settings → DiskMatches (d.reads old) (d.image_now old) saver
+      → is_some (d.reads new) ≡ is_some (d.reads old)
+      → DiskMatches (d.reads new) (d.image_now new) (saver_after saver cut)
+      → IfImageKnown (d.reads new) (λ bytes. (image : List ℕ) → d.image_now new image
+      → StoreOpensTo saver.header image (Some (next_saved saver cut))) → IfImageKnown (d.reads old)
+      (λ bytes. CrashLeaves d.moment d.image_since old new (OpensOldOrNew saver.header bytes (next_saved saver cut)))
+      → SavesCuts d saver (cut ∷ []) old new
+  one_save saver cut old new are before known stands opens any_moment = record {
+    known = known;
+    stands = stands;
+    kept = λ bytes is.
+        let store = (before bytes is).is_known in
+        let bytes_now = save_leaves_bytes_known (d.reads old) (d.reads new) bytes known is in
+        record {
+          opened = newest_in store.first store.second;
+          opens = (store.first, store.second, store.holds, refl);
+          any_moment = save_leaves saver cut old new bytes are store (any_moment bytes is);
+          afterwards = λ image now. subst (λ s. StoreOpensTo saver.header image (Some s))
+              (ap (λ n. record { sequence = n + 1; digest = saver.digest; cut = cut }) store.sequence_is)
+              (opens bytes_now.0 bytes_now.1 image now);
+        };
+  }
 
--- and by whichever saver is there
-pub unfinished_save_of : OpenToOne → {D : Type 0} (d : DiskOf D) (before : Option SaverState) (saver : SaverState)
-    (cut : CutValue) (old new : D) → before ≡ Some saver
-    → IfSome before (CanSaveCut (d.reads old) (d.image_now old) cut)
-    → ((disk : D) (t : ℕ) (image : List ℕ) → t ≤ d.moment disk → d.image_now disk image → d.image_since disk t image)
-    → IfImageKnown (d.reads old)
-    (λ bytes. CrashLeaves d.moment d.image_since old new (OpensOldOrNew saver.header bytes (next_saved saver cut)))
-    → SavesInPart d before old new [] (cut ∷ [])
-unfinished_save_of one d before saver cut old new is can now_is_since any_moment =
-    let may : CanSaveCut (d.reads old) (d.image_now old) cut saver =
-    subst (λ s. IfSome s (CanSaveCut (d.reads old) (d.image_now old) cut)) is can in
-    subst (λ s. SavesInPart d s old new [] (cut ∷ [])) (sym is)
-    (unfinished_save one d saver cut old new may.settings may.stands now_is_since any_moment)
+  -- an unfinished save by the saver that is there, as its contract states it
+  pub unfinished_save_of : (before : Option SaverState) (saver : SaverState)
+      (cut : CutValue) (old new : D) → before ≡ Some saver
+      → IfSome before (CanSaveCut (d.reads old) (d.image_now old) cut)
+      → ((disk : D) (t : ℕ) (image : List ℕ) → t ≤ d.moment disk → d.image_now disk image → d.image_since disk t image)
+      → IfImageKnown (d.reads old)
+      (λ bytes. CrashLeaves d.moment d.image_since old new (OpensOldOrNew saver.header bytes (next_saved saver cut)))
+      → SavesInPart d before old new [] (cut ∷ [])
+  unfinished_save_of before saver cut old new is can now_is_since any_moment =
+      let may : CanSaveCut (d.reads old) (d.image_now old) cut saver =
+      subst (λ s. IfSome s (CanSaveCut (d.reads old) (d.image_now old) cut)) is can in
+      subst (λ s. SavesInPart d s old new [] (cut ∷ [])) (sym is) (record {
+        unused = λ none. cc none;
+        kept = λ bytes known.
+            let store = (may.stands bytes known).is_known in
+            let opened : Option SavedValue = newest_in store.first store.second in
+            let leaves = save_leaves saver cut old new bytes may.settings store (any_moment bytes known) in
+            record {
+              opened = opened;
+              opens = (store.first, store.second, store.holds, refl);
+              any_moment = leaves;
+              afterwards = λ image now.
+                  subst (λ n. OpensToSaves saver.header opened (saves_after n saver.digest (cut ∷ [])) image) (omega arith)
+                  (⊎_elim (λ never. absurd never) (λ among. among)
+                  (leaves.each image (now_is_since new (d.moment old) image leaves.later now)));
+            };
+      })
 
 -- no save
 pub no_save : {D : Type 0} (d : DiskOf D) (before : Option SaverState) (disk : D)
@@ -225,11 +166,6 @@ no_save d (Some saver) disk only_now stands = record {
   };
 }
 
-fold-append_saves : {A B : Type 0} (f : B → A → B) (start : B) (xs ys : List A)
-    → fold f start (xs ++ ys) ≡ fold f (fold f start xs) ys
-fold-append_saves f start [] ys = refl
-fold-append_saves f start (x ∷ xs) ys = fold-append_saves f (f start x) xs ys
-
 -- saves leave the header and the digest of their saver
 pub saves_leave_header : (saver : SaverState) (cuts : List CutValue) → (after_saves saver cuts).header ≡ saver.header
 saves_leave_header saver [] = refl
@@ -244,52 +180,111 @@ pub saves_raise_sequence : (saver : SaverState) (cuts : List CutValue)
 saves_raise_sequence saver [] = omega arith
 saves_raise_sequence saver (cut ∷ cuts) = saves_raise_sequence (saver_after saver cut) cuts ∙ omega arith
 
--- what is kept by the saver after these saves is kept by the one before them
-saves_kept_as_before : {D : Type 0} (d : DiskOf D)
-    (saver : SaverState) (cuts saved unfinished : List CutValue) (mid new : D) (store : List ℕ)
-    → KeepsSaves d mid new (after_saves saver cuts).header (after_saves saver cuts).digest (λ image. ⊥)
-    saved unfinished store → KeepsSaves d mid new saver.header saver.digest (λ image. ⊥) saved unfinished store
-saves_kept_as_before d saver cuts saved unfinished mid new store kept =
-    subst (λ header. KeepsSaves d mid new header saver.digest (λ image. ⊥) saved unfinished store)
-    (saves_leave_header saver cuts)
-    (subst (λ digest. KeepsSaves d mid new (after_saves saver cuts).header digest (λ image. ⊥) saved
-    unfinished store) (saves_leave_digest saver cuts) kept)
+-- the saver after saves, and then after saves that broke off
+saver_after_more_saves : (before between : Option SaverState) (cuts saved unfinished : List CutValue)
+    → between ≡ option_map (λ saver. after_saves saver cuts) before
+    → after_broken between saved unfinished ≡ after_broken before (cuts ++ saved) unfinished
+saver_after_more_saves before between cuts saved (cut ∷ more) is = refl
+saver_after_more_saves None between cuts saved [] is = ap (option_map (λ saver. after_saves saver saved)) is
+saver_after_more_saves (Some saver) between cuts saved [] is =
+    ap (option_map (λ saver. after_saves saver saved)) is ∙ ap Some (sym (fold-append saver_after saver cuts saved))
 
-saves_of_cuts_follow : OpenToOne → {D : Type 0} (d : DiskOf D) (saver : SaverState) (cuts later : List CutValue)
-    (old mid new : D) → AreSettings saver.header.settings
-    → ((disk : D) (bytes : List ℕ) → d.reads disk ≡ Some bytes → d.image_now disk bytes)
-    → SavesCuts d saver cuts old mid → SavesCuts d (after_saves saver cuts) later mid new
-    → SavesCuts d saver (cuts ++ later) old new
-saves_of_cuts_follow one d saver cuts later old mid new are is_image first second = record {
-  known = second.known ∙ first.known;
-  stands =
-      subst (DiskMatches (d.reads new) (d.image_now new)) (sym (fold-append_saves saver_after saver cuts later)) second.stands;
-  kept = λ bytes is.
-      let between = save_leaves_bytes_known (d.reads old) (d.reads mid) bytes first.known is in
-      kept_saves_follow one d saver.header saver.digest (λ image. ⊥) cuts later [] old mid new bytes
-      between.0 are (is_image mid between.0 between.1) (first.kept bytes is)
-      (saves_kept_as_before d saver cuts later [] mid new between.0 (second.kept between.0 between.1));
-}
+-- saves that follow others, into the store that these left
+module _ (one : OpenToOne) {D : Type 0} (d : DiskOf D)
+    (reading_is_image : (disk : D) (bytes : List ℕ) → d.reads disk ≡ Some bytes → d.image_now disk bytes) where
+  kept_saves_follow : (saver : SaverState) (cuts later unfinished : List CutValue) (old mid new : D)
+      → AreSettings saver.header.settings → is_some (d.reads mid) ≡ is_some (d.reads old)
+      → IfImageKnown (d.reads old) (KeepsSaves d old mid saver.header saver.digest (λ image. ⊥) cuts [])
+      → IfImageKnown (d.reads mid) (KeepsSaves d mid new (after_saves saver cuts).header (after_saves saver cuts).digest
+      (λ image. ⊥) later unfinished)
+      → IfImageKnown (d.reads old) (KeepsSaves d old new saver.header saver.digest (λ image. ⊥) (cuts ++ later) unfinished)
+  kept_saves_follow saver cuts later unfinished old mid new are known kept kept_next = λ store is.
+      let between = save_leaves_bytes_known (d.reads old) (d.reads mid) store known is in
+      let header : StoreHeader = saver.header in
+      let digest : List ℕ = saver.digest in
+      let first = kept store is in
+      let second : KeepsSaves d mid new header digest (λ image. ⊥) later unfinished between.0 =
+      subst (λ h. KeepsSaves d mid new h digest (λ image. ⊥) later unfinished between.0) (saves_leave_header saver cuts)
+      (subst (λ of. KeepsSaves d mid new (after_saves saver cuts).header of (λ image. ⊥) later unfinished between.0)
+      (saves_leave_digest saver cuts) (kept_next between.0 between.1)) in
+      let opened : Option SavedValue = first.opened in
+      let start : ℕ = store_sequence opened in
+      let saves : List SavedValue = saves_after start digest cuts in
+      let then : ℕ = store_sequence second.opened in
+      let next : List SavedValue = saves_after then digest (later ++ unfinished) in
+      let same : second.opened ≡ last_of_saves opened saves =
+      one header between.0 second.opened (last_of_saves opened saves) are second.opens
+      (first.afterwards between.0 (reading_is_image mid between.0 between.1)) in
+      let sequence : then ≡ start + length cuts = ap store_sequence same ∙ save_takes_next_sequence opened digest cuts in
+      let parted : saves_after start digest ((cuts ++ later) ++ unfinished) ≡ saves ++ next =
+      ap (saves_after start digest) (append_assoc cuts later unfinished) ∙ saves_after-append_saves start digest cuts (later ++ unfinished)
+      ∙ ap (λ n. saves ++ saves_after n digest (later ++ unfinished)) (sym sequence) in
+      let last : last_of_saves opened (saves_after start digest (cuts ++ later))
+      ≡ last_of_saves second.opened (saves_after then digest later) =
+      last_save_after_saves opened start digest cuts later
+      ∙ ap₂ (λ held n. last_of_saves held (saves_after n digest later)) (sym same) (sym sequence) in
+      record {
+        opened = opened;
+        opens = first.opens;
+        any_moment = CrashLeaves-trans d.moment d.image_since old mid new _
+            (CrashLeaves-weaker d.moment d.image_since old mid _ _ first.any_moment
+            (λ image. ⊎_elim (λ never. absurd never) (λ among. inr (subst (λ list. OpensToSaves header opened list image) (sym parted)
+            (opens_at_earlier_saves header opened saves next image
+            (subst (λ list. OpensToSaves header opened (saves_after start digest list) image) (append-nil cuts) among))))))
+            (CrashLeaves-weaker d.moment d.image_since mid new _ _ second.any_moment
+            (λ image. ⊎_elim (λ never. absurd never) (λ among. inr (subst (λ list. OpensToSaves header opened list image) (sym parted)
+            (opens_at_later_saves header opened saves next image
+            (subst (λ held. OpensToSaves header held next image) same among))))));
+        afterwards = λ image now. subst (λ held. OpensToSaves header held
+            (saves_after (start + length (cuts ++ later)) digest unfinished) image) (sym last)
+            (subst (λ n. OpensToSaves header (last_of_saves second.opened (saves_after then digest later))
+            (saves_after n digest unfinished) image) (omega (arith, sequence, length-append cuts later))
+            (second.afterwards image now));
+      }
 
--- saves after saves
-pub saves_follow : OpenToOne → {D : Type 0} (d : DiskOf D) (before between after : Option SaverState)
-    (cuts later : List CutValue) (old mid new : D) → IfSome before (λ saver. AreSettings saver.header.settings)
-    → ((disk : D) (bytes : List ℕ) → d.reads disk ≡ Some bytes → d.image_now disk bytes)
-    → SavesInTurn d before between old mid cuts → SavesInTurn d between after mid new later
-    → SavesInTurn d before after old new (cuts ++ later)
-saves_follow one d None between after cuts later old mid new are is_image first second =
-    let none : between ≡ None = first.saver in
-    let then : SavesInTurn d None after mid new later =
-    subst (λ s. SavesInTurn d s after mid new later) none second in
-    record { saver = then.saver; saves = then.saves ∙ first.saves }
-saves_follow one d (Some saver) between after cuts later old mid new are is_image first
-    second =
-    let then : SavesInTurn d (Some (after_saves saver cuts)) after mid new later =
-    subst (λ s. SavesInTurn d s after mid new later) first.saver second in
-    record {
-      saver = then.saver ∙ ap Some (sym (fold-append_saves saver_after saver cuts later));
-      saves = saves_of_cuts_follow one d saver cuts later old mid new are is_image first.saves then.saves;
-    }
+  pub saves_follow : (before between after : Option SaverState) (cuts later : List CutValue) (old mid new : D)
+      → IfSome before (λ saver. AreSettings saver.header.settings)
+      → SavesInTurn d before between old mid cuts → SavesInTurn d between after mid new later
+      → SavesInTurn d before after old new (cuts ++ later)
+  saves_follow None between after cuts later old mid new are first second =
+      let then : SavesInTurn d None after mid new later = subst (λ s. SavesInTurn d s after mid new later) first.saver second in
+      record { saver = then.saver; saves = then.saves ∙ first.saves }
+  saves_follow (Some saver) between after cuts later old mid new are first second =
+      let then : SavesInTurn d (Some (after_saves saver cuts)) after mid new later =
+      subst (λ s. SavesInTurn d s after mid new later) first.saver second in
+      let all : after_saves (after_saves saver cuts) later ≡ after_saves saver (cuts ++ later) =
+      sym (fold-append saver_after saver cuts later) in
+      record {
+        saver = then.saver ∙ ap Some all;
+        saves = record {
+          known = then.saves.known ∙ first.saves.known;
+          stands = subst (DiskMatches (d.reads new) (d.image_now new)) all then.saves.stands;
+          kept = kept_saves_follow saver cuts later [] old mid new are first.saves.known first.saves.kept then.saves.kept;
+        };
+      }
+
+  -- what broke off after saves
+  pub broken_off_save_follows : (before between : Option SaverState) (cuts saved unfinished : List CutValue) (old mid new : D)
+      → IfSome before (λ saver. AreSettings saver.header.settings)
+      → SavesInTurn d before between old mid cuts → SavesInPart d between mid new saved unfinished
+      → SavesInPart d before old new (cuts ++ saved) unfinished
+  broken_off_save_follows None between cuts saved unfinished old mid new are first second =
+      record { unused = λ none. second.unused first.saver ∙ first.saves; kept = tt }
+  broken_off_save_follows (Some saver) between cuts saved unfinished old mid new are first second = record {
+    unused = λ none. cc none;
+    kept = kept_saves_follow saver cuts saved unfinished old mid new are first.saves.known first.saves.kept
+        (subst (λ s. SavesInPart d s mid new saved unfinished) first.saver second).kept;
+  }
+
+  -- and the saver after it
+  pub broken_saves_follow : (before between after : Option SaverState) (cuts saved unfinished : List CutValue) (old mid new : D)
+      → IfSome before (λ saver. AreSettings saver.header.settings)
+      → SavesInTurn d before between old mid cuts → SavesBreakOff d between after mid new saved unfinished
+      → SavesBreakOff d before after old new (cuts ++ saved) unfinished
+  broken_saves_follow before between after cuts saved unfinished old mid new are first second = record {
+    saver = second.saver ∙ saver_after_more_saves before between cuts saved unfinished first.saver;
+    saves = broken_off_save_follows before between cuts saved unfinished old mid new are first second.saves;
+  }
 
 -- saves that were made leave none unfinished
 pub part_of_saves : {D : Type 0} (d : DiskOf D) (before : Option SaverState) (old new : D) (cuts : List CutValue)
@@ -329,48 +324,6 @@ whole_saves_broke_off d before after old new cuts saves = record {
   saver = saves.saver;
   saves = part_of_saves d before old new cuts saves.saves;
 }
-
--- the saver after saves, and then after saves that broke off
-saver_after_more_saves : (before between : Option SaverState) (cuts saved unfinished : List CutValue)
-    → between ≡ option_map (λ saver. after_saves saver cuts) before
-    → after_broken between saved unfinished ≡ after_broken before (cuts ++ saved) unfinished
-saver_after_more_saves before between cuts saved (cut ∷ more) is = refl
-saver_after_more_saves None between cuts saved [] is = ap (option_map (λ saver. after_saves saver saved)) is
-saver_after_more_saves (Some saver) between cuts saved [] is =
-    ap (option_map (λ saver. after_saves saver saved)) is ∙ ap Some (sym (fold-append_saves saver_after saver cuts saved))
-
--- what broke off after saves
-pub broken_off_save_follows : OpenToOne → {D : Type 0} (d : DiskOf D) (before between : Option SaverState)
-    (cuts saved unfinished : List CutValue) (old mid new : D) → IfSome before (λ saver. AreSettings saver.header.settings)
-    → ((disk : D) (bytes : List ℕ) → d.reads disk ≡ Some bytes → d.image_now disk bytes)
-    → SavesInTurn d before between old mid cuts → SavesInPart d between mid new saved unfinished
-    → SavesInPart d before old new (cuts ++ saved) unfinished
-broken_off_save_follows one d None between cuts saved unfinished old mid new are is_image first second =
-    record { unused = λ none. second.unused first.saver ∙ first.saves; kept = tt }
-broken_off_save_follows one d (Some saver) between cuts saved unfinished old mid new are is_image first
-    second = record {
-      unused = λ none. cc none;
-      kept = λ bytes is.
-          let known = save_leaves_bytes_known (d.reads old) (d.reads mid) bytes first.saves.known is in
-          let then : SavesInPart d (Some (after_saves saver cuts)) mid new saved unfinished =
-          subst (λ s. SavesInPart d s mid new saved unfinished) first.saver second in
-          kept_saves_follow one d saver.header saver.digest (λ image. ⊥) cuts saved unfinished old mid
-          new bytes known.0 are (is_image mid known.0 known.1) (first.saves.kept bytes is)
-          (saves_kept_as_before d saver cuts saved unfinished mid new known.0 (then.kept known.0 known.1));
-    }
-
--- and the saver after it
-pub broken_saves_follow : OpenToOne → {D : Type 0} (d : DiskOf D) (before between after : Option SaverState)
-    (cuts saved unfinished : List CutValue) (old mid new : D) → IfSome before (λ saver. AreSettings saver.header.settings)
-    → ((disk : D) (bytes : List ℕ) → d.reads disk ≡ Some bytes → d.image_now disk bytes)
-    → SavesInTurn d before between old mid cuts → SavesBreakOff d between after mid new saved unfinished
-    → SavesBreakOff d before after old new (cuts ++ saved) unfinished
-broken_saves_follow one d before between after cuts saved unfinished old mid new are is_image first
-    second = record {
-      saver = second.saver ∙ saver_after_more_saves before between cuts saved unfinished first.saver;
-      saves = broken_off_save_follows one d before between cuts saved unfinished old mid new are
-          is_image first second.saves;
-    }
 
 -- the cuts saved after some reports and more
 pub saved_cuts-append_saves : (store : Bool) (opening : List ShardValue) (reports later : List Reported)

@@ -10,7 +10,7 @@ use Rattle.hhh_report.specs.declared.report.Report.{Report}
 use Rattle.hhh_report.specs.declared.reports.Reported.{Reported}
 use Rattle.pass_tokens.specs.{ShardRead, after_reads, seen_in}
 use Rattle.gate_workers.specs.{Calls, Trail, View, cut_at, states_at}
-use Rattle.checkpoint.specs.{AreSettings, SaverState, DiskMatches, greatest_sequence, settings_shape}
+use Rattle.checkpoint.specs.{SaverState, greatest_sequence, settings_shape}
 use Rattle.report_session.specs.DealtFeed.{CanSaveCut}
 use Rattle.report_session.specs.Saving.{CanMakeSaves, SavesFitBoard, SavesInTurn, after_saves}
 use Rattle.report_session.specs.Session.{saved_cuts}
@@ -22,19 +22,17 @@ use Rattle.slot_disk.specs.declared.disk.Disk.{Ghosts as DiskOf}
 pub seen_positions_of_cut : (opening : List ShardValue) (positions : List ℕ) → length positions ≡ length opening
     → cut_positions (cut_at opening positions) ≡ positions
 seen_positions_of_cut [] [] many = refl
-seen_positions_of_cut [] (position ∷ positions) many = absurd (omega (arith, many))
-seen_positions_of_cut (shard ∷ rest) [] many = absurd (omega (arith, many))
 seen_positions_of_cut (shard ∷ rest) (position ∷ positions) many =
     ap (λ ps. position ∷ ps) (seen_positions_of_cut rest positions (omega (arith, many)))
+seen_positions_of_cut _ _ many = absurd (omega (arith, many))
 
 -- and its shape
-seen_position_snapshot_count : (opening : List ShardValue) (positions : List ℕ) → length positions ≡ length opening
+pub seen_position_snapshot_count : (opening : List ShardValue) (positions : List ℕ) → length positions ≡ length opening
     → length (map snapshot_of (states_at opening positions)) ≡ length opening
 seen_position_snapshot_count [] [] many = refl
-seen_position_snapshot_count [] (position ∷ positions) many = absurd (omega (arith, many))
-seen_position_snapshot_count (shard ∷ rest) [] many = absurd (omega (arith, many))
 seen_position_snapshot_count (shard ∷ rest) (position ∷ positions) many =
-    let tail = seen_position_snapshot_count rest positions (omega (arith, many)) in omega (arith, tail)
+    ap suc (seen_position_snapshot_count rest positions (omega (arith, many)))
+seen_position_snapshot_count _ _ many = absurd (omega (arith, many))
 
 pub seen_position_cut_has_shape : (opening : List ShardValue) (positions : List ℕ) → length positions ≡ length opening
     → HasCoreShape (length opening) (core_shape opening) (cut_at opening positions)
@@ -45,29 +43,25 @@ pub seen_positions_are_not_past : (earlier later : List ℕ) → length earlier 
     → ((shard : ℕ) → shard < length later → slice_index earlier shard ≤ slice_index later shard)
     → AreNotPast earlier later
 seen_positions_are_not_past [] [] many each = tt
-seen_positions_are_not_past [] (next ∷ later) many each = absurd (omega (arith, many))
-seen_positions_are_not_past (position ∷ earlier) [] many each = absurd (omega (arith, many))
 seen_positions_are_not_past (position ∷ earlier) (next ∷ later) many each = (
   each 0 (omega arith),
   seen_positions_are_not_past earlier later (omega (arith, many)) (λ shard inside. each (suc shard) (omega (arith, inside))),
 )
+seen_positions_are_not_past _ _ many each = absurd (omega (arith, many))
 
 -- and back
 pub seen_position_is_not_past : (earlier later : List ℕ) (shard : ℕ) → AreNotPast earlier later → shard < length later
     → slice_index earlier shard ≤ slice_index later shard
 seen_position_is_not_past [] [] shard past inside = absurd (omega (arith, inside))
-seen_position_is_not_past [] (next ∷ later) shard past inside = absurd past
-seen_position_is_not_past (position ∷ earlier) [] shard past inside = absurd past
 seen_position_is_not_past (position ∷ earlier) (next ∷ later) zero past inside = past.0
 seen_position_is_not_past (position ∷ earlier) (next ∷ later) (suc shard) past inside =
     seen_position_is_not_past earlier later shard past.1 (omega (arith, inside))
+seen_position_is_not_past _ _ shard past inside = absurd past
 
 pub seen_positions_same_length : (earlier later : List ℕ) → AreNotPast earlier later → length earlier ≡ length later
 seen_positions_same_length [] [] past = refl
-seen_positions_same_length [] (next ∷ later) past = absurd past
-seen_positions_same_length (position ∷ earlier) [] past = absurd past
-seen_positions_same_length (position ∷ earlier) (next ∷ later) past =
-    let tail = seen_positions_same_length earlier later past.1 in omega (arith, tail)
+seen_positions_same_length (position ∷ earlier) (next ∷ later) past = ap suc (seen_positions_same_length earlier later past.1)
+seen_positions_same_length _ _ past = absurd past
 
 pub seen_positions_not_past_self : (positions : List ℕ) → AreNotPast positions positions
 seen_positions_not_past_self [] = tt
@@ -93,22 +87,20 @@ seen_position_report_count opening phi rounds before now reports calls =
 seen_positions_after_reads : (trails : List Trail) (reads : List ShardRead) → length reads ≡ length trails
     → map (λ (trail : Trail). trail.seen) (after_reads trails reads) ≡ map (λ (read : ShardRead). read.position) reads
 seen_positions_after_reads [] [] many = refl
-seen_positions_after_reads [] (read ∷ reads) many = absurd (omega (arith, many))
-seen_positions_after_reads (trail ∷ trails) [] many = absurd (omega (arith, many))
 seen_positions_after_reads (trail ∷ trails) (read ∷ reads) many =
     ap (λ rest. read.position ∷ rest) (seen_positions_after_reads trails reads (omega (arith, many)))
+seen_positions_after_reads _ _ many = absurd (omega (arith, many))
 
-seen_positions_after_round : (trails : List Trail) (rounds : List (List ShardRead)) (positions : List ℕ) (count : ℕ)
+seen_positions_after_round : (trails : List Trail) (rounds : List (List ShardRead)) (positions : List ℕ)
     → length rounds ≡ 1 → positions ∷ [] ≡ map (λ round. map (λ (read : ShardRead). read.position) round) rounds
     → length positions ≡ length trails
     → map (λ (trail : Trail). trail.seen) (fold after_reads trails rounds) ≡ positions
-seen_positions_after_round trails [] positions count many same long = absurd (omega (arith, many))
-seen_positions_after_round trails (round ∷ []) positions count many same long =
+seen_positions_after_round trails (round ∷ []) positions many same long =
     let is : positions ≡ map (λ (read : ShardRead). read.position) round = ap (λ all. get_or all 0 []) same in
     let reads : length round ≡ length trails =
     sym (length-map round (λ (read : ShardRead). read.position)) ∙ sym (ap length is) ∙ long in
     seen_positions_after_reads trails round reads ∙ sym is
-seen_positions_after_round trails (round ∷ next ∷ rounds) positions count many same long = absurd (omega (arith, many))
+seen_positions_after_round trails _ positions many same long = absurd (omega (arith, many))
 
 -- after a round the view has seen the positions of its report
 pub seen_positions_are_reported : (opening : List ShardValue) (phi : ℕ) (before now : View) (report : Report)
@@ -118,7 +110,7 @@ pub seen_positions_are_reported : (opening : List ShardValue) (phi : ℕ) (befor
 seen_positions_are_reported opening phi before now report trails calls =
     let at = round_makes_report opening phi before now report calls in
     ap (λ (view : View). map (λ (trail : Trail). trail.seen) view.trails) calls.view
-    ∙ seen_positions_after_round before.trails calls.reads report.positions 1 calls.as_many calls.positions
+    ∙ seen_positions_after_round before.trails calls.reads report.positions calls.as_many calls.positions
     (at.as_many ∙ sym trails)
 
 -- and no position of it is before what the view had seen
@@ -186,11 +178,6 @@ seen_positions_fit_next_saver reads possible opening phi before now report (Some
       seen = subst (AreNotPast (cut_positions cut)) positions (seen_positions_not_past_self (cut_positions cut));
     })
 
--- how many cuts are saved after some reports with a store
-seen_position_saved_count : (opening : List ShardValue) (reports : List Reported)
-    → length (saved_cuts true opening reports) ≡ length reports
-seen_position_saved_count opening reports = length-map reports _
-
 -- after some rounds the saver may make the saves of the remaining ones
 pub seen_positions_allow_more_saves : {D : Type 0} (d : DiskOf D) (opening : List ShardValue) (view : View)
     (before saver : Option SaverState) (reports : List Reported) (old new : D) (made count rounds : ℕ)
@@ -206,39 +193,9 @@ seen_positions_allow_more_saves d opening view (Some first) saver reports old ne
     let cuts : List CutValue = saved_cuts true opening reports in
     let now : SaverState = after_saves first cuts in
     let sequence : now.sequence ≡ first.sequence + length cuts = saves_raise_sequence first cuts in
-    let as_many : length cuts ≡ length reports = seen_position_saved_count opening reports in
+    let as_many : length cuts ≡ length reports = length-map reports _ in
     subst (λ o. IfSome o (CanMakeSaves (d.reads new) (d.image_now new) opening view count)) (sym saves.saver) (record {
       fits = subst (λ o. IfSome o (SavesFitBoard opening view)) saves.saver fits;
       stands = saves.saves.stands;
       early = omega (arith, sequence, as_many, many, few, early);
     })
-
--- what a saver that may save has
-pub seen_positions_fit_saver : (reads : Option (List ℕ)) (possible : List ℕ → Type 0) (opening : List ShardValue) (view : View)
-    (count : ℕ) (saver : Option SaverState) → IfSome saver (CanMakeSaves reads possible opening view count)
-    → IfSome saver (SavesFitBoard opening view)
-seen_positions_fit_saver reads possible opening view count None can = tt
-seen_positions_fit_saver reads possible opening view count (Some saver) can = can.fits
-
-pub seen_positions_saver_stands : (reads : Option (List ℕ)) (possible : List ℕ → Type 0) (opening : List ShardValue) (view : View)
-    (count : ℕ) (saver : Option SaverState) → IfSome saver (CanMakeSaves reads possible opening view count)
-    → IfSome saver (DiskMatches reads possible)
-seen_positions_saver_stands reads possible opening view count None can = tt
-seen_positions_saver_stands reads possible opening view count (Some saver) can = can.stands
-
-pub seen_positions_saver_is_early : (reads : Option (List ℕ)) (possible : List ℕ → Type 0) (opening : List ShardValue) (view : View)
-    (count : ℕ) (saver : Option SaverState) → IfSome saver (CanMakeSaves reads possible opening view count)
-    → IfSome saver (λ saver. saver.sequence + count ≤ greatest_sequence)
-seen_positions_saver_is_early reads possible opening view count None can = tt
-seen_positions_saver_is_early reads possible opening view count (Some saver) can = can.early
-
-pub seen_positions_allowed_settings : (reads : Option (List ℕ)) (possible : List ℕ → Type 0) (opening : List ShardValue) (view : View)
-    (count : ℕ) (saver : Option SaverState) → IfSome saver (CanMakeSaves reads possible opening view count)
-    → IfSome saver (λ saver. AreSettings saver.header.settings)
-seen_positions_allowed_settings reads possible opening view count None can = tt
-seen_positions_allowed_settings reads possible opening view count (Some saver) can = can.fits.settings
-
-pub seen_positions_cut_saver_stands : (reads : Option (List ℕ)) (possible : List ℕ → Type 0) (cut : CutValue) (saver : Option SaverState)
-    → IfSome saver (CanSaveCut reads possible cut) → IfSome saver (DiskMatches reads possible)
-seen_positions_cut_saver_stands reads possible cut None can = tt
-seen_positions_cut_saver_stands reads possible cut (Some saver) can = can.stands

@@ -1,6 +1,6 @@
 -- The bytes of a session, as they are written.
 use Rattle.std.proofs.Common.{◌≡◌, ◌∙◌, ◌≤◌, ◌+◌, ◌-◌, inl, inr, ℕ, zero, suc, List, [], ◌∷◌, ◌++◌, Option, All, refl}
-use Rattle.std.proofs.Common.{sym, ap, ap₂, subst, arith, length, map, append_assoc, get_or, Bool}
+use Rattle.std.proofs.Common.{sym, ap, ap₂, subst, arith, length, map, append-nil, append_assoc, get_or, Bool}
 use Rattle.std.specs.Prelude.{slice_index}
 use Rattle.std.specs.List.Sorted.{IsNonDecreasing}
 use Rattle.std.specs.Io.KnownBytes.{Appends}
@@ -23,6 +23,14 @@ use Rattle.report_session.specs.Session.{session_parts, saved_cuts, save_line, s
 use Rattle.report_session.specs.DealtFeed.{IsFeedResult, IsFeedRest, StartsBefore, FeedBreaksOff, other_reports}
 use Rattle.report_session.specs.declared.feed.Fed.{Fed}
 use Rattle.report_session.specs.declared.session.Rest.{Rest}
+use Rattle.report_session.proofs.RoundLemmas.{saved_cuts-no_rounds}
+use Rattle.report_session.proofs.SaveLemmas.{saved_cuts-append_saves}
+use Rattle.report_session.proofs.ShownSessionLemmas.{shown_session_front_of_all}
+
+-- the texts behind the rounds, put together
+pub session_text_groups : (callers report line tail : List ℕ)
+    → (callers ++ report) ++ (line ++ tail) ≡ callers ++ ((report ++ line) ++ tail)
+session_text_groups callers report line tail = simp append_assoc
 
 -- the first line was written in part
 pub session_text_breaks_in_line : (opening : List ShardValue) (settings : Settings) (Kept : SessionSaving) (tail line : List ℕ)
@@ -67,19 +75,12 @@ session_text_of_fed_rounds board settings Kept KeptInPart old new fed part is =
 pub session_text_within_ends : (opening : List ShardValue) (positions : List ℕ) (shard : ℕ) → length positions ≡ length opening
     → All IsShard (states_at opening positions) → slice_index positions shard ≤ slice_index (session_ends opening) shard
 session_text_within_ends [] [] shard many kept = omega arith
-session_text_within_ends [] (position ∷ positions) shard many kept = absurd (omega (arith, many))
-session_text_within_ends (first ∷ rest) [] shard many kept = absurd (omega (arith, many))
 session_text_within_ends (first ∷ rest) (position ∷ positions) zero many kept =
     (All-head IsShard (shard_state_at position first) (states_at rest positions) kept).within
 session_text_within_ends (first ∷ rest) (position ∷ positions) (suc shard) many kept =
     session_text_within_ends rest positions shard (omega (arith, many))
     (All-tail IsShard (shard_state_at position first) (states_at rest positions) kept)
-
--- numbers that never fall, and one more that is at least each of them
-session_text_numbers_never_fall : (numbers : List ℕ) (last : ℕ) → IsNonDecreasing numbers → All (λ number. number ≤ last) numbers
-    → IsNonDecreasing (numbers ++ last ∷ [])
-session_text_numbers_never_fall numbers last up below =
-    IsNonDecreasingBy-push (λ x. x) numbers last up (λ d some. below (length numbers - 1) d (omega (arith, some)))
+session_text_within_ends _ _ shard many kept = absurd (omega (arith, many))
 
 -- the rounds of the calling thread, and the last report
 pub session_text_with_last : (opening : List ShardValue) (settings : Settings) (count : ℕ) (reports : List Reported) (last : Reported)
@@ -102,7 +103,8 @@ session_text_with_last opening settings count reports last starts are shown ends
       let within = session_text_within_ends opening (get_or reports k d).report.positions shard at.as_many at.kept in
       omega (arith, within, is_end))) in
       subst (λ positions. IsNonDecreasing (first ∷ positions)) (sym (map-append position reports (last ∷ [])))
-      (session_text_numbers_never_fall (first ∷ map position reports) (position last) (are.never_fall shard inside) below);
+      (IsNonDecreasingBy-push (λ x. x) (first ∷ map position reports) (position last) (are.never_fall shard inside)
+      (λ d some. below (length (first ∷ map position reports) - 1) d (omega (arith, some))));
 }
 
 -- a session of which less is said
@@ -139,13 +141,9 @@ pub session_text_is_spelled : (board : WordsValue) (settings : Settings) (Fed_ke
     → IsOverShards board.opening settings Kept tail
     (line ++ (session_parts settings.store is.gathered.rounds ++ (rest.front.items ++ rest.back.items)))
 session_text_is_spelled board settings Fed_kept Kept tail line old new fed rest starts is_line is end kept =
-    let store : Bool = settings.store in
-    let callers : List ℕ = caller_parts (other_reports fed.gathered.called.items) in
-    let report : List ℕ = report_text end.last.report in
-    let saved : List ℕ = save_line store end.last.report.positions in
-    let texts : rest.front.items ++ rest.back.items ≡ callers ++ ((report ++ saved) ++ tail) =
-    ap₂ (λ a b. a ++ b) end.front_is end.back_is ∙ append_assoc callers report (saved ++ tail)
-    ∙ ap (λ t. callers ++ t) (sym (append_assoc report saved tail)) in
+    let texts = ap₂ (λ a b. a ++ b) end.front_is end.back_is
+    ∙ session_text_groups (caller_parts (other_reports fed.gathered.called.items)) (report_text end.last.report)
+    (save_line settings.store end.last.report.positions) tail in
     record {
       reports = record {
         rounds = is.gathered.rounds;
@@ -153,7 +151,7 @@ session_text_is_spelled board settings Fed_kept Kept tail line old new fed rest 
         last = end.last;
       };
       are_reports = session_text_of_all_reports board settings Fed_kept tail old new fed rest starts is end;
-      spelled = ap₂ (λ a b. a ++ (session_parts store is.gathered.rounds ++ b)) is_line texts;
+      spelled = ap₂ (λ a b. a ++ (session_parts settings.store is.gathered.rounds ++ b)) is_line texts;
       kept = kept;
     }
 
@@ -225,76 +223,77 @@ session_text_breaks_in_rest board settings Fed_kept KeptInRest KeptInPart tail l
           (Appends-trans first second new rounds part.text is.gathered.written part.written);
     }
 
--- of what became of the cuts of a session (Kept) less is said (Less): where no cut was saved, where those of some rounds
--- were, and before, in and after the save of a report that follows some rounds
+-- of what became of the cuts of a session (Kept) less is said (Less): where those of some reports were saved, and where the
+-- save of the next one is unfinished
 pub record SessionTextSaysLess (opening : List ShardValue) (settings : Settings) (Kept Less : SessionSaving) : Type 0 where
-  pub none : Kept [] [] → Less [] []
-  pub between : (rounds : List Reported) → AreOfCaller opening settings (length rounds) rounds
-      → Kept (saved_cuts settings.store opening rounds) [] → Less (saved_cuts settings.store opening rounds) []
-  pub before : (count : ℕ) (rounds : List Reported) (next : Reported)
-      → AreOfCaller opening settings count (rounds ++ next ∷ [])
-      → rest_after_saves settings.store opening rounds Kept [] [] → rest_after_saves settings.store opening rounds Less [] []
+  pub saved : (reports : List Reported) → All (IsShownInSession opening settings) reports
+      → Kept (saved_cuts settings.store opening reports) [] → Less (saved_cuts settings.store opening reports) []
   pub unfinished : (count : ℕ) (rounds : List Reported) (next : Reported)
       → AreOfCaller opening settings count (rounds ++ next ∷ [])
-      → rest_after_saves settings.store opening rounds Kept [] (saved_cuts settings.store opening (next ∷ []))
-      → rest_after_saves settings.store opening rounds Less [] (saved_cuts settings.store opening (next ∷ []))
-  pub saved : (count : ℕ) (rounds : List Reported) (next : Reported)
-      → AreOfCaller opening settings count (rounds ++ next ∷ [])
-      → rest_after_saves settings.store opening rounds Kept (saved_cuts settings.store opening (next ∷ [])) []
-      → rest_after_saves settings.store opening rounds Less (saved_cuts settings.store opening (next ∷ [])) []
+      → Kept (saved_cuts settings.store opening rounds) (saved_cuts settings.store opening (next ∷ []))
+      → Less (saved_cuts settings.store opening rounds) (saved_cuts settings.store opening (next ∷ []))
 
 -- a session that broke off, of which less is said
-session_text_around_says_less : (opening : List ShardValue) (settings : Settings) (Kept Less : SessionSaving) (count : ℕ) (rounds : List Reported)
-    (next : Reported) (before after front : List ℕ) → SessionTextSaysLess opening settings Kept Less
-    → AreOfCaller opening settings count (rounds ++ next ∷ [])
-    → BreaksOffAround before after (saved_cuts settings.store opening (next ∷ []))
-    (rest_after_saves settings.store opening rounds Kept) front
-    → BreaksOffAround before after (saved_cuts settings.store opening (next ∷ []))
-    (rest_after_saves settings.store opening rounds Less) front
-session_text_around_says_less opening settings Kept Less count rounds next before after front less are breaks =
-    let cut : List CutValue = saved_cuts settings.store opening (next ∷ []) in
-    session_text_around_save before after before after cut cut (rest_after_saves settings.store opening rounds Kept)
-    (rest_after_saves settings.store opening rounds Less) front refl refl (less.before count rounds next are)
-    (less.unfinished count rounds next are) (less.saved count rounds next are) breaks
+module _ (opening : List ShardValue) (settings : Settings) (Kept Less : SessionSaving)
+    (less : SessionTextSaysLess opening settings Kept Less) where
+  session_text_saves_say_less : (reports : List Reported) (cuts : List CutValue) → All (IsShownInSession opening settings) reports
+      → saved_cuts settings.store opening reports ≡ cuts → Kept cuts [] → Less cuts []
+  session_text_saves_say_less reports cuts shown is kept =
+      subst (λ l. Less l []) is (less.saved reports shown (subst (λ l. Kept l []) (sym is) kept))
 
-session_text_rounds_say_less : (opening : List ShardValue) (settings : Settings) (Kept Less : SessionSaving) (front : List ℕ)
-    → SessionTextSaysLess opening settings Kept Less → BreaksOffInRounds opening settings Kept front
-    → BreaksOffInRounds opening settings Less front
-session_text_rounds_say_less opening settings Kept Less front less (inl between) = inl (record {
-  rounds = between.rounds;
-  few = between.few;
-  are_reports = between.are_reports;
-  written = between.written;
-  kept = less.between between.rounds between.are_reports between.kept;
-})
-session_text_rounds_say_less opening settings Kept Less front less (inr within) = inr (record {
-  rounds = within.rounds;
-  next = within.next;
-  few = within.few;
-  are_reports = within.are_reports;
-  more = within.more;
-  breaks_off = session_text_around_says_less opening settings Kept Less (length within.rounds + 1) within.rounds within.next
-      (report_text within.next.report) (save_line settings.store within.next.report.positions) within.more less
-      within.are_reports within.breaks_off;
-  written = within.written;
-})
+  session_text_around_says_less : (count : ℕ) (rounds : List Reported) (next : Reported) (before after front : List ℕ)
+      → AreOfCaller opening settings count (rounds ++ next ∷ [])
+      → BreaksOffAround before after (saved_cuts settings.store opening (next ∷ []))
+      (rest_after_saves settings.store opening rounds Kept) front
+      → BreaksOffAround before after (saved_cuts settings.store opening (next ∷ []))
+      (rest_after_saves settings.store opening rounds Less) front
+  session_text_around_says_less count rounds next before after front are breaks =
+      let cuts : List CutValue = saved_cuts settings.store opening rounds in
+      let cut : List CutValue = saved_cuts settings.store opening (next ∷ []) in
+      session_text_around_save before after before after cut cut (rest_after_saves settings.store opening rounds Kept)
+      (rest_after_saves settings.store opening rounds Less) front refl refl
+      (session_text_saves_say_less rounds (cuts ++ [])
+      (shown_session_front_of_all (IsShownInSession opening settings) rounds (next ∷ []) are.shown) (sym (append-nil cuts)))
+      (λ kept. subst (λ l. Less l cut) (sym (append-nil cuts))
+      (less.unfinished count rounds next are (subst (λ l. Kept l cut) (append-nil cuts) kept)))
+      (session_text_saves_say_less (rounds ++ next ∷ []) (cuts ++ cut) are.shown
+      (saved_cuts-append_saves settings.store opening rounds (next ∷ []))) breaks
 
-pub session_text_begins_saying_less : (opening : List ShardValue) (settings : Settings) (Kept Less : SessionSaving) (tail front : List ℕ)
-    → SessionTextSaysLess opening settings Kept Less → BeginsSession opening settings Kept tail front
-    → BeginsSession opening settings Less tail front
-session_text_begins_saying_less opening settings Kept Less tail front less (inl (short, kept)) = inl (short, less.none kept)
-session_text_begins_saying_less opening settings Kept Less tail front less (inr (inl (more, rounds, parted))) =
-    inr (inl (more, session_text_rounds_say_less opening settings Kept Less more less rounds, parted))
-session_text_begins_saying_less opening settings Kept Less tail front less (inr (inr later)) = inr (inr (record {
-  reports = later.reports;
-  are_reports = later.are_reports;
-  more = later.more;
-  breaks_off = session_text_around_says_less opening settings Kept Less (settings.rounds + 1) later.reports.rounds later.reports.last
-      (caller_parts later.reports.callers ++ report_text later.reports.last.report)
-      (save_line settings.store later.reports.last.report.positions ++ tail) later.more less
-      later.are_reports.calling later.breaks_off;
-  written = later.written;
-}))
+  session_text_rounds_say_less : (front : List ℕ) → BreaksOffInRounds opening settings Kept front
+      → BreaksOffInRounds opening settings Less front
+  session_text_rounds_say_less front (inl between) = inl (record {
+    rounds = between.rounds;
+    few = between.few;
+    are_reports = between.are_reports;
+    written = between.written;
+    kept = less.saved between.rounds between.are_reports.shown between.kept;
+  })
+  session_text_rounds_say_less front (inr within) = inr (record {
+    rounds = within.rounds;
+    next = within.next;
+    few = within.few;
+    are_reports = within.are_reports;
+    more = within.more;
+    breaks_off = session_text_around_says_less (length within.rounds + 1) within.rounds within.next (report_text within.next.report)
+        (save_line settings.store within.next.report.positions) within.more within.are_reports within.breaks_off;
+    written = within.written;
+  })
+
+  pub session_text_begins_saying_less : (tail front : List ℕ) → BeginsSession opening settings Kept tail front
+      → BeginsSession opening settings Less tail front
+  session_text_begins_saying_less tail front (inl (short, kept)) =
+      inl (short, session_text_saves_say_less [] [] (All-nil _) (saved_cuts-no_rounds settings.store opening) kept)
+  session_text_begins_saying_less tail front (inr (inl (more, rounds, parted))) =
+      inr (inl (more, session_text_rounds_say_less more rounds, parted))
+  session_text_begins_saying_less tail front (inr (inr later)) = inr (inr (record {
+    reports = later.reports;
+    are_reports = later.are_reports;
+    more = later.more;
+    breaks_off = session_text_around_says_less (settings.rounds + 1) later.reports.rounds later.reports.last
+        (caller_parts later.reports.callers ++ report_text later.reports.last.report)
+        (save_line settings.store later.reports.last.report.positions ++ tail) later.more later.are_reports.calling later.breaks_off;
+    written = later.written;
+  }))
 
 -- what is said whatever cuts were saved
 session_text_around_any_saves : (before after : List ℕ) (cut : List CutValue) (Said : Type 0) (front : List ℕ)
@@ -320,11 +319,5 @@ pub session_text_begins_weaker : (opening : List ShardValue) (settings : Setting
     → ((saved unfinished : List CutValue) → Kept saved unfinished → Less saved unfinished)
     → BeginsSession opening settings Kept tail front → BeginsSession opening settings Less tail front
 session_text_begins_weaker opening settings Kept Less tail front less =
-    let cuts : List Reported → List CutValue = saved_cuts settings.store opening in
-    session_text_begins_saying_less opening settings Kept Less tail front (record {
-      none = less [] [];
-      between = λ rounds are. less (cuts rounds) [];
-      before = λ count rounds next are. less (cuts rounds ++ []) [];
-      unfinished = λ count rounds next are. less (cuts rounds ++ []) (cuts (next ∷ []));
-      saved = λ count rounds next are. less (cuts rounds ++ cuts (next ∷ [])) [];
-    })
+    session_text_begins_saying_less opening settings Kept Less
+    (record { saved = λ reports shown. less _ []; unfinished = λ count rounds next are. less _ _ }) tail front

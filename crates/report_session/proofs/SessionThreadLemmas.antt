@@ -3,12 +3,15 @@ use Rattle.std.proofs.Common.{Bool, false, ⊎_elim, ◌≡◌, ◌∙◌, ◌�
 use Rattle.std.proofs.Common.{Option, None, Some, Ok, Err, All, refl, sym, ap, ap₂, subst, arith, length, map}
 use Rattle.std.proofs.Common.{append-nil, get_or, take, zero, suc, slice_get}
 use Rattle.std.specs.Prelude.{slice_index, ⊤}
-use Rattle.std.specs.Result.{IfErr, IfOk, OnErr, OnOk}
+use Rattle.std.specs.Result.{IfOk, OnErr}
 use Rattle.std.specs.List.Sorted.{IsNonDecreasing}
 use Rattle.std.specs.declared.result.Result.{Result}
 use Rattle.std.specs.Io.KnownBytes.{Appends}
 use Rattle.std.proofs.KnownBytes.{Appends-trans, Appends-nil}
 use Rattle.std.proofs.lemmas.List.{length-map, take_more}
+use Rattle.std.proofs.lemmas.List.Concat.{flat_map-append}
+use Rattle.std.proofs.lemmas.Option.{slice_get_within}
+use Rattle.std.proofs.lemmas.Simd.{map-map}
 use Rattle.std.proofs.lemmas.List.Elements.{All-map, All-append, All-cons, All-head, All-nil, All-tail}
 use Rattle.std.proofs.lemmas.List.Sorted.{IsNonDecreasingBy-short}
 use Rattle.shard_state.specs.{BasesRepresent, CutValue, IsShard, ShardValue, core_shape, core_lists, shard_state_at}
@@ -30,7 +33,7 @@ use Rattle.report_session.specs.Session.{rest_after_saves, caller_parts, session
 use Rattle.report_session.specs.Session.{saved_cuts, save_line, session_start, asked_shape}
 use Rattle.run_status.specs.declared.status.Status.{Status}
 use Rattle.run_status.specs.declared.status.Status.TheVariants.{WriteFault, DiskFault, OutOfMemory}
-use Rattle.report_session.proofs.RoundLemmas.{IsSoundRound, RoundsFollowRounds, flat_map-append_rounds, round_makes_report}
+use Rattle.report_session.proofs.RoundLemmas.{IsSoundRound, RoundsFollowRounds, round_makes_report}
 use Rattle.report_session.proofs.RoundLemmas.{round_of, saved_cuts-no_rounds}
 use Rattle.report_session.proofs.SeenPositionLemmas.{seen_position_report_count, seen_position_before_one_read}
 
@@ -42,14 +45,10 @@ pub first_session_thread_sees_starts : (opening : List ShardValue) → HasSessio
 first_session_thread_sees_starts [] = refl
 first_session_thread_sees_starts (shard ∷ rest) = ap (λ positions. shard.position ∷ positions) (first_session_thread_sees_starts rest)
 
-map-map_of_session_threads : {A B C : Type 0} (f : A → B) (g : B → C) (xs : List A) → map g (map f xs) ≡ map (λ x. g (f x)) xs
-map-map_of_session_threads f g [] = refl
-map-map_of_session_threads f g (x ∷ xs) = ap (λ rest. g (f x) ∷ rest) (map-map_of_session_threads f g xs)
-
 -- so has one that was split off from it
 pub new_session_thread_sees_starts : (opening : List ShardValue) (view : View) → HasSessionThreadSeenStarts opening view
     → HasSessionThreadSeenStarts opening (newcomer_view view)
-new_session_thread_sees_starts opening view seen = map-map_of_session_threads _ (λ trail. trail.seen) view.trails ∙ seen
+new_session_thread_sees_starts opening view seen = map-map (λ trail. trail.seen) _ view.trails ∙ seen
 
 -- what a caller with such a view reports in its rounds
 pub session_thread_reports_of_calls : (opening : List ShardValue) (settings : Settings) (rounds : ℕ) (before now : View)
@@ -68,8 +67,8 @@ session_thread_reports_of_calls opening settings rounds before now reports alike
       let many : length (session_start opening) ≡ length opening = length-map opening _ in
       let read : List ℕ = map (λ reads. slice_index (map (λ read. read.position) reads) shard) calls.reads in
       let same : map (λ (reported : Reported). slice_index reported.report.positions shard) reports ≡ read =
-      sym (map-map_of_session_threads (λ (reported : Reported). reported.report.positions) (λ ps. slice_index ps shard) reports)
-      ∙ ap (map (λ ps. slice_index ps shard)) calls.positions ∙ map-map_of_session_threads _ (λ ps. slice_index ps shard) calls.reads in
+      sym (map-map (λ ps. slice_index ps shard) (λ (reported : Reported). reported.report.positions) reports)
+      ∙ ap (map (λ ps. slice_index ps shard)) calls.positions ∙ map-map (λ ps. slice_index ps shard) _ calls.reads in
       subst (λ ps. IsNonDecreasing (slice_index (session_start opening) shard ∷ ps)) (sym same)
       (subst (λ positions. IsNonDecreasing (slice_index positions shard ∷ read)) seen
       (calls.never_fall shard (omega (arith, inside, many))));
@@ -318,30 +317,20 @@ session_thread_rounds_make_steps opening phi rounds before now store Kept old ne
 pub session_thread_made_no_step : (before now : View) → now ≡ before → MakesSteps before now
 session_thread_made_no_step before now same = subst (MakesSteps before) (sym same) refl
 
--- what the threads of a plan bring back, of which less is said
-session_threads_say_less : (relates less : View → View → Type 0) (opening : List ShardValue) (plan : ThreadPlan) (view : View)
-    (gathered : Gathered) → ((before now : View) → relates before now → less before now)
-    → BringBack opening plan relates view gathered → BringBack opening plan less view gathered
-session_threads_say_less relates less opening plan view gathered implies back = record {
-  rounds = record {
-    now = back.rounds.now;
-    does = implies (record view { splits = view.splits + (plan.workers + plan.callers) }) back.rounds.now back.rounds.does;
-  };
-  workers = back.workers;
-  as_many_workers = back.as_many_workers;
-  fed = back.fed;
-  pass = back.pass;
-  as_many_callers = back.as_many_callers;
-  called = back.called;
-}
-
--- the same of the plan that was asked for
+-- what the threads bring back of the plan that was asked for, of which less is said
 pub session_threads_ran_as_planned : (relates less : View → View → Type 0) (opening : List ShardValue) (plan asked : ThreadPlan)
     (view : View) (gathered : Gathered) → plan ≡ asked → ((before now : View) → relates before now → less before now)
     → BringBack opening plan relates view gathered → BringBack opening asked less view gathered
 session_threads_ran_as_planned relates less opening plan asked view gathered same implies back =
-    subst (λ p. BringBack opening p less view gathered) same
-    (session_threads_say_less relates less opening plan view gathered implies back)
+    subst (λ p. BringBack opening p less view gathered) same (record {
+      rounds = record { now = back.rounds.now; does = implies _ back.rounds.now back.rounds.does };
+      workers = back.workers;
+      as_many_workers = back.as_many_workers;
+      fed = back.fed;
+      pass = back.pass;
+      as_many_callers = back.as_many_callers;
+      called = back.called;
+    })
 
 -- one more report of a caller, none of whose cuts is saved
 pub session_thread_adds_report : (reports : List Reported) (index : ℕ) (d : Reported) → index < length reports
@@ -350,7 +339,7 @@ pub session_thread_adds_report : (reports : List Reported) (index : ℕ) (d : Re
 session_thread_adds_report reports index d inside =
     let reported : Reported = get_or reports index d in
     ap (session_parts false) (take_more reports index d inside)
-    ∙ flat_map-append_rounds (session_part false) (take index reports) (reported ∷ [])
+    ∙ flat_map-append (session_part false) (take index reports) (reported ∷ [])
     ∙ ap (λ rest. session_parts false (take index reports) ++ rest)
     (append-nil (session_part false reported) ∙ append-nil (report_text reported.report))
 
@@ -369,15 +358,9 @@ session_thread_adds_caller called index d inside =
     let callers : List (List Reported) = other_reports called in
     let within : index < length callers = omega (arith, inside, length-map called (λ (caller : Called). caller.reports)) in
     ap caller_parts (take_more callers index d.reports within)
-    ∙ flat_map-append_rounds (session_parts false) (take index callers) (get_or callers index d.reports ∷ [])
+    ∙ flat_map-append (session_parts false) (take index callers) (get_or callers index d.reports ∷ [])
     ∙ ap (λ rest. caller_parts (take index callers) ++ rest)
     (append-nil (session_parts false (get_or callers index d.reports)) ∙ ap (session_parts false) (session_thread_caller_at_index called index d))
-
-session_thread_index_is_inside : {A : Type 0} (xs : List A) (index : ℕ) (x : A) → slice_get xs index ≡ Some x → index < length xs
-session_thread_index_is_inside [] index x is = cc is
-session_thread_index_is_inside (first ∷ rest) zero x is = omega arith
-session_thread_index_is_inside (first ∷ rest) (suc index) x is = let within : index < length rest = session_thread_index_is_inside rest index x is in omega
-    (arith, within)
 
 -- positions that are neither before nor past the ends of lists
 session_thread_positions_at_ends : (opening : List ShardValue) (positions : List ℕ) → length positions ≡ length opening
@@ -385,8 +368,6 @@ session_thread_positions_at_ends : (opening : List ShardValue) (positions : List
     → ((shard : ℕ) (state : ShardValue) → slice_get opening shard ≡ Some state
     → length state.list ≤ slice_index positions shard) → positions ≡ session_ends opening
 session_thread_positions_at_ends [] [] many kept behind = refl
-session_thread_positions_at_ends [] (position ∷ positions) many kept behind = absurd (omega (arith, many))
-session_thread_positions_at_ends (shard ∷ rest) [] many kept behind = absurd (omega (arith, many))
 session_thread_positions_at_ends (shard ∷ rest) (position ∷ positions) many kept behind =
     let is_shard : IsShard (shard_state_at position shard) =
     All-head IsShard (shard_state_at position shard) (states_at rest positions) kept in
@@ -394,6 +375,7 @@ session_thread_positions_at_ends (shard ∷ rest) (position ∷ positions) many 
     ap₂ (λ p ps. p ∷ ps) first (session_thread_positions_at_ends rest positions (omega (arith, many))
     (All-tail IsShard (shard_state_at position shard) (states_at rest positions) kept)
     (λ index state is. behind (suc index) state is))
+session_thread_positions_at_ends _ _ many kept behind = absurd (omega (arith, many))
 
 -- a report that was read after the ends of all lists were seen is that over all records
 pub session_thread_reports_at_ends : (opening : List ShardValue) (settings : Settings) (before now : View) (report : Report)
@@ -411,28 +393,5 @@ session_thread_reports_at_ends opening settings before now report alike ends cal
       session_thread_positions_at_ends opening report.positions is_report.as_many is_report.kept (λ shard state is.
           let seen : length state.list ≤ seen_in shard before = ends shard state is in
           let read = seen_position_before_one_read calls.reads report.positions shard (seen_in shard before) calls.positions
-          (calls.never_fall shard (session_thread_index_is_inside opening shard state is)) in omega (arith, seen, read)),
+          (calls.never_fall shard (slice_get_within opening shard state is)) in omega (arith, seen, read)),
     )
-
-pub session_thread_on_ok_implies : {T E : Type 0} (result : Result T E) (P Q : Type 0) → (P → Q) → OnOk result P → OnOk result Q
-session_thread_on_ok_implies (Ok value) P Q follows holds = follows holds
-session_thread_on_ok_implies (Err error) P Q follows holds = tt
-
-pub session_thread_on_err_implies : {T E : Type 0} (result : Result T E) (P Q : Type 0) → (P → Q) → OnErr result P → OnErr result Q
-session_thread_on_err_implies (Ok value) P Q follows holds = tt
-session_thread_on_err_implies (Err error) P Q follows holds = follows holds
-
-pub session_thread_err_implies_each : {T E : Type 0} (result : Result T E) (P : Type 0) (Q : E → Type 0) → ((e : E) → P → Q e)
-    → OnErr result P → IfErr result Q
-session_thread_err_implies_each (Ok value) P Q follows holds = tt
-session_thread_err_implies_each (Err error) P Q follows holds = follows error holds
-
-pub session_thread_if_ok_implies : {T E : Type 0} (result : Result T E) (P Q : T → Type 0) → ((x : T) → P x → Q x) → IfOk result P
-    → IfOk result Q
-session_thread_if_ok_implies (Ok value) P Q follows holds = follows value holds
-session_thread_if_ok_implies (Err error) P Q follows holds = tt
-
-pub session_thread_if_err_implies : {T E : Type 0} (result : Result T E) (P Q : E → Type 0) → ((e : E) → P e → Q e) → IfErr result P
-    → IfErr result Q
-session_thread_if_err_implies (Ok value) P Q follows holds = tt
-session_thread_if_err_implies (Err error) P Q follows holds = follows error holds

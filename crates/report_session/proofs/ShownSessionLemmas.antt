@@ -101,7 +101,7 @@ shown_session_front_of_all P [] ys all = All-nil P
 shown_session_front_of_all P (x ∷ xs) ys all =
     All-cons P x xs (All-head P x (xs ++ ys) all) (shown_session_front_of_all P xs ys (All-tail P x (xs ++ ys) all))
 
-shown_session_back_of_all : {A : Type 0} (P : A → Type 0) (xs ys : List A) → All P (xs ++ ys) → All P ys
+pub shown_session_back_of_all : {A : Type 0} (P : A → Type 0) (xs ys : List A) → All P (xs ++ ys) → All P ys
 shown_session_back_of_all P [] ys all = all
 shown_session_back_of_all P (x ∷ xs) ys all = shown_session_back_of_all P xs ys (All-tail P x (xs ++ ys) all)
 

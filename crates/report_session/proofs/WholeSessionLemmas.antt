@@ -20,6 +20,7 @@ use Rattle.report_session.specs.Saving.{saves_settings}
 use Rattle.report_session.proofs.FinalReportLemmas.{FinalReport, FinalReportLaws, final_report_after_none}
 use Rattle.report_session.proofs.FinalReportLemmas.{final_report_exists, final_report_makes_whole}
 use Rattle.report_session.proofs.FinalReportLemmas.{reports_with_final_report}
+use Rattle.report_session.proofs.SessionTextLemmas.{session_text_groups}
 
 -- a beginning of a text begins a longer one, and so it does behind another text
 whole_session_goes_on : (front text more : List ℕ) → IsBeginning front text → IsBeginning front (text ++ more)
@@ -94,12 +95,6 @@ whole_session_in_rounds opening settings Kept tail more final kept (inr within) 
     (saved_cuts settings.store opening (next ∷ [])) (rest_after_saves settings.store opening within.rounds Kept)
     within.more within.breaks_off))))
 
--- the texts behind the rounds, put together
-whole_session_rest_text : (callers report line tail : List ℕ)
-    → (callers ++ report) ++ (line ++ tail) ≡ callers ++ ((report ++ line) ++ tail)
-whole_session_rest_text callers report line tail =
-    append_assoc callers report (line ++ tail) ∙ ap (λ text. callers ++ text) (sym (append_assoc report line tail))
-
 -- bytes with which a session begins that broke off begin the text of a whole one
 pub whole_session_text_exists : (opening : List ShardValue) (settings : Settings) (Kept : SessionSaving)
     (tail front : List ℕ) → FinalReport opening settings → All IsShard opening
@@ -136,7 +131,7 @@ whole_session_text_exists opening settings Kept tail front final kept (inr (inr 
           (sym later.written)
           (whole_session_stands_behind (mark_text Opened (session_start opening)) (parts ++ later.more) (parts ++ rest)
           (whole_session_stands_behind parts later.more rest
-          (subst (IsBeginning later.more) (whole_session_rest_text callers report line tail)
+          (subst (IsBeginning later.more) (session_text_groups callers report line tail)
           (whole_session_around_save (callers ++ report) (line ++ tail) (saved_cuts store opening (reports.last ∷ []))
           (rest_after_saves store opening reports.rounds Kept) later.more later.breaks_off))));
     }

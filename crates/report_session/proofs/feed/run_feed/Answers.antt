@@ -1,9 +1,9 @@
 use Rattle.std.proofs.Common.{ap}
+use Rattle.std.proofs.lemmas.Option.{IfSome_then}
 use Rattle.gate_workers.specs.declared.plan.ThreadPlan.{ThreadPlan}
 use Rattle.pass_tokens.specs.{view}
 use Rattle.report_session.proofs.RoundLemmas.{ended_rounds_say_less}
 use Rattle.report_session.proofs.SaveLemmas.{no_save_into_untouched_disk, part_of_saves}
-use Rattle.report_session.proofs.SeenPositionLemmas.{seen_positions_saver_stands}
 use Rattle.report_session.proofs.SessionThreadLemmas.{session_thread_ended_as_set, session_thread_ended_all_rounds}
 use Rattle.report_session.proofs.SessionThreadLemmas.{session_threads_leave_rounds, session_threads_gathered_all}
 use Rattle.report_session.proofs.SessionThreadLemmas.{session_thread_on_err, session_threads_ran_or_not}
@@ -20,7 +20,7 @@ returns-in-Some-clause-part g c =
       ap (λ work. g.K.Sink.taken work.sink.now) same,
       no_save_into_untouched_disk g.D.Disk
           c.args.rounds.now.saver.now c.args.rounds.now.disk.now _ g.met.D.Disk.only_now
-          (seen_positions_saver_stands _ _ c.args.board.now.opening _ _ c.args.rounds.now.saver.now c.requires.can_save)
+          (IfSome_then c.args.rounds.now.saver.now c.requires.can_save (λ saver can. can.stands))
           (ap (λ work. work.disk.now) same),
     )) (session_threads_ran_or_not _ _ c.args.board.now.opening _ (view c.args.pass) c.run_threads-gathered.result
     c.run_threads-gathered.ensures.gathers c.run_threads-gathered.ensures.memory)
@@ -36,7 +36,7 @@ returns-in_err-gathered-clause-part g c =
       ap (λ work. g.K.Sink.taken work.sink.now) same,
       no_save_into_untouched_disk g.D.Disk
           c.args.rounds.now.saver.now c.args.rounds.now.disk.now _ g.met.D.Disk.only_now
-          (seen_positions_saver_stands _ _ c.args.board.now.opening _ _ c.args.rounds.now.saver.now c.requires.can_save)
+          (IfSome_then c.args.rounds.now.saver.now c.requires.can_save (λ saver can. can.stands))
           (ap (λ work. work.disk.now) same),
     )) c.in_err-gathered.ensures.memory)
 

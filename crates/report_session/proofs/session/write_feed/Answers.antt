@@ -1,11 +1,11 @@
 use Rattle.std.proofs.Common.{◌++◌, [], ◌∷◌, refl, ap}
+use Rattle.std.proofs.lemmas.Option.{IfSome_then}
 use Rattle.report_session.specs.Saving.{Saves, SavesInPart}
 use Rattle.report_session.specs.Session.{session_parts, saved_cuts}
 use Rattle.report_session.proofs.FeedFaultLemmas.{feed_fault_after_good_steps, feed_fault_of_sink}
 use Rattle.report_session.proofs.LastSaveLemmas.{last_save_after_fewer_saves, last_save_is_possible}
 use Rattle.report_session.proofs.LastSaveLemmas.{last_save_broken_off, last_save_completes_session}
 use Rattle.report_session.proofs.SaveLemmas.{no_save_into_untouched_disk, part_of_saves, saves_follow}
-use Rattle.report_session.proofs.SeenPositionLemmas.{seen_positions_allowed_settings, seen_positions_saver_stands}
 use Rattle.report_session.proofs.SessionThreadLemmas.{session_thread_on_err}
 use Rattle.report_session.proofs.SessionTextLemmas.{session_text_of_fed_rounds, session_text_breaks_in_line}
 use Rattle.report_session.proofs.SessionTextLemmas.{session_text_breaks_in_rounds, session_text_breaks_in_rest}
@@ -22,7 +22,7 @@ returns-in-Err-clause-part g c =
     session_text_breaks_in_line c.args.opened.board.opening c.args.setup.now.settings.now _ c.args.tail.now c.args.line.now _ _ c.requires.line
     c.in-Err.ensures.beginning (no_save_into_untouched_disk g.D.Disk c.args.saver c.args.disk.now
     c.args.disk.now g.met.D.Disk.only_now
-    (seen_positions_saver_stands _ _ c.args.opened.board.opening _ _ c.args.saver c.requires.can_save) refl)
+    (IfSome_then c.args.saver c.requires.can_save (λ saver can. can.stands)) refl)
 
 pub returns-in-Err-clause-fault : goal.returns-in-Err-clause-fault
 returns-in-Err-clause-fault g c = feed_fault_of_sink _ _ _ _ _ c.in-Err.status c.in-Err.ensures.fault refl refl
@@ -65,9 +65,9 @@ returns-in-Ok-write_rest-clause-whole g c =
     let kept = last_save_completes_session g.D.Disk board.opening
     settings.store gathered.rounds end.last rest.cut c.args.saver c.write_rest.new.saver c.args.disk.now
     c.write_rest.new.disk c.requires.used end.cut_is (saves_follow c.stores_open_to_one.ensures g.D.Disk
-    c.args.saver c.feed.new.saver c.write_rest.new.saver
+    g.met.D.Disk.reading_is_image c.args.saver c.feed.new.saver c.write_rest.new.saver
     (saved_cuts settings.store board.opening gathered.rounds) (rest.cut ∷ []) c.args.disk.now c.feed.new.disk
-    c.write_rest.new.disk (seen_positions_allowed_settings _ _ board.opening _ _ c.args.saver c.requires.can_save) g.met.D.Disk.reading_is_image
+    c.write_rest.new.disk (IfSome_then c.args.saver c.requires.can_save (λ saver can. can.fits.settings))
     gathered.kept c.in-Ok-write_rest.ensures.saved) in
     session_text_is_written board.opening settings (λ cuts. Saves g.D.Disk c.args.saver cuts
     c.args.disk.now c.write_rest.new.disk) c.args.tail.now c.args.line.now
@@ -88,5 +88,5 @@ returns-clause-part g c =
     c.in-Ok.ensures.fed end c.in_default.ensures.whole (last_save_broken_off c.stores_open_to_one.ensures g.D.Disk
     board.opening settings.store gathered.rounds end.last rest.cut c.args.saver c.feed.new.saver c.args.disk.now
     c.feed.new.disk c.write_rest.new.disk c.requires.used end.cut_is
-    (seen_positions_allowed_settings _ _ board.opening _ _ c.args.saver c.requires.can_save) g.met.D.Disk.reading_is_image gathered.kept)
+    (IfSome_then c.args.saver c.requires.can_save (λ saver can. can.fits.settings)) g.met.D.Disk.reading_is_image gathered.kept)
     c.in-Err-write_rest.ensures.part

@@ -1,10 +1,10 @@
 use Rattle.std.proofs.Common.{inl, inr, refl, subst}
+use Rattle.std.proofs.lemmas.Option.{IfSome_then}
 use Rattle.std.specs.Io.KnownBytes.{Appends}
 use Rattle.std.proofs.KnownBytes.{Appends-trans}
 use Rattle.outside_io.specs.{AppendsPart}
 use Rattle.report_session.proofs.FeedFaultLemmas.{feed_fault_of_save, feed_fault_of_sink}
 use Rattle.report_session.proofs.SaveLemmas.{no_save_into_untouched_disk, part_of_saves}
-use Rattle.report_session.proofs.SeenPositionLemmas.{seen_positions_cut_saver_stands}
 use Rattle.report_session.proofs.session.write_rest.Goals as goal
 
 pub returns-in-Err-clause-part : goal.returns-in-Err-clause-part
@@ -15,7 +15,7 @@ returns-in-Err-clause-part g c =
       is_text = inl (
         begun.is_beginning,
         no_save_into_untouched_disk g.D.Disk c.args.saver.now c.args.disk.now c.args.disk.now g.met.D.Disk.only_now
-            (seen_positions_cut_saver_stands _ _ c.args.rest.now.cut c.args.saver.now c.requires) refl,
+            (IfSome_then c.args.saver.now c.requires (λ saver can. can.stands)) refl,
       );
       written = begun.appended;
     }

@@ -6,7 +6,7 @@ use Rattle.report_session.specs.Session.{WritesAnswer, BeginsSession, IsOverShar
 use Rattle.report_session.specs.DealtFeed.{IsFeedOpening, StartsBefore}
 use Rattle.report_session.specs.Saving.{Saves, SavesInPart}
 use Rattle.report_session.proofs.BaseLemmas.{base_goes_on, base_saver_is_ready}
-use Rattle.report_session.proofs.SessionThreadLemmas.{session_thread_err_implies_each, session_thread_on_ok_implies}
+use Rattle.std.proofs.lemmas.Result.{IfErr-weaker, on_ok_weaker}
 use Rattle.report_session.proofs.session.write_session.Goals as goal
 
 pub openings_stand-requires : goal.openings_stand-requires
@@ -48,7 +48,7 @@ write_feed-requires-clause-can_save g c = λ lifetimes outlive.
 
 pub returns-clause-whole : goal.returns-clause-whole
 returns-clause-whole g c =
-    session_thread_on_ok_implies c.write_feed.result _ _
+    on_ok_weaker c.write_feed.result
     (subst (λ shards. WritesAnswer (IsOverShards shards c.args.setup.now.settings.now
     (λ cuts. Saves g.D.Disk c.args.base.saver cuts
     c.args.disk.now c.write_feed.new.disk) c.args.tail.now) (g.K.Sink.taken c.args.sink.now)
@@ -56,7 +56,7 @@ returns-clause-whole g c =
 
 pub returns-clause-part : goal.returns-clause-part
 returns-clause-part g c =
-    session_thread_err_implies_each c.write_feed.result _ _ (λ status part. inr (
+    IfErr-weaker c.write_feed.result _ _ (λ status part. inr (
       record {
         core = record { are_shards = c.openings_stand.ensures.shards; kept = c.in_ok-opened.ensures.kept };
         alike = c.openings_stand.ensures.alike;

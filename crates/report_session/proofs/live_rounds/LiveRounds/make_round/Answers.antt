@@ -1,4 +1,5 @@
 use Rattle.std.proofs.Common.{◌∙◌, ◌++◌, [], ◌∷◌, inl, inr, ap, ap₂, subst, refl}
+use Rattle.std.proofs.lemmas.Option.{IfSome_then}
 use Rattle.std.specs.Prelude.{is_some}
 use Rattle.std.specs.Io.KnownBytes.{Appends}
 use Rattle.std.proofs.KnownBytes.{Appends-trans}
@@ -11,7 +12,6 @@ use Rattle.report_session.proofs.RoundLemmas.{round_broken_at_saving, round_brok
 use Rattle.report_session.proofs.SaveLemmas.{no_saver_no_save, no_save_broke_off, save_of_reported_cut}
 use Rattle.report_session.proofs.SaveLemmas.{whole_saves_broke_off}
 use Rattle.report_session.proofs.SeenPositionLemmas.{seen_positions_can_be_saved, seen_positions_fit_next_saver}
-use Rattle.report_session.proofs.SeenPositionLemmas.{seen_positions_saver_stands}
 use Rattle.report_session.proofs.live_rounds.LiveRounds.make_round.Goals as goal
 
 pub print-requires-clause-positions : goal.print-requires-clause-positions
@@ -45,7 +45,7 @@ returns-in-Err-clause-broken g c =
       written = subst (AppendsPart _ _) text c.in-Err.ensures.beginning;
       kept = no_save_broke_off g.D.Disk c.args.self.now.saver.now
           c.args.self.now.saver.now c.args.self.now.disk.now c.args.self.now.disk.now g.met.D.Disk.only_now
-          (seen_positions_saver_stands _ _ c.args.board.now.opening _ _ c.args.self.now.saver.now c.requires.can_save) refl refl;
+          (IfSome_then c.args.self.now.saver.now c.requires.can_save (λ saver can. can.stands)) refl refl;
     }))
 
 pub returns-in-Err-save_cut-clause-broken : goal.returns-in-Err-save_cut-clause-broken
@@ -72,7 +72,7 @@ returns-in-Err-save_cut-clause-broken g c =
       written = written;
       kept = no_save_broke_off g.D.Disk c.args.self.now.saver.now
           c.save_cut.new.saver c.args.self.now.disk.now c.save_cut.new.disk g.met.D.Disk.only_now
-          (seen_positions_saver_stands _ _ c.args.board.now.opening _ _ c.args.self.now.saver.now c.requires.can_save)
+          (IfSome_then c.args.self.now.saver.now c.requires.can_save (λ saver can. can.stands))
           (c.in-Err-save_cut.ensures.saver_stays is) (c.in-Err-save_cut.ensures.ran_out is);
     })
 
@@ -128,7 +128,7 @@ returns-in_err-report-clause-broken g c =
     c.args.self.now.disk.now c.args.self.now.disk.now) c.from_residual.ensures.1 c.report_once.ensures.reads refl refl
     (no_save_broke_off g.D.Disk c.args.self.now.saver.now c.args.self.now.saver.now
     c.args.self.now.disk.now c.args.self.now.disk.now g.met.D.Disk.only_now
-    (seen_positions_saver_stands _ _ c.args.board.now.opening _ _ c.args.self.now.saver.now c.requires.can_save) refl refl)
+    (IfSome_then c.args.self.now.saver.now c.requires.can_save (λ saver can. can.stands)) refl refl)
 
 pub returns-in_err-print-clause-broken : goal.returns-in_err-print-clause-broken
 returns-in_err-print-clause-broken g c =
@@ -138,7 +138,7 @@ returns-in_err-print-clause-broken g c =
     c.args.self.now.disk.now c.args.self.now.disk.now) c.from_residual-in_err-print.ensures.1 c.report_once.ensures.reads refl refl
     (no_save_broke_off g.D.Disk c.args.self.now.saver.now c.args.self.now.saver.now
     c.args.self.now.disk.now c.args.self.now.disk.now g.met.D.Disk.only_now
-    (seen_positions_saver_stands _ _ c.args.board.now.opening _ _ c.args.self.now.saver.now c.requires.can_save) refl refl)
+    (IfSome_then c.args.self.now.saver.now c.requires.can_save (λ saver can. can.stands)) refl refl)
 
 pub returns-in_err-line-clause-broken : goal.returns-in_err-line-clause-broken
 returns-in_err-line-clause-broken g c =
@@ -148,4 +148,4 @@ returns-in_err-line-clause-broken g c =
     c.args.self.now.disk.now c.args.self.now.disk.now) c.from_residual-in_err-line.ensures.1 c.report_once.ensures.reads refl refl
     (no_save_broke_off g.D.Disk c.args.self.now.saver.now c.args.self.now.saver.now
     c.args.self.now.disk.now c.args.self.now.disk.now g.met.D.Disk.only_now
-    (seen_positions_saver_stands _ _ c.args.board.now.opening _ _ c.args.self.now.saver.now c.requires.can_save) refl refl)
+    (IfSome_then c.args.self.now.saver.now c.requires.can_save (λ saver can. can.stands)) refl refl)

@@ -1,4 +1,5 @@
 use Rattle.std.proofs.Common.{◌∙◌, ◌≤◌, length, refl, sym, subst, arith}
+use Rattle.std.proofs.lemmas.Option.{IfSome_then}
 use Rattle.hhh_report.specs.{million}
 use Rattle.hhh_output.specs.{IsWideShare}
 use Rattle.shard_state.specs.{HasCoreShape, core_shape}
@@ -7,9 +8,8 @@ use Rattle.report_session.specs.Saving.{SavesBreakOff, SavesInTurn}
 use Rattle.report_session.proofs.RoundLemmas.{all_rounds_were_made, one_round_broke_off, round_saver_stays_or_none}
 use Rattle.report_session.proofs.RoundLemmas.{writes_no_round, writes_more_rounds}
 use Rattle.report_session.proofs.SaveLemmas.{no_save, save_needs_saver, broken_saves_follow, saves_follow}
-use Rattle.report_session.proofs.SeenPositionLemmas.{seen_positions_allowed_settings, seen_positions_allow_more_saves}
-use Rattle.report_session.proofs.SeenPositionLemmas.{seen_position_report_count, seen_positions_fit_saver}
-use Rattle.report_session.proofs.SeenPositionLemmas.{seen_positions_saver_is_early, seen_positions_saver_stands}
+use Rattle.report_session.proofs.SeenPositionLemmas.{seen_positions_allow_more_saves}
+use Rattle.report_session.proofs.SeenPositionLemmas.{seen_position_report_count}
 use Rattle.report_session.proofs.live_rounds.LiveRoundsRounds.go.Goals as goal
 
 pub loop-round-init : goal.loop-round-init
@@ -24,13 +24,13 @@ loop-round-init g c = record {
   same_rounds = refl;
   same_callers = refl;
   unstopped = c.requires.ready.4;
-  fits = seen_positions_fit_saver _ _ c.args.board.now.opening _ _ c.args.self.now.saver.now c.requires.ready.5;
+  fits = IfSome_then c.args.self.now.saver.now c.requires.ready.5 (λ saver can. can.fits);
   written =
       writes_no_round _ _ _ _
       (SavesInTurn g.D.Disk c.args.self.now.saver.now c.args.self.now.saver.now c.args.self.now.disk.now c.args.self.now.disk.now)
       (c.calls_follow_calls.ensures.none _ _ _)
       (no_save g.D.Disk c.args.self.now.saver.now c.args.self.now.disk.now (g.met.D.Disk.only_now c.args.self.now.disk.now)
-      (seen_positions_saver_stands _ _ c.args.board.now.opening _ _ c.args.self.now.saver.now c.requires.ready.5));
+      (IfSome_then c.args.self.now.saver.now c.requires.ready.5 (λ saver can. can.stands)));
 }
 
 pub make_round-requires-clause-some : goal.make_round-requires-clause-some
@@ -53,7 +53,7 @@ make_round-requires-clause-can_save g c =
     (view c.loop-round.pass) c.args.self.now.saver.now c.loop-round.self.saver.now far.written.reports
     c.args.self.now.disk.now c.loop-round.self.disk.now c.loop-round.round 1 c.args.self.now.rounds
     (seen_position_report_count _ _ _ _ _ _ far.written.calls) (omega (arith, c.loop-round-test.true)) far.fits far.written.kept
-    (seen_positions_saver_is_early _ _ c.args.board.now.opening _ _ c.args.self.now.saver.now c.requires.ready.5)
+    (IfSome_then c.args.self.now.saver.now c.requires.ready.5 (λ saver can. can.early))
 
 pub returns-in-Err-clause-does : goal.returns-in-Err-clause-does
 returns-in-Err-clause-does g c =
@@ -74,10 +74,10 @@ returns-in-Err-clause-does g c =
           c.args.self.now.disk.now c.make_round.new.self.disk.now) c.in-Err.status opening far.same_share
           (round_saver_stays_or_none c.args.self.now.saver.now c.loop-round.self.saver.now _ far.written.kept.saver)
           c.loop-round-test.true (λ cuts saved unfinished first second.
-          broken_saves_follow c.stores_open_to_one.ensures g.D.Disk c.args.self.now.saver.now c.loop-round.self.saver.now
+          broken_saves_follow c.stores_open_to_one.ensures g.D.Disk g.met.D.Disk.reading_is_image c.args.self.now.saver.now c.loop-round.self.saver.now
           c.make_round.new.self.saver.now cuts saved unfinished c.args.self.now.disk.now c.loop-round.self.disk.now c.make_round.new.self.disk.now
-          (seen_positions_allowed_settings _ _ c.args.board.now.opening _ _ c.args.self.now.saver.now c.requires.ready.5)
-          g.met.D.Disk.reading_is_image first second) far.written c.in-Err.ensures.broken,
+          (IfSome_then c.args.self.now.saver.now c.requires.ready.5 (λ saver can. can.fits.settings))
+          first second) far.written c.in-Err.ensures.broken,
       λ none.
           let done = save_needs_saver g.D.Disk _ _ _ _ _ far.written.kept none in
           let round = c.in-Err.ensures.unused done.0 in (round.0, round.1 ∙ done.1),
@@ -113,10 +113,11 @@ loop-round-preserved g c =
           (λ phi rounds more middle now reports later.
           c.calls_follow_calls.ensures.more opening phi rounds more (view c.args.pass.now) middle now reports later
           c.requires.pass.seat.trails) (λ cuts later first second.
-          saves_follow c.stores_open_to_one.ensures g.D.Disk c.args.self.now.saver.now c.loop-round.self.saver.now c.make_round.new.self.saver.now cuts later
-          c.args.self.now.disk.now c.loop-round.self.disk.now c.make_round.new.self.disk.now
-          (seen_positions_allowed_settings _ _ opening _ _ c.args.self.now.saver.now c.requires.ready.5) g.met.D.Disk.reading_is_image first
-          second) far.written c.in_default.ensures.whole;
+          saves_follow c.stores_open_to_one.ensures g.D.Disk g.met.D.Disk.reading_is_image c.args.self.now.saver.now
+          c.loop-round.self.saver.now c.make_round.new.self.saver.now cuts later c.args.self.now.disk.now
+          c.loop-round.self.disk.now c.make_round.new.self.disk.now
+          (IfSome_then c.args.self.now.saver.now c.requires.ready.5 (λ saver can. can.fits.settings)) first second)
+          far.written c.in_default.ensures.whole;
     }
 
 pub returns-clause-does : goal.returns-clause-does
