@@ -6,7 +6,7 @@ use Rattle.recovery.specs.declared.fault.OpenFault.{OpenFault}
 use Rattle.recovery.specs.declared.fault.OpenFault.TheVariants as opening
 use Rattle.command_words.specs.declared.settings.Settings.{Settings}
 use Rattle.report_session.specs.{WritesAnswer, FeedEnds, FeedRefuses, FeedWrites}
-use Rattle.report_session.specs.{FeedWritesPart, RoundFaults, saves_settings, BeginsSession}
+use Rattle.report_session.specs.{FeedWritesPart, RoundFaults, settings_of_store, BeginsSession}
 use Rattle.report_session.specs.{IsSession, IsSessionInPart, SessionKeeping, IsOverShards, session_opening}
 use Rattle.hhh_engine.specs.Ending.{Ends, IsRefusedStore, EndsRefusing, SourceFaults}
 use Rattle.report_session.specs.{IsFeedCapture}
@@ -48,7 +48,7 @@ capture_report_writes_session settings rules keeping left store lists tail old n
     represents = writes.represents;
     spelled =
         subst (λ t. IsOverShards (session_opening (asked_shape settings) lists writes.base) settings
-        (λ cuts. settings.store ≡ true → keeping (saves_settings settings) lists cuts []) t writes.writes.text)
+        (λ cuts. settings.store ≡ true → keeping (settings_of_store settings) lists cuts []) t writes.writes.text)
         capture.is_tail writes.writes.is_text;
   };
   written = writes.writes.written;
@@ -72,7 +72,7 @@ capture_report_writes_in_part settings rules keeping left store lists tail old n
     shards = writes.shards;
     begun =
         subst (λ t. BeginsSession (session_opening (asked_shape settings) lists writes.base) settings
-        (λ saved unfinished. settings.store ≡ true → keeping (saves_settings settings) lists saved unfinished) t
+        (λ saved unfinished. settings.store ≡ true → keeping (settings_of_store settings) lists saved unfinished) t
         writes.writes.text) capture.is_tail writes.writes.is_text;
   };
   written = writes.writes.written;

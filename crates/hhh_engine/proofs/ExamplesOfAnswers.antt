@@ -12,7 +12,7 @@ use Rattle.command_words.specs.declared.command.Command.TheVariants.{Watch, Make
 use Rattle.command_words.specs.declared.words_kind.WordsKind.TheVariants.{NoCommand}
 use Rattle.hhh_engine.specs.Answer.{Answers, AnswersInPart, IsAnswer, IsAnswerInPart, IsWeighInPart}
 use Rattle.hhh_engine.specs.Answer.{IsUnfinished, formatted_answer}
-use Rattle.report_session.specs.{WritesAnswer, saves_settings}
+use Rattle.report_session.specs.{WritesAnswer, settings_of_store}
 use Rattle.hhh_engine.specs.Inputs.{CommandAvoids, CommandUses, CanBeAnswered}
 use Rattle.hhh_engine.specs.Inputs.{HasCapture, UsesCapture, UsesSession, UsesStore}
 use Rattle.hhh_engine.specs.Inputs.{WereAccepted, WereRead, inputs}
@@ -405,7 +405,7 @@ format_refuses_no_store fault refuses = refuses
 -- where the disk fails, `format` writes nothing, and changes no more than the front; where memory runs out, the disk is as
 -- before too
 pub format_without_memory :
-    FormatEnds {K = Known} disk (saves_settings settings) nothing nothing nothing (known (8 ∷ []) 0) OutOfMemory → ⊥
+    FormatEnds {K = Known} disk (settings_of_store settings) nothing nothing nothing (known (8 ∷ []) 0) OutOfMemory → ⊥
 format_without_memory ended =
     let same : 1 ≡ 0 = ap (λ (stream : Known). length stream.bytes) ended.1 in omega (arith, same)
 
@@ -420,7 +420,7 @@ byte_behind_the_front_was_torn torn =
 
 -- `format` reads no capture that could be refused
 pub format_refuses_no_capture :
-    FormatEnds {K = Known} disk (saves_settings settings) nothing nothing nothing nothing
+    FormatEnds {K = Known} disk (settings_of_store settings) nothing nothing nothing nothing
     (BadCapture (header_fault_at ShortHeader 0)) → ⊥
 format_refuses_no_capture ended = ended
 

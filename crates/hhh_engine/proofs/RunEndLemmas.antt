@@ -18,7 +18,7 @@ use Rattle.hhh_engine.specs.Ending.{EndsAsBefore, FormatEnds}
 use Rattle.frame_records.specs.{IsRefusedFile}
 use Rattle.hhh_engine.specs.Inputs.{UsesCapture, UsesSession, UsesStore, takes_front}
 use Rattle.hhh_engine.specs.TopCall.{RunEnds, Streams, faults_after, faults_before}
-use Rattle.report_session.specs.{IsAsBefore, saves_settings, IsAsBefore-untouched}
+use Rattle.report_session.specs.{IsAsBefore, settings_of_store, IsAsBefore-untouched}
 use Rattle.hhh_engine.specs.Rules.{RunRules}
 use Rattle.run_status.specs.{status_of_words}
 use Rattle.run_status.specs.declared.status.Status.{Status}
@@ -182,7 +182,7 @@ module _ {S T K D : Type 0} (s : SourceOf S) (t : SourceOf T) (k : SinkOf K) (d 
   -- where nothing was written for want of memory, the disk is as before, also if the command is `format`
   run_is_as_before : RunDiskIsNow d → (command : Command) → EndsAsBefore command (IsAsBefore d old.disk new.disk)
       → ((settings : Settings) → command ≡ Format settings
-      → FormatEnds d (saves_settings settings) old.sink new.sink old.disk new.disk OutOfMemory)
+      → FormatEnds d (settings_of_store settings) old.sink new.sink old.disk new.disk OutOfMemory)
       → IsAsBefore d old.disk new.disk
   run_is_as_before only_now (Weigh prefix settings) as_before formats = as_before
   run_is_as_before only_now (Report settings) as_before formats = as_before
@@ -269,7 +269,7 @@ module _ {S T K D : Type 0} (s : SourceOf S) (t : SourceOf T) (k : SinkOf K) (d 
             inl (
               nothing.0,
               run_is_as_before only_now command nothing.1 (λ settings formatted.
-                  subst (FormatEnds d (saves_settings settings) old.sink new.sink old.disk new.disk) is
+                  subst (FormatEnds d (settings_of_store settings) old.sink new.sink old.disk new.disk) is
                   (answers.formats settings formatted)),
             ))
             (λ part. inr (record { command = command; asked = asked; read_to_end = part.0; answer = part.1 })) ended.0;

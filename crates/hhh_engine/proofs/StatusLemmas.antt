@@ -32,8 +32,8 @@ use Rattle.dealt_capture.specs.{IsCaptureFile, AreDealtRecords, DealingRules}
 use Rattle.hhh_engine.specs.Rules.{RunRules}
 use Rattle.hhh_engine.specs.Commands.{CommandEnds}
 use Rattle.hhh_engine.specs.TopCall.{RefusesStore, Streams, faults_after, faults_before, run_inputs, run_keeping}
-use Rattle.report_session.specs.{IsAsBefore, saves_settings, GoesOnFrom}
-use Rattle.report_session.specs.{SessionKeeping, saves_settings-allowed}
+use Rattle.report_session.specs.{IsAsBefore, settings_of_store, GoesOnFrom}
+use Rattle.report_session.specs.{SessionKeeping, settings_of_store-allowed}
 use Rattle.command_words.specs.declared.words_kind.WordsRefusal.{WordsRefusal}
 use Rattle.command_words.specs.declared.words_kind.WordsRefusal.TheVariants as words
 use Rattle.run_status.specs.{status_of_opening, status_of_words}
@@ -181,8 +181,8 @@ status_is_never_refusal decided opened rules settings given AsBefore fault limit
     let is_store = can refuses.0 in
     let is = status_of_known_file given.capture capture.file (λ f. IsRefusedStore settings rules given.store f fault) capture.told refuses.2 in
     let belongs = is_store.belongs capture.file is.records is.lists capture.told is.dealt in
-    (decided (saves_settings settings) is.lists is_store.image (saves_settings-allowed settings limited)).not_both _ fault
-    (opened (saves_settings settings) is.lists is_store.image belongs.0 belongs.1 belongs.2 belongs.3) shown
+    (decided (settings_of_store settings) is.lists is_store.image (settings_of_store-allowed settings limited)).not_both _ fault
+    (opened (settings_of_store settings) is.lists is_store.image belongs.0 belongs.1 belongs.2 belongs.3) shown
     (is.refused is_store.image is_store.told)
 
 command_status_is_never_refusal : AreDecided → BelongingOpen → (rules : DealingRules) (command : Command)
@@ -253,11 +253,11 @@ status_never_of_begun_session : AreDecided → (rules : DealingRules) (settings 
     (file image : List ℕ) (fault : OpenFault) (records : Records) (lists : List (List RecordValue))
     (base : Option CutValue) → AreLimited settings → settings.store ≡ true → store ≡ Some image → IsShownByBytes fault
     → ((records : Records) (lists : List (List RecordValue)) → AreDealtRecords settings rules file records lists
-    → RefusesOpening (saves_settings settings) lists image fault)
+    → RefusesOpening (settings_of_store settings) lists image fault)
     → AreDealtRecords settings rules file records lists → GoesOnFrom settings lists store base → ⊥
 status_never_of_begun_session decided rules settings store file image fault records lists base limited used known shown refused dealt
     begins =
-    (decided (saves_settings settings) lists image (saves_settings-allowed settings limited)).not_both base fault
+    (decided (settings_of_store settings) lists image (settings_of_store-allowed settings limited)).not_both base fault
     (begins.opens used image known) shown (refused records lists dealt)
 
 -- the fault for which such a store is refused
@@ -265,12 +265,12 @@ status_names_same_refusal : AreDecided → (rules : DealingRules) (settings : Se
     (file image : List ℕ) (fault other : OpenFault) → AreLimited settings → given.capture ≡ Some file → given.store ≡ Some image
     → IsShownByBytes fault → IsShownByBytes other
     → ((records : Records) (lists : List (List RecordValue)) → AreDealtRecords settings rules file records lists
-    → RefusesOpening (saves_settings settings) lists image fault)
+    → RefusesOpening (settings_of_store settings) lists image fault)
     → EndsRefusing settings rules given.capture given.store AsBefore other → other ≡ fault
 status_names_same_refusal decided rules settings given AsBefore file image fault other limited known is_store shown is_shown
     refused refuses =
     let is = status_of_known_file given.capture file (λ f. IsRefusedStore settings rules given.store f other) known refuses.2 in
-    (decided (saves_settings settings) is.lists image (saves_settings-allowed settings limited)).one_fault other fault is_shown
+    (decided (settings_of_store settings) is.lists image (settings_of_store-allowed settings limited)).one_fault other fault is_shown
     shown (is.refused image is_store) (refused is.records is.lists is.dealt)
 
 -- arguments that are refused name no fault of a store
@@ -462,7 +462,7 @@ module _ {S T K D : Type 0} (s : SourceOf S) (t : SourceOf T) (k : SinkOf K) (d 
       (file image : List ℕ) (fault : OpenFault) → AreLimited settings → settings.store ≡ true
       → given.capture ≡ Some file → IsCaptureFile settings.front file → given.store ≡ Some image → IsShownByBytes fault
       → ((records : Records) (lists : List (List RecordValue)) → AreDealtRecords settings rules.dealing file records lists
-      → RefusesOpening (saves_settings settings) lists image fault)
+      → RefusesOpening (settings_of_store settings) lists image fault)
       → Ended (Report settings) status
       → (status ≡ status_of_opening fault)
       ⊎ ((status ≡ ReadFault) ⊎ ((status ≡ DiskFault) ⊎ (status ≡ OutOfMemory)))

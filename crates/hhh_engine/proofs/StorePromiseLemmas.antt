@@ -15,7 +15,7 @@ use Rattle.checkpoint.specs.declared.settings.StoreSettings.{StoreSettings}
 use Rattle.dealt_capture.specs.{DealingRules}
 use Rattle.hhh_engine.specs.Rules.{RunRules}
 use Rattle.report_session.specs.{AreKeptOnDisk, BelongThroughout, BelongsToLists, IsAsBefore, IsSession, IsSessionInPart}
-use Rattle.report_session.specs.{SessionsBelong, StoreIsKept, saves_settings}
+use Rattle.report_session.specs.{SessionsBelong, StoreIsKept, settings_of_store}
 use Rattle.hhh_engine.specs.StorePromise.{KeepsBelonging, KeepsItsStore, is_done}
 use Rattle.hhh_engine.specs.TopCall.{RunEnds, Streams, WritesNothing}
 use Rattle.run_status.specs.declared.status.Status.{Status}
@@ -26,11 +26,11 @@ pub record StorePromises {D : Type 0} (d : DiskOf D) (rules : DealingRules) : Ty
   pub whole : (old new : D) (settings : Settings) (store : List ℕ) (file : Option (List ℕ)) (text : List ℕ) → AreLimited settings
       → settings.store ≡ true → d.reads old ≡ Some store
       → IsSession settings rules (AreKeptOnDisk d old new) (d.reads old) file text
-      → StoreIsKept d (stored_header (saves_settings settings) store) old new store text true
+      → StoreIsKept d (stored_header (settings_of_store settings) store) old new store text true
   pub in_part : (old new : D) (settings : Settings) (store : List ℕ) (file : Option (List ℕ)) (front : List ℕ) → AreLimited settings
       → settings.store ≡ true → d.reads old ≡ Some store
       → IsSessionInPart settings rules (AreKeptOnDisk d old new) (d.reads old) file front
-      → StoreIsKept d (stored_header (saves_settings settings) store) old new store front false
+      → StoreIsKept d (stored_header (settings_of_store settings) store) old new store front false
   pub as_before : (old new : D) (header : StoreHeader) (store : List ℕ) → IsAsBefore d old new
       → StoreIsKept d header old new store [] false
 
@@ -43,7 +43,7 @@ module _ {S T K D : Type 0} (s : SourceOf S) (t : SourceOf T) (k : SinkOf K) (d 
     (ends : RunEnds s t k d old new words rules status) where
   -- what is said of the store where this was written, to its end or not
   abbrev StoreBehind : List ℕ → Bool → Type 0
-  StoreBehind written whole = StoreIsKept d (stored_header (saves_settings settings) store) old.disk new.disk store written whole
+  StoreBehind written whole = StoreIsKept d (stored_header (settings_of_store settings) store) old.disk new.disk store written whole
 
   abbrev StorePromised : Type 0
   StorePromised = KeepsItsStore k d old new settings store status
@@ -53,7 +53,7 @@ module _ {S T K D : Type 0} (s : SourceOf S) (t : SourceOf T) (k : SinkOf K) (d 
     written = [];
     appended = subst (λ sink. Appends (k.taken old.sink) (k.taken sink) []) (sym nothing.0) (Appends-nil (k.taken old.sink));
     kept = subst (StoreBehind []) (sym failed)
-        (promises.as_before old.disk new.disk (stored_header (saves_settings settings) store) store nothing.1);
+        (promises.as_before old.disk new.disk (stored_header (settings_of_store settings) store) store nothing.1);
   }
 
   store_promise_of_part : StorePromises d rules.dealing → is_done status ≡ false
@@ -99,7 +99,7 @@ module _ {S T K D : Type 0} (s : SourceOf S) (t : SourceOf T) (k : SinkOf K) (d 
         belongs = λ held. sessions.whole old.disk new.disk settings store (s.left old.capture) done.1.text is limited used known held;
       }))
       (λ failed. ⊎_elim
-      (λ nothing. inl (nothing.0, λ lists held. as_before old.disk new.disk (saves_settings settings) lists nothing.1 held))
+      (λ nothing. inl (nothing.0, λ lists held. as_before old.disk new.disk (settings_of_store settings) lists nothing.1 held))
       (λ part. let is = part.is_text in inr (record {
         records = is.records;
         lists = is.lists;

@@ -15,7 +15,7 @@ use Rattle.hhh_engine.specs.Inputs.{WereAccepted, WereRead, UsesCapture, UsesSes
 use Rattle.hhh_engine.specs.Inputs.{UsesStore}
 use Rattle.hhh_engine.specs.TopCall.{Streams, faults_after, faults_before, run_inputs, run_keeping}
 use Rattle.hhh_engine.specs.TopCall.{sources_after, sources_before}
-use Rattle.report_session.specs.{IsAsBefore, saves_settings}
+use Rattle.report_session.specs.{IsAsBefore, settings_of_store}
 use Rattle.hhh_engine.specs.Rules.{RunRules}
 use Rattle.run_status.specs.declared.status.Status.{Status}
 use Rattle.run_status.specs.declared.status.Status.TheVariants.{BadCapture, DiskFault}
@@ -63,4 +63,4 @@ module _ {S T K D : Type 0} (s : SourceOf S) (t : SourceOf T) (k : SinkOf K) (d 
     pub text_unread : (UsesSession command → ⊥) → new.text ≡ old.text
     pub fronts : ReadsFront (s.left old.capture) (s.left new.capture) × ReadsFront (t.left old.text) (t.left new.text)
     pub formats : (settings : Settings) → command ≡ Format settings
-        → FormatEnds d (saves_settings settings) old.sink new.sink old.disk new.disk status
+        → FormatEnds d (settings_of_store settings) old.sink new.sink old.disk new.disk status

@@ -19,7 +19,7 @@ use Rattle.exact_audit.specs.declared.verdict.Verdict.{Verdict}
 use Rattle.command_words.specs.declared.command.Command.{Command}
 use Rattle.command_words.specs.declared.command.Command.TheVariants as command
 use Rattle.command_words.specs.declared.settings.Settings.{Settings}
-use Rattle.report_session.specs.{WritesAnswer, saves_settings}
+use Rattle.report_session.specs.{WritesAnswer, settings_of_store}
 use Rattle.session_audit.specs.{IsUnsoundAudit, ReadOnFault, unsound_audit}
 use Rattle.hhh_engine.specs.Inputs.{InputBytes, HoldsOfAudit}
 use Rattle.dealt_capture.specs.{IsCaptureFile, AreDealtRecords, DealingRules}
@@ -87,7 +87,7 @@ pub record IsRefusedStore (settings : Settings) (rules : DealingRules) (store : 
   pub records : Records
   pub lists : List (List RecordValue)
   pub dealt : AreDealtRecords settings rules file records lists
-  pub refused : IfImageKnown store (λ image. RefusesOpening (saves_settings settings) lists image fault)
+  pub refused : IfImageKnown store (λ image. RefusesOpening (settings_of_store settings) lists image fault)
 
 -- the text of a session by a grain was refused: this is its first fault, where its bytes are known; it was read to its end, or to
 -- one byte past the longest one

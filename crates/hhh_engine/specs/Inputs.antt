@@ -12,7 +12,7 @@ use Rattle.command_words.specs.{AskForCommand}
 use Rattle.command_words.specs.declared.command.Command.{Command}
 use Rattle.command_words.specs.declared.command.Command.TheVariants.{Weigh, Report, Format, Audit, Watch, Make, Demo}
 use Rattle.command_words.specs.declared.settings.Settings.{Settings}
-use Rattle.report_session.specs.{saves_settings}
+use Rattle.report_session.specs.{settings_of_store}
 use Rattle.dealt_capture.specs.{AreDealtRecords, DealingRules}
 use Rattle.dealt_capture.specs.{IsCaptureFile}
 use Rattle.prefix_lattice.specs.declared.grain.Grain.{Grain}
@@ -142,7 +142,7 @@ pub record HasStore (settings : Settings) (rules : DealingRules) (read : InputBy
   pub image : List ℕ
   pub told : read.store ≡ Some image
   pub belongs : (file : List ℕ) (records : Records) (lists : List (List RecordValue)) → read.capture ≡ Some file
-      → AreDealtRecords settings rules file records lists → IsInputStore (saves_settings settings) lists image
+      → AreDealtRecords settings rules file records lists → IsInputStore (settings_of_store settings) lists image
 
 -- what a command reads is known, and each input is in its format
 abbrev pub CanBeAnswered : DealingRules → Command → InputBytes → Type 0

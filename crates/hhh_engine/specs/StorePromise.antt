@@ -10,7 +10,7 @@ use Rattle.slot_disk.specs.declared.disk.Disk.{Ghosts as DiskOf}
 use Rattle.command_words.specs.declared.settings.Settings.{Settings}
 use Rattle.checkpoint.specs.{stored_header}
 use Rattle.dealt_capture.specs.{AreDealtRecords, DealingRules}
-use Rattle.report_session.specs.{BelongThroughout, BelongsToLists, GoesOnFrom, StoreIsKept, saves_settings}
+use Rattle.report_session.specs.{BelongThroughout, BelongsToLists, GoesOnFrom, StoreIsKept, settings_of_store}
 use Rattle.run_status.specs.{status_number}
 use Rattle.run_status.specs.declared.status.Status.{Status}
 use Rattle.hhh_engine.specs.TopCall.{Streams}
@@ -24,11 +24,11 @@ pub record KeepsItsStore {S T K D : Type 0} (k : SinkOf K) (d : DiskOf D) (old n
     (store : List ℕ) (status : Status) : Type 0 where
   pub written : List ℕ
   pub appended : Appends (k.taken old.sink) (k.taken new.sink) written
-  pub kept : StoreIsKept d (stored_header (saves_settings settings) store) old.disk new.disk store written (is_done status)
+  pub kept : StoreIsKept d (stored_header (settings_of_store settings) store) old.disk new.disk store written (is_done status)
 
 -- whatever a crash could have left of the store on this disk belongs to these lists
 abbrev pub BelongsBefore : {D : Type 0} → DiskOf D → D → Settings → List (List RecordValue) → Type 0
-BelongsBefore d disk settings lists = (image : List ℕ) → d.image_now disk image → BelongsToLists (saves_settings settings) lists image
+BelongsBefore d disk settings lists = (image : List ℕ) → d.image_now disk image → BelongsToLists (settings_of_store settings) lists image
 
 -- the records of the capture, which are those of its bytes where these are known, were dealt to lists, and `base` is the saved
 -- cut that the run went on from, if any. If the store belonged to the lists as the run began, then the base represents them, and
@@ -41,7 +41,7 @@ pub record BelongsAsDealt {S T K D : Type 0} (s : SourceOf S) (d : DiskOf D) (ol
   pub base : Option CutValue
   pub begins : GoesOnFrom settings lists (d.reads old.disk) base
   pub belongs : BelongsBefore d old.disk settings lists
-      → BelongThroughout d (saves_settings settings) lists base old.disk new.disk
+      → BelongThroughout d (settings_of_store settings) lists base old.disk new.disk
 
 -- the store of a run keeps belonging to what it belonged to: to any lists where nothing was written, and else to those of the
 -- records as they were dealt
@@ -50,5 +50,5 @@ abbrev pub KeepsBelonging : {S T K D : Type 0} → SourceOf S → DiskOf D → (
 KeepsBelonging s d old new settings rules =
     ((new.sink ≡ old.sink)
     × ((lists : List (List RecordValue)) → BelongsBefore d old.disk settings lists
-    → BelongThroughout d (saves_settings settings) lists None old.disk new.disk))
+    → BelongThroughout d (settings_of_store settings) lists None old.disk new.disk))
     ⊎ BelongsAsDealt s d old new settings rules

@@ -28,7 +28,7 @@ use Rattle.hhh_engine.specs.Ending.{FormatEnds, IsRefusedStore, SessionRefused, 
 use Rattle.hhh_engine.specs.Inputs.{CommandAvoids, CommandUses, HoldsOfAudit, InputBytes}
 use Rattle.hhh_engine.specs.Inputs.{CanBeAnswered, WereRead, MayUseStore, UsesCapture}
 use Rattle.hhh_engine.specs.Inputs.{ReadsSession, UsesSession, UsesStore, inputs, takes_front}
-use Rattle.report_session.specs.{IsAsBefore, AreKeptOnDisk, saves_settings, SessionKeeping}
+use Rattle.report_session.specs.{IsAsBefore, AreKeptOnDisk, settings_of_store, SessionKeeping}
 use Rattle.dealt_capture.specs.{AreDealtRecords, IsCaptureFile}
 use Rattle.watch_rules.specs.declared.rule.Rule.{Rule}
 use Rattle.prefix_lattice.specs.declared.grain.Grain.{Grain}
@@ -190,7 +190,7 @@ module _ {S T K D : Type 0} (s : SourceOf S) (t : SourceOf T) (k : SinkOf K) (d 
           → AskForCommand words (command.Report settings) → settings.store ≡ true → s.left old.capture ≡ Some file
           → IsCaptureFile settings.front file → d.reads old.disk ≡ Some image → IsShownByBytes fault
           → ((records : Records) (lists : List (List RecordValue)) → AreDealtRecords settings rules.dealing file records lists
-          → RefusesOpening (saves_settings settings) lists image fault)
+          → RefusesOpening (settings_of_store settings) lists image fault)
           → (status ≡ status_of_opening fault) ⊎ ((status ≡ ReadFault) ⊎ ((status ≡ DiskFault) ⊎ (status ≡ OutOfMemory)))
 
       -- where the same report is the first unsound one, by the same verdict, however the records are dealt, the audit names it,
@@ -257,7 +257,7 @@ module _ {S T K D : Type 0} (s : SourceOf S) (t : SourceOf T) (k : SinkOf K) (d 
         -- `format` leaves an empty store where its line was written, or began to be; where the disk failed, no more than its
         -- first 64 bytes, and what is past its old end, have changed. What the command doesn't use is untouched
         pub formats : (settings : Settings) → AskForCommand words (command.Format settings)
-            → FormatEnds d (saves_settings settings) old.sink new.sink old.disk new.disk status
+            → FormatEnds d (settings_of_store settings) old.sink new.sink old.disk new.disk status
         pub unused_capture : CommandAvoids UsesCapture words → new.capture ≡ old.capture
         pub unused_text : CommandAvoids UsesSession words → new.text ≡ old.text
         pub unused_disk : CommandAvoids UsesStore words → new.disk ≡ old.disk

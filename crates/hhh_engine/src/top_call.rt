@@ -12,7 +12,7 @@ ghost use Rattle.hhh_engine.specs.Ending.{FormatEnds};
 ghost use Rattle.hhh_engine.specs.Inputs.{UsesCapture, UsesSession, UsesStore};
 ghost use Rattle.hhh_engine.specs.Rules.{run_rules};
 ghost use Rattle.hhh_engine.specs.TopCall.{RunEnds, streams};
-ghost use Rattle.report_session.specs.{saves_settings};
+ghost use Rattle.report_session.specs.{settings_of_store};
 ghost use Rattle.run_status.specs.declared.status.Status.TheVariants.{BadCapture, DiskFault};
 
 use crate::Status;
@@ -125,7 +125,7 @@ fn answer<R: Threads + Wait + Sync, S: Source, T: Source, K: Sink, D: Disk, G: G
     ensures text_unread { (UsesSession command.now → ⊥) → text.new ≡ text.old }
     ensures fronts { ReadsFront (S.left capture.old) (S.left capture.new) × ReadsFront (T.left text.old) (T.left text.new) }
     ensures formats { (settings : Settings) → command.now ≡ Format settings
-        → FormatEnds D.Disk (saves_settings settings) sink.old sink.new disk.old disk.new result }
+        → FormatEnds D.Disk (settings_of_store settings) sink.old sink.new disk.old disk.new result }
 {
     let alloc = runner.alloc;
     match command {

@@ -17,7 +17,7 @@ use Rattle.checkpoint.specs.{AreSettings, SaverState, DiskMatches, settings_shap
 use Rattle.recovery.specs.{CanGoOn, IsBaseFor, OpensToBase, base_positions, greatest_opened}
 use Rattle.command_words.specs.declared.settings.Settings.{Settings}
 use Rattle.report_session.specs.DealtFeed.{FeedGoesOn, HasNoBase, IsFeedBase, IsFeedSaver}
-use Rattle.report_session.specs.Saving.{saves_settings-allowed, CanMakeSaves, saves_settings}
+use Rattle.report_session.specs.Saving.{settings_of_store-allowed, CanMakeSaves, settings_of_store}
 use Rattle.report_session.specs.Session.{session_opening, session_start, asked_shape, GoesOnFrom}
 use Rattle.report_session.specs.declared.base.Base.{Base}
 use Rattle.run_status.specs.declared.status.Status.{Status}
@@ -35,8 +35,8 @@ base_goes_on settings lists store (Some cut) limited begins =
 
 -- the positions of the base are those at which the shards start
 pub base_starts : (settings : Settings) (lists : List (List RecordValue)) (base : Option CutValue)
-    → length lists ≡ settings.shards → IfSome base (IsBaseFor (saves_settings settings) lists)
-    → base_positions (saves_settings settings) base ≡ session_start (session_opening (asked_shape settings) lists base)
+    → length lists ≡ settings.shards → IfSome base (IsBaseFor (settings_of_store settings) lists)
+    → base_positions (settings_of_store settings) base ≡ session_start (session_opening (asked_shape settings) lists base)
 base_starts settings lists None many fits =
     ap (λ n. replicate n 0) (sym many) ∙ sym (opening_shards_start_at_zero (asked_shape settings) lists)
 base_starts settings lists (Some cut) many fits = sym (resumed_opening_shards_at_cut lists cut.shards fits.continues)
@@ -54,7 +54,7 @@ base_saver_is_ready settings lists reads possible opening positions (Some saver)
     let few : settings.rounds ≤ 32 = limited.few_rounds in
     record {
       fits = record {
-        settings = subst AreSettings (sym is.settings_are) (saves_settings-allowed settings limited);
+        settings = subst AreSettings (sym is.settings_are) (settings_of_store-allowed settings limited);
         shards = ap (λ (s : StoreSettings). s.shards) is.settings_are ∙ sym many;
         shape = ap settings_shape is.settings_are ∙ sym alike;
         seen = subst (λ ps. AreNotPast ps (map (λ trail. trail.seen) (first_view opening).trails))
@@ -68,15 +68,15 @@ base_saver_is_ready settings lists reads possible opening positions (Some saver)
 -- the base that a store opened to
 pub opened_base : (settings : Settings) (lists : List (List RecordValue)) (store : Option (List ℕ)) (opened : Opened)
     (base : Base) → settings.store ≡ true → length lists ≡ settings.shards
-    → CanGoOn (saves_settings settings) lists opened
-    → IfImageKnown store (λ image. OpensToBase (saves_settings settings) lists image opened.base)
+    → CanGoOn (settings_of_store settings) lists opened
+    → IfImageKnown store (λ image. OpensToBase (settings_of_store settings) lists image opened.base)
     → base.cut ≡ opened.base → base.positions ≡ opened.positions → base.saver ≡ Some opened.saver
     → IsFeedBase settings lists store base
 opened_base settings lists store opened base used many goes_on opens cut positions saver = record {
   begins = record {
     unused = λ unused. absurd (false≢true (sym unused ∙ used));
-    fits = subst (λ o. IfSome o (IsBaseFor (saves_settings settings) lists)) (sym cut) goes_on.base;
-    opens = λ is_used. subst (λ o. IfImageKnown store (λ image. OpensToBase (saves_settings settings) lists image o)) (sym cut)
+    fits = subst (λ o. IfSome o (IsBaseFor (settings_of_store settings) lists)) (sym cut) goes_on.base;
+    opens = λ is_used. subst (λ o. IfImageKnown store (λ image. OpensToBase (settings_of_store settings) lists image o)) (sym cut)
         opens;
   };
   used = ap is_some saver ∙ sym used;

@@ -18,10 +18,10 @@ use Rattle.command_words.specs.{AreLimited}
 use Rattle.command_words.specs.declared.settings.Settings.{Settings}
 use Rattle.report_text.specs.{tail_text}
 use Rattle.report_session.specs.Saving.{BelongThroughout, BelongsToLists, AreKeptOnDisk, last_of_saves, saves_after}
-use Rattle.report_session.specs.Saving.{IsAsBefore, saves_settings, saves_settings-allowed}
+use Rattle.report_session.specs.Saving.{IsAsBefore, settings_of_store, settings_of_store-allowed}
 use Rattle.report_session.specs.KeptStore.{SessionsBelong}
 use Rattle.report_session.specs.Session.{GoesOnFrom, IsSession, IsSessionInPart, IsShownInSession}
-use Rattle.report_session.specs.Session.{GoesOnSoundly, SessionSaving, caller_reports, session_opening, saved_cuts}
+use Rattle.report_session.specs.Session.{GoesOnSoundly, SessionSaving, calling_reports, session_opening, saved_cuts}
 use Rattle.report_session.specs.Session.{asked_shape}
 use Rattle.dealt_capture.specs.{DealingRules}
 use Rattle.report_session.proofs.BaseLemmas.{base_goes_on}
@@ -64,12 +64,12 @@ belonging_session_keeps_belonging : OpenToOne → ShowsItsHeader → {D : Type 0
     → (IfSome base (λ cut. CutRepresents cut lists) → All (λ cut. CutRepresents cut lists) saved)
     → (IfSome base (λ cut. CutRepresents cut lists) → All (λ cut. CutRepresents cut lists) unfinished)
     → (store : List ℕ) → d.reads old ≡ Some store
-    → ((image : List ℕ) → d.image_now old image → BelongsToLists (saves_settings settings) lists image)
-    → AreKeptOnDisk d old new (saves_settings settings) lists saved unfinished
-    → BelongThroughout d (saves_settings settings) lists base old new
+    → ((image : List ℕ) → d.image_now old image → BelongsToLists (settings_of_store settings) lists image)
+    → AreKeptOnDisk d old new (settings_of_store settings) lists saved unfinished
+    → BelongThroughout d (settings_of_store settings) lists base old new
 belonging_session_keeps_belonging one shown d read_is_image settings lists base saved unfinished old new limited used
     begins of_saved of_unfinished store known belonged kept =
-    let asked : StoreSettings = saves_settings settings in
+    let asked : StoreSettings = settings_of_store settings in
     let of_store : StoreHeader = stored_header asked store in
     let digest : List ℕ = lists_digest of_store lists in
     let keeps = kept store known in
@@ -77,7 +77,7 @@ belonging_session_keeps_belonging one shown d read_is_image settings lists base 
     let sequence : ℕ = store_sequence opened in
     let held : StoreBelongs of_store lists store = belonged store (read_is_image old store known) in
     let found : OpensToBase asked lists store base = begins.opens used store known in
-    let allowed = saves_settings-allowed settings limited in
+    let allowed = settings_of_store-allowed settings limited in
     let is : IsStoreOf of_store lists opened =
     subst (IsStoreOf of_store lists) (one of_store store held.0 opened allowed held.1 keeps.opens) held.2 in
     let represents : IfSome base (λ cut. CutRepresents cut lists) =
@@ -129,13 +129,13 @@ belonging_session_completed : OpenToOne → ShowsItsHeader → SavedStoreCutsRep
     (settings : Settings) (old new : D) (store : List ℕ) (file : Option (List ℕ)) (text : List ℕ)
     (is : IsSession settings rules (AreKeptOnDisk d old new) (d.reads old) file text)
     → AreLimited settings → settings.store ≡ true → d.reads old ≡ Some store
-    → ((image : List ℕ) → d.image_now old image → BelongsToLists (saves_settings settings) is.lists image)
-    → BelongThroughout d (saves_settings settings) is.lists is.base old new
+    → ((image : List ℕ) → d.image_now old image → BelongsToLists (settings_of_store settings) is.lists image)
+    → BelongThroughout d (settings_of_store settings) is.lists is.base old new
 belonging_session_completed one shown represent d read_is_image rules settings old new store file text is limited
     used known belonged =
     let opening : List ShardValue = session_opening (asked_shape settings) is.lists is.base in
     let many : length is.lists ≡ settings.shards = is.as_many in
-    let reports : List Reported = caller_reports is.spelled.reports in
+    let reports : List Reported = calling_reports is.spelled.reports in
     belonging_session_keeps_belonging one shown d read_is_image settings is.lists is.base
     (saved_cuts settings.store opening reports) [] old new limited used is.begins
     (λ standing. belonging_session_kept_cuts settings.store opening is.lists reports used
@@ -149,8 +149,8 @@ belonging_session_broken_off : OpenToOne → ShowsItsHeader → SavedStoreCutsRe
     (settings : Settings) (old new : D) (store : List ℕ) (file : Option (List ℕ)) (front : List ℕ)
     (is : IsSessionInPart settings rules (AreKeptOnDisk d old new) (d.reads old) file front)
     → AreLimited settings → settings.store ≡ true → d.reads old ≡ Some store
-    → ((image : List ℕ) → d.image_now old image → BelongsToLists (saves_settings settings) is.lists image)
-    → BelongThroughout d (saves_settings settings) is.lists is.base old new
+    → ((image : List ℕ) → d.image_now old image → BelongsToLists (settings_of_store settings) is.lists image)
+    → BelongThroughout d (settings_of_store settings) is.lists is.base old new
 belonging_session_broken_off one shown represent d read_is_image rules settings old new store file front is limited
     used known belonged =
     let lists : List (List RecordValue) = is.lists in
@@ -160,8 +160,8 @@ belonging_session_broken_off one shown represent d read_is_image rules settings 
     let Stand : List CutValue → Type 0 = All (λ cut. CutRepresents cut lists) in
     let Standing : Type 0 = IfSome base (λ cut. CutRepresents cut lists) in
     let Kept : SessionSaving = λ saved unfinished. settings.store ≡ true
-    → AreKeptOnDisk d old new (saves_settings settings) lists saved unfinished in
-    let Belonging : Type 0 = BelongThroughout d (saves_settings settings) lists base old new in
+    → AreKeptOnDisk d old new (settings_of_store settings) lists saved unfinished in
+    let Belonging : Type 0 = BelongThroughout d (settings_of_store settings) lists base old new in
     let cuts : List Reported → List CutValue = saved_cuts settings.store opening in
     let no_cut : Stand [] = All-nil (λ (cut : CutValue). CutRepresents cut lists) in
     let of : (reports : List Reported) → All (IsShownInSession opening settings) reports → Standing → Stand (cuts reports) =

@@ -19,7 +19,7 @@ use Rattle.report_session.specs.Session.{GoesOnSoundly, SessionSaving, IsOverSha
 use Rattle.report_session.specs.DealtFeed.{FeedEnds, HasNoBase, IsFeedFault, IsFeedSaver, FeedWrites, FeedWritesPart}
 use Rattle.report_session.specs.LiveRounds.{round_faults}
 use Rattle.report_session.specs.Saving.{KeepsSaves, OpensToSaves, SavesInPart, AreKeptOnDisk, saves_after}
-use Rattle.report_session.specs.Saving.{saves_settings, IsAsBefore}
+use Rattle.report_session.specs.Saving.{settings_of_store, IsAsBefore}
 use Rattle.run_status.specs.{status_of_opening}
 use Rattle.run_status.specs.declared.status.Status.{Status}
 use Rattle.run_status.specs.declared.status.Status.TheVariants.{WriteFault, DiskFault, OutOfMemory}
@@ -32,12 +32,12 @@ pub dealt_report_keeps_saves : ShowsItsHeader → {D : Type 0} (d : DiskOf D) (s
     → is_some saver ≡ settings.store → IfSome saver (IsFeedSaver settings lists positions)
     → CrashLeaves d.moment d.image_since old mid (d.image_now old) → d.reads mid ≡ d.reads old
     → SavesInPart d saver mid new saved unfinished → settings.store ≡ true
-    → AreKeptOnDisk d old new (saves_settings settings) lists saved unfinished
+    → AreKeptOnDisk d old new (settings_of_store settings) lists saved unfinished
 dealt_report_keeps_saves shown d settings lists positions None saved unfinished old mid new has is leaves same saves
     used = absurd (false≢true (has ∙ used))
 dealt_report_keeps_saves shown d settings lists positions (Some saver) saved unfinished old mid new has is leaves
     same saves used = λ bytes known.
-    let header : StoreHeader = stored_header (saves_settings settings) bytes in
+    let header : StoreHeader = stored_header (settings_of_store settings) bytes in
     let found = saves.kept bytes (same ∙ known) in
     let of_bytes : saver.header ≡ header =
     sym (shown saver.header bytes found.opens.2.header) ∙ ap (λ s. stored_header s bytes) is.settings_are in
@@ -63,7 +63,7 @@ module _ {K D : Type 0} (k : SinkOf K) (d : DiskOf D) (settings : Settings) (lis
   -- the store is refused for a fault, or memory ran out
   dealt_report_stops_at_fault : (fault : OpenFault) → IsAsBefore d old new
       → (settings.store ≡ true) ⊎ (fault ≡ opening.OutOfMemory)
-      → IfImageKnown (d.reads old) (λ image. RefusesOpening (saves_settings settings) lists image fault)
+      → IfImageKnown (d.reads old) (λ image. RefusesOpening (settings_of_store settings) lists image fault)
       → (fault ≡ opening.DiskFault → FaultRose (d.faults old) (d.faults new))
       → ((fault ≡ opening.DiskFault → ⊥) → d.faults new ≡ d.faults old)
       → FeedEnds k d settings lists tail sink sink old new (status_of_opening fault)
@@ -91,7 +91,7 @@ module _ {K D : Type 0} (k : SinkOf K) (d : DiskOf D) (settings : Settings) (lis
     (begins : GoesOnFrom settings lists (d.reads old) base)
     (represents : GoesOnSoundly lists base (session_opening (asked_shape settings) lists base))
     (keeps : (saved unfinished : List CutValue) → Kept saved unfinished → settings.store ≡ true
-    → AreKeptOnDisk d old new (saves_settings settings) lists saved unfinished)
+    → AreKeptOnDisk d old new (settings_of_store settings) lists saved unfinished)
     (unmoved : Same → IsAsBefore d old new) where
   abbrev DealtInPart : Type 0
   DealtInPart = AreSessionShards (asked_shape settings) (session_opening (asked_shape settings) lists base)
@@ -108,7 +108,7 @@ module _ {K D : Type 0} (k : SinkOf K) (d : DiskOf D) (settings : Settings) (lis
     writes = record {
       text = part.text;
       is_text = session_text_begins_weaker (session_opening (asked_shape settings) lists base) settings Kept
-          (λ saved unfinished. settings.store ≡ true → AreKeptOnDisk d old new (saves_settings settings) lists saved unfinished)
+          (λ saved unfinished. settings.store ≡ true → AreKeptOnDisk d old new (settings_of_store settings) lists saved unfinished)
           tail part.text keeps part.is_text;
       written = part.written;
     };
@@ -130,7 +130,7 @@ module _ {K D : Type 0} (k : SinkOf K) (d : DiskOf D) (settings : Settings) (lis
 pub dealt_report_is_written : (settings : Settings) (lists : List (List RecordValue)) (tail : List ℕ) (keeping : SessionKeeping)
     (store : Option (List ℕ)) (base : Option CutValue) (Kept : List CutValue → Type 0) (old new : Option (List ℕ))
     → GoesOnFrom settings lists store base → GoesOnSoundly lists base (session_opening (asked_shape settings) lists base)
-    → ((cuts : List CutValue) → Kept cuts → settings.store ≡ true → keeping (saves_settings settings) lists cuts [])
+    → ((cuts : List CutValue) → Kept cuts → settings.store ≡ true → keeping (settings_of_store settings) lists cuts [])
     → WritesAnswer (IsOverShards (session_opening (asked_shape settings) lists base) settings Kept tail) old new
     → FeedWrites settings lists tail keeping store old new
 dealt_report_is_written settings lists tail keeping store base Kept old new begins represents keeps writes = record {
@@ -140,7 +140,7 @@ dealt_report_is_written settings lists tail keeping store base Kept old new begi
   writes = record {
     text = writes.text;
     is_text = spelled_session_text_says_less (session_opening (asked_shape settings) lists base) settings Kept
-        (λ cuts. settings.store ≡ true → keeping (saves_settings settings) lists cuts []) tail writes.text keeps
+        (λ cuts. settings.store ≡ true → keeping (settings_of_store settings) lists cuts []) tail writes.text keeps
         writes.is_text;
     written = writes.written;
   };

@@ -28,8 +28,8 @@ use Rattle.report_session.specs.Saving.{BelongThroughout, BelongsToLists, SavesF
 use Rattle.prefix_lattice.specs.declared.grain.Grain.TheVariants.{Byte}
 use Rattle.report_session.specs.Saving.{KeepsSaves, OpensToSaves, SavesReopen, Saves, SavesBreakOff}
 use Rattle.report_session.specs.Saving.{SavesInPart, after_saves, after_broken, AreKeptOnDisk}
-use Rattle.report_session.specs.Saving.{last_of_saves, AreReopened, ReopenFromStore, saves_after, saves_settings}
-use Rattle.report_session.specs.Session.{GoesOnFrom, SessionReports, caller_reports, session_ends, last_positions}
+use Rattle.report_session.specs.Saving.{last_of_saves, AreReopened, ReopenFromStore, saves_after, settings_of_store}
+use Rattle.report_session.specs.Session.{GoesOnFrom, SessionReports, calling_reports, session_ends, last_positions}
 use Rattle.report_session.specs.Session.{new_shards, session_opening, session_part, resumed_shards, saved_cuts}
 use Rattle.report_session.specs.Session.{saves_of, text_of_reports, session_start, asked_shape}
 use Rattle.run_status.specs.declared.status.Status.TheVariants.{NotFormatted}
@@ -42,7 +42,7 @@ abbrev one_shard : Settings
 one_shard = record settings { shards = 1; capacity = 2; store = true }
 
 abbrev pub one : StoreSettings
-one = saves_settings one_shard
+one = settings_of_store one_shard
 
 -- the header that `format` writes for it
 abbrev of_one : StoreHeader
@@ -53,7 +53,7 @@ abbrev lists : List (List RecordValue)
 lists = (packet ∷ []) ∷ []
 
 -- of a command's settings a store has these
-pub settings_of_a_store : saves_settings settings
+pub settings_of_a_store : settings_of_store settings
     ≡ record { shards = 4; capacity = 512; weigh = Bytes; deal = RoundRobin; grain = Byte }
 settings_of_a_store = refl
 
@@ -355,7 +355,7 @@ pub positions_before_a_report : last_positions (0 ∷ []) [] ≡ 0 ∷ []
 positions_before_a_report = refl
 
 -- its only cut is saved under the sequence after that of the store
-pub saves_of_a_session : saves_of of_one (resumed ∷ []) (Some (saved 4 one_counted)) (caller_reports reports)
+pub saves_of_a_session : saves_of of_one (resumed ∷ []) (Some (saved 4 one_counted)) (calling_reports reports)
     ≡ record { sequence = 5; digest = lists_digest of_one lists; cut = cut_at (resumed ∷ []) (1 ∷ []) } ∷ []
 saves_of_a_session = refl
 

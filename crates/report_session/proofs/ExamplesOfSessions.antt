@@ -33,7 +33,7 @@ use Rattle.report_session.specs.Session.{AreOfCaller, AreReports, AreSessionShar
 use Rattle.report_session.specs.Session.{BreaksOffInRounds, BreaksOffAround, BreaksOffLater, GoesOnFrom, IsSession}
 use Rattle.report_session.specs.Session.{IsSessionInPart, IsShownInSession, IsStrictBeginning, SessionKeeping}
 use Rattle.report_session.specs.Session.{rest_after_saves, saved_cuts, ReportsNeverFall, GoesOnSoundly, SessionSaving}
-use Rattle.report_session.specs.Session.{SessionReports, IsOverShards, caller_reports, caller_parts, new_shards}
+use Rattle.report_session.specs.Session.{SessionReports, IsOverShards, calling_reports, other_parts, new_shards}
 use Rattle.report_session.specs.Session.{session_opening, session_part, session_parts, session_rest, save_line}
 use Rattle.report_session.specs.Session.{text_of_reports, session_start, asked_shape}
 use Rattle.report_session.proofs.Examples.{header, two_shards}
@@ -224,7 +224,7 @@ unfolding digits
 text_of_two_reports = refl
 
 -- nothing is saved after the reports of the other callers
-pub text_of_two_callers : caller_parts ((later ∷ []) ∷ (last ∷ []) ∷ []) ≡ session_part false later ++ session_part false last
+pub text_of_two_callers : other_parts ((later ∷ []) ∷ (last ∷ []) ∷ []) ≡ session_part false later ++ session_part false last
 unfolding digits
 text_of_two_callers = refl
 
@@ -280,7 +280,7 @@ no_report_is_not_one are = cc are.as_many
 abbrev pub reports : SessionReports
 reports = record { rounds = []; callers = []; last = last }
 
-pub calling_thread_makes_the_last_report : caller_reports reports ≡ last ∷ []
+pub calling_thread_makes_the_last_report : calling_reports reports ≡ last ∷ []
 calling_thread_makes_the_last_report = refl
 
 pub reports_of_the_session : AreReports opening settings reports

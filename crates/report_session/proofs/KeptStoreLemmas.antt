@@ -25,10 +25,10 @@ use Rattle.report_text.specs.declared.mark.Mark.{Mark}
 use Rattle.report_text.specs.declared.mark.Mark.TheVariants.{Opened, Saved}
 use Rattle.report_session.specs.KeptStore.{IsBeingSaved, OpensToSave, ReopensAfterSaves, StoreIsKept, last_shown}
 use Rattle.report_session.specs.Saving.{IsAsBefore, KeepsSaves, OpensToSaves, AreKeptOnDisk, last_of_saves, saves_after}
-use Rattle.report_session.specs.Saving.{saves_settings}
+use Rattle.report_session.specs.Saving.{settings_of_store}
 use Rattle.report_session.specs.Session.{AreOfCaller, BreaksOffAround, BreaksOffInRounds, GoesOnFrom}
 use Rattle.report_session.specs.Session.{IsOverShards, IsSession, IsSessionInPart, IsStrictBeginning, SessionSaving}
-use Rattle.report_session.specs.Session.{asked_shape, caller_parts, last_positions, rest_after_saves, saved_cuts}
+use Rattle.report_session.specs.Session.{asked_shape, other_parts, last_positions, rest_after_saves, saved_cuts}
 use Rattle.report_session.specs.Session.{session_opening, session_parts, session_start}
 use Rattle.report_session.proofs.ReopenedStoreLemmas.{RisesInReopenedStore, reopened_store_next_not_before}
 use Rattle.report_session.proofs.ReopenedStoreLemmas.{reopened_store_positions, reopened_store_rises}
@@ -110,18 +110,18 @@ module _ (texts : KeptStoreTexts) where
       (texts.report first.report _ _ (caller_shows_no_kept_save reports rest saves shows))
 
   callers_show_no_kept_save : (callers : List (List Reported)) (rest : List ℕ) (saves : List (List ℕ))
-      → ShowsSaves rest saves → ShowsSaves (caller_parts callers ++ rest) saves
+      → ShowsSaves rest saves → ShowsSaves (other_parts callers ++ rest) saves
   callers_show_no_kept_save [] rest saves shows = shows
   callers_show_no_kept_save (reports ∷ callers) rest saves shows =
-      subst (λ text. ShowsSaves text saves) (sym (append_assoc (session_parts false reports) (caller_parts callers) rest))
-      (caller_shows_no_kept_save reports (caller_parts callers ++ rest) saves
+      subst (λ text. ShowsSaves text saves) (sym (append_assoc (session_parts false reports) (other_parts callers) rest))
+      (caller_shows_no_kept_save reports (other_parts callers ++ rest) saves
       (callers_show_no_kept_save callers rest saves shows))
 
   -- nor does the report behind them
   last_report_shows_no_kept_save : (callers : List (List Reported)) (report : Report) (line : List ℕ) (saves : List (List ℕ))
-      → ShowsSaves line saves → ShowsSaves ((caller_parts callers ++ report_text report) ++ line) saves
+      → ShowsSaves line saves → ShowsSaves ((other_parts callers ++ report_text report) ++ line) saves
   last_report_shows_no_kept_save callers report line saves shows =
-      subst (λ text. ShowsSaves text saves) (sym (append_assoc (caller_parts callers) (report_text report) line))
+      subst (λ text. ShowsSaves text saves) (sym (append_assoc (other_parts callers) (report_text report) line))
       (callers_show_no_kept_save callers (report_text report ++ line) saves (texts.report report line saves shows))
 
 -- the cuts of reports were saved; or the next one's save has begun, or is made besides
@@ -175,7 +175,7 @@ module _ (texts : KeptStoreTexts) (opening : List ShardValue) (settings : Settin
   kept_store_saved : (count : ℕ) (rounds : List Reported) (next : Reported) (callers : List (List Reported))
       (more front rest : List ℕ) → AreKeptReports count (rounds ++ next ∷ [])
       → front ≡ first_kept_line ++ (session_parts true rounds ++ more)
-      → more ≡ (caller_parts callers ++ report_text next.report) ++ (mark_text Saved next.report.positions ++ rest)
+      → more ≡ (other_parts callers ++ report_text next.report) ++ (mark_text Saved next.report.positions ++ rest)
       → ShowsSaves rest [] → Kept (saved_cuts true opening (rounds ++ next ∷ [])) [] → ShapesKeptStore front
   kept_store_saved count rounds next callers more front rest are is ends shows kept =
       let positions : List ℕ = next.report.positions in
@@ -196,11 +196,11 @@ module _ (texts : KeptStoreTexts) (opening : List ShardValue) (settings : Settin
   kept_store_around : (count : ℕ) (rounds : List Reported) (next : Reported) (callers : List (List Reported))
       (tail more front : List ℕ) → AreKeptReports count (rounds ++ next ∷ [])
       → front ≡ first_kept_line ++ (session_parts true rounds ++ more) → ShowsSaves tail []
-      → BreaksOffAround (caller_parts callers ++ report_text next.report) (mark_text Saved next.report.positions ++ tail)
+      → BreaksOffAround (other_parts callers ++ report_text next.report) (mark_text Saved next.report.positions ++ tail)
       (saved_cuts true opening (next ∷ [])) (rest_after_saves true opening rounds Kept) more → ShapesKeptStore front
   kept_store_around count rounds next callers tail more front are is shows breaks =
       let positions : List ℕ = next.report.positions in
-      let before : List ℕ = caller_parts callers ++ report_text next.report in
+      let before : List ℕ = other_parts callers ++ report_text next.report in
       let cuts : List CutValue = saved_cuts true opening rounds in
       let behind : (line : List ℕ) → more ≡ before ++ line → ShowsSaves line [] → ShowsSaves more [] = λ line ends none.
       subst (λ text. ShowsSaves text []) (sym ends) (last_report_shows_no_kept_save texts callers next.report line [] none) in
@@ -216,13 +216,13 @@ module _ (texts : KeptStoreTexts) (opening : List ShardValue) (settings : Settin
       } in
       let being : (line : List ℕ) → more ≡ before ++ line → IsStrictBeginning line (mark_text Saved positions)
       → IsBeingSaved front positions = λ line ends strict. record {
-        before = first_kept_line ++ (session_parts true rounds ++ caller_parts callers);
+        before = first_kept_line ++ (session_parts true rounds ++ other_parts callers);
         report = next.report;
         line = line;
         at = refl;
         ends =
             is ∙ ap (λ m. first_kept_line ++ (session_parts true rounds ++ m)) ends
-            ∙ kept_store_line_groups first_kept_line (session_parts true rounds) (caller_parts callers) (report_text next.report) line;
+            ∙ kept_store_line_groups first_kept_line (session_parts true rounds) (other_parts callers) (report_text next.report) line;
         unfinished = strict;
       } in
       ⊎_elim (λ part. unsaved (texts.front more part.0.0
@@ -270,7 +270,7 @@ module _ (texts : KeptStoreTexts) (opening : List ShardValue) (settings : Settin
       → IsOverShards opening (with_kept_store settings) (λ cuts. Kept cuts []) (tail_text records) text → ShapesKeptStore text
   kept_store_whole records text is =
       let last : Reported = is.reports.last in
-      let callers : List ℕ = caller_parts is.reports.callers in
+      let callers : List ℕ = other_parts is.reports.callers in
       kept_store_saved (settings.rounds + 1) is.reports.rounds last is.reports.callers
       (callers ++ ((report_text last.report ++ mark_text Saved last.report.positions) ++ tail_text records)) text (tail_text records)
       is.are_reports.calling is.spelled
@@ -323,13 +323,13 @@ module _ (one : OpenToOne) (texts : KeptStoreTexts) {D : Type 0} (d : DiskOf D) 
   start_of_kept = session_start opening_of_kept
 
   abbrev header_of_kept : StoreHeader
-  header_of_kept = stored_header (saves_settings settings) store
+  header_of_kept = stored_header (settings_of_store settings) store
 
   abbrev digest_of_kept : List ℕ
   digest_of_kept = lists_digest header_of_kept lists
 
   abbrev KeptOnDisk : SessionSaving
-  KeptOnDisk = AreKeptOnDisk d old new (saves_settings settings) lists
+  KeptOnDisk = AreKeptOnDisk d old new (settings_of_store settings) lists
 
   abbrev AreOfKept : List Reported → Type 0
   AreOfKept reports = All (λ reported. length reported.report.positions ≡ length opening_of_kept) reports
@@ -338,7 +338,7 @@ module _ (one : OpenToOne) (texts : KeptStoreTexts) {D : Type 0} (d : DiskOf D) 
   KeepsItsStore whole = StoreIsKept d header_of_kept old new store written whole
 
   kept_store_starts : (opened : Option SavedValue) → StoreOpensTo header_of_kept store opened
-      → store_positions (saves_settings settings) opened ≡ start_of_kept
+      → store_positions (settings_of_store settings) opened ≡ start_of_kept
   kept_store_starts opened opens =
       reopened_store_start_positions one settings lists store base opened limited many begins.fits (begins.opens refl store known) opens
 
@@ -360,7 +360,7 @@ module _ (one : OpenToOne) (texts : KeptStoreTexts) {D : Type 0} (d : DiskOf D) 
         found = last;
         opens = found;
         positions =
-            subst (λ positions. AreNotPast positions (store_positions (saves_settings settings) last))
+            subst (λ positions. AreNotPast positions (store_positions (settings_of_store settings) last))
             (sym (ap (λ s. last_shown s (positions_of_kept reports)) starts ∙ last_kept_positions start_of_kept reports))
             (subst (AreNotPast (last_positions start_of_kept reports)) (sym (reopened_store_positions header_of_kept opening_of_kept
             digest_of_kept start_of_kept opened (store_sequence opened) all starts each)) past);
@@ -488,14 +488,14 @@ module _ (one : OpenToOne) (texts : KeptStoreTexts) {D : Type 0} (d : DiskOf D) 
 pub kept_store_after_session : OpenToOne → KeptStoreTexts → {D : Type 0} (d : DiskOf D) (rules : DealingRules) (settings : Settings)
     (old new : D) (store : List ℕ) (file : Option (List ℕ)) (text : List ℕ) → AreLimited settings → settings.store ≡ true
     → d.reads old ≡ Some store → IsSession settings rules (AreKeptOnDisk d old new) (d.reads old) file text
-    → StoreIsKept d (stored_header (saves_settings settings) store) old new store text true
+    → StoreIsKept d (stored_header (settings_of_store settings) store) old new store text true
 unfolding kept_store_whole kept_store_saved
 kept_store_after_session one texts d rules settings old new store file text limited used known session =
     let is = subst (λ s. IsSession s rules (AreKeptOnDisk d old new) (d.reads old) file text)
     (ap (λ b. record settings { store = b }) used) session in
     kept_store_of_shape one texts d settings is.lists is.base old new store text limited is.as_many is.begins known true
     (kept_store_whole texts (session_opening (asked_shape settings) is.lists is.base) settings
-    (λ saved unfinished. true ≡ true → AreKeptOnDisk d old new (saves_settings settings) is.lists saved unfinished)
+    (λ saved unfinished. true ≡ true → AreKeptOnDisk d old new (settings_of_store settings) is.lists saved unfinished)
     is.records text is.spelled) (λ whole. refl)
 
 -- so does one that broke off
@@ -504,15 +504,15 @@ pub kept_store_after_part : OpenToOne → KeptStoreTexts → {D : Type 0} (d : D
     (settings : Settings) (old new : D) (store : List ℕ) (file : Option (List ℕ)) (front : List ℕ) → AreLimited settings
     → settings.store ≡ true → d.reads old ≡ Some store
     → IsSessionInPart settings rules (AreKeptOnDisk d old new) (d.reads old) file front
-    → StoreIsKept d (stored_header (saves_settings settings) store) old new store front false
+    → StoreIsKept d (stored_header (settings_of_store settings) store) old new store front false
 kept_store_after_part one texts d reading_is_image rules settings old new store file front limited used known session =
     let is = subst (λ s. IsSessionInPart s rules (AreKeptOnDisk d old new) (d.reads old) file front)
     (ap (λ b. record settings { store = b }) used) session in
     let opening : List ShardValue = session_opening (asked_shape settings) is.lists is.base in
     let Kept : SessionSaving = λ saved unfinished. true ≡ true
-    → AreKeptOnDisk d old new (saves_settings settings) is.lists saved unfinished in
+    → AreKeptOnDisk d old new (settings_of_store settings) is.lists saved unfinished in
     let of_shape : KeptStoreShape opening (with_kept_store settings) Kept front
-    → StoreIsKept d (stored_header (saves_settings settings) store) old new store front false = λ shape.
+    → StoreIsKept d (stored_header (settings_of_store settings) store) old new store front false = λ shape.
     kept_store_of_shape one texts d settings is.lists is.base old new store front limited is.as_many is.begins known
     false shape (λ no. absurd (false≢true no)) in
     ⊎_elim

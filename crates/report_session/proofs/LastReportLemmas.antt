@@ -11,7 +11,7 @@ use Rattle.gate_workers.specs.{cut_at}
 use Rattle.command_words.specs.declared.settings.Settings.{Settings}
 use Rattle.report_text.specs.{mark_text, report_text}
 use Rattle.report_text.specs.declared.mark.Mark.TheVariants.{Opened}
-use Rattle.report_session.specs.Session.{AreOfCaller, AreReports, IsShownInSession, SessionReports, caller_parts}
+use Rattle.report_session.specs.Session.{AreOfCaller, AreReports, IsShownInSession, SessionReports, other_parts}
 use Rattle.report_session.specs.Session.{session_part, session_parts, text_of_reports, session_start}
 
 -- what holds of all elements holds of the last one
@@ -55,7 +55,7 @@ last_report_without_rounds (first ∷ rounds) last count many none = absurd (ome
 
 -- and none of the other callers
 last_report_without_callers : (opening : List ShardValue) (settings : Settings) (count : ℕ) (callers : List (List Reported))
-    → count ≡ 0 → All (AreOfCaller opening settings count) callers → caller_parts callers ≡ []
+    → count ≡ 0 → All (AreOfCaller opening settings count) callers → other_parts callers ≡ []
 last_report_without_callers opening settings count [] none all = refl
 last_report_without_callers opening settings count ([] ∷ callers) none all =
     last_report_without_callers opening settings count callers none
@@ -73,7 +73,7 @@ pub last_report_stands_alone : (opening : List ShardValue) (settings : Settings)
 last_report_stands_alone opening settings reports tail none are =
     let line = mark_text Opened (session_start opening) in
     let no_round : reports.rounds ≡ [] = last_report_without_rounds reports.rounds reports.last settings.rounds are.calling.as_many none in
-    let nobody : caller_parts reports.callers ≡ [] =
+    let nobody : other_parts reports.callers ≡ [] =
     last_report_without_callers opening settings settings.rounds reports.callers none are.callers in
     ap₂ (λ rounds callers. line ++ (session_parts settings.store rounds
     ++ (callers ++ (session_part settings.store reports.last ++ tail)))) no_round nobody

@@ -9,7 +9,7 @@ use Rattle.hhh_report.specs.declared.reports.Reported.{Reported}
 use Rattle.recovery.specs.{ContinuesList}
 use Rattle.command_words.specs.declared.settings.Settings.{Settings}
 use Rattle.report_session.specs.Session.{AreOfCaller, GoesOnFrom, IsSession, IsShownInSession, SessionKeeping}
-use Rattle.report_session.specs.Session.{caller_reports, session_opening, reports_in, resumed_shards, asked_shape}
+use Rattle.report_session.specs.Session.{calling_reports, session_opening, reports_in, resumed_shards, asked_shape}
 use Rattle.dealt_capture.specs.{DealingRules}
 use Rattle.report_session.proofs.OpeningShardLemmas.{new_opening_shards_as_dealt}
 
@@ -56,7 +56,7 @@ pub own_reports_are_shown : (settings : Settings) (rules : DealingRules) (keepin
 own_reports_are_shown settings rules keeping store file text is =
     let opening = session_opening (asked_shape settings) is.lists is.base in
     let reports = is.spelled.reports in
-    All-append (IsShownInSession opening settings) (caller_reports reports) (flat_map (λ made. made) reports.callers)
+    All-append (IsShownInSession opening settings) (calling_reports reports) (flat_map (λ made. made) reports.callers)
     is.spelled.are_reports.calling.shown
     (own_caller_reports_are_shown opening settings settings.rounds reports.callers is.spelled.are_reports.callers)
 

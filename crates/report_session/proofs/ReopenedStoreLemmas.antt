@@ -19,7 +19,7 @@ use Rattle.recovery.specs.{IsBaseFor, OpensToBase, base_positions}
 use Rattle.command_words.specs.{AreLimited}
 use Rattle.command_words.specs.declared.settings.Settings.{Settings}
 use Rattle.report_session.specs.Saving.{AreKeptOnDisk, last_of_saves, AreReopened, saves_after}
-use Rattle.report_session.specs.Saving.{saves_settings, saves_settings-allowed}
+use Rattle.report_session.specs.Saving.{settings_of_store, settings_of_store-allowed}
 use Rattle.report_session.specs.Session.{AreOfCaller, GoesOnFrom, IsSession, IsSessionInPart, SessionSaving}
 use Rattle.report_session.specs.Session.{asked_shape, last_positions, session_opening, saved_cuts, session_start}
 use Rattle.dealt_capture.specs.{DealingRules}
@@ -89,14 +89,14 @@ reopened_store_base_positions header (Some saved) = refl
 -- the positions at which the shards start are those that the store opened to
 pub reopened_store_start_positions : OpenToOne → (settings : Settings) (lists : List (List RecordValue)) (store : List ℕ)
     (base : Option CutValue) (opened : Option SavedValue) → AreLimited settings → length lists ≡ settings.shards
-    → IfSome base (IsBaseFor (saves_settings settings) lists) → OpensToBase (saves_settings settings) lists store base
-    → StoreOpensTo (stored_header (saves_settings settings) store) store opened
-    → store_positions (saves_settings settings) opened ≡ session_start (session_opening (asked_shape settings) lists base)
+    → IfSome base (IsBaseFor (settings_of_store settings) lists) → OpensToBase (settings_of_store settings) lists store base
+    → StoreOpensTo (stored_header (settings_of_store settings) store) store opened
+    → store_positions (settings_of_store settings) opened ≡ session_start (session_opening (asked_shape settings) lists base)
 reopened_store_start_positions one settings lists store base opened limited many fits found opens =
     let same : found.0 ≡ opened =
-    one (stored_header (saves_settings settings) store) store found.0 opened (saves_settings-allowed settings limited) found.1 opens in
-    reopened_store_base_positions (stored_header (saves_settings settings) store) opened
-    ∙ ap (base_positions (saves_settings settings))
+    one (stored_header (settings_of_store settings) store) store found.0 opened (settings_of_store-allowed settings limited) found.1 opens in
+    reopened_store_base_positions (stored_header (settings_of_store settings) store) opened
+    ∙ ap (base_positions (settings_of_store settings))
     (sym (found.3 ∙ ap (option_map (λ (saved : SavedValue). saved.cut)) same))
     ∙ base_starts settings lists base many fits
 
@@ -124,17 +124,17 @@ reopened_store_after_broken_save : OpenToOne → {D : Type 0} (d : DiskOf D) (se
     (base : Option CutValue) (count : ℕ) (rounds : List Reported) (next : Reported) (old new : D) → AreLimited settings
     → length lists ≡ settings.shards → settings.store ≡ true → GoesOnFrom settings lists (d.reads old) base
     → AreOfCaller (session_opening (asked_shape settings) lists base) settings count (rounds ++ next ∷ [])
-    → AreKeptOnDisk d old new (saves_settings settings) lists
+    → AreKeptOnDisk d old new (settings_of_store settings) lists
     (saved_cuts true (session_opening (asked_shape settings) lists base) rounds)
     (saved_cuts true (session_opening (asked_shape settings) lists base) (next ∷ []))
-    → AreReopened d old new (saves_settings settings) lists
+    → AreReopened d old new (settings_of_store settings) lists
     (saved_cuts true (session_opening (asked_shape settings) lists base) rounds)
     (saved_cuts true (session_opening (asked_shape settings) lists base) (next ∷ []))
 reopened_store_after_broken_save one d settings lists base count rounds next old new limited many used begins
     are kept = λ store known.
     let keeps = kept store known in
     let opening : List ShardValue = session_opening (asked_shape settings) lists base in
-    let header : StoreHeader = stored_header (saves_settings settings) store in
+    let header : StoreHeader = stored_header (settings_of_store settings) store in
     let digest : List ℕ = lists_digest header lists in
     let sequence : ℕ = store_sequence keeps.opened in
     let all : List Reported = rounds ++ next ∷ [] in
@@ -142,7 +142,7 @@ reopened_store_after_broken_save one d settings lists base count rounds next old
     let last : List CutValue → Option SavedValue = λ saved. last_of_saves keeps.opened (saves_after sequence digest saved) in
     let rises = reopened_store_rises opening settings count all are in
     let positions : (reports : List Reported) → All (λ reported. length reported.report.positions ≡ length opening) reports
-    → store_positions (saves_settings settings) (last (cuts reports)) ≡ last_positions (session_start opening) reports = λ reports.
+    → store_positions (settings_of_store settings) (last (cuts reports)) ≡ last_positions (session_start opening) reports = λ reports.
     reopened_store_positions header opening digest (session_start opening) keeps.opened sequence reports
     (reopened_store_start_positions one settings lists store base keeps.opened limited many begins.fits (begins.opens used store known)
     keeps.opens) in
@@ -168,7 +168,7 @@ reopened_store_after_broken_save one d settings lists base count rounds next old
             ap length parted,
             length-append (cuts rounds) (cuts (next ∷ [])),
           );
-          positions = subst (λ ps. AreNotPast ps (store_positions (saves_settings settings) (last (cuts all))))
+          positions = subst (λ ps. AreNotPast ps (store_positions (settings_of_store settings) (last (cuts all))))
               (sym (positions rounds (shown_session_front_of_all (λ (reported : Reported). length reported.report.positions ≡ length opening)
               rounds (next ∷ []) rises.each)))
               (subst (AreNotPast (last_positions (session_start opening) rounds)) (sym (positions all rises.each))
@@ -192,10 +192,10 @@ reopened_store_after_completion d rules settings old new file text session = rec
   begins = session.begins;
   represents = session.represents;
   spelled = spelled_session_text_says_less (session_opening (asked_shape settings) session.lists session.base) settings
-      (λ cuts. settings.store ≡ true → AreKeptOnDisk d old new (saves_settings settings) session.lists cuts [])
-      (λ cuts. settings.store ≡ true → AreReopened d old new (saves_settings settings) session.lists cuts [])
+      (λ cuts. settings.store ≡ true → AreKeptOnDisk d old new (settings_of_store settings) session.lists cuts [])
+      (λ cuts. settings.store ≡ true → AreReopened d old new (settings_of_store settings) session.lists cuts [])
       (tail_text session.records) text
-      (λ cuts kept used. reopened_store_after_whole_saves d (saves_settings settings) session.lists cuts
+      (λ cuts kept used. reopened_store_after_whole_saves d (settings_of_store settings) session.lists cuts
       old new (kept used)) session.spelled;
 }
 
@@ -209,9 +209,9 @@ reopened_store_after_breaking_off one d rules settings old new file front limite
     let base : Option CutValue = session.base in
     let opening : List ShardValue = session_opening (asked_shape settings) lists base in
     let Kept : SessionSaving = λ saved unfinished. settings.store ≡ true
-    → AreKeptOnDisk d old new (saves_settings settings) lists saved unfinished in
+    → AreKeptOnDisk d old new (settings_of_store settings) lists saved unfinished in
     let Less : SessionSaving = λ saved unfinished. settings.store ≡ true
-    → AreReopened d old new (saves_settings settings) lists saved unfinished in
+    → AreReopened d old new (settings_of_store settings) lists saved unfinished in
     record {
       records = session.records;
       lists = lists;
@@ -223,10 +223,10 @@ reopened_store_after_breaking_off one d rules settings old new file front limite
       shards = session.shards;
       begun = session_text_begins_saying_less opening settings Kept Less (record {
         saved = λ reports shown kept used.
-            reopened_store_after_whole_saves d (saves_settings settings) lists (saved_cuts settings.store opening reports) old new (kept used);
+            reopened_store_after_whole_saves d (settings_of_store settings) lists (saved_cuts settings.store opening reports) old new (kept used);
         unfinished = λ count rounds next are kept used.
-            subst (λ b. AreKeptOnDisk d old new (saves_settings settings) lists (saved_cuts b opening rounds) (saved_cuts b opening (next ∷ []))
-            → AreReopened d old new (saves_settings settings) lists (saved_cuts b opening rounds) (saved_cuts b opening (next ∷ []))) (sym used)
+            subst (λ b. AreKeptOnDisk d old new (settings_of_store settings) lists (saved_cuts b opening rounds) (saved_cuts b opening (next ∷ []))
+            → AreReopened d old new (settings_of_store settings) lists (saved_cuts b opening rounds) (saved_cuts b opening (next ∷ []))) (sym used)
             (reopened_store_after_broken_save one d settings lists base count rounds next old new limited session.as_many used session.begins are)
             (kept used);
       }) (tail_text session.records) front session.begun;

@@ -17,7 +17,7 @@ use Rattle.checkpoint.specs.declared.header.StoreHeader.{StoreHeader}
 use Rattle.command_words.specs.declared.settings.Settings.{Settings}
 use Rattle.report_text.specs.{report_text}
 use Rattle.report_session.specs.Saving.{OpensToSaves, last_of_saves, saves_after}
-use Rattle.report_session.specs.Session.{AreReports, IsShownInSession, SessionReports, caller_reports, session_ends}
+use Rattle.report_session.specs.Session.{AreReports, IsShownInSession, SessionReports, calling_reports, session_ends}
 use Rattle.report_session.specs.Session.{saved_cuts, saves_of}
 use Rattle.report_session.proofs.LastReportLemmas.{LastReportTextIsUnique, last_report_is_among_all}
 use Rattle.report_session.proofs.SeenPositionLemmas.{seen_positions_of_cut}
@@ -106,18 +106,18 @@ saved_store_holds_newest opened sequence digest (first ∷ cuts) cut =
 
 pub saved_store_stands_at_ends : (header : StoreHeader) (opening : List ShardValue) (settings : Settings) (reports : SessionReports)
     (opened : Option SavedValue) → AreReports opening settings reports
-    → IsSomeAnd (last_of_saves opened (saves_of header opening opened (caller_reports reports))) (λ saved.
+    → IsSomeAnd (last_of_saves opened (saves_of header opening opened (calling_reports reports))) (λ saved.
     (cut_positions saved.cut ≡ session_ends opening) × (saved.sequence ≡ store_sequence opened + (settings.rounds + 1)))
 saved_store_stands_at_ends header opening settings reports opened are =
     let f : Reported → CutValue = λ reported. cut_at opening reported.report.positions in
     let digest : List ℕ = lists_digest header (core_lists opening) in
     let first : IsShownInSession opening settings reports.last =
     last_report_is_among_all (IsShownInSession opening settings) reports.rounds reports.last are.calling.shown in
-    let parted : saved_cuts true opening (caller_reports reports) ≡ map f reports.rounds ++ f reports.last ∷ [] =
+    let parted : saved_cuts true opening (calling_reports reports) ≡ map f reports.rounds ++ f reports.last ∷ [] =
     map-append f reports.rounds (reports.last ∷ []) in
     let many : length (map f reports.rounds) ≡ length reports.rounds = length-map reports.rounds f in
-    let all : length (caller_reports reports) ≡ settings.rounds + 1 = are.calling.as_many in
-    let last_one : length (caller_reports reports) ≡ length reports.rounds + 1 =
+    let all : length (calling_reports reports) ≡ settings.rounds + 1 = are.calling.as_many in
+    let last_one : length (calling_reports reports) ≡ length reports.rounds + 1 =
     length-append reports.rounds (reports.last ∷ []) in
     subst (λ held. IsSomeAnd held (λ (saved : SavedValue). (cut_positions saved.cut ≡ session_ends opening)
     × (saved.sequence ≡ store_sequence opened + (settings.rounds + 1))))

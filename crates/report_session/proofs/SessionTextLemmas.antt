@@ -18,7 +18,7 @@ use Rattle.report_text.specs.{mark_text, report_text}
 use Rattle.report_text.specs.declared.mark.Mark.TheVariants.{Opened}
 use Rattle.report_session.specs.Session.{WritesAnswer, AreOfCaller, AreReports, BeginsSession, BreaksOffAround}
 use Rattle.report_session.specs.Session.{BreaksOffInRounds, IsShownInSession, IsStrictBeginning, SessionSaving}
-use Rattle.report_session.specs.Session.{IsOverShards, rest_after_saves, caller_reports, caller_parts, session_ends}
+use Rattle.report_session.specs.Session.{IsOverShards, rest_after_saves, calling_reports, other_parts, session_ends}
 use Rattle.report_session.specs.Session.{session_parts, saved_cuts, save_line, session_start}
 use Rattle.report_session.specs.DealtFeed.{IsFeedResult, IsFeedRest, StartsBefore, FeedBreaksOff, other_reports}
 use Rattle.report_session.specs.declared.feed.Fed.{Fed}
@@ -115,7 +115,7 @@ spelled_session_text_says_less opening settings Kept Less tail text less session
   reports = session.reports;
   are_reports = session.are_reports;
   spelled = session.spelled;
-  kept = less (saved_cuts settings.store opening (caller_reports session.reports)) session.kept;
+  kept = less (saved_cuts settings.store opening (calling_reports session.reports)) session.kept;
 }
 
 -- the reports of a whole session
@@ -142,7 +142,7 @@ pub session_text_is_spelled : (board : WordsValue) (settings : Settings) (Fed_ke
     (line ++ (session_parts settings.store is.gathered.rounds ++ (rest.front.items ++ rest.back.items)))
 session_text_is_spelled board settings Fed_kept Kept tail line old new fed rest starts is_line is end kept =
     let texts = ap₂ (λ a b. a ++ b) end.front_is end.back_is
-    ∙ session_text_groups (caller_parts (other_reports fed.gathered.called.items)) (report_text end.last.report)
+    ∙ session_text_groups (other_parts (other_reports fed.gathered.called.items)) (report_text end.last.report)
     (save_line settings.store end.last.report.positions) tail in
     record {
       reports = record {
@@ -211,7 +211,7 @@ session_text_breaks_in_rest board settings Fed_kept KeptInRest KeptInPart tail l
         are_reports = session_text_of_all_reports board settings Fed_kept tail first second fed rest starts is end;
         more = part.text;
         breaks_off = session_text_around_save rest.front.items rest.back.items
-            (caller_parts (other_reports fed.gathered.called.items) ++ report_text end.last.report)
+            (other_parts (other_reports fed.gathered.called.items) ++ report_text end.last.report)
             (save_line settings.store end.last.report.positions ++ tail) (rest.cut ∷ [])
             (saved_cuts settings.store board.opening (end.last ∷ [])) KeptInRest
             (rest_after_saves settings.store board.opening is.gathered.rounds KeptInPart) part.text end.front_is end.back_is
@@ -290,7 +290,7 @@ module _ (opening : List ShardValue) (settings : Settings) (Kept Less : SessionS
     are_reports = later.are_reports;
     more = later.more;
     breaks_off = session_text_around_says_less (settings.rounds + 1) later.reports.rounds later.reports.last
-        (caller_parts later.reports.callers ++ report_text later.reports.last.report)
+        (other_parts later.reports.callers ++ report_text later.reports.last.report)
         (save_line settings.store later.reports.last.report.positions ++ tail) later.more later.are_reports.calling later.breaks_off;
     written = later.written;
   }))
@@ -310,7 +310,7 @@ session_text_whatever_was_saved opening settings Said tail front (inr (inl (more
     session_text_around_any_saves (report_text within.next.report) (save_line settings.store within.next.report.positions)
     (saved_cuts settings.store opening (within.next ∷ [])) Said within.more within.breaks_off
 session_text_whatever_was_saved opening settings Said tail front (inr (inr later)) =
-    session_text_around_any_saves (caller_parts later.reports.callers ++ report_text later.reports.last.report)
+    session_text_around_any_saves (other_parts later.reports.callers ++ report_text later.reports.last.report)
     (save_line settings.store later.reports.last.report.positions ++ tail)
     (saved_cuts settings.store opening (later.reports.last ∷ [])) Said later.more later.breaks_off
 

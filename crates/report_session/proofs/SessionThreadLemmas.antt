@@ -29,7 +29,7 @@ use Rattle.report_session.specs.DealtFeed.{FeedBreaksOff, MakesSteps, other_repo
 use Rattle.report_session.specs.LiveRounds.{BreaksInLine, BreaksInReport, EndRounds, IsInVain, ReportsOnce}
 use Rattle.report_session.specs.LiveRounds.{RoundFaults, RoundSide, RoundsBreakOff, WritesRounds}
 use Rattle.report_session.specs.Session.{AreOfCaller, BreaksOffAround, IsShownInSession, SessionSaving}
-use Rattle.report_session.specs.Session.{rest_after_saves, caller_parts, session_ends, session_part, session_parts}
+use Rattle.report_session.specs.Session.{rest_after_saves, other_parts, session_ends, session_part, session_parts}
 use Rattle.report_session.specs.Session.{saved_cuts, save_line, session_start, asked_shape}
 use Rattle.run_status.specs.declared.status.Status.{Status}
 use Rattle.run_status.specs.declared.status.Status.TheVariants.{WriteFault, DiskFault, OutOfMemory}
@@ -352,14 +352,14 @@ session_thread_caller_at_index (first ∷ rest) (suc index) d = session_thread_c
 
 -- one more caller's reports
 pub session_thread_adds_caller : (called : List Called) (index : ℕ) (d : Called) → index < length called
-    → caller_parts (take (index + 1) (other_reports called))
-    ≡ caller_parts (take index (other_reports called)) ++ session_parts false (get_or called index d).reports
+    → other_parts (take (index + 1) (other_reports called))
+    ≡ other_parts (take index (other_reports called)) ++ session_parts false (get_or called index d).reports
 session_thread_adds_caller called index d inside =
     let callers : List (List Reported) = other_reports called in
     let within : index < length callers = omega (arith, inside, length-map called (λ (caller : Called). caller.reports)) in
-    ap caller_parts (take_more callers index d.reports within)
+    ap other_parts (take_more callers index d.reports within)
     ∙ flat_map-append (session_parts false) (take index callers) (get_or callers index d.reports ∷ [])
-    ∙ ap (λ rest. caller_parts (take index callers) ++ rest)
+    ∙ ap (λ rest. other_parts (take index callers) ++ rest)
     (append-nil (session_parts false (get_or callers index d.reports)) ∙ ap (session_parts false) (session_thread_caller_at_index called index d))
 
 -- positions that are neither before nor past the ends of lists

@@ -14,7 +14,7 @@ use Rattle.report_text.specs.{mark_text, printed_text, report_text, tail_text}
 use Rattle.report_text.specs.declared.mark.Mark.TheVariants.{Opened, Saved}
 use Rattle.report_text.specs.declared.session.Session.{Session}
 use Rattle.command_words.specs.declared.settings.Settings.{Settings}
-use Rattle.report_session.specs.Session.{AreOfCaller, AreReports, SessionReports, caller_reports, caller_parts}
+use Rattle.report_session.specs.Session.{AreOfCaller, AreReports, SessionReports, calling_reports, other_parts}
 use Rattle.report_session.specs.Session.{session_part, session_parts, reports_in, text_of_reports}
 use Rattle.report_session.proofs.LastReportLemmas.{last_report_is_among_all}
 
@@ -64,7 +64,7 @@ shown_session_prints_each store (reported ∷ reports) =
     ap₂ (λ front behind. front ++ behind) (shown_session_prints_report store reported) (shown_session_prints_each store reports)
 
 shown_session_prints_callers : (callers : List (List Reported))
-    → flat_map shown_session_report_bytes (map (shown_session_report false) (flat_map (λ made. made) callers)) ≡ caller_parts callers
+    → flat_map shown_session_report_bytes (map (shown_session_report false) (flat_map (λ made. made) callers)) ≡ other_parts callers
 shown_session_prints_callers [] = refl
 shown_session_prints_callers (reports ∷ callers) =
     ap (flat_map shown_session_report_bytes) (map-append (shown_session_report false) reports (flat_map (λ made. made) callers))
@@ -73,7 +73,7 @@ shown_session_prints_callers (reports ∷ callers) =
 
 shown_session_prints_all : (store : Bool) (reports : SessionReports)
     → flat_map shown_session_report_bytes (shown_session_reports store reports)
-    ≡ session_parts store reports.rounds ++ (caller_parts reports.callers ++ session_part store reports.last)
+    ≡ session_parts store reports.rounds ++ (other_parts reports.callers ++ session_part store reports.last)
 shown_session_prints_all store reports =
     let others = map (shown_session_report false) (flat_map (λ made. made) reports.callers) in
     flat_map-append shown_session_report_bytes (map (shown_session_report store) reports.rounds) (others ++ shown_session_report store reports.last ∷ [])
@@ -92,7 +92,7 @@ pub shown_session_prints_the_same : (store : Bool) (opened : List ℕ) (reports 
 shown_session_prints_the_same store opened reports records =
     sym (ap (λ text. mark_text Opened opened ++ text)
     (ap (λ text. text ++ tail_text records) (shown_session_prints_all store reports)
-    ∙ shown_session_groups (session_parts store reports.rounds) (caller_parts reports.callers) (session_part store reports.last)
+    ∙ shown_session_groups (session_parts store reports.rounds) (other_parts reports.callers) (session_part store reports.last)
     (tail_text records)))
 
 -- what holds of two lists together holds of each
@@ -131,10 +131,10 @@ pub shown_session_keeps_property : (P : Reported → Type 0) (store : Bool) (rep
     → All P (reports_in reports) → All P (shown_session_reports store reports)
 shown_session_keeps_property P store reports keeps all =
     let others = flat_map (λ made. made) reports.callers in
-    let calling = shown_session_front_of_all P (caller_reports reports) others all in
+    let calling = shown_session_front_of_all P (calling_reports reports) others all in
     let rounds = shown_session_front_of_all P reports.rounds (reports.last ∷ []) calling in
     let last = last_report_is_among_all P reports.rounds reports.last calling in
-    let called = shown_session_back_of_all P (caller_reports reports) others all in
+    let called = shown_session_back_of_all P (calling_reports reports) others all in
     All-append P (map (shown_session_report store) reports.rounds)
     (map (shown_session_report false) others ++ shown_session_report store reports.last ∷ [])
     (All-map P (shown_session_report store) reports.rounds (λ k d lt. keeps store _ (rounds k d lt)))

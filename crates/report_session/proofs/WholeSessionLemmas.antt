@@ -13,10 +13,10 @@ use Rattle.report_text.specs.declared.mark.Mark.TheVariants.{Opened}
 use Rattle.dealt_capture.specs.{DealingRules}
 use Rattle.report_session.specs.Session.{AreOfCaller, AreReports, BeginsSession, BeginsWholeSession, BreaksOffAround}
 use Rattle.report_session.specs.Session.{BreaksOffInRounds, IsSessionInPart, SessionKeeping, SessionReports}
-use Rattle.report_session.specs.Session.{SessionSaving, caller_parts, rest_after_saves, save_line, saved_cuts}
+use Rattle.report_session.specs.Session.{SessionSaving, other_parts, rest_after_saves, save_line, saved_cuts}
 use Rattle.report_session.specs.Session.{session_opening, session_part, session_parts, session_rest, session_start}
 use Rattle.report_session.specs.Session.{text_of_reports, asked_shape}
-use Rattle.report_session.specs.Saving.{saves_settings}
+use Rattle.report_session.specs.Saving.{settings_of_store}
 use Rattle.report_session.proofs.FinalReportLemmas.{FinalReport, FinalReportLaws, final_report_after_none}
 use Rattle.report_session.proofs.FinalReportLemmas.{final_report_exists, final_report_makes_whole}
 use Rattle.report_session.proofs.FinalReportLemmas.{reports_with_final_report}
@@ -119,7 +119,7 @@ whole_session_text_exists opening settings Kept tail front final kept (inr (inr 
     let reports : SessionReports = later.reports in
     let store : Bool = settings.store in
     let line : List ℕ = save_line store reports.last.report.positions in
-    let callers : List ℕ = caller_parts reports.callers in
+    let callers : List ℕ = other_parts reports.callers in
     let report : List ℕ = report_text reports.last.report in
     let parts : List ℕ = session_parts store reports.rounds in
     let rest : List ℕ = session_rest store reports.callers reports.last tail in
@@ -146,7 +146,7 @@ whole_session_exists laws settings rules keeping store file front wide is =
     let tail : List ℕ = tail_text is.records in
     let whole : WholeSessionText opening settings tail front =
     whole_session_text_exists opening settings
-    (λ saved unfinished. settings.store ≡ true → keeping (saves_settings settings) is.lists saved unfinished) tail
+    (λ saved unfinished. settings.store ≡ true → keeping (settings_of_store settings) is.lists saved unfinished) tail
     front final is.shards.core.kept is.begun in (
       text_of_reports settings.store (session_start opening) whole.reports tail,
       whole.begins,

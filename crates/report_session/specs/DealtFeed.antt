@@ -20,10 +20,10 @@ use Rattle.recovery.specs.declared.fault.OpenFault.{OpenFault}
 use Rattle.recovery.specs.declared.fault.OpenFault.TheVariants as opening
 use Rattle.command_words.specs.declared.settings.Settings.{Settings}
 use Rattle.report_session.specs.LiveRounds.{DiskFailed, RoundFaults, SinkFailed, round_faults}
-use Rattle.report_session.specs.Saving.{saves_settings}
+use Rattle.report_session.specs.Saving.{settings_of_store}
 use Rattle.report_session.specs.Session.{AreOfCaller, AreSessionShards, BeginsSession, BreaksOffInRounds}
 use Rattle.report_session.specs.Session.{GoesOnFrom, IsShownInSession, SessionKeeping, GoesOnSoundly}
-use Rattle.report_session.specs.Session.{SessionSaving, IsOverShards, caller_parts, session_ends}
+use Rattle.report_session.specs.Session.{SessionSaving, IsOverShards, other_parts, session_ends}
 use Rattle.report_session.specs.Session.{session_opening, session_parts, saved_cuts, save_line}
 use Rattle.report_session.specs.Session.{session_start, WritesAnswer}
 use Rattle.run_status.specs.{status_of_opening}
@@ -55,7 +55,7 @@ pub record IsFeedCapture (settings : Settings) (rules : DealingRules) (file : Op
 -- a saver of the store that the settings ask for, over dealt lists, from these positions on
 pub record IsFeedSaver (settings : Settings) (lists : List (List RecordValue)) (positions : List ℕ) (saver : SaverState)
     : Type 0 where
-  pub settings_are : saver.header.settings ≡ saves_settings settings
+  pub settings_are : saver.header.settings ≡ settings_of_store settings
   pub digest_is : saver.digest ≡ lists_digest saver.header lists
   pub early : saver.sequence ≤ greatest_opened
   pub positions_are : saver.positions ≡ positions
@@ -74,7 +74,7 @@ pub record HasNoBase (settings : Settings) (lists : List (List RecordValue)) (st
   pub fault : OpenFault
   pub status_is : status ≡ status_of_opening fault
   pub used : (settings.store ≡ true) ⊎ (fault ≡ opening.OutOfMemory)
-  pub refused : IfImageKnown store (λ image. RefusesOpening (saves_settings settings) lists image fault)
+  pub refused : IfImageKnown store (λ image. RefusesOpening (settings_of_store settings) lists image fault)
   pub rose : fault ≡ opening.DiskFault → FaultRose before now
   pub kept : (fault ≡ opening.DiskFault → ⊥) → now ≡ before
 
@@ -96,7 +96,7 @@ pub record FeedWrites (settings : Settings) (lists : List (List RecordValue)) (t
   pub begins : GoesOnFrom settings lists store base
   pub represents : GoesOnSoundly lists base (session_opening (asked_shape settings) lists base)
   pub writes : WritesAnswer (IsOverShards (session_opening (asked_shape settings) lists base) settings
-      (λ cuts. settings.store ≡ true → keeping (saves_settings settings) lists cuts []) tail) old new
+      (λ cuts. settings.store ≡ true → keeping (settings_of_store settings) lists cuts []) tail) old new
 
 -- bytes of it were written, before it broke off
 pub record FeedWritesPart (settings : Settings) (lists : List (List RecordValue)) (tail : List ℕ)
@@ -106,14 +106,14 @@ pub record FeedWritesPart (settings : Settings) (lists : List (List RecordValue)
   pub represents : GoesOnSoundly lists base (session_opening (asked_shape settings) lists base)
   pub shards : AreSessionShards (asked_shape settings) (session_opening (asked_shape settings) lists base)
   pub writes : WritesAnswer (BeginsSession (session_opening (asked_shape settings) lists base) settings
-      (λ saved unfinished. settings.store ≡ true → keeping (saves_settings settings) lists saved unfinished) tail) old new
+      (λ saved unfinished. settings.store ≡ true → keeping (settings_of_store settings) lists saved unfinished) tail) old new
 
 -- a store is refused for this fault over dealt lists, and its disk is as before
 pub record FeedRefuses (settings : Settings) (lists : List (List RecordValue)) (store : Option (List ℕ))
     (AsBefore : Type 0) (fault : OpenFault) : Type 0 where
   pub used : settings.store ≡ true
   pub as_before : AsBefore
-  pub refused : IfImageKnown store (λ image. RefusesOpening (saves_settings settings) lists image fault)
+  pub refused : IfImageKnown store (λ image. RefusesOpening (settings_of_store settings) lists image fault)
 
 -- how a report over dealt lists ended, which wrote to a sink, and saved to a disk
 module _ {K D : Type 0} (k : SinkOf K) (d : DiskOf D) (settings : Settings) (lists : List (List RecordValue)) (tail : List ℕ)
@@ -216,7 +216,7 @@ pub record IsFeedRest (board : WordsValue) (settings : Settings) (called : List 
   pub shown : IsShownInSession board.opening settings last
   pub at_ends : last.report.positions ≡ session_ends board.opening
   pub cut_is : rest.cut ≡ cut_at board.opening last.report.positions
-  pub front_is : rest.front.items ≡ caller_parts (other_reports called) ++ report_text last.report
+  pub front_is : rest.front.items ≡ other_parts (other_reports called) ++ report_text last.report
   pub back_is : rest.back.items ≡ save_line settings.store last.report.positions ++ tail
 
 -- a saver that may save this cut, into the disk as it is

@@ -12,7 +12,7 @@ use Rattle.report_text.specs.declared.mark.Mark.TheVariants.{Opened, Saved}
 use Rattle.command_words.specs.{AreLimited}
 use Rattle.command_words.specs.declared.settings.Settings.{Settings}
 use Rattle.dealt_capture.specs.{DealingRules}
-use Rattle.report_session.specs.Saving.{AreKeptOnDisk, BelongThroughout, BelongsToLists, saves_settings}
+use Rattle.report_session.specs.Saving.{AreKeptOnDisk, BelongThroughout, BelongsToLists, settings_of_store}
 use Rattle.report_session.specs.Session.{IsSession, IsSessionInPart, IsStrictBeginning}
 
 -- the last of these positions, or those at the start where there are none
@@ -85,10 +85,10 @@ pub record SessionsBelong {D : Type 0} (d : DiskOf D) (rules : DealingRules) : T
   pub whole : (old new : D) (settings : Settings) (store : List ℕ) (file : Option (List ℕ)) (text : List ℕ)
       (is : IsSession settings rules (AreKeptOnDisk d old new) (d.reads old) file text)
       → AreLimited settings → settings.store ≡ true → d.reads old ≡ Some store
-      → ((image : List ℕ) → d.image_now old image → BelongsToLists (saves_settings settings) is.lists image)
-      → BelongThroughout d (saves_settings settings) is.lists is.base old new
+      → ((image : List ℕ) → d.image_now old image → BelongsToLists (settings_of_store settings) is.lists image)
+      → BelongThroughout d (settings_of_store settings) is.lists is.base old new
   pub in_part : (old new : D) (settings : Settings) (store : List ℕ) (file : Option (List ℕ)) (front : List ℕ)
       (is : IsSessionInPart settings rules (AreKeptOnDisk d old new) (d.reads old) file front)
       → AreLimited settings → settings.store ≡ true → d.reads old ≡ Some store
-      → ((image : List ℕ) → d.image_now old image → BelongsToLists (saves_settings settings) is.lists image)
-      → BelongThroughout d (saves_settings settings) is.lists is.base old new
+      → ((image : List ℕ) → d.image_now old image → BelongsToLists (settings_of_store settings) is.lists image)
+      → BelongThroughout d (settings_of_store settings) is.lists is.base old new

@@ -5,7 +5,7 @@ pub mod KeptStore
 pub mod DealtFeed
 -- the face: what contracts of other crates cite
 pub use Rattle.report_session.specs.Saving.{IsAsBefore, IsAsBefore-untouched, AreKeptOnDisk, BelongThroughout, BelongsToLists}
-pub use Rattle.report_session.specs.Saving.{saves_settings, saves_settings-allowed}
+pub use Rattle.report_session.specs.Saving.{settings_of_store, settings_of_store-allowed}
 pub use Rattle.report_session.specs.Session.{BeginsSession, BeginsWholeSession, IsWholeReport, IsSession}
 pub use Rattle.report_session.specs.Session.{IsSessionInPart}
 pub use Rattle.report_session.specs.Session.{IsOverShards, GoesOnFrom, SessionKeeping, WritesAnswer}

@@ -20,8 +20,8 @@ use Rattle.std.proofs.Common.{subst, sym}
 use Rattle.checkpoint.specs.{settings_shape}
 
 -- the settings of the store that a command uses
-abbrev pub saves_settings : Settings → StoreSettings
-saves_settings settings = record {
+abbrev pub settings_of_store : Settings → StoreSettings
+settings_of_store settings = record {
   shards = settings.shards;
   capacity = settings.capacity;
   weigh = settings.weigh;
@@ -211,8 +211,8 @@ CanMakeSaves-later reads possible opening before now count (Some saver) later ca
 }
 
 -- they are allowed, if the command's are
-pub saves_settings-allowed : (settings : Settings) → AreLimited settings → AreSettings (saves_settings settings)
-saves_settings-allowed settings limited = record {
+pub settings_of_store-allowed : (settings : Settings) → AreLimited settings → AreSettings (settings_of_store settings)
+settings_of_store-allowed settings limited = record {
   some = limited.some_shards;
   few = limited.few_shards;
   least = limited.least_capacity;

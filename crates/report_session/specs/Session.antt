@@ -20,7 +20,7 @@ use Rattle.recovery.specs.{IsBaseFor, OpensToBase}
 use Rattle.command_words.specs.declared.settings.Settings.{Settings}
 use Rattle.report_text.specs.{mark_text, report_text, tail_text}
 use Rattle.report_text.specs.declared.mark.Mark.TheVariants.{Opened, Saved}
-use Rattle.report_session.specs.Saving.{saves_after, saves_settings}
+use Rattle.report_session.specs.Saving.{saves_after, settings_of_store}
 use Rattle.std.specs.Io.KnownBytes.{Appends}
 use Rattle.dealt_capture.specs.{DealingRules, AreDealtRecords}
 
@@ -57,8 +57,8 @@ session_ends opening = map (λ shard. length shard.list) opening
 pub record GoesOnFrom (settings : Settings) (lists : List (List RecordValue)) (store : Option (List ℕ))
     (base : Option CutValue) : Type 0 where
   pub unused : settings.store ≡ false → base ≡ None
-  pub fits : IfSome base (IsBaseFor (saves_settings settings) lists)
-  pub opens : settings.store ≡ true → IfImageKnown store (λ image. OpensToBase (saves_settings settings) lists image base)
+  pub fits : IfSome base (IsBaseFor (settings_of_store settings) lists)
+  pub opens : settings.store ≡ true → IfImageKnown store (λ image. OpensToBase (settings_of_store settings) lists image base)
 
 -- what always holds of the shards with which a session begins: there are 1 to 16 of them, of the shape asked for, each
 -- within its limits
@@ -92,19 +92,19 @@ pub record SessionReports : Type 0 where
   pub last : Reported
 
 -- those of the calling thread: its rounds, and the last one
-abbrev pub caller_reports : SessionReports → List Reported
-caller_reports reports = reports.rounds ++ reports.last ∷ []
+abbrev pub calling_reports : SessionReports → List Reported
+calling_reports reports = reports.rounds ++ reports.last ∷ []
 
 -- all reports of a session: those of the calling thread, and those of the other callers
 abbrev pub reports_in : SessionReports → List Reported
-reports_in reports = caller_reports reports ++ flat_map (λ made. made) reports.callers
+reports_in reports = calling_reports reports ++ flat_map (λ made. made) reports.callers
 
 -- the reports that the settings ask for: the calling thread makes its rounds and the last report, which counts all
 -- records, and each other caller makes the same number of rounds. At which positions a round reports isn't said, only that
 -- the positions of one caller never fall
 pub record AreReports (opening : List ShardValue) (settings : Settings) (reports : SessionReports)
     : Type 0 where
-  pub calling : AreOfCaller opening settings (settings.rounds + 1) (caller_reports reports)
+  pub calling : AreOfCaller opening settings (settings.rounds + 1) (calling_reports reports)
   pub at_ends : reports.last.report.positions ≡ session_ends opening
   pub as_many : length reports.callers ≡ settings.callers
   pub callers : All (AreOfCaller opening settings settings.rounds) reports.callers
@@ -138,13 +138,13 @@ abbrev pub session_parts : Bool → List Reported → List ℕ
 session_parts store reports = flat_map (session_part store) reports
 
 -- the reports of the other callers, one caller after another: none of their cuts is saved
-abbrev pub caller_parts : List (List Reported) → List ℕ
-caller_parts callers = flat_map (session_parts false) callers
+abbrev pub other_parts : List (List Reported) → List ℕ
+other_parts callers = flat_map (session_parts false) callers
 
 -- the text of a session after its first line and its rounds: the reports of the other callers, the last report, and the
 -- last lines
 abbrev pub session_rest : Bool → List (List Reported) → Reported → List ℕ → List ℕ
-session_rest store callers last tail = caller_parts callers ++ (session_part store last ++ tail)
+session_rest store callers last tail = other_parts callers ++ (session_part store last ++ tail)
 
 -- the text of a session: the positions at the start, the reports of the calling thread's rounds, and the rest
 abbrev pub text_of_reports : Bool → List ℕ → SessionReports → List ℕ → List ℕ
@@ -158,7 +158,7 @@ pub record IsOverShards (opening : List ShardValue) (settings : Settings) (Kept 
   pub reports : SessionReports
   pub are_reports : AreReports opening settings reports
   pub spelled : text ≡ text_of_reports settings.store (session_start opening) reports tail
-  pub kept : Kept (saved_cuts settings.store opening (caller_reports reports))
+  pub kept : Kept (saved_cuts settings.store opening (calling_reports reports))
 
 -- a strict prefix of a text
 abbrev pub IsStrictBeginning : List ℕ → List ℕ → Type 0
@@ -213,7 +213,7 @@ pub record BreaksOffLater (opening : List ShardValue) (settings : Settings) (Kep
   pub reports : SessionReports
   pub are_reports : AreReports opening settings reports
   pub more : List ℕ
-  pub breaks_off : BreaksOffAround (caller_parts reports.callers ++ report_text reports.last.report)
+  pub breaks_off : BreaksOffAround (other_parts reports.callers ++ report_text reports.last.report)
       (save_line settings.store reports.last.report.positions ++ tail)
       (saved_cuts settings.store opening (reports.last ∷ []))
       (rest_after_saves settings.store opening reports.rounds Kept) more
@@ -250,7 +250,7 @@ pub record IsSession (settings : Settings) (rules : DealingRules) (keeping : Ses
   pub begins : GoesOnFrom settings lists store base
   pub represents : GoesOnSoundly lists base (session_opening (asked_shape settings) lists base)
   pub spelled : IsOverShards (session_opening (asked_shape settings) lists base) settings
-      (λ cuts. settings.store ≡ true → keeping (saves_settings settings) lists cuts []) (tail_text records) text
+      (λ cuts. settings.store ≡ true → keeping (settings_of_store settings) lists cuts []) (tail_text records) text
 
 -- the bytes that were written of a session over a capture that broke off. With a store, they say which cuts were saved, and
 -- which save is unfinished
@@ -265,7 +265,7 @@ pub record IsSessionInPart (settings : Settings) (rules : DealingRules) (keeping
   pub represents : GoesOnSoundly lists base (session_opening (asked_shape settings) lists base)
   pub shards : AreSessionShards (asked_shape settings) (session_opening (asked_shape settings) lists base)
   pub begun : BeginsSession (session_opening (asked_shape settings) lists base) settings
-      (λ saved unfinished. settings.store ≡ true → keeping (saves_settings settings) lists saved unfinished) (tail_text records) front
+      (λ saved unfinished. settings.store ≡ true → keeping (settings_of_store settings) lists saved unfinished) (tail_text records) front
 
 -- these bytes begin a whole session; nothing is said of the disk
 abbrev pub BeginsWholeSession : Settings → DealingRules → (store file : Option (List ℕ)) → List ℕ → Type 0

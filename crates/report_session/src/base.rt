@@ -5,7 +5,7 @@ ghost use Rattle.slot_disk.specs.{CrashLeaves};
 ghost use Rattle.checkpoint.specs.{AreSettings, DiskMatches};
 ghost use Rattle.command_words.specs.{AreLimited};
 ghost use Rattle.report_session.specs.DealtFeed.{HasNoBase, IsFeedBase};
-ghost use Rattle.report_session.specs.Saving.{saves_settings as settings_of_store};
+ghost use Rattle.report_session.specs.Saving.{settings_of_store};
 ghost use Rattle.run_status.specs.declared.status.Status.TheVariants.{OutOfMemory};
 
 use checkpoint::{Saver, StoreSettings};

@@ -19,13 +19,13 @@ ghost use Rattle.checkpoint.specs.{StoreBelongs, IsStoreOf, StoreOpensTo, SavedV
 ghost use Rattle.checkpoint.specs.{store_sequence, stored_header, written_header};
 ghost use Rattle.report_session.specs.Session.{AreReports, IsSession, IsSessionInPart, IsShownInSession};
 ghost use Rattle.report_session.specs.Session.{BeginsWholeSession};
-ghost use Rattle.report_session.specs.Session.{SessionReports, caller_reports, session_ends};
+ghost use Rattle.report_session.specs.Session.{SessionReports, calling_reports, session_ends};
 ghost use Rattle.report_session.specs.Session.{new_shards, session_part, reports_in, saves_of};
 ghost use Rattle.report_session.specs.Session.{text_of_reports, session_start, IsWholeReport};
 ghost use Rattle.dealt_capture.specs.{rules_by};
 ghost use Rattle.report_session.specs.KeptStore.{SessionsBelong, StoreIsKept};
 ghost use Rattle.report_session.specs.Saving.{IsAsBefore, BelongThroughout, OpensToSaves, AreKeptOnDisk};
-ghost use Rattle.report_session.specs.Saving.{last_of_saves, AreReopened, BelongsToLists, saves_settings};
+ghost use Rattle.report_session.specs.Saving.{last_of_saves, AreReopened, BelongsToLists, settings_of_store};
 ghost use Rattle.hhh_report.specs.{IsSameReport, IsSound};
 ghost use Rattle.hhh_report.specs.declared.report.Report.{Report};
 ghost use Rattle.report_session.specs.Session.{asked_shape};
@@ -94,7 +94,7 @@ pub fn saves_belong()
 pub fn last_saves_are_at_the_ends()
     ensures { (header : StoreHeader) (opening : List ShardValue) (settings : Settings) (reports : SessionReports)
         (opened : Option SavedValue) → AreReports opening settings reports
-        → IsSomeAnd (last_of_saves opened (saves_of header opening opened (caller_reports reports))) (λ saved.
+        → IsSomeAnd (last_of_saves opened (saves_of header opening opened (calling_reports reports))) (λ saved.
         (cut_positions saved.cut ≡ session_ends opening) × (saved.sequence ≡ store_sequence opened + (settings.rounds + 1))) }
 {}
 
@@ -178,12 +178,12 @@ pub fn sessions_keep_their_store<D: Disk>(dealers: &Dealers)
         → settings.store ≡ true → D.reads old ≡ Some store
         → IsSession settings (λ kind. ⟦<Dealer as Deals>⟧.may_answer (dealer_of kind dealers.now)) (AreKeptOnDisk D.Disk old new)
         (D.reads old) file text
-        → StoreIsKept D.Disk (stored_header (saves_settings settings) store) old new store text true }
+        → StoreIsKept D.Disk (stored_header (settings_of_store settings) store) old new store text true }
     ensures in_part { (old new : D) (settings : Settings) (store : List ℕ) (file : Option (List ℕ)) (front : List ℕ) → AreLimited settings
         → settings.store ≡ true → D.reads old ≡ Some store
         → IsSessionInPart settings (λ kind. ⟦<Dealer as Deals>⟧.may_answer (dealer_of kind dealers.now)) (AreKeptOnDisk D.Disk old new)
         (D.reads old) file front
-        → StoreIsKept D.Disk (stored_header (saves_settings settings) store) old new store front false }
+        → StoreIsKept D.Disk (stored_header (settings_of_store settings) store) old new store front false }
     ensures as_before { (old new : D) (header : StoreHeader) (store : List ℕ) → IsAsBefore D.Disk old new
         → StoreIsKept D.Disk header old new store [] false }
 {

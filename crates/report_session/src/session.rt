@@ -16,7 +16,7 @@ ghost use Rattle.report_text.specs.declared.mark.Mark.TheVariants.{Opened as Ope
 ghost use Rattle.command_words.specs.{AreLimited, HaveWideShare};
 ghost use Rattle.report_session.specs.Session.{WritesAnswer, AreOfCaller, AreSessionShards, BeginsSession};
 ghost use Rattle.report_session.specs.Session.{BreaksOffAround, GoesOnSoundly, IsOverShards};
-ghost use Rattle.report_session.specs.Session.{caller_parts, session_opening, session_parts};
+ghost use Rattle.report_session.specs.Session.{other_parts, session_opening, session_parts};
 ghost use Rattle.report_session.specs.Session.{resumed_shards, new_shards, session_start};
 ghost use Rattle.report_session.specs.DealtFeed.{CanSaveCut, FeedGoesOn, IsFeedBase};
 ghost use Rattle.report_session.specs.DealtFeed.{IsFeedFault, IsFeedOpening, IsFeedRest};
@@ -326,7 +326,7 @@ fn reports_text(
     called: &[Called],
 ) -> Result<Vec<u8>, AllocError>
     requires { All (AreOfCaller board.now.opening settings.now settings.now.rounds) (other_reports called.now) }
-    ensures { IfOk result (λ text. text.items ≡ caller_parts (other_reports called.now)) }
+    ensures { IfOk result (λ text. text.items ≡ other_parts (other_reports called.now)) }
 {
     let _shards = board.shards();
     let mut text = Vec::new(alloc);

@@ -5,7 +5,7 @@ ghost use Rattle.pcap_frames.specs.declared.fault.CaptureFault.{CaptureFault};
 ghost use Rattle.command_words.specs.{AreLimited};
 ghost use Rattle.hhh_engine.specs.Tasks.{format_task};
 ghost use Rattle.hhh_engine.specs.Ending.{course, Ends, FormatEnds, SourceFaults};
-ghost use Rattle.report_session.specs.{saves_settings};
+ghost use Rattle.report_session.specs.{settings_of_store};
 ghost use Rattle.run_status.specs.declared.status.Status.TheVariants.{BadCapture, ReadFault, DiskFault};
 
 use crate::{Settings, Status};
@@ -21,7 +21,7 @@ pub(crate) fn format<K: Sink, D: Disk>(settings: &Settings, sink: &mut K, disk: 
     requires { AreLimited settings.now }
     ensures ends { (capture : Option (List ℕ)) (faults : SourceFaults)
         → Ends (format_task D.Disk disk.old disk.new) (course K.Sink capture faults faults sink.old sink.new) result }
-    ensures store { FormatEnds D.Disk (saves_settings settings.now) sink.old sink.new disk.old disk.new result }
+    ensures store { FormatEnds D.Disk (settings_of_store settings.now) sink.old sink.new disk.old disk.new result }
     ensures no_capture { (fault : CaptureFault) → result ≡ BadCapture fault → ⊥ }
     ensures no_read_fault { result ≡ ReadFault → ⊥ }
     ensures told { (result ≡ DiskFault → ⊥) → D.faults disk.new ≡ D.faults disk.old }

@@ -2,7 +2,7 @@ use Rattle.std.proofs.Common.{◌∙◌, ◌++◌, None, ap}
 use Rattle.report_text.specs.{report_text}
 use Rattle.pass_tokens.specs.{view}
 use Rattle.report_session.specs.DealtFeed.{other_reports}
-use Rattle.report_session.specs.Session.{caller_parts}
+use Rattle.report_session.specs.Session.{other_parts}
 use Rattle.report_session.proofs.RoundLemmas.{round_makes_report, round_report_has_positions}
 use Rattle.report_session.proofs.SessionThreadLemmas.{session_thread_reports_at_ends}
 use Rattle.report_session.proofs.session.rest_of_session.Goals as goal
@@ -33,7 +33,7 @@ returns-clause-rest g c =
       cut_is = c.in_ok-last.ensures.cut;
       front_is =
           c.in_ok-print.ensures.ok ∙ ap (λ text. text ++ report_text last)
-          (c.in_ok-front.ensures ∙ ap (λ called. caller_parts (other_reports called)) c.deref.ensures.value);
+          (c.in_ok-front.ensures ∙ ap (λ called. other_parts (other_reports called)) c.deref.ensures.value);
       back_is =
           c.in_ok-extend_from_slice.ensures.items ∙ ap (λ text. text ++ c.args.tail.now) c.in_ok-back.ensures;
     }
