@@ -190,7 +190,9 @@ def main():
         for (crate, name), (file, lines) in found.items():
             print(f"  {crate}/{file}: {name} {width(lines)}")
     largest = sorted(sizes(), key=lambda row: -row[2])
-    print("largest source: %s %d lines" % max((source, crate) for crate, source, _ in largest)[::-1])
+    of_program, of_tests = (max((source, crate) for crate, source, _ in largest if crate.endswith("_tests") == tests)[::-1]
+                            for tests in (False, True))
+    print("largest source: %s %d lines; of tests alone: %s %d" % (*of_program, *of_tests))
     print("largest proofs: %s %d lines" % (largest[0][0], largest[0][2]))
     functions = [row for row in parameters_of_functions() if row[2] > MANY_PARAMETERS]
     print(f"functions above {MANY_PARAMETERS} parameters: {len(functions)}: " + ", ".join(f"{name} {count}" for _, name, count in functions))
