@@ -18,8 +18,8 @@
 # lists. Those of `sites` are worked out from the tables of the stores, some of which have other totals, counts and errors
 # that fit each other. A refused store, and each of `sites`, must be as it was. No run may end by a signal, take more than
 # a second of a processor, or more memory than 10 MB (of 1,000,000 bytes), 30 bytes for each frame, five times the bytes
-# of the text and three times those of the stores. Besides, the longest capture and the longest text are tried, and both
-# with one byte more: these four may take five seconds.
+# of the text and three times those of the stores; what is less than `fuzz` itself took, the system doesn't show. Besides,
+# the longest capture and the longest text are tried, and both with one byte more: these four may take five seconds.
 #
 # One process for each processor, or as many as PROCESSES says; the inputs depend on the seed alone. Prints how many runs
 # ended by each rule, the greatest time and memory, and each difference with its command line, whose files are kept in a
