@@ -60,6 +60,7 @@ impl<O: StoreOpener<F> + Drop, F: StoreFile + Drop> FileDisk<O, F> {
     fn try_len(&mut self) -> IoResult<u64>
         ensures same_faults { self.new.faults ≡ self.old.faults }
         ensures same_syncs { self.new.sync_failed ≡ self.old.sync_failed }
+        ensures same_name { self.new.name_synced ≡ self.old.name_synced }
     {
         let file = opened(&mut self.opened, &self.opener, self.path.as_str())?;
         file.size()
@@ -70,6 +71,7 @@ impl<O: StoreOpener<F> + Drop, F: StoreFile + Drop> FileDisk<O, F> {
         ensures later_places { IfOk result (λ count. drop count into.new ≡ drop count into.old) }
         ensures same_faults { self.new.faults ≡ self.old.faults }
         ensures same_syncs { self.new.sync_failed ≡ self.old.sync_failed }
+        ensures same_name { self.new.name_synced ≡ self.old.name_synced }
     {
         let file = opened(&mut self.opened, &self.opener, self.path.as_str())?;
         read_on(file, &mut self.buffer, place, into)
@@ -79,6 +81,7 @@ impl<O: StoreOpener<F> + Drop, F: StoreFile + Drop> FileDisk<O, F> {
         ensures all { IfOk result (λ count. count ≡ length bytes.now) }
         ensures same_faults { self.new.faults ≡ self.old.faults }
         ensures same_syncs { self.new.sync_failed ≡ self.old.sync_failed }
+        ensures same_name { self.new.name_synced ≡ self.old.name_synced }
     {
         let file = opened(&mut self.opened, &self.opener, self.path.as_str())?;
         write_on(file, place, bytes)
@@ -110,6 +113,7 @@ impl<O: StoreOpener<F> + Drop, F: StoreFile + Drop> FileDisk<O, F> {
         ensures failed { is_err result ≡ true }
         ensures cause { FailsByCount self.old.faults self.new.faults result }
         ensures same_syncs { self.new.sync_failed ≡ self.old.sync_failed }
+        ensures same_name { self.new.name_synced ≡ self.old.name_synced }
     {
         self.faults = self.faults.saturating_add(1);
         Err(Failed)
@@ -140,8 +144,9 @@ impl<O: StoreOpener<F> + Drop, F: StoreFile + Drop> Disk for FileDisk<O, F> {
         ensures time { MomentsGoOn (λ _. 0) (λ _ _ _. ⊤) self.old self.new }
         ensures cause { FailsByCount self.old.faults self.new.faults result }
 
-        // The mark of a failed sync is kept.
+        // What is marked of syncs is kept: whether one failed, and whether the name was synced.
         ensures same_syncs { self.new.sync_failed ≡ self.old.sync_failed }
+        ensures same_name { self.new.name_synced ≡ self.old.name_synced }
     {
         match self.try_len() {
             Ok(count) => Ok(count),
@@ -158,8 +163,9 @@ impl<O: StoreOpener<F> + Drop, F: StoreFile + Drop> Disk for FileDisk<O, F> {
         ensures time { MomentsGoOn (λ _. 0) (λ _ _ _. ⊤) self.old self.new }
         ensures cause { FailsByCount self.old.faults self.new.faults result }
 
-        // The mark of a failed sync is kept.
+        // What is marked of syncs is kept: whether one failed, and whether the name was synced.
         ensures same_syncs { self.new.sync_failed ≡ self.old.sync_failed }
+        ensures same_name { self.new.name_synced ≡ self.old.name_synced }
     {
         match self.try_read(place, into) {
             Ok(count) => Ok(count),
@@ -175,8 +181,9 @@ impl<O: StoreOpener<F> + Drop, F: StoreFile + Drop> Disk for FileDisk<O, F> {
         ensures time { MomentsGoOn (λ _. 0) (λ _ _ _. ⊤) self.old self.new }
         ensures cause { FailsByCount self.old.faults self.new.faults result }
 
-        // The mark of a failed sync is kept.
+        // What is marked of syncs is kept: whether one failed, and whether the name was synced.
         ensures same_syncs { self.new.sync_failed ≡ self.old.sync_failed }
+        ensures same_name { self.new.name_synced ≡ self.old.name_synced }
     {
         match self.try_write(place, bytes) {
             Ok(_) => Ok(()),
