@@ -7,7 +7,7 @@ from checks.repository import CRATES, EDIT_FOLDERS, TOP, check, edits, faults, h
 # The longest line of definitions, proofs and contracts that is read in one go.
 LONGEST_STATEMENT = 160
 
-MOST_TRIED_BY_GATE = 4
+MOST_TRIED_BY_GATE = 2
 
 # Lemmas on lists and on places of nodes, which the standard library lacks.
 SHARED_LEMMAS = {("prefix_lattice", name) for name in ("ListLemmas", "NodePlaceLemmas", "GrainLemmas")}
