@@ -1,6 +1,6 @@
 -- What gates, header and bodies are after a write.
 use Rattle.std.specs.Prelude.{if◌then◌else◌}
-use Rattle.std.proofs.Common.{◌≡◌, [], ◌∷◌, ◌⊎◌, ℕ, zero, suc, ◌+◌, ◌-◌, ◌<◌, ◌≤◌, List, length, take, drop, min}
+use Rattle.std.proofs.Common.{◌≡◌, ◌≢◌, [], ◌∷◌, ◌⊎◌, ℕ, zero, suc, ◌+◌, ◌-◌, ◌<◌, ◌≤◌, List, length, take, drop, min}
 use Rattle.std.proofs.Common.{Bool, true, false, Option, Some, None, refl, sym, ap, ◌∙◌, subst, inl, inr, ⊎_elim}
 use Rattle.std.proofs.Common.{arith, get_or, eqb}
 use Rattle.std.proofs.lemmas.Bool.Decides.{nat_tests}
@@ -165,11 +165,18 @@ content_other_slot_is_small : (slot : ℕ) → other_slot_of slot < 2
 content_other_slot_is_small zero = omega arith
 content_other_slot_is_small (suc slot) = omega arith
 
+-- each other byte than the gate is apart from what is written there
+content_other_byte_is_apart : (slot count place : ℕ) → place ≢ slot → count ≤ 1 → IsContentApart place (place + 1) slot count
+content_other_byte_is_apart slot count place other short = grind arith
+
 -- all but a slot is as before when its gate is written
 content_beside_gate_stays : (span slot count : ℕ) (old image : List ℕ) → slot < 2 → count ≤ 1 → front_bytes ≤ length old
     → IsTornImage slot count old image → IsSoundSlots (slot_content span (other_slot_of slot) old) → IsSameApart span slot old image
 content_beside_gate_stays span slot count old image small short long torn sound = record {
   long = omega (arith, torn.no_shorter, long);
+  no_shorter = torn.no_shorter;
+  bytes = λ place within apart.
+      content_byte_stays slot count place old image torn within (content_other_byte_is_apart slot count place apart.0 short);
   header = content_header_stays slot count old image torn long (inr (omega arith));
   other_slot =
       content_stays span (other_slot_of slot) old image
@@ -192,6 +199,10 @@ content_beside_body_stays : (span slot count : ℕ) (old image : List ℕ) → s
     → IsSameApart span slot old image
 content_beside_body_stays span slot count old image small fits long torn sound = record {
   long = omega (arith, torn.no_shorter, long);
+  no_shorter = torn.no_shorter;
+  bytes = λ place within apart.
+      content_byte_stays (place_of_body span slot) count place old image torn within
+      (⊎_elim (λ before. inl (omega arith)) (λ after. inr (omega (arith, fits))) apart.1);
   header = content_header_stays (place_of_body span slot) count old image torn long (inl (content_follows_front span slot));
   other_slot =
       content_stays span (other_slot_of slot) old image

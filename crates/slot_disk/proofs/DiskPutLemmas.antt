@@ -20,6 +20,9 @@ disk_put_beside_is_transitive : (span slot : ℕ) (old mid new : List ℕ) → I
     → IsSameApart span slot old new
 disk_put_beside_is_transitive span slot old mid new first second = record {
   long = second.long;
+  no_shorter = omega (arith, first.no_shorter, second.no_shorter);
+  bytes = λ place within apart.
+      second.bytes place (omega (arith, first.no_shorter)) apart ∙ first.bytes place within apart;
   header = second.header ∙ first.header;
   other_slot = second.other_slot ∙ first.other_slot;
 }

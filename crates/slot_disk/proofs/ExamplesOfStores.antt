@@ -1,6 +1,6 @@
 -- Worked examples of stores of two slots, most by computing.
 use Rattle.std.proofs.Common.{◌≡◌, ◌⊎◌, ℕ, List, [], ◌∷◌, ◌++◌, length, Some, None, true, false, refl, sym, ap, ◌∙◌}
-use Rattle.std.proofs.Common.{inl, inr, arith}
+use Rattle.std.proofs.Common.{inl, inr, arith, zero, suc, slice_index}
 use Rattle.slot_disk.specs.Recorded.{no_bytes}
 use Rattle.slot_disk.specs.StoreLayout.{is_gate_open, slot_header, place_of_body, number_at}
 use Rattle.slot_disk.specs.StoreLayout.{IsNumberRead}
@@ -9,7 +9,7 @@ use Rattle.slot_disk.specs.Slots.{KnownSlotsState, known_slot_open, after_openin
 use Rattle.slot_disk.specs.Slots.{closed_known_slots, MatchesKnown}
 use Rattle.slot_disk.specs.Putting.{closing_put, IsWhole, IsReadyForPut, FitsSlot}
 use Rattle.slot_disk.specs.Putting.{CanClose, CanWrite, CanOpen, MayBeClosed, IsStored, MayBeOpen}
-use Rattle.slot_disk.specs.Putting.{PutMayLeave, IsPut, HoldsNewest}
+use Rattle.slot_disk.specs.Putting.{IsApartFrom, IsSameApart, PutMayLeave, IsPut, HoldsNewest}
 
 -- a body of 9 bytes: its length, and a byte 5
 abbrev body : List ℕ
@@ -122,17 +122,45 @@ pub nothing_keeps_closed : closing_put false ≡ []
 nothing_keeps_closed = refl
 
 -- the put of the body into slot 0 of the store with closed gates: before it, and after it
+same_apart_before_the_put : IsSameApart 16 0 (store 0 0) (store 0 0)
+same_apart_before_the_put = record {
+  long = omega arith;
+  no_shorter = omega arith;
+  bytes = λ place within apart. refl;
+  header = refl;
+  other_slot = refl;
+}
+
+bytes_after_the_gate_stay : (place : ℕ) → IsApartFrom 16 0 place
+    → slice_index (store 1 0) place ≡ slice_index (store 0 0) place
+bytes_after_the_gate_stay zero apart = absurd (apart.0 refl)
+bytes_after_the_gate_stay (suc place) apart = refl
+
+same_apart_after_the_put : IsSameApart 16 0 (store 0 0) (store 1 0)
+same_apart_after_the_put = record {
+  long = omega arith;
+  no_shorter = omega arith;
+  bytes = λ place within apart. bytes_after_the_gate_stay place apart;
+  header = refl;
+  other_slot = refl;
+}
+
 pub before_the_put : PutMayLeave 16 0 body (store 0 0) (store 0 0)
-before_the_put = record { beside = record { long = omega arith; header = refl; other_slot = refl }; slot_holds = inl refl }
+before_the_put = record { beside = same_apart_before_the_put; slot_holds = inl refl }
 
 pub after_the_put : IsPut 16 0 body (store 0 0) (store 1 0)
 unfolding number_at
-after_the_put = record { beside = record { long = omega arith; header = refl; other_slot = refl }; slot_holds = refl }
+after_the_put = record { beside = same_apart_after_the_put; slot_holds = refl }
 
 -- the put may not leave an image in which the other gate is open
 pub other_gate_stays : PutMayLeave 16 0 body (store 0 0) (store 1 1) → ⊥
 unfolding number_at
 other_gate_stays may = let broken : Broken ≡ Closed = may.beside.other_slot in cc broken
+
+-- nor one in which a byte past both slots, here of 4 bytes each, is another
+pub bytes_past_both_slots_stay : (image : List ℕ) → PutMayLeave 4 0 body (store 0 0) image → slice_index image 72 ≡ 5
+bytes_past_both_slots_stay image may =
+    let past : 72 ≡ 0 → ⊥ = λ is. cc is in may.beside.bytes 72 (omega arith) (past, inr (omega arith))
 
 pub number_is_read : IsNumberRead 64 (Some 9) (store 1 0)
 unfolding number_at
@@ -146,7 +174,7 @@ pub closed_gate_may_be_closed : CanClose 16 0 false (store 0 0)
 closed_gate_may_be_closed = record { long = omega arith; gate = refl; slot_holds = inr refl; other_holds = inr refl }
 
 pub gate_stays_closed : MayBeClosed 16 0 (store 0 0) (store 0 0)
-gate_stays_closed = record { beside = record { long = omega arith; header = refl; other_slot = refl }; slot_holds = inr refl }
+gate_stays_closed = record { beside = same_apart_before_the_put; slot_holds = inr refl }
 
 pub body_may_be_written : CanWrite 16 0 (store 0 0)
 body_may_be_written = record { long = omega arith; slot_holds = refl; other_holds = inr refl }
@@ -158,7 +186,7 @@ body_may_not_be_written_under_an_open_gate can = let whole : Whole body ≡ Clos
 pub body_was_stored : IsStored 16 0 body (store 0 0) (store 0 0)
 unfolding number_at
 body_was_stored = record {
-  closed = record { beside = record { long = omega arith; header = refl; other_slot = refl }; slot_holds = refl };
+  closed = record { beside = same_apart_before_the_put; slot_holds = refl };
   stored = refl;
 }
 
@@ -168,7 +196,7 @@ gate_may_be_opened = record { long = omega arith; slot_holds = refl; stored = re
 
 pub gate_came_open : MayBeOpen 16 0 body (store 0 0) (store 1 0)
 unfolding number_at
-gate_came_open = record { beside = record { long = omega arith; header = refl; other_slot = refl }; slot_holds = inr refl }
+gate_came_open = record { beside = same_apart_after_the_put; slot_holds = inr refl }
 
 -- of a store with no open gate a put may leave nothing, or the new body
 pub new_body_stands : HoldsNewest 16 0 body (store 0 0) (store 1 0)

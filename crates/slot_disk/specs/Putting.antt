@@ -1,6 +1,7 @@
 -- What a put may leave of a store.
-use Rattle.std.specs.Prelude.{ℕ, zero, suc, ◌≡◌, ◌≤◌, ◌⊎◌, Bool, if◌then◌else◌, List, [], ◌∷◌, length, Some}
-use Rattle.slot_disk.specs.StoreLayout.{front_bytes, is_gate_open, slot_header, number_at}
+use Rattle.std.specs.Prelude.{ℕ, zero, suc, ◌≡◌, ◌≢◌, ◌+◌, ◌<◌, ◌≤◌, ◌⊎◌, Bool, if◌then◌else◌, List, [], ◌∷◌, length}
+use Rattle.std.specs.Prelude.{Some, slice_index}
+use Rattle.slot_disk.specs.StoreLayout.{front_bytes, is_gate_open, slot_header, number_at, place_of_body}
 use Rattle.slot_disk.specs.StoreLayout.{slot_body, slot_content, SlotContent, Closed, Whole}
 
 -- the number of the other slot
@@ -53,9 +54,17 @@ pub record CanOpen (span slot : ℕ) (body image : List ℕ) : Type 0 where
   pub stored : slot_body span slot image ≡ Some body
   pub other_holds : IsSoundSlots (slot_content span (other_slot_of slot) image)
 
--- all of a store but one slot is as before
+-- a byte of a store is none of this slot's: neither its gate nor within its span
+abbrev pub IsApartFrom : ℕ → ℕ → ℕ → Type 0
+IsApartFrom span slot place =
+    (place ≢ slot) × ((place < place_of_body span slot) ⊎ (place_of_body span slot + span ≤ place))
+
+-- all of a store but one slot is as before: each byte up to the old end, the header, and what the other slot holds
 pub record IsSameApart (span slot : ℕ) (old image : List ℕ) : Type 0 where
   pub long : front_bytes ≤ length image
+  pub no_shorter : length old ≤ length image
+  pub bytes : (place : ℕ) → place < length old → IsApartFrom span slot place
+      → slice_index image place ≡ slice_index old place
   pub header : slot_header image ≡ slot_header old
   pub other_slot : slot_content span (other_slot_of slot) image ≡ slot_content span (other_slot_of slot) old
 
