@@ -5,6 +5,7 @@ use Rattle.system_io.specs.declared.input.Input.{Input}
 use Rattle.system_io.specs.declared.input.LateFile.{LateFile}
 use Rattle.system_io.specs.declared.std_sink.StdSink.{StdSink}
 use Rattle.system_io.specs.declared.std_source.StdSource.{StdSource}
+use Rattle.system_io.specs.declared.store_file.SystemStore.{SystemStore}
 use Rattle.system_io.specs.Input.{IsInput}
 
 -- the source of the input at this path, which isn't opened yet; no call of it has failed
@@ -16,5 +17,5 @@ abbrev pub IsUnusedSink : {W : Type 0} → StdSink W → Type 0
 IsUnusedSink sink = sink.faults ≡ 0
 
 -- the disk of the file at this path, which isn't opened yet; no call of it has failed
-abbrev pub IsUnusedDisk : {O F : Type 0} → List ℕ → FileDisk O F → Type 0
-IsUnusedDisk path disk = (disk.path ≡ path) × (disk.opened ≡ None) × (disk.faults ≡ 0)
+abbrev pub IsUnusedDisk : {F : Type 0} → List ℕ → FileDisk SystemStore F → Type 0
+IsUnusedDisk path disk = (disk.opener.path ≡ path) × (disk.opened ≡ None) × (disk.faults ≡ 0)

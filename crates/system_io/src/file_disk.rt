@@ -1,14 +1,14 @@
 //! A file as a disk.
 
 ghost use Rattle.std.specs.Prelude.{◌≡◌, ◌<◌, ◌≤◌, ◌+◌, length, vec_len, drop, ⊤, false, true, is_err, None, IfOk};
-ghost use Rattle.std.specs.Prelude.{ℕ, List, Option, OnOk, OnErr, is_some};
+ghost use Rattle.std.specs.Prelude.{ℕ, List, Option, OnOk, OnErr, Some, is_some};
 ghost use Rattle.outside_io.specs.{FailsByCount};
 ghost use Rattle.slot_disk.specs.{IfImageKnown, IfBothKnown, GivesRange, IsTornImage, IsWrittenImage};
 ghost use Rattle.slot_disk.specs.{IsTornFrom, IsOnlyImage, MomentsGoOn, IsUnchangedAt};
-ghost use Rattle.system_io.specs.StoreFile.{CountsSync, late_syncs};
+ghost use Rattle.system_io.specs.StoreFile.{CountsSync, KeepsSyncs, StaysOpen, late_syncs};
 
 use crate::store_file::{StoreFile, StoreOpener, SystemStore};
-use outside_io::{Failed, PathText};
+use outside_io::Failed;
 use slot_disk::Disk;
 use std::alloc::{AllocError, Global};
 use std::fs::File;
@@ -31,7 +31,6 @@ pub type StoreDisk<'a> = FileDisk<SystemStore<'a>, File>;
 #[derive(Drop)]
 pub struct FileDisk<O, F> {
     opener: O,
-    path: PathText,
     opened: Option<F>,
     buffer: Vec<u8>,
     name_synced: bool,
@@ -41,14 +40,13 @@ pub struct FileDisk<O, F> {
 }
 
 impl<O: StoreOpener<F> + Drop, F: StoreFile + Drop> FileDisk<O, F> {
-    /// The file at this path, not yet opened.
-    pub fn new(alloc: Global, opener: O, path: PathText) -> Result<Self, AllocError>
-        ensures { IfOk result (λ disk. (disk.path ≡ path) × (disk.opened ≡ None) × (disk.name_synced ≡ false)
+    /// The file that the opener opens, not yet opened.
+    pub fn new(alloc: Global, opener: O) -> Result<Self, AllocError>
+        ensures { IfOk result (λ disk. (disk.opener ≡ opener) × (disk.opened ≡ None) × (disk.name_synced ≡ false)
             × (disk.sync_failed ≡ false) × (disk.faults ≡ 0)) }
     {
         Ok(FileDisk {
             opener,
-            path,
             opened: None,
             buffer: vec![in alloc; 0; ROOM]?,
             name_synced: false,
@@ -61,9 +59,12 @@ impl<O: StoreOpener<F> + Drop, F: StoreFile + Drop> FileDisk<O, F> {
         ensures same_faults { self.new.faults ≡ self.old.faults }
         ensures same_syncs { self.new.sync_failed ≡ self.old.sync_failed }
         ensures same_name { self.new.name_synced ≡ self.old.name_synced }
+        ensures same_file { StaysOpen self.old.opened self.new.opened }
     {
-        let file = opened(&mut self.opened, &self.opener, self.path.as_str())?;
-        file.size()
+        let file = take_opened(&mut self.opened, &self.opener)?;
+        let size = file.size();
+        self.opened = Some(file);
+        size
     }
 
     fn try_read(&mut self, place: u64, into: &mut [u8]) -> IoResult<usize>
@@ -72,9 +73,12 @@ impl<O: StoreOpener<F> + Drop, F: StoreFile + Drop> FileDisk<O, F> {
         ensures same_faults { self.new.faults ≡ self.old.faults }
         ensures same_syncs { self.new.sync_failed ≡ self.old.sync_failed }
         ensures same_name { self.new.name_synced ≡ self.old.name_synced }
+        ensures same_file { StaysOpen self.old.opened self.new.opened }
     {
-        let file = opened(&mut self.opened, &self.opener, self.path.as_str())?;
-        read_on(file, &mut self.buffer, place, into)
+        let file = take_opened(&mut self.opened, &self.opener)?;
+        let count = read_on(&file, &mut self.buffer, place, into);
+        self.opened = Some(file);
+        count
     }
 
     fn try_write(&mut self, place: u64, bytes: &[u8]) -> IoResult<usize>
@@ -82,9 +86,12 @@ impl<O: StoreOpener<F> + Drop, F: StoreFile + Drop> FileDisk<O, F> {
         ensures same_faults { self.new.faults ≡ self.old.faults }
         ensures same_syncs { self.new.sync_failed ≡ self.old.sync_failed }
         ensures same_name { self.new.name_synced ≡ self.old.name_synced }
+        ensures same_file { StaysOpen self.old.opened self.new.opened }
     {
-        let file = opened(&mut self.opened, &self.opener, self.path.as_str())?;
-        write_on(file, place, bytes)
+        let file = take_opened(&mut self.opened, &self.opener)?;
+        let count = write_on(&file, place, bytes);
+        self.opened = Some(file);
+        count
     }
 
     fn try_sync(&mut self) -> IoResult<()>
@@ -92,16 +99,16 @@ impl<O: StoreOpener<F> + Drop, F: StoreFile + Drop> FileDisk<O, F> {
         ensures after_failed { self.old.sync_failed ≡ true → is_err result ≡ true }
         ensures failed { is_err result ≡ self.new.sync_failed }
         ensures named { OnOk result (self.new.name_synced ≡ true) }
-        ensures synced { OnOk result (CountsSync (late_syncs O.syncs F.syncs self.old.opener self.old.path self.old.opened)
-            (late_syncs O.syncs F.syncs self.new.opener self.new.path self.new.opened)) }
+        ensures synced { OnOk result (CountsSync (late_syncs O.syncs F.syncs self.old.opener self.old.opened)
+            (late_syncs O.syncs F.syncs self.new.opener self.new.opened)) }
     {
         if self.sync_failed {
             return Err(Error::from(ErrorKind::Other));
         }
         self.sync_failed = true;
-        sync_opened(&mut self.opened, &self.opener, self.path.as_str())?;
+        sync_opened(&mut self.opened, &self.opener)?;
         if !self.name_synced {
-            self.opener.sync_name(self.path.as_str())?;
+            self.opener.sync_name()?;
             self.name_synced = true;
         }
         self.sync_failed = false;
@@ -114,6 +121,7 @@ impl<O: StoreOpener<F> + Drop, F: StoreFile + Drop> FileDisk<O, F> {
         ensures cause { FailsByCount self.old.faults self.new.faults result }
         ensures same_syncs { self.new.sync_failed ≡ self.old.sync_failed }
         ensures same_name { self.new.name_synced ≡ self.old.name_synced }
+        ensures same_file { self.new.opened ≡ self.old.opened }
     {
         self.faults = self.faults.saturating_add(1);
         Err(Failed)
@@ -144,9 +152,10 @@ impl<O: StoreOpener<F> + Drop, F: StoreFile + Drop> Disk for FileDisk<O, F> {
         ensures time { MomentsGoOn (λ _. 0) (λ _ _ _. ⊤) self.old self.new }
         ensures cause { FailsByCount self.old.faults self.new.faults result }
 
-        // What is marked of syncs is kept: whether one failed, and whether the name was synced.
+        // What is marked of syncs is kept: whether one failed, and whether the name was synced. An open file stays open.
         ensures same_syncs { self.new.sync_failed ≡ self.old.sync_failed }
         ensures same_name { self.new.name_synced ≡ self.old.name_synced }
+        ensures same_file { StaysOpen self.old.opened self.new.opened }
     {
         match self.try_len() {
             Ok(count) => Ok(count),
@@ -163,9 +172,10 @@ impl<O: StoreOpener<F> + Drop, F: StoreFile + Drop> Disk for FileDisk<O, F> {
         ensures time { MomentsGoOn (λ _. 0) (λ _ _ _. ⊤) self.old self.new }
         ensures cause { FailsByCount self.old.faults self.new.faults result }
 
-        // What is marked of syncs is kept: whether one failed, and whether the name was synced.
+        // What is marked of syncs is kept: whether one failed, and whether the name was synced. An open file stays open.
         ensures same_syncs { self.new.sync_failed ≡ self.old.sync_failed }
         ensures same_name { self.new.name_synced ≡ self.old.name_synced }
+        ensures same_file { StaysOpen self.old.opened self.new.opened }
     {
         match self.try_read(place, into) {
             Ok(count) => Ok(count),
@@ -181,9 +191,10 @@ impl<O: StoreOpener<F> + Drop, F: StoreFile + Drop> Disk for FileDisk<O, F> {
         ensures time { MomentsGoOn (λ _. 0) (λ _ _ _. ⊤) self.old self.new }
         ensures cause { FailsByCount self.old.faults self.new.faults result }
 
-        // What is marked of syncs is kept: whether one failed, and whether the name was synced.
+        // What is marked of syncs is kept: whether one failed, and whether the name was synced. An open file stays open.
         ensures same_syncs { self.new.sync_failed ≡ self.old.sync_failed }
         ensures same_name { self.new.name_synced ≡ self.old.name_synced }
+        ensures same_file { StaysOpen self.old.opened self.new.opened }
     {
         match self.try_write(place, bytes) {
             Ok(_) => Ok(()),
@@ -204,8 +215,8 @@ impl<O: StoreOpener<F> + Drop, F: StoreFile + Drop> Disk for FileDisk<O, F> {
         ensures named { OnOk result (self.new.name_synced ≡ true) }
 
         // Where it is known how often the file was synced, it was synced once more.
-        ensures synced { OnOk result (CountsSync (late_syncs O.syncs F.syncs self.old.opener self.old.path self.old.opened)
-            (late_syncs O.syncs F.syncs self.new.opener self.new.path self.new.opened)) }
+        ensures synced { OnOk result (CountsSync (late_syncs O.syncs F.syncs self.old.opener self.old.opened)
+            (late_syncs O.syncs F.syncs self.new.opener self.new.opened)) }
     {
         match self.try_sync() {
             Ok(()) => Ok(()),
@@ -214,35 +225,30 @@ impl<O: StoreOpener<F> + Drop, F: StoreFile + Drop> Disk for FileDisk<O, F> {
     }
 }
 
-// The file, which the first call opens.
-fn opened<'f, O: StoreOpener<F>, F: StoreFile + Drop>(
-    slot: &'f mut Option<F>,
-    opener: &O,
-    path: &str,
-) -> IoResult<&'f F> {
-    let file = match slot.take() {
-        Some(file) => file,
-        None => opener.open_file(path)?,
-    };
-    Ok(slot.insert(file))
-}
-
 // Syncs the file, which the first call opens.
 fn sync_opened<O: StoreOpener<F>, F: StoreFile + Drop>(
     slot: &mut Option<F>,
     opener: &O,
-    path: &str,
 ) -> IoResult<()>
-    ensures { OnOk result (CountsSync (late_syncs O.syncs F.syncs opener.now path.now slot.old)
-        (late_syncs O.syncs F.syncs opener.now path.now slot.new)) }
+    ensures { OnOk result (CountsSync (late_syncs O.syncs F.syncs opener.now slot.old)
+        (late_syncs O.syncs F.syncs opener.now slot.new)) }
 {
-    let mut file = match slot.take() {
-        Some(file) => file,
-        None => opener.open_file(path)?,
-    };
+    let mut file = take_opened(slot, opener)?;
     let synced = file.sync();
     *slot = Some(file);
     synced
+}
+
+// Takes out the file, which the first call opens. The caller puts it back.
+fn take_opened<O: StoreOpener<F>, F: StoreFile>(slot: &mut Option<F>, opener: &O) -> IoResult<F>
+    ensures same { IfOk result (λ file. StaysOpen slot.old (Some file)) }
+    ensures unopened { OnErr result ((slot.old ≡ None) × (slot.new ≡ None)) }
+    ensures kept { IfOk result (λ file. KeepsSyncs (late_syncs O.syncs F.syncs opener.now slot.old) (F.syncs file)) }
+{
+    match slot.take() {
+        Some(file) => Ok(file),
+        None => opener.open_file(),
+    }
 }
 
 // Reads up to the file's end or the room. A call interrupted by a signal is made again.

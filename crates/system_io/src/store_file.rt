@@ -1,8 +1,9 @@
 //! The file of a store, and what opens it.
 
-ghost use Rattle.std.specs.Prelude.{ℕ, List, Option, None, IfOk, OnOk};
+ghost use Rattle.std.specs.Prelude.{◌≡◌, ℕ, Option, None, IfOk, OnOk};
 ghost use Rattle.system_io.specs.StoreFile.{CountsSync, KeepsSyncs};
 
+use outside_io::PathText;
 use std::alloc::AllocError;
 use std::fs;
 use std::fs::{File, OpenOptions};
@@ -29,15 +30,15 @@ pub trait StoreFile: FileExt {
 
 /// What opens the file of a store.
 pub trait StoreOpener<F: StoreFile> {
-    /// How many syncs of the file at a path have succeeded, where this is known.
-    ghost syncs: { Self → List ℕ → Option ℕ };
+    /// How many syncs of the file have succeeded, where this is known.
+    ghost syncs: { Self → Option ℕ };
 
-    /// Opens the file at a path for reading and writing, and creates it empty where it is missing.
-    fn open_file(&self, path: &str) -> IoResult<F>
-        ensures { IfOk result (λ file. KeepsSyncs (syncs self.now path.now) (F.syncs file)) };
+    /// Opens the file for reading and writing, and creates it empty where it is missing.
+    fn open_file(&self) -> IoResult<F>
+        ensures { IfOk result (λ file. KeepsSyncs (syncs self.now) (F.syncs file)) };
 
-    /// Makes the name of the file at a path safe from a crash.
-    fn sync_name(&self, path: &str) -> IoResult<()>;
+    /// Makes the name of the file safe from a crash.
+    fn sync_name(&self) -> IoResult<()>;
 }
 
 /// A file of the system. How often it was synced is not known.
@@ -53,47 +54,49 @@ impl StoreFile for File {
     }
 }
 
-/// Opens the regular file of a store, and syncs its name.
+/// Opens the regular file of a store at its path, and syncs its name.
 ///
 /// The directory that has the name is opened before a run begins: to look it up takes memory, and of a disk a run can say
 /// only that a call failed.
 #[derive(Drop)]
 pub struct SystemStore<'a> {
     rt: &'a HostRuntime,
+    path: PathText,
     directory: Option<File>,
 }
 
 impl<'a> SystemStore<'a> {
     /// What opens the file at this path. If its directory can't be opened, the first sync tries again. The only error is
     /// that memory runs out.
-    pub fn at(rt: &'a HostRuntime, path: &str) -> Result<Self, AllocError> {
-        match open_directory(rt, path) {
-            Ok(directory) => Ok(SystemStore {
-                rt,
-                directory: Some(directory),
-            }),
-            Err(error) if error.kind() == ErrorKind::OutOfMemory => Err(AllocError),
-            Err(_) => Ok(SystemStore {
-                rt,
-                directory: None,
-            }),
-        }
+    pub fn at(rt: &'a HostRuntime, path: PathText) -> Result<Self, AllocError>
+        ensures { IfOk result (λ store. store.path ≡ path) }
+    {
+        let directory = match open_directory(rt, path.as_str()) {
+            Ok(directory) => Some(directory),
+            Err(error) if error.kind() == ErrorKind::OutOfMemory => return Err(AllocError),
+            Err(_) => None,
+        };
+        Ok(SystemStore {
+            rt,
+            path,
+            directory,
+        })
     }
 }
 
 impl StoreOpener<File> for SystemStore<'_> {
-    ghost syncs = { λ _ _. None };
+    ghost syncs = { λ _. None };
 
-    fn open_file(&self, path: &str) -> IoResult<File> {
-        open(self.rt, path)
+    fn open_file(&self) -> IoResult<File> {
+        open(self.rt, self.path.as_str())
     }
 
     // Fails where no file has the name any more.
-    fn sync_name(&self, path: &str) -> IoResult<()> {
-        fs::metadata(self.rt, path)?;
+    fn sync_name(&self) -> IoResult<()> {
+        fs::metadata(self.rt, self.path.as_str())?;
         match &self.directory {
             Some(directory) => directory.sync_all(),
-            None => open_directory(self.rt, path)?.sync_all(),
+            None => open_directory(self.rt, self.path.as_str())?.sync_all(),
         }
     }
 }

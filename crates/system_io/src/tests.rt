@@ -280,8 +280,8 @@ fn fails_in_two_calls(file: &FailsSecond) -> bool {
 
 fn disk_at<'a>(rt: &'a HostRuntime, path: &str) -> Result<StoreDisk<'a>, Fail> {
     let alloc = rt.alloc();
-    let store = SystemStore::at(rt, path)?;
-    Ok(StoreDisk::new(alloc, store, PathText::of(alloc, path)?)?)
+    let store = SystemStore::at(rt, PathText::of(alloc, path)?)?;
+    Ok(StoreDisk::new(alloc, store)?)
 }
 
 #[test]
@@ -378,14 +378,14 @@ struct CountsNames {
 }
 
 impl StoreOpener<CountsSyncs> for &CountsNames {
-    ghost syncs = { λ _ _. None };
+    ghost syncs = { λ _. None };
 
-    fn open_file(&self, _path: &str) -> IoResult<CountsSyncs> {
+    fn open_file(&self) -> IoResult<CountsSyncs> {
         self.opened.set(self.opened.get().saturating_add(1));
         Ok(CountsSyncs { syncs: 0 })
     }
 
-    fn sync_name(&self, _path: &str) -> IoResult<()> {
+    fn sync_name(&self) -> IoResult<()> {
         self.synced.set(self.synced.get().saturating_add(1));
         Ok(())
     }
@@ -400,7 +400,7 @@ fn each_sync_syncs_the_file_and_the_first_one_its_name(rt: HostRuntime) -> Resul
         opened: Cell::new(0),
         synced: Cell::new(0),
     };
-    let mut disk = CountedDisk::new(alloc, &names, PathText::of(alloc, "a")?)?;
+    let mut disk = CountedDisk::new(alloc, &names)?;
     assert!(rt; disk.write_at(0, b"a") == Ok(()));
     assert!(rt; disk.len() == Ok(0));
     for syncs in 1..4 {
@@ -419,7 +419,7 @@ fn syncs_to_length<D: Disk>(disk: &mut D, length: u64) -> bool {
 fn a_sync_of_the_system_is_asked_for(rt: HostRuntime) -> Result<(), Fail> {
     let mut device = File::open(&rt, "/dev/null")?;
     assert!(rt; device.sync().is_err());
-    let version = "/proc/version";
-    assert!(rt; SystemStore::at(&rt, version)?.sync_name(version).is_err());
+    let version = PathText::of(rt.alloc(), "/proc/version")?;
+    assert!(rt; SystemStore::at(&rt, version)?.sync_name().is_err());
     Ok(())
 }
