@@ -1,16 +1,16 @@
 //! The commands that read one capture, one session or one store.
 
-ghost use Rattle.std.specs.Prelude.{◌≡◌, ℕ, IfOk, OnErr, []};
+ghost use Rattle.std.specs.Prelude.{◌≡◌, ℕ, IfOk, OnErr};
 ghost use Rattle.std.specs.Process.{exit_status};
 ghost use Rattle.prefix_lattice.specs.{RecordValue};
 ghost use Rattle.deal_rules.specs.{dealer_of};
-ghost use Rattle.hhh_engine.specs.{argument_texts, AskForCommand, Command, NamesPaths, RunEnds, status_line};
-ghost use Rattle.hhh_engine.specs.{status_number};
+ghost use Rattle.hhh_engine.specs.{argument_texts, RunEnds, status_line, status_number};
 ghost use Rattle.hhh.specs.Ending.{TellsEnding};
+ghost use Rattle.hhh.specs.Named.{ArePathsOf, AreUnusedStreams, EndsAtPaths};
 ghost use Rattle.hhh.specs.Rules.{program_rules, rule_shard, severity};
 ghost use Rattle.hhh.specs.Streams.{streams_of};
 ghost use Rattle.watch_rules.specs.{GoesByFormula};
-ghost use Rattle.system_io.specs.{IsUnusedDisk, IsUnusedInput, IsUnusedSink, sink_contents};
+ghost use Rattle.system_io.specs.{sink_contents};
 
 use crate::ending::finish;
 use crate::rules::{by_both, by_place, by_source};
@@ -57,7 +57,12 @@ pub(crate) fn run_named<R: Threads + Wait + Sync, W: Write + Drop>(
     alloc: Global,
     words: &[&str],
     errors: &mut StdSink<W>,
-) -> Result<ExitCode, AllocError> {
+) -> Result<ExitCode, AllocError>
+    ensures ends { IfOk result (EndsAtPaths
+        ⟦<StdSource<NamedInput<'static>> as Source>⟧ ⟦<StdSink<Stdout> as Sink>⟧ ⟦<StoreDisk<'static> as Disk>⟧
+        (argument_texts words.now) (sink_contents W.contents errors.old) (sink_contents W.contents errors.new)) }
+    ensures silent { OnErr result (errors.new ≡ errors.old) }
+{
     let paths = named_paths(alloc, words)?;
     let mut streams = streams_at(rt, alloc, paths)?;
     run_to_end(threads, alloc, words, &mut streams, errors)
@@ -65,10 +70,7 @@ pub(crate) fn run_named<R: Threads + Wait + Sync, W: Write + Drop>(
 
 // The paths that the arguments name. Arguments that ask for no command name none, and are refused before anything is read.
 fn named_paths(alloc: Global, words: &[&str]) -> Result<PathTexts, AllocError>
-    ensures named { IfOk result (λ paths. (command : Command) → AskForCommand (argument_texts words.now) command
-        → NamesPaths (argument_texts words.now) paths) }
-    ensures unnamed { IfOk result (λ paths. ((command : Command) → AskForCommand (argument_texts words.now) command → ⊥)
-        → (paths.capture ≡ []) × (paths.report ≡ []) × (paths.store ≡ [])) }
+    ensures { IfOk result (ArePathsOf (argument_texts words.now)) }
 {
     match paths(alloc, words) {
         Ok(paths) => Ok(paths),
@@ -87,17 +89,14 @@ fn streams_at(
     alloc: Global,
     paths: PathTexts,
 ) -> Result<SystemStreams<'_>, AllocError>
-    ensures capture { IfOk result (λ streams. IsUnusedInput paths.capture streams.capture) }
-    ensures text { IfOk result (λ streams. IsUnusedInput paths.report streams.text) }
-    ensures output { IfOk result (λ streams. IsUnusedSink streams.output) }
-    ensures store { IfOk result (λ streams. IsUnusedDisk paths.store streams.store) }
+    ensures { IfOk result (AreUnusedStreams paths) }
 {
-    let store = SystemStore::at(rt, paths.store.as_str())?;
+    let store = SystemStore::at(rt, paths.store)?;
     Ok(Streams {
         capture: StdSource::new(alloc, input_of(rt, paths.capture))?,
         text: StdSource::new(alloc, input_of(rt, paths.report))?,
         output: StdSink::new(rt.stdout()),
-        store: StoreDisk::new(alloc, store, paths.store)?,
+        store: StoreDisk::new(alloc, store)?,
     })
 }
 

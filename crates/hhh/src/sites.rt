@@ -1,13 +1,14 @@
 //! The command `sites`: one report over the stores of several sites.
 
-ghost use Rattle.std.specs.Prelude.{◌≡◌, ℕ, List, [], length, false, true, IfOk};
+ghost use Rattle.std.specs.Prelude.{◌≡◌, ℕ, List, length, false, true, IfOk, OnErr};
 ghost use Rattle.std.specs.List.{AllZip};
 ghost use Rattle.std.specs.Process.{exit_status};
 ghost use Rattle.checkpoint.specs.declared.settings.StoreSettings.{StoreSettings as StoreSettingsValue};
 ghost use Rattle.hhh_engine.specs.{argument_texts};
 ghost use Rattle.hhh.specs.Ending.{TellsEnding};
+ghost use Rattle.hhh.specs.Named.{AreStoresOf, EndsAtStores};
 ghost use Rattle.hhh.specs.Sites.{AreForSites};
-ghost use Rattle.site_merge.specs.{AskForSites, NamesSites, SitesEnd, site_line, status_number};
+ghost use Rattle.site_merge.specs.{AskForSites, SitesEnd, site_line, status_number};
 ghost use Rattle.site_merge.specs.declared.status.SiteStatus.{SiteStatus as SiteStatusValue};
 ghost use Rattle.system_io.specs.{IsUnusedDisk, sink_contents};
 
@@ -16,7 +17,7 @@ use outside_io::{PathText, Sink};
 use site_merge::{SiteWordsRefusal, run_sites, site_paths};
 use slot_disk::Disk;
 use std::alloc::{AllocError, Global};
-use std::io::Write;
+use std::io::{Stdout, Write};
 use std::process::ExitCode;
 use system_io::{StdSink, StoreDisk, SystemStore};
 
@@ -37,7 +38,11 @@ pub(crate) fn run_named_sites<W: Write + Drop>(
     alloc: Global,
     words: &[&str],
     errors: &mut StdSink<W>,
-) -> Result<ExitCode, AllocError> {
+) -> Result<ExitCode, AllocError>
+    ensures ends { IfOk result (EndsAtStores ⟦<StoreDisk<'static> as Disk>⟧ ⟦<StdSink<Stdout> as Sink>⟧
+        (argument_texts words.now) (sink_contents W.contents errors.old) (sink_contents W.contents errors.new)) }
+    ensures silent { OnErr result (errors.new ≡ errors.old) }
+{
     let stores = named_stores(alloc, words)?;
     let mut disks = disks_at(rt, alloc, stores)?;
     let mut output = StdSink::new(rt.stdout());
@@ -46,9 +51,7 @@ pub(crate) fn run_named_sites<W: Write + Drop>(
 
 // The stores that the words name. Words that ask for no report name none, and are refused before anything is read.
 fn named_stores(alloc: Global, words: &[&str]) -> Result<Vec<PathText>, AllocError>
-    ensures named { IfOk result (λ stores. (settings : StoreSettingsValue) (phi : ℕ) (names : List (List ℕ))
-        → AskForSites (argument_texts words.now) settings phi names → stores.items ≡ names) }
-    ensures unnamed { IfOk result (λ stores. ((names : List (List ℕ)) → NamesSites (argument_texts words.now) names → ⊥) → stores.items ≡ []) }
+    ensures { IfOk result (λ stores. AreStoresOf (argument_texts words.now) stores.items) }
 {
     match site_paths(alloc, words) {
         Ok(stores) => Ok(stores),
@@ -67,8 +70,8 @@ fn disks_at(
 {
     let mut disks = Vec::new(alloc);
     for path in stores {
-        let store = SystemStore::at(rt, path.as_str())?;
-        disks.push(StoreDisk::new(alloc, store, path)?)?;
+        let store = SystemStore::at(rt, path)?;
+        disks.push(StoreDisk::new(alloc, store)?)?;
     }
     Ok(disks)
 }
