@@ -21,6 +21,7 @@ must have made it, and after 6 be able to. Prints for each command line its call
 each run that ended otherwise, and at the end the counts. Needs strace.
 """
 
+import os
 import random
 import signal
 import sys
@@ -33,7 +34,7 @@ from command_lines import CommandLines
 
 ABORTED = -signal.SIGABRT
 
-program, capture = sys.argv[1:3]
+program, capture = sys.argv[1], os.path.abspath(sys.argv[2])  # strace shows whole paths.
 most, seed = int(sys.argv[3]) if sys.argv[3:] else 1000, int(sys.argv[4]) if sys.argv[4:] else 1
 source = random.Random(seed)
 
