@@ -7,8 +7,6 @@ from checks.repository import CRATES, EDIT_FOLDERS, TOP, check, edits, faults, h
 # The longest line of definitions, proofs and contracts that is read in one go.
 LONGEST_STATEMENT = 160
 
-MOST_TRIED_BY_GATE = 2
-
 # Lemmas on lists and on places of nodes, which the standard library lacks.
 SHARED_LEMMAS = {("prefix_lattice", name) for name in ("ListLemmas", "NodePlaceLemmas", "GrainLemmas")}
 
@@ -57,10 +55,10 @@ def check_programs():
 
 
 def check_edits(crate):
-    """The gate tries few wrong bodies, and none is in both folders. Each text that one replaces stands once in its file,
+    """The gate tries one wrong body, and none is in both folders. Each text that one replaces stands once in its file,
     once the pairs before it are applied."""
     tried, others = (edits(crate, folder) for folder in EDIT_FOLDERS)
-    check(len(tried) <= MOST_TRIED_BY_GATE, f"{crate} has {len(tried)} wrong bodies in must-fail/, more than {MOST_TRIED_BY_GATE}")
+    check(len(tried) <= 1, f"{crate} has {len(tried)} wrong bodies in must-fail/, more than the one that the gate tries")
     for name in sorted({path.stem for path in tried} & {path.stem for path in others}):
         faults.append(f"{crate} has the wrong body {name} in both folders")
     for path in tried + others:
