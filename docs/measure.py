@@ -5,7 +5,7 @@ usage: measure.py              one line for each measure
        measure.py reached      also the definitions that `done` of a report reaches, with their lines
 
 A definition is reached if its name stands in the text of one that is reached; of a definition with a line for each
-command only the line of `Report` is read. Comments and blank lines are not counted.
+command, or for each word that names one, only the line of `Report` is read. Comments and blank lines are not counted.
 """
 
 import re
@@ -67,7 +67,8 @@ def meanings(known):
 
 def for_report(name, lines):
     """The lines of a definition that speak of the command `report`."""
-    others = re.compile(r"\s*%s .*\((?:command\.)?(?:Weigh|Format|Audit|Watch|Make|Demo)\b" % re.escape(name))
+    before = r"(?:.*\((?:command\.)?)?" if "CommandWord →" in lines[0] else r".*\((?:command\.)?"
+    others = re.compile(rf"\s*{re.escape(name)} {before}(?:Weigh|Format|Audit|Watch|Make|Demo)\b")
     kept, skips = [], False
     for line in lines:
         if line.strip().startswith(name + " "):

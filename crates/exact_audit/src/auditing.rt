@@ -23,9 +23,9 @@ use std::alloc::{AllocError, Global};
 ///
 /// The audit knows no table, merge or bound. It sums the plain records before the report's positions, node by node: one
 /// pass to find how far the lines that cover each record reach, then one pass for each node of the grain. Its memory is
-/// that of these records and of the keys of one node. A line that its own conditioned weight doesn't justify costs an
-/// additional search for its closest lines. Keys are looked up by hashes whose seed is the digest of the records and the
-/// lines, so that no traffic can be made for which look-ups are slow.
+/// that of these records and of the keys of one node. The closest lines of all lines are found together, by a look-up
+/// for each line and node. Keys are looked up by hashes whose seed is the digest of the records and the lines, so that no
+/// traffic can be made for which look-ups are slow.
 ///
 /// The capacity is 2 to 4,096 and `phi` 1 to 1,000,000. The only error is that memory runs out.
 pub fn audit(

@@ -14,7 +14,7 @@ pub struct Report {
     /// The least weight at which a prefix is heavy, at least 1.
     pub threshold: u64,
     /// The lines, in the order of a report: the level falls, then the source address rises, then its kept
-    /// bytes, then the destination address.
+    /// bits, then the destination address.
     pub lines: Lines,
     ghost are_lines: { AreReportLines lines },
 }
