@@ -1,7 +1,8 @@
--- Worked examples of the shards that records go to, and of severities.
-use Rattle.std.proofs.Common.{◌≡◌, refl}
+-- Worked examples of the shards that records go to, of severities, and of the stores that words name.
+use Rattle.std.proofs.Common.{◌≡◌, List, [], ◌∷◌, codes, refl}
 use Rattle.prefix_lattice.specs.{RecordValue}
 use Rattle.deal_rules.specs.declared.deal_kind.DealKind.TheVariants.{RoundRobin, BySource, Free}
+use Rattle.hhh.specs.Named.{AreStoresOf}
 use Rattle.hhh.specs.Rules.{rule_shard, severity}
 
 -- 100 bytes from 10.1.2.3 to 20.1.2.2
@@ -28,3 +29,10 @@ severity_of_the_limit_itself = refl
 
 pub severity_is_at_most_7 : severity 5000 5000 100 ≡ 7
 severity_is_at_most_7 = refl
+
+-- no words ask for no report over sites
+pub no_words_name_no_store : AreStoresOf [] []
+no_words_name_no_store = record { named = λ settings phi names asked. absurd asked; unnamed = λ none. refl }
+
+pub no_words_name_a_store : AreStoresOf [] (codes "a" ∷ []) → ⊥
+no_words_name_a_store are = let none : codes "a" ∷ [] ≡ [] = are.unnamed (λ names sites. sites.asked) in cc none
