@@ -6,8 +6,8 @@ Draws command lines of `weigh`, `report`, `audit`, `format`, `make` and `demo` w
 had: most words are good, and in some lines one is left out, comes twice, or has a value that is refused. A capture may be cut
 or changed in one byte; the text for `audit` may be that of other settings, or lack a line; a store is missing, formatted or
 saved, by the same settings or by others. Both programs run each line with a store of their own of the same bytes. Status,
-standard output and standard error must be the same, and the bytes of the stores then but for the version in a header. A
-session whose rounds vary must have the same last report and as many reports.
+standard output and standard error must be the same, and the bytes of the stores then, but for the version in a header and
+the bits that the second version has there. A session whose rounds vary must have the same last report and as many reports.
 
 Prints each line whose ends differ, and at the end the counts by command and status. What is drawn depends on the seed.
 """
@@ -46,7 +46,7 @@ GOOD = {
 BAD = ("", "0", "00", "1e3", "-1", "+1", "17", "4097", "1000001", "65537", "99999999999999999999", "hash", "Bytes", "bytes ")
 PREFIXES = ("0.0.0.0/0", "10.0.0.0/8", "10.64.0.0/16", "10.64.88.0/24", "10.64.88.105/32")
 BAD_PREFIXES = ("10.0.0.1/8", "10.0.0.0/9", "10.0.0.0", "256.0.0.0/8", "10.0.0/24", "01.0.0.0/8", "10.0.0.0/08", "")
-VERSION_BYTES = 4, 6
+VERSION_PLACE, BITS_PLACE = 6, 12
 
 old, new, lines, seed, captures = sys.argv[1], sys.argv[2], int(sys.argv[3]), int(sys.argv[4]), sys.argv[5:]
 source = random.Random(seed)
@@ -139,11 +139,11 @@ def prepare(folder, command, given):
 
 
 def store_in(folder):
-    """The bytes of the store, without the version in its header."""
+    """The bytes of the store, without the version and the bits in its header."""
     path = Path(folder, "store")
     data = bytearray(path.read_bytes()) if path.exists() else None
-    for place in VERSION_BYTES if data else ():
-        data[place:place + 1] = b""
+    for place in (VERSION_PLACE, BITS_PLACE) if data else ():
+        data[place:place + 1] = b"?"
     return data
 
 
