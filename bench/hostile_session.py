@@ -11,9 +11,9 @@ many of the other nodes, the deepest first. Over a `paired` capture of 4,000 fra
 `phi` 500: each pair of hosts is a line, so no other prefix has any weight left, and one line below a prefix makes up for
 the threshold.
 
-`repeat` has the last report of a session as many times.
+`repeat` has the last report of SESSION, TIMES times.
 
-`unsound` has one report with as many lines, of which none has a weight.
+`unsound` has one report of LINES lines, of which none has a weight.
 """
 
 import sys

@@ -16,7 +16,8 @@ those of the code. The map in ARCHITECTURE.md has a row for each crate, and the 
 crates.
 
 checks/code.py: a file takes definitions of another crate from its face alone, `Rattle.NAME.specs.{..}`, and its lemmas
-from two files, besides examples; so do the programs of bench/, which nothing else reads; and a face passes on nothing that nobody takes
+from three files, besides examples; so do the programs of bench/, which nothing else reads; and a face passes on nothing
+that nobody takes
 from it. A crate and its face have each name once; two crates may have the same name. The old text of a wrong body
 stands once in its file, no wrong body is in both folders, and at most one of a crate is in must-fail/. What a file of
 lemmas holds has in its name a word of the file's noun. No line of specs/, proofs/ or a contract is longer than 160
