@@ -47,7 +47,7 @@ def sample(used):
     """Notes how many seconds each process of the prover has used so far, under its crate and what it does."""
     for process in filter(str.isdigit, os.listdir("/proc")):
         try:
-            words = Path("/proc", process, "cmdline").read_text().split("\0")
+            words = Path("/proc", process, "cmdline").read_text(errors="replace").split("\0")
             if not words[0].endswith("/rattle") or "--crate-name" not in words:
                 continue
             ticks = Path("/proc", process, "stat").read_text().rsplit(")", 1)[1].split()[11:13]
