@@ -75,9 +75,12 @@ def begin():
     libraries.mkdir(parents=True, exist_ok=True)
     logs.mkdir(exist_ok=True)
     for log in logs.iterdir():
-        log.unlink()
+        if log.name != "stale":
+            log.unlink()
     (logs / "seconds").touch()
-    (logs / "stale").write_text("".join(f"{crate} {sum}\n" for crate, sum in stale.items()))
+    # It is never missing: another build that reads it meanwhile would find nothing to prove.
+    (logs / "stale.new").write_text("".join(f"{crate} {sum}\n" for crate, sum in stale.items()))
+    (logs / "stale.new").replace(logs / "stale")
     if stale and "CHECKED" not in os.environ:
         number = f"{len(stale)} crate{'s' if len(stale) > 1 else ''}"
         say(f"proving {number} and building the program, {about(minutes_left())} on {processors} processors; logs: {shown(logs)}")
@@ -133,6 +136,8 @@ def words_of(crate):
 def link():
     words = ["--target", "x86_64-unknown-linux-gnu", "--toolchain", kit / "toolchain", "-o", out / "hhh.new"]
     run_in("hhh", [kit / "bin/rattle-link", *words, libraries / "hhh.o", kit / "c/libos_c.a", kit / "c/liblibc_c.a"])
+    # The launcher writes it anew. Until then nothing says of which sources the program is.
+    (out / "built").unlink(missing_ok=True)
     (out / "hhh.new").replace(out / "hhh")
 
 

@@ -1,5 +1,6 @@
 """Reads and writes captures for the tools beside it: the four spellings of libpcap's file format 2.4."""
 
+import os
 import signal
 import struct
 import sys
@@ -15,10 +16,14 @@ def rewrite(change, links, refusal):
 
     `change` takes the link type, a frame's captured bytes and its length on the wire, and returns the two that it gets.
     Its time stamps stay. The end of a pipe ends the tool. A link type that isn't in `links` ends it with a line and 1
-    before it writes anything, and a frame that is cut off after the frames before it.
+    before it writes anything, as a standard input does that doesn't block, and a frame that is cut off after the frames
+    before it.
     """
     signal.signal(signal.SIGPIPE, signal.SIG_DFL)
-    source, sink = sys.stdin.buffer, sys.stdout.buffer
+    # Unlike a standard output that isn't buffered, this one writes all that it is given.
+    source, sink = sys.stdin.buffer, open(1, "wb", closefd=False)
+    if not os.get_blocking(source.fileno()):
+        sys.exit(f"{sys.argv[0]}: standard input doesn't block; </dev/stdin opens a pipe anew")
     header = source.read(24)
     order = SPELLINGS.get(header[:4])
     if order is None or len(header) < 24:
@@ -33,10 +38,11 @@ def rewrite(change, links, refusal):
         captured, wire = lengths.unpack(head[8:]) if len(head) == 16 else (0, 0)
         frame = source.read(min(captured, MOST_CAPTURED))
         if len(head) < 16 or len(frame) < captured:
-            sys.stdout.flush()
+            sink.flush()
             sys.exit(f"{sys.argv[0]}: the last frame is cut off or too long, and is left out")
         frame, wire = change(link, frame, wire)
         sink.write(head[:8] + lengths.pack(len(frame), wire) + frame)
+    sink.flush()
 
 
 def type_offset(frame):

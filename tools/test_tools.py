@@ -2,6 +2,7 @@
 """Tests the tools beside it on small inputs of its own: test_tools.py. Outside the gate, since it proves nothing."""
 
 import json
+import os
 import re
 import signal
 import struct
@@ -126,6 +127,23 @@ class Ethernet(unittest.TestCase):
     def test_length_on_the_wire_below_the_header(self):
         self.assertEqual(frames(run("hhh-ethernet", text=capture(113, [(bytes(14) + b"\x08\x00", 3)])))[0][1], 14)
 
+    def test_greatest_length_on_the_wire(self):
+        written = frames(run("hhh-ethernet", text=capture(101, [(packet(), 2**32 - 1), (packet(), 20)])))
+        self.assertEqual([wire for _, wire in written], [2**32 - 1, 34])
+
+    def test_longest_frame_of_another_link_type(self):
+        written = frames(run("hhh-ethernet", text=capture(101, [(packet() + bytes(262_124), 262_144)])))
+        self.assertEqual([(len(frame), wire) for frame, wire in written], [(262_144, 262_158)])
+
+    def test_input_that_does_not_block(self):
+        reads, writes = os.pipe()
+        os.set_blocking(reads, False)
+        tool = subprocess.Popen([here / "hhh-ethernet"], stdin=reads, stdout=subprocess.PIPE, stderr=subprocess.PIPE)
+        os.close(reads)
+        written, said = tool.communicate()
+        os.close(writes)
+        self.assertEqual((written, tool.returncode, b"doesn't block" in said), (b"", 1, True))
+
     def test_end_of_the_pipe(self):
         text = capture(1, [(bytes(200), 200)] * 10_000)
         tool = subprocess.Popen([here / "hhh-ethernet"], stdin=subprocess.PIPE, stdout=subprocess.PIPE, stderr=subprocess.PIPE)
@@ -197,12 +215,16 @@ class Flows(unittest.TestCase):
         text = b" 10.1.2.3, 20.1.2.3, 1500\n::1,::2,7\n10.1.2.3,20.1.2.3,4294967296\n10.1.2.3,20.1.2.3,1.5 M\n\n"
         frame = ADDRESSES + b"\x08\x00" + packet()
         written = frames(run("hhh-flows", text=text, said=b": 3 lines left out\n"))
-        self.assertEqual(written, [(frame, 1500), (frame, 2**32 - 1), (frame, 1)])
+        self.assertEqual(written, [(frame, 1500), (frame, 2**32 - 34), (frame, 34)])
 
     def test_nothing_left_out(self):
         written = frames(run("hhh-flows", text=b"10.1.2.3,20.1.2.3,0\n10.1.2.3,20.1.2.3,33\n"))
         self.assertEqual([wire for _, wire in written], [33])
         run("hhh-flows", "--help", status=1, said=b"nfdump -r FILE")
+
+    def test_lines_in_no_encoding(self):
+        text = b"10.1.2.3,20.1.2.3,50\n\xff\xfe,x,1\n10.1.2.3,20.1.2.3,70\n"
+        self.assertEqual([wire for _, wire in frames(run("hhh-flows", text=text, said=b": 1 lines left out"))], [50, 70])
 
 
 class Export(unittest.TestCase):
@@ -244,8 +266,10 @@ class Export(unittest.TestCase):
 
     def test_no_sessions(self):
         without_report = "opened 0 0\nframes 4\nskipped 1 0 1\nend\n"
-        for text in ("end\n", without_report, SESSION.replace("200 200", "200 x"), SESSION.replace("skipped", "left")):
-            run("hhh-export", "json", text=text.encode(), status=1, said=b"no session")
+        for text in ("end\n", without_report, SESSION.replace("200 200", "200 x"), SESSION.replace("skipped", "left"),
+                     SESSION.replace("200 200", "200"), SESSION.replace("skipped 1 0 1", "skipped 1")):
+            for form in ("json", "csv", "prometheus"):
+                self.assertEqual(run("hhh-export", form, text=text.encode(), status=1, said=b"no session"), b"")
         run("hhh-export", "csv", "/no/such/file", status=1, said=b"No such file")
 
     def test_incomplete_sessions(self):
@@ -302,6 +326,11 @@ class Lattice(unittest.TestCase):
         run("hhh-lattice", "/no/such/file", status=1, said=b"No such file")
         for words in (["--help"], [], ["--bits", "8"], ["--bits", "16", "/dev/stdin"], ["--bit", "4", "/dev/stdin"]):
             run("hhh-lattice", *words, status=1, said=b"hhh-lattice [--bits 8|4] SESSION")
+
+    def test_end_of_the_pipe(self):
+        tool = subprocess.Popen([here / "hhh-lattice", "/dev/stdin"], stdin=subprocess.PIPE, stdout=subprocess.PIPE, stderr=subprocess.PIPE)
+        tool.stdout.close()
+        self.assertEqual((tool.communicate(SESSION.encode())[1], tool.returncode), (b"", -signal.SIGPIPE))
 
     def numbers(self, drawing):
         """The numbers of both axes, and how many boxes there are."""
