@@ -15,14 +15,6 @@ pub key_missing : (keys : List ℕ) (key : ℕ) → ((place : ℕ) → place < l
 key_missing keys key missing = λ place default inside.
     λ (same : get_or keys place default ≡ key). missing place inside (sym (get_or_default_zero keys place default inside) ∙ same)
 
--- what an index says of a key, by the place that was found
-pub key_found : (keys : List ℕ) (key : ℕ) (found : Option ℕ)
-    → IfSome found (λ place. place < length keys) → IfSome found (λ place. get_or keys place 0 ≡ key)
-    → IfNone found ((place : ℕ) → place < length keys → get_or keys place 0 ≢ key)
-    → MatchOption found (All (λ other. other ≢ key) keys) (λ place. slice_get keys place ≡ Some key)
-key_found keys key None within is missing = key_missing keys key missing
-key_found keys key (Some place) within is missing = slice_get-get_or keys place 0 within ∙ ap Some is
-
 -- one key more
 pub key_of_pushed : (keys : List ℕ) (key : ℕ) (index : KeyEntries) → length keys < index.room → HoldsKeys keys index
     → HoldsKeysButOne (length keys) (keys ++ key ∷ []) index

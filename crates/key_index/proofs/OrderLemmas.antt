@@ -49,6 +49,23 @@ order_after_half keys listed number from half rest next rises some short look af
     (λ (goes : (next ≡ from + half) × (order_at keys listed (from + half - 1) < number)). after index (omega (arith, goes.0)) within)
     look
 
+-- an index splits the list if the places at both sides of it stand where they should
+pub order_splits_at : (keys listed : List ℕ) (number at : ℕ) → Rises keys listed → at ≤ length listed
+    → (1 ≤ at → order_at keys listed (at - 1) < number) → (at < length listed → number ≤ order_at keys listed at)
+    → Splits keys listed number at
+order_splits_at keys listed number at rises within low high = record {
+  before = λ index before.
+      ⊎_elim
+      (λ (here : index ≡ at - 1). subst (λ n. order_at keys listed n < number) (sym here) (low (omega arith)))
+      (λ (there : index ≡ at - 1 → ⊥). omega (arith, low (omega arith), rises index (at - 1) (omega arith) (omega arith)))
+      (cases_eq index (at - 1));
+  after = λ index after inside.
+      ⊎_elim
+      (λ (here : index ≡ at). subst (λ n. number ≤ order_at keys listed n) (sym here) (high (omega arith)))
+      (λ (there : index ≡ at → ⊥). omega (arith, high (omega arith), rises at index (omega arith) inside))
+      (cases_eq index at);
+}
+
 -- a place stands where its key does, and nothing else there
 order_tells : (one other key same : ℕ) → one < 2 ^ 16 → other < 2 ^ 16 → standing key one ≡ standing same other → one ≡ other
 order_tells one other key same low too is = omega arith

@@ -1,7 +1,7 @@
 //! The index: where the places of keys are entered, in the chain of one of eight homes or in a sorted list.
 
-ghost use Rattle.std.specs.Prelude.{◌≡◌, ◌≢◌, ◌+◌, ◌*◌, ◌/◌, ◌<◌, ◌≤◌, ◌++◌, ◌∷◌, [], ℕ, List, All, IfOk, IfSome, IfNone, IsTrue};
-ghost use Rattle.std.specs.Prelude.{MatchOption, Some, length, map, replicate, slice_get, slice_set};
+ghost use Rattle.std.specs.Prelude.{◌≡◌, ◌≢◌, ◌+◌, ◌*◌, ◌/◌, ◌<◌, ◌≤◌, ◌++◌, ◌∷◌, [], ℕ, List, All, IfOk, IfErr, IfSome, IfNone};
+ghost use Rattle.std.specs.Prelude.{IsTrue, Some, length, map, replicate, slice_get, slice_set};
 ghost use Rattle.key_index.specs.Chains.{AreChains};
 ghost use Rattle.key_index.specs.HomeMarks.{IsMarked};
 ghost use Rattle.key_index.specs.Homes.{home_at, mixed};
@@ -15,6 +15,23 @@ use crate::keyed::{Keyed, key_at};
 use crate::sorted_places;
 use std::alloc::{AllocError, Global};
 use std::marker::Model;
+
+/// How far a search came that didn't find its key: which of the key's homes it passed, and of the list how many places.
+/// A call that enters the key begins there. What it says is no more than a hint: any key may be entered by any of them.
+#[derive(Clone, Copy)]
+pub struct Seen {
+    // The homes that were passed, and after all of them the places of the list that stand before the key.
+    passed: usize,
+}
+
+impl Seen {
+    /// What is seen without a search: nothing.
+    pub fn nothing() -> Seen
+        ensures { result.passed ≡ 0 }
+    {
+        Seen { passed: 0 }
+    }
+}
 
 /// The first home of a key that has room for it, and at which turn that is.
 #[derive(Clone, Copy)]
@@ -66,30 +83,32 @@ impl KeyIndex {
         })
     }
 
-    /// A place of the key among these slots. Whatever the keys are, it passes at most four in each of eight homes, and
-    /// then halves a sorted list of the places that no home took. Nearly always it ends in the first home.
-    pub fn find<T: Keyed>(&self, slots: &[T], key: u64) -> Option<usize>
+    /// A place of the key among these slots, or how far the search came that didn't find it. Whatever the keys are, it
+    /// passes at most four in each of eight homes, and then halves a sorted list of the places that no home took. Nearly
+    /// always it ends in the first home.
+    pub fn find<T: Keyed>(&self, slots: &[T], key: u64) -> Result<usize, Seen>
         requires holds { HoldsKeys (map T.key_of slots.now) self.now }
-        ensures { MatchOption result (All (λ other. other ≢ key) (map T.key_of slots.now))
-            (λ place. slice_get (map T.key_of slots.now) place ≡ Some key) }
+        ensures found { IfOk result (λ place. slice_get (map T.key_of slots.now) place ≡ Some key) }
+        ensures missing { IfErr result (λ _. All (λ other. other ≢ key) (map T.key_of slots.now)) }
     {
         if slots.is_empty() {
-            return None;
+            return Err(Seen::nothing());
         }
         let number = mix(key);
         let home = home_of(number, self.room);
         if let Some(place) = self.chains.place_of(slots, key, home) {
-            return Some(place);
+            return Ok(place);
         }
         if !self.turned.has(home) {
-            return None;
+            return Err(Seen::nothing());
         }
         self.find_further(slots, key, number)
     }
 
-    /// Enters the place of the one slot whose key isn't held. It allocates no memory. Once many keys were turned away,
-    /// all are taken out and entered again: only this lets searches end again at the homes that turned a key away.
-    pub fn enter<T: Keyed>(&mut self, slots: &[T], place: usize)
+    /// Enters the place of the one slot whose key isn't held, from where a search for the key stopped. It allocates no
+    /// memory. Once many keys were turned away, all are taken out and entered again: only this lets searches end again at
+    /// the homes that turned a key away.
+    pub fn enter<T: Keyed>(&mut self, slots: &[T], place: usize, seen: Seen)
         requires within { place < length slots.now }
         requires others { HoldsKeysButOne place (map T.key_of slots.now) self.old }
         ensures room { self.new.room ≡ self.old.room }
@@ -98,7 +117,7 @@ impl KeyIndex {
         if self.is_crowded() {
             enter_all(self, slots);
         } else {
-            self.enter_one(slots, place);
+            self.enter_one(slots, place, seen);
         }
     }
 
@@ -119,26 +138,31 @@ impl KeyIndex {
     // A place of the key, looked for in its homes from the second on, by the number that named the first one. It stays a function
     // of its own in the binary, since few searches come to it.
     #[inline(never)]
-    fn find_further<T: Keyed>(&self, slots: &[T], key: u64, number: u64) -> Option<usize>
+    fn find_further<T: Keyed>(&self, slots: &[T], key: u64, number: u64) -> Result<usize, Seen>
         requires some { 0 < length slots.now }
         requires holds { HoldsKeys (map T.key_of slots.now) self.now }
         requires number { number ≡ mixed key }
         requires further { IsNotBefore 1 key (map T.key_of slots.now) self.now }
-        ensures { MatchOption result (All (λ other. other ≢ key) (map T.key_of slots.now))
-            (λ place. slice_get (map T.key_of slots.now) place ≡ Some key) }
+        ensures found { IfOk result (λ place. slice_get (map T.key_of slots.now) place ≡ Some key) }
+        ensures missing { IfErr result (λ _. All (λ other. other ≢ key) (map T.key_of slots.now)) }
     {
         let mut number = number;
-        for _turn in 1..TURNS {
+        for turn in 1..TURNS {
             number = mix(number);
             let home = home_of(number, self.room);
             if let Some(place) = self.chains.place_of(slots, key, home) {
-                return Some(place);
+                return Ok(place);
             }
             if !self.turned.has(home) {
-                return None;
+                return Err(Seen { passed: turn });
             }
         }
-        sorted_places::find(&self.listed, slots, key)
+        match sorted_places::find(&self.listed, slots, key) {
+            Ok(place) => Ok(place),
+            Err(at) => Err(Seen {
+                passed: TURNS.saturating_add(at),
+            }),
+        }
     }
 
     // Whether as many keys were turned away from homes since all were entered as there is room for.
@@ -148,7 +172,7 @@ impl KeyIndex {
 
     // Enters one place. Nearly always its first home has at most one place: then nothing is called, so the binary needs to
     // save nothing.
-    fn enter_one<T: Keyed>(&mut self, slots: &[T], place: usize)
+    fn enter_one<T: Keyed>(&mut self, slots: &[T], place: usize, seen: Seen)
         requires few { length slots.now ≤ self.old.room }
         requires within { place < length slots.now }
         requires leads { LeadBelow (length slots.now) self.old.links self.old.listed }
@@ -163,14 +187,14 @@ impl KeyIndex {
         if self.chains.is_short(home) {
             self.chains.link(place, home);
         } else {
-            self.enter_in_turn(slots, place);
+            self.enter_in_turn(slots, place, seen);
         }
     }
 
-    // Enters one place, in the first of its key's homes that has room. It stays a function of its own in the binary, since few
-    // places come to it.
+    // Enters one place, in the first of its key's homes that has room and wasn't passed. It stays a function of its own in
+    // the binary, since few places come to it.
     #[inline(never)]
-    fn enter_in_turn<T: Keyed>(&mut self, slots: &[T], place: usize)
+    fn enter_in_turn<T: Keyed>(&mut self, slots: &[T], place: usize, seen: Seen)
         requires few { length slots.now ≤ self.old.room }
         requires within { place < length slots.now }
         requires leads { LeadBelow (length slots.now) self.old.links self.old.listed }
@@ -186,13 +210,15 @@ impl KeyIndex {
             &mut self.turned,
             key_at(slots, place),
             self.room,
+            seen.passed,
         ) {
             Some(free) => {
                 self.chains.link(place, free.home);
                 self.patience = self.patience.saturating_sub(usize::from(free.turn > 0));
             }
             None => {
-                sorted_places::insert(&mut self.listed, slots, place);
+                let near = seen.passed.saturating_sub(TURNS);
+                sorted_places::insert(&mut self.listed, slots, place, near);
                 self.patience = self.patience.saturating_sub(1);
             }
         }
@@ -237,13 +263,20 @@ fn enter_all<T: Keyed>(index: &mut KeyIndex, slots: &[T])
 {
     index.clear();
     for next in 0..slots.len() {
-        index.enter_one(slots, next);
+        index.enter_one(slots, next, Seen::nothing());
     }
     index.calm();
 }
 
-// The first home of the key that has room for it. Each full one before it is marked: a key was turned away from there.
-fn free_home(chains: &KeyChains, turned: &mut HomeMarks, key: u64, room: usize) -> Option<Free>
+// The first home of the key that has room for it, but for as many as a search passed. Each one before it is marked: a key
+// was turned away from there. That a home was passed says that it turned a key away earlier; it may have room again.
+fn free_home(
+    chains: &KeyChains,
+    turned: &mut HomeMarks,
+    key: u64,
+    room: usize,
+    passed: usize,
+) -> Option<Free>
     requires some { 1 ≤ room }
     requires few { room ≤ 8192 }
     requires room { chains.now.room ≡ room }
@@ -264,7 +297,7 @@ fn free_home(chains: &KeyChains, turned: &mut HomeMarks, key: u64, room: usize) 
     for turn in 0..TURNS {
         number = mix(number);
         let home = home_of(number, room);
-        if !chains.is_full(home) {
+        if turn >= passed && !chains.is_full(home) {
             return Some(Free { turn, home });
         }
         turned.set(home);

@@ -11,5 +11,5 @@ mod key_index;
 mod keyed;
 mod sorted_places;
 
-pub use key_index::{KeyIndex, appended_key_is_missing};
+pub use key_index::{KeyIndex, Seen, appended_key_is_missing};
 pub use keyed::Keyed;

@@ -1,6 +1,7 @@
 //! Lists of places in the order of their keys.
 
-ghost use Rattle.std.specs.Prelude.{◌≡◌, ◌≢◌, ◌+◌, ◌-◌, ◌*◌, ◌^◌, ◌<◌, ◌≤◌, ◌⊎◌, ℕ, All, IfSome, IfNone, length, map, slice_index};
+ghost use Rattle.std.specs.Prelude.{◌≡◌, ◌≢◌, ◌+◌, ◌-◌, ◌*◌, ◌^◌, ◌<◌, ◌≤◌, ◌⊎◌, ◌↔◌, ℕ, All, IfOk, IfErr, IsTrue, length, map};
+ghost use Rattle.std.specs.Prelude.{slice_index};
 ghost use Rattle.std.specs.Prelude.{vec_len, vec_capacity};
 ghost use Rattle.key_index.specs.SortedPlaces.{HasLess, HasMore, IsListed, Rises, Splits, standing};
 
@@ -12,6 +13,18 @@ fn standing_of(key: u64, place: usize) -> u128
     ensures { result ≡ standing key place }
 {
     u128::from(key) * 65_536 + place as u128
+}
+
+/// Whether the place at an index of the list stands before a number.
+fn is_before<T: Keyed>(listed: &[u16], slots: &[T], number: u128, index: usize) -> bool
+    requires few { length slots.now < 2 ^ 16 }
+    requires places { All (λ place. place < length slots.now) listed.now }
+    requires within { index < length listed.now }
+    ensures { IsTrue result ↔ (standing (slice_index (map T.key_of slots.now) (slice_index listed.now index)) (slice_index listed.now index)
+        < number) }
+{
+    let place = usize::from(listed[index]);
+    standing_of(key_at(slots, place), place) < number
 }
 
 /// Where the window of a search begins after a look at the last place of its first half: behind it if that place stands
@@ -26,8 +39,7 @@ fn next_from<T: Keyed>(listed: &[u16], slots: &[T], number: u128, from: usize, h
         ⊎ ((result ≡ from + half) × (standing (slice_index (map T.key_of slots.now) (slice_index listed.now (from + half - 1)))
         (slice_index listed.now (from + half - 1)) < number)) }
 {
-    let place = usize::from(listed[from + half - 1]);
-    if standing_of(key_at(slots, place), place) < number {
+    if is_before(listed, slots, number, from + half - 1) {
         from + half
     } else {
         from
@@ -57,28 +69,62 @@ fn first_from<T: Keyed>(listed: &[u16], slots: &[T], key: u64, place: usize) -> 
     from
 }
 
-/// A place of the key in the list.
-pub(crate) fn find<T: Keyed>(listed: &[u16], slots: &[T], key: u64) -> Option<usize>
+/// Whether exactly as many places stand before a number as this index says.
+fn belongs_at<T: Keyed>(listed: &[u16], slots: &[T], number: u128, at: usize) -> bool
     requires few { length slots.now < 2 ^ 16 }
     requires places { All (λ place. place < length slots.now) listed.now }
-    ensures within { IfSome result (λ place. place < length slots.now) }
-    ensures found { IfSome result (λ place. slice_index (map T.key_of slots.now) place ≡ key) }
-    ensures missing { IfNone result (Rises (map T.key_of slots.now) listed.now
+    ensures within { IsTrue result → at ≤ length listed.now }
+    ensures low { IsTrue result → 1 ≤ at
+        → standing (slice_index (map T.key_of slots.now) (slice_index listed.now (at - 1))) (slice_index listed.now (at - 1)) < number }
+    ensures high { IsTrue result → at < length listed.now
+        → number ≤ standing (slice_index (map T.key_of slots.now) (slice_index listed.now at)) (slice_index listed.now at) }
+{
+    at <= listed.len()
+        && (at == 0 || is_before(listed, slots, number, at - 1))
+        && (at == listed.len() || !is_before(listed, slots, number, at))
+}
+
+/// What `first_from` says. Nearly always it is what a search for the key found before, or one less, if the place that
+/// was taken out of the list meanwhile stood before the key: both are tried first.
+fn first_near<T: Keyed>(listed: &[u16], slots: &[T], key: u64, place: usize, near: usize) -> usize
+    requires few { length slots.now < 2 ^ 16 }
+    requires place { place < 2 ^ 16 }
+    requires places { All (λ place. place < length slots.now) listed.now }
+    ensures within { result ≤ length listed.now }
+    ensures splits { Rises (map T.key_of slots.now) listed.now → Splits (map T.key_of slots.now) listed.now (standing key place) result }
+{
+    let number = standing_of(key, place);
+    if belongs_at(listed, slots, number, near) {
+        return near;
+    }
+    if near > 0 && belongs_at(listed, slots, number, near - 1) {
+        return near - 1;
+    }
+    first_from(listed, slots, key, place)
+}
+
+/// A place of the key in the list, or how many places stand before the key, which has none there.
+pub(crate) fn find<T: Keyed>(listed: &[u16], slots: &[T], key: u64) -> Result<usize, usize>
+    requires few { length slots.now < 2 ^ 16 }
+    requires places { All (λ place. place < length slots.now) listed.now }
+    ensures within { IfOk result (λ place. place < length slots.now) }
+    ensures found { IfOk result (λ place. slice_index (map T.key_of slots.now) place ≡ key) }
+    ensures missing { IfErr result (λ _. Rises (map T.key_of slots.now) listed.now
         → (place : ℕ) → IsListed listed.now place → slice_index (map T.key_of slots.now) place ≢ key) }
 {
     let at = first_from(listed, slots, key, 0);
     if at == listed.len() {
-        return None;
+        return Err(at);
     }
     let place = usize::from(listed[at]);
     if key_at(slots, place) == key {
-        return Some(place);
+        return Ok(place);
     }
-    None
+    Err(at)
 }
 
-/// Puts a place into the list, which has memory for it.
-pub(crate) fn insert<T: Keyed>(listed: &mut Vec<u16>, slots: &[T], place: usize)
+/// Puts a place into the list, which has memory for it. `near` is where a search for its key ended.
+pub(crate) fn insert<T: Keyed>(listed: &mut Vec<u16>, slots: &[T], place: usize, near: usize)
     requires few { length slots.now < 2 ^ 16 }
     requires place { place < length slots.now }
     requires places { All (λ place. place < length slots.now) listed.old.items }
@@ -88,7 +134,7 @@ pub(crate) fn insert<T: Keyed>(listed: &mut Vec<u16>, slots: &[T], place: usize)
     ensures capacity { vec_capacity listed.new ≡ vec_capacity listed.old }
     ensures places { All (λ place. place < length slots.now) listed.new.items }
 {
-    let at = first_from(listed, slots, key_at(slots, place), place);
+    let at = first_near(listed, slots, key_at(slots, place), place, near);
     listed.insert(at, place as u16).unwrap();
 }
 

@@ -9,7 +9,7 @@ use crate::ranked_slots::RankedSlots;
 use crate::scanning::{interval_of, slot_at};
 use crate::slot::Slot;
 use crate::steps::{add_weight, append};
-use key_index::KeyIndex;
+use key_index::{KeyIndex, Seen};
 use space_saving::{Entry, EntrySource, Flat, Summary, intervals_are_narrow, steps_leave_a_table};
 use std::alloc::{AllocError, Global};
 use std::marker::Model;
@@ -136,6 +136,6 @@ fn load(index: &mut KeyIndex, ranked: &mut RankedSlots, flat: &Flat)
     for place in 0..flat.len() {
         let entry = flat.entry(place);
         let time = place as u64;
-        append(index, ranked, Slot { entry, time });
+        append(index, ranked, Slot { entry, time }, Seen::nothing());
     }
 }

@@ -73,11 +73,11 @@ pub(crate) fn interval_of(index: &KeyIndex, slots: &[Slot], capacity: u32, key: 
     ensures high { result.1 ≡ (interval_in (record { capacity = capacity; entries = ordered_entries slots.now }) key).high }
 {
     match index.find(slots, key) {
-        Some(place) => {
+        Ok(place) => {
             let entry = slots[place].entry;
             (entry.count - entry.error, entry.count)
         }
-        None if slots.len() < capacity as usize => (0, 0),
-        None => (0, slots[least_of(slots)].entry.count),
+        Err(_) if slots.len() < capacity as usize => (0, 0),
+        Err(_) => (0, slots[least_of(slots)].entry.count),
     }
 }

@@ -10,7 +10,7 @@ ghost use Rattle.rank_table.specs.declared.slot.Slot.{Slot};
 
 use crate::ranked_slots::RankedSlots;
 use crate::slot::Slot;
-use key_index::{KeyIndex, appended_key_is_missing};
+use key_index::{KeyIndex, Seen, appended_key_is_missing};
 use space_saving::Entry;
 
 /// Adds a weight for a key at a time later than all before: its slot's rank rises, or a new slot takes free room,
@@ -34,9 +34,9 @@ pub(crate) fn add_weight(
         ≡ after_step ranked.old.capacity (ordered_entries ranked.old.slots) (record { key = key; weight = weight }) }
 {
     match index.find(ranked.slots(), key) {
-        Some(place) => grow(ranked, place, weight, now),
-        None if ranked.has_room() => take_room(index, ranked, key, weight, now),
-        None => take_over(index, ranked, key, weight, now),
+        Ok(place) => grow(ranked, place, weight, now),
+        Err(seen) if ranked.has_room() => take_room(index, ranked, key, weight, now, seen),
+        Err(seen) => take_over(index, ranked, key, weight, now, seen),
     }
 }
 
@@ -59,8 +59,15 @@ fn grow(ranked: &mut RankedSlots, place: usize, weight: u64, now: u64)
     ranked.raise(place, Slot { entry, time: now });
 }
 
-// Gives a new key a slot of its own.
-fn take_room(index: &mut KeyIndex, ranked: &mut RankedSlots, key: u64, weight: u64, now: u64)
+// Gives a new key, for which a search stopped at `seen`, a slot of its own.
+fn take_room(
+    index: &mut KeyIndex,
+    ranked: &mut RankedSlots,
+    key: u64,
+    weight: u64,
+    now: u64,
+    seen: Seen,
+)
     requires room { length ranked.old.slots < ranked.old.capacity }
     requires early { now < 2 ^ 18 }
     requires together { AreParts ranked.old.capacity index.old ranked.old }
@@ -72,11 +79,11 @@ fn take_room(index: &mut KeyIndex, ranked: &mut RankedSlots, key: u64, weight: u
         count: weight,
         error: 0,
     };
-    append(index, ranked, Slot { entry, time: now });
+    append(index, ranked, Slot { entry, time: now }, seen);
 }
 
-/// Appends a slot, and enters its key in the index.
-pub(crate) fn append(index: &mut KeyIndex, ranked: &mut RankedSlots, slot: Slot)
+/// Appends a slot, and enters its key in the index, from where a search for it stopped.
+pub(crate) fn append(index: &mut KeyIndex, ranked: &mut RankedSlots, slot: Slot, seen: Seen)
     requires room { length ranked.old.slots < ranked.old.capacity }
     requires early { slot.time < 2 ^ 18 }
     requires together { AreParts ranked.old.capacity index.old ranked.old }
@@ -86,11 +93,19 @@ pub(crate) fn append(index: &mut KeyIndex, ranked: &mut RankedSlots, slot: Slot)
     appended_key_is_missing();
     let place = ranked.slots().len();
     ranked.push(slot);
-    index.enter(ranked.slots(), place);
+    index.enter(ranked.slots(), place, seen);
 }
 
-// Gives a new key the slot that comes first: its count becomes the error of the new entry.
-fn take_over(index: &mut KeyIndex, ranked: &mut RankedSlots, key: u64, weight: u64, now: u64)
+// Gives a new key, for which a search stopped at `seen`, the slot that comes first: its count becomes the error of the new
+// entry.
+fn take_over(
+    index: &mut KeyIndex,
+    ranked: &mut RankedSlots,
+    key: u64,
+    weight: u64,
+    now: u64,
+    seen: Seen,
+)
     requires full { length ranked.old.slots ≡ ranked.old.capacity }
     requires together { AreParts ranked.old.capacity index.old ranked.old }
     requires slots { AreOrdered now ranked.old.slots }
@@ -114,5 +129,5 @@ fn take_over(index: &mut KeyIndex, ranked: &mut RankedSlots, key: u64, weight: u
             time: now,
         },
     );
-    index.enter(ranked.slots(), place);
+    index.enter(ranked.slots(), place, seen);
 }

@@ -81,11 +81,11 @@ pub(crate) fn interval_of(index: &KeyIndex, arena: &Arena, key: u64) -> (u64, u6
     ensures high { result.1 ≡ (interval_in (record { capacity = length arena.now.buckets.items; entries = arena_entries arena.now }) key).high }
 {
     match index.find(&arena.slots, key) {
-        Some(place) => {
+        Ok(place) => {
             let entry = arena.entry(EntryNumber::from_index(place));
             (entry.count - entry.error, entry.count)
         }
-        None if arena.slots.len() < arena.buckets.len() => (0, 0),
-        None => (0, arena.least_count()),
+        Err(_) if arena.slots.len() < arena.buckets.len() => (0, 0),
+        Err(_) => (0, arena.least_count()),
     }
 }

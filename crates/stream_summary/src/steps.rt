@@ -8,7 +8,7 @@ ghost use Rattle.stream_summary.specs.Arena.{AreParts, IsArena, IsReplaced, aren
 
 use crate::arena::Arena;
 use crate::numbers::{BucketNumber, EntryNumber, Number};
-use key_index::{KeyIndex, appended_key_is_missing};
+use key_index::{KeyIndex, Seen, appended_key_is_missing};
 use space_saving::Entry;
 
 /// Adds a weight for a key: its entry goes to another bucket, or a new entry takes free room, or the entry that comes
@@ -23,16 +23,16 @@ pub(crate) fn add_weight(index: &mut KeyIndex, arena: &mut Arena, key: u64, weig
         ≡ after_step (length arena.old.buckets.items) (arena_entries arena.old) (record { key = key; weight = weight }) }
 {
     match index.find(&arena.slots, key) {
-        Some(place) => grow(arena, EntryNumber::from_index(place), weight),
-        None if arena.slots.len() < arena.buckets.len() => {
+        Ok(place) => grow(arena, EntryNumber::from_index(place), weight),
+        Err(seen) if arena.slots.len() < arena.buckets.len() => {
             let entry = Entry {
                 key,
                 count: weight,
                 error: 0,
             };
-            append(index, arena, entry, None);
+            append(index, arena, entry, None, seen);
         }
-        None => take_over(index, arena, key, weight),
+        Err(seen) => take_over(index, arena, key, weight, seen),
     }
 }
 
@@ -53,12 +53,14 @@ fn grow(arena: &mut Arena, number: EntryNumber, weight: u64)
     arena.replace(number, Entry { count, ..entry });
 }
 
-/// Gives an entry a slot of its own, and enters its key in the index. The search for its bucket begins at `from`.
+/// Gives an entry a slot of its own, and enters its key in the index, from where a search for it stopped. The search for
+/// its bucket begins at `from`.
 pub(crate) fn append(
     index: &mut KeyIndex,
     arena: &mut Arena,
     entry: Entry,
     from: Option<BucketNumber>,
+    seen: Seen,
 )
     requires together { AreParts index.old arena.old }
     requires room { length arena.old.slots.items < length arena.old.buckets.items }
@@ -73,11 +75,12 @@ pub(crate) fn append(
     appended_key_is_missing();
     let number = arena.push(entry);
     arena.put_in(number, entry, from);
-    index.enter(&arena.slots, number.index());
+    index.enter(&arena.slots, number.index(), seen);
 }
 
-// Gives a new key the slot of the entry that comes first: its count becomes the error of the new entry.
-fn take_over(index: &mut KeyIndex, arena: &mut Arena, key: u64, weight: u64)
+// Gives a new key, for which a search stopped at `seen`, the slot of the entry that comes first: its count becomes the
+// error of the new entry.
+fn take_over(index: &mut KeyIndex, arena: &mut Arena, key: u64, weight: u64, seen: Seen)
     requires together { AreParts index.old arena.old }
     requires full { length arena.old.slots.items ≡ length arena.old.buckets.items }
     requires room { table_total (arena_entries arena.old) + weight < 2 ^ 56 }
@@ -96,5 +99,5 @@ fn take_over(index: &mut KeyIndex, arena: &mut Arena, key: u64, weight: u64)
         error: least,
     };
     arena.replace(number, heir);
-    index.enter(&arena.slots, number.index());
+    index.enter(&arena.slots, number.index(), seen);
 }

@@ -7,7 +7,7 @@ ghost use Rattle.stream_summary.specs.Arena.{AreParts, arena_entries};
 use crate::arena::Arena;
 use crate::reading::interval_of;
 use crate::steps::{add_weight, append};
-use key_index::KeyIndex;
+use key_index::{KeyIndex, Seen};
 use space_saving::{Entry, EntrySource, Flat, Summary, intervals_are_narrow, steps_leave_a_table};
 use std::alloc::{AllocError, Global};
 use std::marker::Model;
@@ -127,6 +127,6 @@ fn load(index: &mut KeyIndex, arena: &mut Arena, flat: &Flat)
 {
     for place in 0..flat.len() {
         let from = arena.last_bucket();
-        append(index, arena, flat.entry(place), from);
+        append(index, arena, flat.entry(place), from, Seen::nothing());
     }
 }

@@ -5,8 +5,8 @@ use Rattle.key_index.proofs.EntryLemmas.{entry_parts, EntryMissing, entry_turn_i
 use Rattle.key_index.proofs.KeyLemmas.{key_missing}
 use Rattle.key_index.proofs.key_index.KeyIndex.find.Goals as goal
 
-pub returns-then-not-has : goal.returns-then-not-has
-returns-then-not-has g c =
+pub returns-then-not-has-clause-missing : goal.returns-then-not-has-clause-missing
+returns-then-not-has-clause-missing g c =
     let i = c.self.inside in
     let keys = map g.T.Keyed.key_of c.args.slots.now in
     let end = length keys in

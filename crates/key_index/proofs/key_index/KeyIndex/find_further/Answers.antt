@@ -1,13 +1,12 @@
 use Rattle.std.proofs.Common.{◌≡◌, ◌≢◌, ◌<◌, ◌≤◌, ℕ, List, length, map, get_or, ap, sym, ◌∙◌, subst, arith, rules}
-use Rattle.std.specs.Prelude.{Some, IfSome}
+use Rattle.std.specs.Prelude.{Some}
 use Rattle.std.proofs.lemmas.List.{length-map}
 use Rattle.std.proofs.lemmas.Option.{slice_get-get_or}
 use Rattle.key_index.specs.SortedPlaces.{Rises, IsListed}
 use Rattle.key_index.specs.Entries.{KeyEntries, AreEntered, IsNotBefore}
 use Rattle.key_index.proofs.HomeLemmas.{home_mixed_on, home_of_mixed}
 use Rattle.key_index.proofs.EntryLemmas.{entry_parts, EntryMissing, entry_turns_on, entry_turn_is_last}
-use Rattle.key_index.proofs.KeyLemmas.{key_missing, key_found}
-use Rattle.key_index.proofs.WalkLemmas.{walk_none_weaker}
+use Rattle.key_index.proofs.KeyLemmas.{key_missing}
 use Rattle.key_index.proofs.key_index.KeyIndex.find_further.Goals as goal
 
 pub loop-turn-init : goal.loop-turn-init
@@ -22,58 +21,57 @@ pub loop-turn-preserved : goal.loop-turn-preserved
 loop-turn-preserved g c =
     let keys = map g.T.Keyed.key_of c.args.slots.now in
     let i = c.self.inside in
-    let at = home_of_mixed i.room c.loop-turn._turn c.args.key c.loop-turn.number c.mix-number.result c.home_of-home.result
+    let at = home_of_mixed i.room c.loop-turn.turn c.args.key c.loop-turn.number c.mix-number.result c.home_of-home.result
     c.loop-turn.invariant.number c.mix-number.ensures c.home_of-home.ensures.home in
     let missing : EntryMissing i.room i.chains.links i.chains.backs keys c.home_of-home.result c.args.key =
     subst (λ room. EntryMissing room i.chains.links i.chains.backs keys c.home_of-home.result c.args.key) c.self.invariant.roomy
     c.in_default.ensures.missing in
     record {
-      number = home_mixed_on c.loop-turn._turn c.args.key c.loop-turn.number c.mix-number.result c.loop-turn.invariant.number c.mix-number.ensures;
+      number = home_mixed_on c.loop-turn.turn c.args.key c.loop-turn.number c.mix-number.result c.loop-turn.invariant.number c.mix-number.ensures;
       further = λ end but entered place below apart has.
-          entry_turns_on end but i.room place c.loop-turn._turn c.home_of-home.result c.args.key keys i.chains.links i.chains.backs i.listed.items
+          entry_turns_on end but i.room place c.loop-turn.turn c.home_of-home.result c.args.key keys i.chains.links i.chains.backs i.listed.items
           i.turned entered below apart has (c.loop-turn.invariant.further end but entered place below apart has) (omega arith) at missing;
     }
 
-pub returns-in-Some : goal.returns-in-Some
-returns-in-Some g c =
+pub returns-in-Some-clause-found : goal.returns-in-Some-clause-found
+returns-in-Some-clause-found g c =
     let keys = map g.T.Keyed.key_of c.args.slots.now in
     let within : c.in-Some.place < length keys = omega (arith, c.in-Some.ensures.within, length-map c.args.slots.now g.T.Keyed.key_of) in
     slice_get-get_or keys c.in-Some.place 0 within ∙ ap Some c.in-Some.ensures.found
 
-pub returns-then-not-has : goal.returns-then-not-has
-returns-then-not-has g c =
+pub returns-then-not-has-clause-missing : goal.returns-then-not-has-clause-missing
+returns-then-not-has-clause-missing g c =
     let i = c.self.inside in
     let keys = map g.T.Keyed.key_of c.args.slots.now in
     let end = length keys in
     let entered : AreEntered end end keys (entry_parts i.room i.chains.links i.chains.backs i.turned i.listed.items) =
     subst (λ (e : KeyEntries). AreEntered end end keys e) (sym c.self.view_is) c.requires.holds.entered in
-    let at = home_of_mixed i.room c.loop-turn._turn c.args.key c.loop-turn.number c.mix-number.result c.home_of-home.result
+    let at = home_of_mixed i.room c.loop-turn.turn c.args.key c.loop-turn.number c.mix-number.result c.home_of-home.result
     c.loop-turn.invariant.number c.mix-number.ensures c.home_of-home.ensures.home in
     let missing : EntryMissing i.room i.chains.links i.chains.backs keys c.home_of-home.result c.args.key =
     subst (λ room. EntryMissing room i.chains.links i.chains.backs keys c.home_of-home.result c.args.key) c.self.invariant.roomy
     c.in_default.ensures.missing in
     key_missing keys c.args.key (λ (place : ℕ). λ (below : place < end). λ (has : get_or keys place 0 ≡ c.args.key).
     let apart : place ≢ end = λ same. omega arith in
-    entry_turn_is_last end end i.room place c.loop-turn._turn c.home_of-home.result c.args.key keys i.chains.links i.chains.backs i.listed.items
+    entry_turn_is_last end end i.room place c.loop-turn.turn c.home_of-home.result c.args.key keys i.chains.links i.chains.backs i.listed.items
     i.turned entered below apart has (c.loop-turn.invariant.further end end entered place below apart has) (omega arith) at missing
     (λ marked. search (rules, c.has.ensures, marked)))
 
-pub returns : goal.returns
-returns g c =
+pub returns-in-Ok-clause-found : goal.returns-in-Ok-clause-found
+returns-in-Ok-clause-found g c =
+    let keys = map g.T.Keyed.key_of c.args.slots.now in
+    let within : c.in-Ok.place < length keys = omega (arith, c.in-Ok.ensures.within, length-map c.args.slots.now g.T.Keyed.key_of) in
+    slice_get-get_or keys c.in-Ok.place 0 within ∙ ap Some c.in-Ok.ensures.found
+
+pub returns-in-Err-clause-missing : goal.returns-in-Err-clause-missing
+returns-in-Err-clause-missing g c =
     let i = c.self.inside in
     let keys = map g.T.Keyed.key_of c.args.slots.now in
     let end = length keys in
     let entered : AreEntered end end keys (entry_parts i.room i.chains.links i.chains.backs i.turned i.listed.items) =
     subst (λ (e : KeyEntries). AreEntered end end keys e) (sym c.self.view_is) c.requires.holds.entered in
-    let long : end ≡ length c.args.slots.now = length-map c.args.slots.now g.T.Keyed.key_of in
-    key_found keys c.args.key c.find.result
-    (subst (λ n. IfSome c.find.result (λ place. place < n)) (sym long) c.find.ensures.within)
-    c.find.ensures.found
-    (walk_none_weaker c.find.result
-    (λ (none : Rises keys c.deref.result.now → (place : ℕ) → IsListed c.deref.result.now place → get_or keys place 0 ≢ c.args.key).
-    λ (place : ℕ). λ (below : place < length keys). λ (has : get_or keys place 0 ≡ c.args.key).
+    key_missing keys c.args.key (λ (place : ℕ). λ (below : place < end). λ (has : get_or keys place 0 ≡ c.args.key).
     let apart : place ≢ end = λ same. omega arith in
     let late : 8 ≤ entered.turn place = omega (arith, c.loop-turn.invariant.further end end entered place below apart has) in
-    subst (λ (xs : List ℕ). Rises keys xs → (place : ℕ) → IsListed xs place → get_or keys place 0 ≢ c.args.key) c.deref.ensures.value none
-    entered.rises place (entered.ended place below apart late) has)
-    c.find.ensures.missing)
+    subst (λ (xs : List ℕ). Rises keys xs → (place : ℕ) → IsListed xs place → get_or keys place 0 ≢ c.args.key) c.deref.ensures.value
+    c.in-Err.ensures.missing entered.rises place (entered.ended place below apart late) has)

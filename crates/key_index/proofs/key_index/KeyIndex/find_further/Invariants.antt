@@ -9,6 +9,6 @@ abbrev pub invariant-loop-turn : goal.invariant-loop-turn
 invariant-loop-turn g l =
     let i = l.self-inside in
     record {
-      number : l.number ≡ mixed_after l._turn l.key;
-      further : IsNotBefore l._turn l.key (map g.T.Keyed.key_of l.slots) (entry_parts i.room i.chains.links i.chains.backs i.turned i.listed.items);
+      number : l.number ≡ mixed_after l.turn l.key;
+      further : IsNotBefore l.turn l.key (map g.T.Keyed.key_of l.slots) (entry_parts i.room i.chains.links i.chains.backs i.turned i.listed.items);
     }
