@@ -3,7 +3,7 @@
 ghost use Rattle.std.specs.Prelude.{◌≡◌};
 
 use super::next;
-use key_index::{KeyIndex, Keyed, appended_key_is_missing};
+use key_index::{KeyIndex, Keyed, Seen, appended_key_is_missing};
 use std::alloc::Global;
 use std::marker::Model;
 use std::test::Fail;
@@ -51,30 +51,39 @@ impl IndexedList {
         Ok(IndexedList { room, index, list })
     }
 
-    /// Appends a key.
+    /// Appends a key, from where a search for it stops.
     fn append(&mut self, key: u64) -> Result<(), Fail> {
         let place = self.list.len();
         if place >= self.room {
             return Err("no room for one more".into());
         }
+        let seen = self.seen_of(key);
         appended_key_is_missing();
         self.list.push(Holder { key })?;
-        self.index.enter(&self.list, place);
+        self.index.enter(&self.list, place, seen);
         Ok(())
     }
 
-    /// Puts a key in the place of another.
-    fn replace(&mut self, place: usize, key: u64) {
+    /// Puts a key in the place of another, from where a search stopped.
+    fn replace(&mut self, place: usize, key: u64, seen: Seen) {
         if place < self.list.len() {
             self.index.leave(&self.list, place);
             self.list[place] = Holder { key };
-            self.index.enter(&self.list, place);
+            self.index.enter(&self.list, place, seen);
         }
     }
 
     /// The place of a key, by the index.
     fn find(&self, key: u64) -> Option<usize> {
-        self.index.find(&self.list, key)
+        self.index.find(&self.list, key).ok()
+    }
+
+    /// Where a search for a key stops that isn't in the list.
+    fn seen_of(&self, key: u64) -> Seen {
+        match self.index.find(&self.list, key) {
+            Ok(_) => Seen::nothing(),
+            Err(seen) => seen,
+        }
     }
 
     /// The place of a key in the list, as the index should find it.
@@ -134,7 +143,8 @@ fn replace_one(keys: &mut IndexedList, place: usize, key: u64) -> bool {
         return true;
     }
     let gone = keys.key_at(place);
-    keys.replace(place, key);
+    let seen = keys.seen_of(key);
+    keys.replace(place, key, seen);
     keys.find(key) == Some(place) && gone.is_some_and(|gone| keys.find(gone).is_none())
 }
 
@@ -182,6 +192,7 @@ fn after_turn(number: u64) -> u64 {
 fn keys_that_share_homes_are_found(rt: HostRuntime) -> Result<(), Fail> {
     assert!(rt; finds_keys_of_one_home(rt.alloc())?, "one home");
     assert!(rt; finds_keys_behind_full_homes(rt.alloc())?, "full homes");
+    assert!(rt; finds_keys_entered_near(rt.alloc())?, "near");
     Ok(())
 }
 
@@ -212,6 +223,42 @@ fn finds_keys_behind_full_homes(alloc: Global) -> Result<bool, Fail> {
             && replace_one(&mut keys, 395, 1)
             && keys.finds_all(),
     )
+}
+
+/// Whether an index finds all keys after one goes into its list where a search stopped: where the key belongs, one place
+/// behind, in the middle and at the end, at another key's place, and where the search saw nothing, since no key was turned
+/// away from the full homes yet. The key `k`, 1 to 13, is at the place `k + 447`.
+fn finds_keys_entered_near(alloc: Global) -> Result<bool, Fail> {
+    let mut keys = IndexedList::with_room(alloc, 512)?;
+    for key in 1..15 {
+        fill_homes_of(&mut keys, key)?;
+    }
+    for key in 1..14 {
+        keys.append(key)?;
+    }
+    let elsewhere = 1 << 40;
+    Ok(
+        // The key 6 goes and comes back. Then it goes again, and takes the place of the key 2, which stands before it.
+        replace_from(&mut keys, 453, elsewhere, elsewhere)
+            && replace_from(&mut keys, 453, 6, 6)
+            && replace_from(&mut keys, 453, elsewhere, elsewhere)
+            && replace_from(&mut keys, 449, 6, 6)
+            // The last key goes, and takes the place of the one before it.
+            && replace_from(&mut keys, 460, elsewhere + 1, elsewhere + 1)
+            && replace_from(&mut keys, 459, 13, 13)
+            // A search for the key 12 stops behind most of the list, where the key 2 doesn't belong.
+            && replace_from(&mut keys, 460, 2, 12)
+            && replace_from(&mut keys, 453, 14, 14),
+    )
+}
+
+/// Puts a key in the place of another, from where a search for a third one stops. Returns whether the index then finds
+/// all keys, and no longer the one that is gone.
+fn replace_from(keys: &mut IndexedList, place: usize, key: u64, searched: u64) -> bool {
+    let seen = keys.seen_of(searched);
+    let gone = keys.key_at(place);
+    keys.replace(place, key, seen);
+    keys.finds_all() && gone.is_some_and(|gone| keys.find(gone).is_none())
 }
 
 /// Appends four keys to each of the eight homes of a key. Of 2,048 homes, the high 11 bits of a product name one.
