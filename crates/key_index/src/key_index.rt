@@ -16,8 +16,8 @@ use crate::sorted_places;
 use std::alloc::{AllocError, Global};
 use std::marker::Model;
 
-/// How far a search came that didn't find its key: which of the key's homes it passed, and of the list how many places.
-/// A call that enters the key begins there. What it says is no more than a hint: any key may be entered by any of them.
+/// Where a search that didn't find its key stopped: which of the key's homes it passed, and how many places of the list.
+/// The key is entered from there. It is no more than a hint: whatever it says, the key is entered, and found afterwards.
 #[derive(Clone, Copy)]
 pub struct Seen {
     // The homes that were passed, and after all of them the places of the list that stand before the key.
@@ -268,8 +268,8 @@ fn enter_all<T: Keyed>(index: &mut KeyIndex, slots: &[T])
     index.calm();
 }
 
-// The first home of the key that has room for it, but for as many as a search passed. Each one before it is marked: a key
-// was turned away from there. That a home was passed says that it turned a key away earlier; it may have room again.
+// The first home of the key that has room for it, of those that a search didn't pass. Each one before it is marked: this
+// key is turned away from there. A home that was passed turned a key away earlier; it may have room again, and isn't asked.
 fn free_home(
     chains: &KeyChains,
     turned: &mut HomeMarks,
