@@ -13,9 +13,9 @@ use Rattle.std.proofs.lemmas.Map.Steps.{length-le_from_distinct_below}
 use Rattle.std.proofs.lemmas.Map.Views.{Contains-from_any}
 use Rattle.key_index.specs.Homes.{home_at}
 use Rattle.key_index.specs.HomeMarks.{IsMarked}
-use Rattle.key_index.specs.Chains.{AreChains, IsLinked}
+use Rattle.key_index.specs.Chains.{Chains, AreChains, HaveShape, IsLinked}
 use Rattle.key_index.specs.SortedPlaces.{Rises, IsListed, HasMore, HasLess}
-use Rattle.key_index.specs.Entries.{KeyEntries, AreEntered, LeadBelow}
+use Rattle.key_index.specs.Entries.{KeyEntries, HaveTurnedAway, AreEntered, LeadBelow}
 use Rattle.key_index.proofs.JoinLemmas.{Joins, chains_after_join, joins_linked, joins_kept}
 use Rattle.key_index.proofs.LeaveLemmas.{Leaves, chains_after_leave, leaves_linked, leaves_kept, leaves_apart}
 
@@ -139,16 +139,12 @@ entry_leaves room links backs rank home place chains cells places marks linked =
 abbrev pub entry_parts : ℕ → List ℕ → List ℕ → List ℕ → List ℕ → KeyEntries
 entry_parts room links backs turned listed = record { room = room; links = links; backs = backs; turned = turned; listed = listed }
 
--- keys were turned away from each of these homes of a key
-abbrev pub EntryPassed : ℕ → List ℕ → ℕ → ℕ → Type 0
-EntryPassed room turned key turns = (earlier : ℕ) → earlier < turns → IsMarked turned (home_at room earlier key)
-
 -- a home from which a key was turned away stays marked
 abbrev pub EntryMarksStay : List ℕ → List ℕ → Type 0
 EntryMarksStay turned marked = (home : ℕ) → IsMarked turned home → IsMarked marked home
 
 -- a place that isn't entered is in no chain
-pub entry_free : (end place room : ℕ) (keys links backs listed : List ℕ) (turned : List ℕ)
+entry_free : (end place room : ℕ) (keys links backs listed : List ℕ) (turned : List ℕ)
     → AreEntered end place keys (entry_parts room links backs turned listed) → get_or backs (place + 1) 0 ≡ 0
 entry_free end place room keys links backs listed turned entered =
     ⊎_elim
@@ -157,12 +153,12 @@ entry_free end place room keys links backs listed turned entered =
     (cases_eq (get_or backs (place + 1) 0) 0)
 
 -- a place was entered in the chain of a home
-pub entry_in_chain : (end place room turn head : ℕ) (keys links backs listed : List ℕ) (turned marked : List ℕ) (after ways : List ℕ)
+entry_in_chain : (end place room turn head : ℕ) (keys links backs listed : List ℕ) (turned marked : List ℕ) (after ways : List ℕ)
     (ranked homed : ℕ → ℕ)
     → place < end → turn < 8 → head ≡ room + home_at room turn (get_or keys place 0)
     → (entered : AreEntered end place keys (entry_parts room links backs turned listed))
     → Joins room links backs entered.rank entered.home after ways ranked homed place head
-    → EntryPassed room marked (get_or keys place 0) turn → EntryMarksStay turned marked
+    → HaveTurnedAway turn (get_or keys place 0) (entry_parts room after ways marked listed) → EntryMarksStay turned marked
     → AreEntered end end keys (entry_parts room after ways marked listed)
 entry_in_chain end place room turn head keys links backs listed turned marked after ways ranked homed below small at entered joins passed stay =
     let turns = entry_with entered.turn place turn in
@@ -188,12 +184,12 @@ entry_in_chain end place room turn head keys links backs listed turned marked af
           (λ (here : other ≡ place). absurd (omega (arith, here_turn, ap turns here)))
           (λ (there : other ≡ place → ⊥). entered.ended other under there (omega (arith, there_turn other there)))
           (cases_eq other place);
-      passed = λ other earlier under apart before early.
+      passed = λ other under apart earlier before early.
           ⊎_elim
           (λ (here : other ≡ place). subst (λ n. IsMarked marked (home_at room earlier (get_or keys n 0))) (sym here)
-          (passed earlier (omega (arith, here_turn, ap turns here))))
+          (passed earlier (omega (arith, here_turn, ap turns here)) early))
           (λ (there : other ≡ place → ⊥). stay (home_at room earlier (get_or keys other 0))
-          (entered.passed other earlier under there (omega (arith, there_turn other there)) early))
+          (entered.passed other under there earlier (omega (arith, there_turn other there)) early))
           (cases_eq other place);
       linked = λ other linked.
           ⊎_elim
@@ -209,10 +205,39 @@ entry_in_chain end place room turn head keys links backs listed turned marked af
       rises = entered.rises;
     }
 
+-- in the chain of one of its key's homes that had room
+pub entry_linked : (end place room turn home : ℕ) (keys : List ℕ) (chains joined : Chains) (turned marked listed : List ℕ)
+    → HaveShape chains.room chains.links chains.backs → chains.room ≡ room → place < end → place < room → turn < 8 → home < 4 * room
+    → home ≡ home_at room turn (get_or keys place 0)
+    → ((rank home_of : ℕ → ℕ) → AreChains chains.room chains.links chains.backs rank home_of → rank (chains.room + home) < 4)
+    → joined.links ≡ set (set chains.links place (get_or chains.links (chains.room + home) 0)) (chains.room + home) (place + 1)
+    → joined.backs ≡ set (set chains.backs (get_or chains.links (chains.room + home) 0) (place + 1)) (place + 1) (chains.room + home + 1)
+    → AreEntered end place keys (entry_parts room chains.links chains.backs turned listed)
+    → HaveTurnedAway turn (get_or keys place 0) (entry_parts room joined.links joined.backs marked listed) → EntryMarksStay turned marked
+    → AreEntered end end keys (entry_parts room joined.links joined.backs marked listed)
+entry_linked end place room turn home keys chains joined turned marked listed shape roomy below low early inside at few to from entered passed stay =
+    let head = chains.room + home in
+    let next = get_or chains.links head 0 in
+    let after = set (set chains.links place next) head (place + 1) in
+    let ways = set (set chains.backs next (place + 1)) (place + 1) (head + 1) in
+    let ranked = entry_with (entry_with entered.rank place (entered.rank head)) head (entered.rank head + 1) in
+    let homed = entry_with entered.home place head in
+    let were : AreChains chains.room chains.links chains.backs entered.rank entered.home =
+    subst (λ n. AreChains n chains.links chains.backs entered.rank entered.home) (sym roomy) entered.chains in
+    let joins : Joins chains.room chains.links chains.backs entered.rank entered.home after ways ranked homed place head =
+    entry_joins chains.room chains.links chains.backs entered.rank entered.home place head were shape.cells shape.places shape.marks
+    (omega arith) (omega arith) (omega arith) (few entered.rank entered.home were)
+    (entry_free end place room keys chains.links chains.backs listed turned entered) in
+    subst (λ l. AreEntered end end keys (entry_parts room l joined.backs marked listed)) (sym to)
+    (subst (λ b. AreEntered end end keys (entry_parts room after b marked listed)) (sym from)
+    (entry_in_chain end place room turn head keys chains.links chains.backs listed turned marked after ways ranked homed below early
+    (ap (λ n. n + home) roomy ∙ ap (λ n. room + n) at) entered
+    (subst (λ n. Joins n chains.links chains.backs entered.rank entered.home after ways ranked homed place head) roomy joins) passed stay))
+
 -- or in the list
 pub entry_in_list : (end place room : ℕ) (keys links backs listed : List ℕ) (turned marked : List ℕ) (longer : List ℕ)
     → place < end → AreEntered end place keys (entry_parts room links backs turned listed) → HasMore keys listed longer place
-    → EntryPassed room marked (get_or keys place 0) 8 → EntryMarksStay turned marked
+    → HaveTurnedAway 8 (get_or keys place 0) (entry_parts room links backs marked longer) → EntryMarksStay turned marked
     → AreEntered end end keys (entry_parts room links backs marked longer)
 entry_in_list end place room keys links backs listed turned marked longer below entered more passed stay =
     let turns = entry_with entered.turn place 8 in
@@ -235,11 +260,11 @@ entry_in_list end place room keys links backs listed turned marked longer below 
           (λ (here : other ≡ place). subst (IsListed longer) (sym here) more.added)
           (λ (there : other ≡ place → ⊥). more.kept other (entered.ended other under there (omega (arith, there_turn other there))))
           (cases_eq other place);
-      passed = λ other earlier under apart before early.
+      passed = λ other under apart earlier before early.
           ⊎_elim
-          (λ (here : other ≡ place). subst (λ n. IsMarked marked (home_at room earlier (get_or keys n 0))) (sym here) (passed earlier early))
+          (λ (here : other ≡ place). subst (λ n. IsMarked marked (home_at room earlier (get_or keys n 0))) (sym here) (passed earlier early early))
           (λ (there : other ≡ place → ⊥). stay (home_at room earlier (get_or keys other 0))
-          (entered.passed other earlier under there (omega (arith, there_turn other there)) early))
+          (entered.passed other under there earlier (omega (arith, there_turn other there)) early))
           (cases_eq other place);
       linked = λ other linked.
           let old = entered.linked other linked in
@@ -268,7 +293,7 @@ entry_out_of_chain end place room front keys links backs listed turned after way
       let old = entered.chained other under (λ same. omega arith) early in
       (leaves_kept room links backs entered.rank entered.home after ways ranked place front leaves other old.0 apart, old.1);
   ended = λ other under apart late. entered.ended other under (λ same. omega arith) late;
-  passed = λ other earlier under apart before early. entered.passed other earlier under (λ same. omega arith) before early;
+  passed = λ other under apart earlier before early. entered.passed other under (λ same. omega arith) earlier before early;
   linked = λ other linked.
       let old = entered.linked other (leaves_linked room links backs entered.rank entered.home after ways ranked place front leaves other linked) in
       (old.0, leaves_apart room links backs entered.rank entered.home after ways ranked place front leaves other linked, old.2);
@@ -298,7 +323,7 @@ entry_out_of_list end place room keys links backs listed turned shorter entered 
   chains = entered.chains;
   chained = λ other under apart early. entered.chained other under (λ same. omega arith) early;
   ended = λ other under apart late. less.kept other (entered.ended other under (λ same. omega arith) late) apart;
-  passed = λ other earlier under apart before early. entered.passed other earlier under (λ same. omega arith) before early;
+  passed = λ other under apart earlier before early. entered.passed other under (λ same. omega arith) earlier before early;
   linked = λ other linked.
       let old = entered.linked other linked in
       (old.0, (λ same. linked (ap (λ n. get_or backs (n + 1) 0) same ∙ free)), old.2);
@@ -324,9 +349,9 @@ entry_for_keys end but last out room keys others links backs listed turned to fr
       let old = entered.chained place was.0 was.1 early in
       (old.0, old.1 ∙ ap (λ k. room + home_at room (entered.turn place) k) (sym (to place was.0 was.1).2));
   ended = λ place below apart late. let was = from place below apart in entered.ended place was.0 was.1 late;
-  passed = λ place earlier below apart before early.
+  passed = λ place below apart earlier before early.
       let was = from place below apart in
-      subst (λ k. IsMarked turned (home_at room earlier k)) (sym (to place was.0 was.1).2) (entered.passed place earlier was.0 was.1 before early);
+      subst (λ k. IsMarked turned (home_at room earlier k)) (sym (to place was.0 was.1).2) (entered.passed place was.0 was.1 earlier before early);
   linked = λ place linked. let old = entered.linked place linked in let is = to place old.0 old.1 in (is.0, is.1, old.2);
   listed = λ place listed_at. let old = entered.listed place listed_at in let is = to place old.0 old.1 in (is.0, is.1, old.2);
   rises = λ one other apart within.
@@ -370,7 +395,7 @@ entry_of_nothing room keys turned = record {
   chains = entry_chains_of_nothing room;
   chained = λ place below. absurd (omega arith);
   ended = λ place below. absurd (omega arith);
-  passed = λ place earlier below. absurd (omega arith);
+  passed = λ place below. absurd (omega arith);
   linked = λ place linked. absurd (entry_unlinked room place linked);
   listed = λ place is. absurd (omega (arith, is.1));
   rises = λ one other apart within. absurd (omega arith);
@@ -438,7 +463,7 @@ pub entry_turn_is_last : (end but room place turn home key : ℕ) (keys links ba
 entry_turn_is_last end but room place turn home key keys links backs listed turned entered below apart has so_far early at missing unmarked =
     let on = entry_turns_on end but room place turn home key keys links backs listed turned entered below apart has so_far early at missing in
     unmarked (subst (IsMarked turned) (sym at) (subst (λ k. IsMarked turned (home_at room turn k)) has
-    (entered.passed place turn below apart (omega arith) early)))
+    (entered.passed place below apart turn (omega arith) early)))
 
 -- zeros and an empty list lead nowhere
 pub entry_zeros_lead : (count size none : ℕ) → none ≡ 0 → LeadBelow count (replicate size none) []

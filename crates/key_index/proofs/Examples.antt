@@ -8,7 +8,7 @@ use Rattle.key_index.specs.Homes.{mixed, mixed_after, scaled, home_at}
 use Rattle.key_index.specs.HomeMarks.{IsMarked}
 use Rattle.key_index.specs.Chains.{Chains, IsLinked, IsLive, HaveShape, AreChains}
 use Rattle.key_index.specs.SortedPlaces.{standing, Rises, IsListed, Splits, HasMore, HasLess}
-use Rattle.key_index.specs.Entries.{KeyEntries, LeadBelow, AreEntered, AreEntries}
+use Rattle.key_index.specs.Entries.{KeyEntries, HaveTurnedAway, LeadBelow, AreEntered, AreEntries}
 use Rattle.key_index.proofs.JoinLemmas.{chains_after_join}
 use Rattle.key_index.proofs.EntryLemmas.{entry_parts, entry_joins, entry_of_nothing, entry_chains_of_nothing}
 use Rattle.key_index.proofs.EntryLemmas.{entry_with, entry_zeros_lead}
@@ -147,6 +147,22 @@ nothing_was_added more = omega (arith, more.added.1)
 
 pub nothing_was_removed : HasLess keys (1 ∷ []) (1 ∷ []) 1 → ⊥
 nothing_was_removed less = less.gone (0, omega arith, refl)
+
+-- Of the four homes of an index for one key, home 2 is marked. It is the first home of key 1, and the next two; then comes
+-- home 1
+abbrev home_2_marked : KeyEntries
+home_2_marked = entry_parts 1 (replicate 5 0) (replicate 2 0) (4 ∷ []) []
+
+pub three_homes_turned_key_1_away : HaveTurnedAway 3 1 home_2_marked
+unfolding home_at scaled mixed IsMarked
+three_homes_turned_key_1_away zero low early = refl
+three_homes_turned_key_1_away (suc zero) low early = refl
+three_homes_turned_key_1_away (suc (suc zero)) low early = refl
+three_homes_turned_key_1_away (suc (suc (suc turn))) low early = absurd (omega arith)
+
+pub fourth_home_did_not : HaveTurnedAway 4 1 home_2_marked → ⊥
+unfolding home_at scaled mixed IsMarked
+fourth_home_did_not away = omega (arith, away 3 (omega arith) (omega arith))
 
 -- no key of an index for one key
 abbrev nothing : KeyEntries

@@ -1,5 +1,5 @@
 -- The homes of a key, turn by turn, and the marks of homes.
-use Rattle.std.proofs.Common.{◌≡◌, ℕ, ◌+◌, ◌*◌, ◌/◌, ◌%◌, ◌^◌, ◌<◌, List, length, get_or, set, suc, ap, sym, ◌∙◌, ⊎_elim, arith}
+use Rattle.std.proofs.Common.{◌≡◌, ℕ, ◌+◌, ◌*◌, ◌/◌, ◌%◌, ◌^◌, ◌<◌, List, length, get_or, set, suc, ap, sym, ◌∙◌, subst, ⊎_elim, arith}
 use Rattle.std.proofs.Common.{get_or-set_same, get_or-set_other, bit_or}
 use Rattle.std.specs.Int.{bit_at, w64}
 use Rattle.std.proofs.lemmas.Bool.{cases_eq}
@@ -48,3 +48,13 @@ home_stays_marked words home other within marked =
     (cases_eq (other % 64) (home % 64)))
     (λ (there : other / 64 ≡ home / 64 → ⊥). ap (λ n. bit_at n (other % 64)) (get_or-set_other words (home / 64) (other / 64) more 0 there) ∙ marked)
     (cases_eq (other / 64) (home / 64))
+
+-- the home of one turn more is marked
+pub home_marked_on : (room turns key home : ℕ) (turned : List ℕ) → home ≡ home_at room turns key → IsMarked turned home
+    → ((turn : ℕ) → turn < turns → turn < 8 → IsMarked turned (home_at room turn key))
+    → (turn : ℕ) → turn < turns + 1 → turn < 8 → IsMarked turned (home_at room turn key)
+home_marked_on room turns key home turned at marked before turn low early =
+    ⊎_elim
+    (λ (here : turn ≡ turns). subst (IsMarked turned) (at ∙ ap (λ t. home_at room t key) (sym here)) marked)
+    (λ (there : turn ≡ turns → ⊥). before turn (omega arith) early)
+    (cases_eq turn turns)

@@ -1,10 +1,9 @@
 -- The keys of an index: what a search for one says, and keys that are new.
-use Rattle.std.proofs.Common.{◌≡◌, ◌≢◌, ◌+◌, ◌*◌, ◌<◌, ◌≤◌, ℕ, List, [], ◌∷◌, ◌++◌, length, get_or, set, replicate, refl, ap, sym}
+use Rattle.std.proofs.Common.{◌≡◌, ◌≢◌, ◌+◌, ◌*◌, ◌<◌, ◌≤◌, ℕ, List, [], ◌∷◌, ◌++◌, length, get_or, set, replicate, refl, sym}
 use Rattle.std.proofs.Common.{subst, ◌∙◌, arith, length-append}
 use Rattle.std.proofs.Math.ListN.{length-set}
-use Rattle.std.specs.Prelude.{Option, None, Some, IfNone, IfSome, MatchOption, All, slice_get}
+use Rattle.std.specs.Prelude.{All}
 use Rattle.std.proofs.lemmas.Grind.{get_or_default_zero}
-use Rattle.std.proofs.lemmas.Option.{slice_get-get_or}
 use Rattle.key_index.specs.Entries.{KeyEntries, AreEntered, LeadBelow}
 use Rattle.key_index.specs.KeyIndex.{HoldsKeys, HoldsKeysButOne}
 use Rattle.key_index.proofs.EntryLemmas.{entry_parts, entry_of_nothing, entry_zeros_lead, entry_of_pushed}

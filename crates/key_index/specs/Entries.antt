@@ -13,13 +13,17 @@ pub record KeyEntries : Type 0 where
   pub turned : List ℕ
   pub listed : List ℕ
 
+-- of the eight homes of a key each of the first ones, this many, has turned a key away: all eight if it is more
+abbrev pub HaveTurnedAway : ℕ → ℕ → KeyEntries → Type 0
+HaveTurnedAway homes key entries = (turn : ℕ) → turn < homes → turn < 8 → IsMarked entries.turned (home_at entries.room turn key)
+
 -- nothing leads to a place from this one on
 pub record LeadBelow (count : ℕ) (links listed : List ℕ) : Type 0 where
   pub marks : All (λ mark. mark ≤ count) links
   pub places : All (λ place. place < count) listed
 
 -- The places below `end` are entered, but for one. `turn` says of each in which of its key's eight homes it is, counted
--- from 0, and 8 if it is in the list. From each earlier home a key was turned away.
+-- from 0, and 8 if it is in the list. Each earlier home has turned a key away.
 pub record AreEntered (end but : ℕ) (keys : List ℕ) (entries : KeyEntries) : Type 0 where
   pub rank : ℕ → ℕ
   pub home : ℕ → ℕ
@@ -28,8 +32,7 @@ pub record AreEntered (end but : ℕ) (keys : List ℕ) (entries : KeyEntries) :
   pub chained : (place : ℕ) → place < end → place ≢ but → turn place < 8
       → IsLinked entries.backs place × (home place ≡ entries.room + home_at entries.room (turn place) (slice_index keys place))
   pub ended : (place : ℕ) → place < end → place ≢ but → 8 ≤ turn place → IsListed entries.listed place
-  pub passed : (place earlier : ℕ) → place < end → place ≢ but → earlier < turn place → earlier < 8
-      → IsMarked entries.turned (home_at entries.room earlier (slice_index keys place))
+  pub passed : (place : ℕ) → place < end → place ≢ but → HaveTurnedAway (turn place) (slice_index keys place) entries
   pub linked : (place : ℕ) → IsLinked entries.backs place → (place < end) × (place ≢ but) × (turn place < 8)
   pub listed : (place : ℕ) → IsListed entries.listed place → (place < end) × (place ≢ but) × (8 ≤ turn place)
   pub rises : Rises keys entries.listed

@@ -1,4 +1,4 @@
-pub use Rattle.key_index.specs.Entries.{KeyEntries}
+pub use Rattle.key_index.specs.Entries.{KeyEntries, HaveTurnedAway}
 pub use Rattle.key_index.specs.KeyIndex.{HoldsKeys, HoldsKeysButOne}
 pub mod Entries
 pub mod KeyIndex

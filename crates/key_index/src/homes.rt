@@ -1,7 +1,7 @@
 //! The homes of a key: at each of eight turns a number that looks drawn at random.
 
 ghost use Rattle.std.specs.Prelude.{◌≡◌, ◌*◌, ◌^◌, ◌<◌, ◌≤◌};
-ghost use Rattle.key_index.specs.Homes.{mixed, scaled};
+ghost use Rattle.key_index.specs.Homes.{mixed, mixed_after, scaled};
 
 /// At most this many homes of a key are tried.
 pub(crate) const TURNS: usize = 8;
@@ -19,6 +19,17 @@ pub(crate) fn mix(number: u64) -> u64
     ensures { result ≡ mixed number }
 {
     (number ^ number >> 32).wrapping_mul(MULTIPLIER)
+}
+
+/// What follows a number after this many turns.
+pub(crate) fn mix_on(number: u64, turns: usize) -> u64
+    ensures { result ≡ mixed_after turns number }
+{
+    let mut mixed = number;
+    for _ in 0..turns {
+        mixed = mix(mixed);
+    }
+    mixed
 }
 
 /// The home that a mixed key names: its high half, scaled to the number of homes.

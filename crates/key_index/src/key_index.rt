@@ -1,33 +1,44 @@
 //! The index: where the places of keys are entered, in the chain of one of eight homes or in a sorted list.
 
 ghost use Rattle.std.specs.Prelude.{◌≡◌, ◌≢◌, ◌+◌, ◌*◌, ◌/◌, ◌<◌, ◌≤◌, ◌++◌, ◌∷◌, [], ℕ, List, All, IfOk, IfErr, IfSome, IfNone};
-ghost use Rattle.std.specs.Prelude.{IsTrue, Some, length, map, replicate, slice_get, slice_set};
+ghost use Rattle.std.specs.Prelude.{IsTrue, Some, length, map, replicate, slice_get, slice_index, slice_set};
 ghost use Rattle.key_index.specs.Chains.{AreChains};
 ghost use Rattle.key_index.specs.HomeMarks.{IsMarked};
 ghost use Rattle.key_index.specs.Homes.{home_at, mixed};
-ghost use Rattle.key_index.specs.Entries.{KeyEntries, AreEntered, IsNotBefore, LeadBelow};
+ghost use Rattle.key_index.specs.Entries.{KeyEntries, AreEntered, HaveTurnedAway, IsNotBefore, LeadBelow};
 ghost use Rattle.key_index.specs.KeyIndex.{HoldsKeys, HoldsKeysButOne};
 
 use crate::chains::KeyChains;
 use crate::home_marks::HomeMarks;
-use crate::homes::{HOMES_A_KEY, TURNS, home_of, mix};
+use crate::homes::{HOMES_A_KEY, TURNS, home_of, mix, mix_on};
 use crate::keyed::{Keyed, key_at};
 use crate::sorted_places;
 use std::alloc::{AllocError, Global};
 use std::marker::Model;
 
-/// Where a search that didn't find its key stopped: which of the key's homes it passed, and how many places of the list.
-/// The key is entered from there. It is no more than a hint: whatever it says, the key is entered, and found afterwards.
+/// Where a search that didn't find its key stopped. The key is entered from there: each home that the search passed has
+/// turned a key away, and isn't asked again. Contracts see it as how many homes those are, or more than all eight.
 #[derive(Clone, Copy)]
 pub struct Seen {
-    // The homes that were passed, and after all of them the places of the list that stand before the key.
+    // The homes that were passed and, if these are all eight, the places of the list that stood before the key. Of the
+    // places nothing is promised, since one may leave the list before the key is entered.
     passed: usize,
+}
+
+impl Model for Seen {
+    ghost use Rattle.std.specs.Prelude.{ℕ};
+
+    ghost Value = { ℕ };
+
+    ghost view = { λ seen. seen.passed };
+
+    ghost inverse = { λ passed. record { passed = passed } };
 }
 
 impl Seen {
     /// What is seen without a search: nothing.
     pub fn nothing() -> Seen
-        ensures { result.passed ≡ 0 }
+        ensures { result ≡ 0 }
     {
         Seen { passed: 0 }
     }
@@ -90,6 +101,7 @@ impl KeyIndex {
         requires holds { HoldsKeys (map T.key_of slots.now) self.now }
         ensures found { IfOk result (λ place. slice_get (map T.key_of slots.now) place ≡ Some key) }
         ensures missing { IfErr result (λ _. All (λ other. other ≢ key) (map T.key_of slots.now)) }
+        ensures seen { IfErr result (λ seen. HaveTurnedAway seen key self.now) }
     {
         if slots.is_empty() {
             return Err(Seen::nothing());
@@ -105,12 +117,13 @@ impl KeyIndex {
         self.find_further(slots, key, number)
     }
 
-    /// Enters the place of the one slot whose key isn't held, from where a search for the key stopped. It allocates no
-    /// memory. Once many keys were turned away, all are taken out and entered again: only this lets searches end again at
-    /// the homes that turned a key away.
+    /// Enters the place of the one slot whose key isn't held, from where a search for the key stopped: what the search
+    /// returned, or `Seen::nothing`. It allocates no memory. Once many keys were turned away, all are taken out and entered
+    /// again: only this lets searches end again at the homes that turned a key away.
     pub fn enter<T: Keyed>(&mut self, slots: &[T], place: usize, seen: Seen)
         requires within { place < length slots.now }
         requires others { HoldsKeysButOne place (map T.key_of slots.now) self.old }
+        requires seen { HaveTurnedAway seen (slice_index (map T.key_of slots.now) place) self.old }
         ensures room { self.new.room ≡ self.old.room }
         ensures holds { HoldsKeys (map T.key_of slots.now) self.new }
     {
@@ -121,12 +134,14 @@ impl KeyIndex {
         }
     }
 
-    /// Takes out the place of a slot, whose key may then be any other.
+    /// Takes out the place of a slot, whose key may then be any other. A key that was searched before can still be entered
+    /// from where the search stopped.
     pub fn leave<T: Keyed>(&mut self, slots: &[T], place: usize)
         requires within { place < length slots.now }
         requires holds { HoldsKeys (map T.key_of slots.now) self.old }
         ensures room { self.new.room ≡ self.old.room }
         ensures others { (key : ℕ) → HoldsKeysButOne place (slice_set (map T.key_of slots.now) place key) self.new }
+        ensures seen { (seen key : ℕ) → HaveTurnedAway seen key self.old → HaveTurnedAway seen key self.new }
     {
         if self.chains.has(place) {
             self.chains.unlink(place);
@@ -143,8 +158,10 @@ impl KeyIndex {
         requires holds { HoldsKeys (map T.key_of slots.now) self.now }
         requires number { number ≡ mixed key }
         requires further { IsNotBefore 1 key (map T.key_of slots.now) self.now }
+        requires seen { HaveTurnedAway 1 key self.now }
         ensures found { IfOk result (λ place. slice_get (map T.key_of slots.now) place ≡ Some key) }
         ensures missing { IfErr result (λ _. All (λ other. other ≢ key) (map T.key_of slots.now)) }
+        ensures seen { IfErr result (λ seen. HaveTurnedAway seen key self.now) }
     {
         let mut number = number;
         for turn in 1..TURNS {
@@ -177,6 +194,7 @@ impl KeyIndex {
         requires within { place < length slots.now }
         requires leads { LeadBelow (length slots.now) self.old.links self.old.listed }
         requires memory { length self.old.listed < self.old.room }
+        requires seen { HaveTurnedAway seen (slice_index (map T.key_of slots.now) place) self.old }
         ensures room { self.new.room ≡ self.old.room }
         ensures leads { LeadBelow (length slots.now) self.new.links self.new.listed }
         ensures listed { length self.new.listed ≤ length self.old.listed + 1 }
@@ -191,14 +209,15 @@ impl KeyIndex {
         }
     }
 
-    // Enters one place, in the first of its key's homes that has room and wasn't passed. It stays a function of its own in
-    // the binary, since few places come to it.
+    // Enters one place, in the first of its key's homes that has room and wasn't passed, else in the list. It stays a function
+    // of its own in the binary, since few places come to it.
     #[inline(never)]
     fn enter_in_turn<T: Keyed>(&mut self, slots: &[T], place: usize, seen: Seen)
         requires few { length slots.now ≤ self.old.room }
         requires within { place < length slots.now }
         requires leads { LeadBelow (length slots.now) self.old.links self.old.listed }
         requires memory { length self.old.listed < self.old.room }
+        requires seen { HaveTurnedAway seen (slice_index (map T.key_of slots.now) place) self.old }
         ensures room { self.new.room ≡ self.old.room }
         ensures leads { LeadBelow (length slots.now) self.new.links self.new.listed }
         ensures listed { length self.new.listed ≤ length self.old.listed + 1 }
@@ -269,7 +288,7 @@ fn enter_all<T: Keyed>(index: &mut KeyIndex, slots: &[T])
 }
 
 // The first home of the key that has room for it, of those that a search didn't pass. Each one before it is marked: this
-// key is turned away from there. A home that was passed turned a key away earlier; it may have room again, and isn't asked.
+// key is turned away from there. A home that was passed is marked already; it may have room again, and isn't asked.
 fn free_home(
     chains: &KeyChains,
     turned: &mut HomeMarks,
@@ -281,6 +300,7 @@ fn free_home(
     requires few { room ≤ 8192 }
     requires room { chains.now.room ≡ room }
     requires homes { 4 * room ≤ 64 * length turned.old }
+    requires passed { (earlier : ℕ) → earlier < passed → earlier < 8 → IsMarked turned.old (home_at room earlier key) }
     ensures homes { length turned.new ≡ length turned.old }
     ensures turns { IfSome result (λ free. free.turn < 8) }
     ensures within { IfSome result (λ free. free.home < 4 * room) }
@@ -293,11 +313,14 @@ fn free_home(
         → IsMarked turned.new (home_at room earlier key)) }
     ensures kept { (home : ℕ) → IsMarked turned.old home → IsMarked turned.new home }
 {
-    let mut number = key;
-    for turn in 0..TURNS {
+    if passed >= TURNS {
+        return None;
+    }
+    let mut number = mix_on(key, passed);
+    for turn in passed..TURNS {
         number = mix(number);
         let home = home_of(number, room);
-        if turn >= passed && !chains.is_full(home) {
+        if !chains.is_full(home) {
             return Some(Free { turn, home });
         }
         turned.set(home);

@@ -1,6 +1,6 @@
 -- The keys of slots.
 use Rattle.std.proofs.Common.{◌≡◌, ◌≢◌, ℕ, ◌<◌, List, [], ◌∷◌, length, map, get_or, set, slice_get, All, Some, sym, ap}
-use Rattle.std.proofs.Common.{◌∙◌, arith}
+use Rattle.std.proofs.Common.{◌∙◌, arith, get_or-set_same}
 use Rattle.std.specs.List.{AllByRecursion}
 use Rattle.std.proofs.lemmas.List.{length-map, map-set, set-get_or, get_or-map}
 use Rattle.std.proofs.lemmas.List.Elements.{recursion_from_All}
@@ -48,3 +48,11 @@ pub slot_keys_on_change : (place key : ℕ) (lent after : List Slot) (ranked rai
 slot_keys_on_change place key lent after ranked raised slot before is behind has =
     ap slot_keys (behind ∙ ap (λ (r : Slots). r.slots) is) ∙ map-set slot_key ranked.slots place slot
     ∙ ap (set (slot_keys ranked.slots) place) has ∙ ap (λ l. set (slot_keys l) place key) (sym before)
+
+-- and the key at its place
+pub slot_key_on_change : (place key : ℕ) (lent after : List Slot) (ranked raised : Slots) (slot : Slot) → lent ≡ ranked.slots
+    → raised ≡ record ranked { slots = set ranked.slots place slot } → after ≡ raised.slots → slot.entry.key ≡ key → place < length ranked.slots
+    → get_or (slot_keys after) place 0 ≡ key
+slot_key_on_change place key lent after ranked raised slot before is behind has within =
+    ap (λ keys. get_or keys place 0) (slot_keys_on_change place key lent after ranked raised slot before is behind has)
+    ∙ get_or-set_same (slot_keys lent) place key 0 (omega (arith, within, ap length before, length-map lent slot_key))

@@ -1,6 +1,7 @@
 //! One step of Space-Saving on slots.
 
 ghost use Rattle.std.specs.Prelude.{◌≡◌, ◌+◌, ◌^◌, ◌<◌, ◌≤◌, ◌++◌, ◌∷◌, [], length, slice_index_or, slice_set};
+ghost use Rattle.key_index.specs.{HaveTurnedAway};
 ghost use Rattle.space_saving.specs.{after_step, table_total};
 ghost use Rattle.rank_table.specs.SlotOrder.{AreOrdered, ordered_entries};
 ghost use Rattle.rank_table.specs.Steps.{IsTakenOver, entered_slot};
@@ -71,6 +72,7 @@ fn take_room(
     requires room { length ranked.old.slots < ranked.old.capacity }
     requires early { now < 2 ^ 18 }
     requires together { AreParts ranked.old.capacity index.old ranked.old }
+    requires seen { HaveTurnedAway seen key index.old }
     ensures together { AreParts ranked.old.capacity index.new ranked.new }
     ensures ranked { ranked.new ≡ record ranked.old { slots = ranked.old.slots ++ entered_slot key weight now ∷ [] } }
 {
@@ -87,6 +89,7 @@ pub(crate) fn append(index: &mut KeyIndex, ranked: &mut RankedSlots, slot: Slot,
     requires room { length ranked.old.slots < ranked.old.capacity }
     requires early { slot.time < 2 ^ 18 }
     requires together { AreParts ranked.old.capacity index.old ranked.old }
+    requires seen { HaveTurnedAway seen slot.entry.key index.old }
     ensures together { AreParts ranked.old.capacity index.new ranked.new }
     ensures ranked { ranked.new ≡ record ranked.old { slots = ranked.old.slots ++ slot ∷ [] } }
 {
@@ -111,6 +114,7 @@ fn take_over(
     requires slots { AreOrdered now ranked.old.slots }
     requires early { now < 2 ^ 18 }
     requires room { table_total (ordered_entries ranked.old.slots) + weight < 2 ^ 56 }
+    requires seen { HaveTurnedAway seen key index.old }
     ensures together { AreParts ranked.old.capacity index.new ranked.new }
     ensures taken { IsTakenOver key weight now ranked.old ranked.new }
 {

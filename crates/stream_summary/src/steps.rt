@@ -1,6 +1,7 @@
 //! One step of Space-Saving on an arena.
 
 ghost use Rattle.std.specs.Prelude.{◌≡◌, ◌+◌, ◌^◌, ◌<◌, ◌≤◌, ◌∷◌, ℕ, List, IfSome, length, vec_capacity};
+ghost use Rattle.key_index.specs.{HaveTurnedAway};
 ghost use Rattle.space_saving.specs.{IsTable, after_step, put_into, table_total};
 ghost use Rattle.stream_summary.specs.Ring.{IsIn};
 ghost use Rattle.stream_summary.specs.Buckets.{bucket_of, count_of, entries_at, entry_at, free_count, keys_of};
@@ -67,6 +68,7 @@ pub(crate) fn append(
     requires counts { entry.count < free_count }
     requires from { IfSome from (λ b. b.0 < length arena.old.buckets.items) }
     requires below { IfSome from (λ b. count_of arena.old.buckets.items b.0 ≤ entry.count) }
+    requires seen { HaveTurnedAway seen entry.key index.old }
     ensures together { AreParts index.new arena.new }
     ensures buckets { length arena.new.buckets.items ≡ length arena.old.buckets.items }
     ensures slots { length arena.new.slots.items ≡ length arena.old.slots.items + 1 }
@@ -84,6 +86,7 @@ fn take_over(index: &mut KeyIndex, arena: &mut Arena, key: u64, weight: u64, see
     requires together { AreParts index.old arena.old }
     requires full { length arena.old.slots.items ≡ length arena.old.buckets.items }
     requires room { table_total (arena_entries arena.old) + weight < 2 ^ 56 }
+    requires seen { HaveTurnedAway seen key index.old }
     ensures together { AreParts index.new arena.new }
     ensures buckets { length arena.new.buckets.items ≡ length arena.old.buckets.items }
     ensures taken { (first : ℕ) (rest : List ℕ) → arena.old.order.order ≡ first ∷ rest

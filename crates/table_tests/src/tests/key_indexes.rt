@@ -1,6 +1,7 @@
 //! Indexes of keys, compared with plain lists of the same keys.
 
-ghost use Rattle.std.specs.Prelude.{◌≡◌};
+ghost use Rattle.std.specs.Prelude.{◌≡◌, map};
+ghost use Rattle.key_index.specs.{HaveTurnedAway, HoldsKeys};
 
 use super::next;
 use key_index::{KeyIndex, Keyed, Seen, appended_key_is_missing};
@@ -57,16 +58,17 @@ impl IndexedList {
         if place >= self.room {
             return Err("no room for one more".into());
         }
-        let seen = self.seen_of(key);
+        let seen = seen_of(&self.index, &self.list, key);
         appended_key_is_missing();
         self.list.push(Holder { key })?;
         self.index.enter(&self.list, place, seen);
         Ok(())
     }
 
-    /// Puts a key in the place of another, from where a search stopped.
-    fn replace(&mut self, place: usize, key: u64, seen: Seen) {
+    /// Puts a key in the place of another, from where a search for it stops.
+    fn replace(&mut self, place: usize, key: u64) {
         if place < self.list.len() {
+            let seen = seen_of(&self.index, &self.list, key);
             self.index.leave(&self.list, place);
             self.list[place] = Holder { key };
             self.index.enter(&self.list, place, seen);
@@ -76,14 +78,6 @@ impl IndexedList {
     /// The place of a key, by the index.
     fn find(&self, key: u64) -> Option<usize> {
         self.index.find(&self.list, key).ok()
-    }
-
-    /// Where a search for a key stops that isn't in the list.
-    fn seen_of(&self, key: u64) -> Seen {
-        match self.index.find(&self.list, key) {
-            Ok(_) => Seen::nothing(),
-            Err(seen) => seen,
-        }
     }
 
     /// The place of a key in the list, as the index should find it.
@@ -109,6 +103,17 @@ impl IndexedList {
             }
         }
         true
+    }
+}
+
+/// Where a search for a key stops, or nothing where the key is found.
+fn seen_of(index: &KeyIndex, list: &[Holder], key: u64) -> Seen
+    requires { HoldsKeys (map (λ holder. holder.key) list.now) index.now }
+    ensures { HaveTurnedAway result key index.now }
+{
+    match index.find(list, key) {
+        Ok(_) => Seen::nothing(),
+        Err(seen) => seen,
     }
 }
 
@@ -143,8 +148,7 @@ fn replace_one(keys: &mut IndexedList, place: usize, key: u64) -> bool {
         return true;
     }
     let gone = keys.key_at(place);
-    let seen = keys.seen_of(key);
-    keys.replace(place, key, seen);
+    keys.replace(place, key);
     keys.find(key) == Some(place) && gone.is_some_and(|gone| keys.find(gone).is_none())
 }
 
@@ -226,8 +230,8 @@ fn finds_keys_behind_full_homes(alloc: Global) -> Result<bool, Fail> {
 }
 
 /// Whether an index finds all keys after one goes into its list where a search stopped: where the key belongs, one place
-/// behind, in the middle and at the end, at another key's place, and where the search saw nothing, since no key was turned
-/// away from the full homes yet. The key `k`, 1 to 13, is at the place `k + 447`.
+/// behind, in the middle and at the end, and where the search saw nothing of the list, since no key was turned away from the
+/// full homes yet. The key `k`, 1 to 13, is at the place `k + 447`.
 fn finds_keys_entered_near(alloc: Global) -> Result<bool, Fail> {
     let mut keys = IndexedList::with_room(alloc, 512)?;
     for key in 1..15 {
@@ -239,25 +243,23 @@ fn finds_keys_entered_near(alloc: Global) -> Result<bool, Fail> {
     let elsewhere = 1 << 40;
     Ok(
         // The key 6 goes and comes back. Then it goes again, and takes the place of the key 2, which stands before it.
-        replace_from(&mut keys, 453, elsewhere, elsewhere)
-            && replace_from(&mut keys, 453, 6, 6)
-            && replace_from(&mut keys, 453, elsewhere, elsewhere)
-            && replace_from(&mut keys, 449, 6, 6)
+        finds_all_after(&mut keys, 453, elsewhere)
+            && finds_all_after(&mut keys, 453, 6)
+            && finds_all_after(&mut keys, 453, elsewhere)
+            && finds_all_after(&mut keys, 449, 6)
             // The last key goes, and takes the place of the one before it.
-            && replace_from(&mut keys, 460, elsewhere + 1, elsewhere + 1)
-            && replace_from(&mut keys, 459, 13, 13)
-            // A search for the key 12 stops behind most of the list, where the key 2 doesn't belong.
-            && replace_from(&mut keys, 460, 2, 12)
-            && replace_from(&mut keys, 453, 14, 14),
+            && finds_all_after(&mut keys, 460, elsewhere + 1)
+            && finds_all_after(&mut keys, 459, 13)
+            // The key 2 belongs to the middle of the list. No key was turned away yet from the homes of the key 14.
+            && finds_all_after(&mut keys, 460, 2)
+            && finds_all_after(&mut keys, 453, 14),
     )
 }
 
-/// Puts a key in the place of another, from where a search for a third one stops. Returns whether the index then finds
-/// all keys, and no longer the one that is gone.
-fn replace_from(keys: &mut IndexedList, place: usize, key: u64, searched: u64) -> bool {
-    let seen = keys.seen_of(searched);
+/// Puts a key in the place of another. Returns whether the index then finds all keys, and no longer the one that is gone.
+fn finds_all_after(keys: &mut IndexedList, place: usize, key: u64) -> bool {
     let gone = keys.key_at(place);
-    keys.replace(place, key, seen);
+    keys.replace(place, key);
     keys.finds_all() && gone.is_some_and(|gone| keys.find(gone).is_none())
 }
 

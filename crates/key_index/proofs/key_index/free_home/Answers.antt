@@ -1,8 +1,6 @@
-use Rattle.std.proofs.Common.{◌≡◌, sym, ap, ◌∙◌, subst, ⊎_elim, arith}
-use Rattle.std.proofs.lemmas.Bool.{cases_eq}
+use Rattle.std.proofs.Common.{◌≡◌, ◌∙◌}
 use Rattle.key_index.specs.Homes.{home_at}
-use Rattle.key_index.specs.HomeMarks.{IsMarked}
-use Rattle.key_index.proofs.HomeLemmas.{home_mixed_on, home_of_mixed}
+use Rattle.key_index.proofs.HomeLemmas.{home_mixed_on, home_of_mixed, home_marked_on}
 use Rattle.key_index.proofs.key_index.free_home.Goals as goal
 
 pub returns-then-not-is_full-clause-home : goal.returns-then-not-is_full-clause-home
@@ -18,12 +16,7 @@ loop-turn-preserved c =
     record {
       number = home_mixed_on c.loop-turn.turn c.args.key c.loop-turn.number c.mix-number.result c.loop-turn.invariant.number c.mix-number.ensures;
       homes = c.set.ensures.length ∙ c.loop-turn.invariant.homes;
-      passed = λ earlier before.
-          ⊎_elim
-          (λ (here : earlier ≡ c.loop-turn.turn). subst (IsMarked c.set.new.self)
-          (at ∙ ap (λ t. home_at c.args.room t c.args.key) (sym here)) c.set.ensures.marked)
-          (λ (there : earlier ≡ c.loop-turn.turn → ⊥). c.set.ensures.kept (home_at c.args.room earlier c.args.key)
-          (c.loop-turn.invariant.passed earlier (omega arith)))
-          (cases_eq earlier c.loop-turn.turn);
+      passed = home_marked_on c.args.room c.loop-turn.turn c.args.key home c.set.new.self at c.set.ensures.marked
+          (λ earlier before early. c.set.ensures.kept (home_at c.args.room earlier c.args.key) (c.loop-turn.invariant.passed earlier before early));
       kept = λ other marked. c.set.ensures.kept other (c.loop-turn.invariant.kept other marked);
     }

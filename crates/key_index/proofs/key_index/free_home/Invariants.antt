@@ -8,6 +8,6 @@ abbrev pub invariant-loop-turn : goal.invariant-loop-turn
 invariant-loop-turn l = record {
   number : l.number ≡ mixed_after l.turn l.key;
   homes : length l.turned ≡ length l.fn.turned;
-  passed : (earlier : ℕ) → earlier < l.turn → IsMarked l.turned (home_at l.room earlier l.key);
+  passed : (earlier : ℕ) → earlier < l.turn → earlier < 8 → IsMarked l.turned (home_at l.room earlier l.key);
   kept : (home : ℕ) → IsMarked l.fn.turned home → IsMarked l.turned home;
 }

@@ -1,9 +1,9 @@
 use Rattle.std.proofs.Common.{◌≡◌, ◌<◌, ◌≤◌, ℕ, List, length, refl, get_or, sym, ap, subst, ◌∙◌, arith}
 use Rattle.std.proofs.lemmas.List.{get_or_default}
 use Rattle.rank_table.specs.declared.slot.Slot.{Slot}
-use Rattle.key_index.specs.{HoldsKeysButOne}
+use Rattle.key_index.specs.{HoldsKeysButOne, HaveTurnedAway}
 use Rattle.rank_table.specs.Slot.{Slots}
-use Rattle.rank_table.proofs.SlotKeyLemmas.{slot_keys_on_change}
+use Rattle.rank_table.proofs.SlotKeyLemmas.{slot_keys_on_change, slot_key_on_change}
 use Rattle.rank_table.proofs.RankedSlotLemmas.{all-ranked_slot_at, ranked_slot_count_in_total}
 use Rattle.rank_table.proofs.steps.take_over.Goals as goal
 
@@ -43,3 +43,11 @@ enter-requires-clause-others c =
     (sym (slot_keys_on_change c.least-place.result c.args.key c.slots-2.result.now c.slots-3.result.now c.least-place.new.self c.replace_first.new.self _
     c.slots-2.ensures.slots c.replace_first.ensures c.slots-3.ensures.slots refl))
     (c.leave.ensures.others c.args.key)
+
+pub enter-requires-clause-seen : goal.enter-requires-clause-seen
+enter-requires-clause-seen c =
+    subst (λ key. HaveTurnedAway c.args.seen key c.leave.new.self)
+    (sym (slot_key_on_change c.least-place.result c.args.key c.slots-2.result.now c.slots-3.result.now c.least-place.new.self
+    c.replace_first.new.self _ c.slots-2.ensures.slots c.replace_first.ensures c.slots-3.ensures.slots refl
+    (subst (λ (r : Slots). c.least-place.result < length r.slots) (sym c.least-place.ensures.same) c.least-place.ensures.least.within)))
+    (c.leave.ensures.seen c.args.seen c.args.key c.requires.seen)
