@@ -4,7 +4,7 @@ use Rattle.std.proofs.Common.{arith}
 use Rattle.pcap_frames.specs.declared.fault.FaultKind.TheVariants.{ShortHeader, CutFrame, CutBlock, BadTail}
 use Rattle.pcap_frames.specs.declared.fault.ReadRefusal.TheVariants.{Capture, ReadFault, OutOfMemory}
 use Rattle.pcap_frames.specs.{FrameValue, number_in_order, header_fault, header_fault_at}
-use Rattle.frame_records.specs.CaptureFile.{FileHasFrames, is_cut, IsFrontOf, FileGives, IsRefusedFile}
+use Rattle.frame_records.specs.CaptureFile.{FileHasFrames, is_cut_off, IsFrontOf, FileGives, IsRefusedFile}
 use Rattle.frame_records.specs.declared.records.Records.{Records}
 use Rattle.frame_records.specs.declared.skip.Skip.TheVariants.{Short, BadHeader}
 use Rattle.frame_records.specs.declared.weigh.Weigh.TheVariants.{Bytes, Packets}
@@ -55,7 +55,7 @@ pub empty_file_has_no_header : IsRefusedFile true [] (header_fault_at ShortHeade
 unfolding header_fault number_in_order
 empty_file_has_no_header = record {
   first = ([], inr (inl (record { none_shown = refl; short = omega arith; none_before = refl; is_fault = refl })));
-  no_front = λ asked (cut : is_cut ShortHeader ≡ true). cc;
+  no_front = λ asked (cut : is_cut_off ShortHeader ≡ true). cc;
 }
 
 pub empty_file_is_refused : HasRefused true (Some []) 3 3 (Capture (header_fault_at ShortHeader 0))
@@ -105,13 +105,13 @@ empty_file_has_no_frames frames (order, splits) = let header = splits.header in 
 
 -- ---- kinds of faults that cut a capture
 
-pub capture_is_cut_in_a_frame : is_cut CutFrame ≡ true
+pub capture_is_cut_in_a_frame : is_cut_off CutFrame ≡ true
 capture_is_cut_in_a_frame = refl
 
-pub capture_is_cut_in_a_block : is_cut CutBlock ≡ true
+pub capture_is_cut_in_a_block : is_cut_off CutBlock ≡ true
 capture_is_cut_in_a_block = refl
 
-pub other_tail_is_no_cut : is_cut BadTail ≡ false
+pub other_tail_is_no_cut : is_cut_off BadTail ≡ false
 other_tail_is_no_cut = refl
 
 -- ---- a capture of one frame that is cut before the frame's last byte

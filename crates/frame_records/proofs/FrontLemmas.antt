@@ -8,7 +8,7 @@ use Rattle.pcap_frames.specs.{IsSeen, ShowsBeforeFault}
 use Rattle.pcap_frames.specs.declared.fault.ReadRefusal.{ReadRefusal}
 use Rattle.pcap_frames.specs.declared.fault.ReadRefusal.TheVariants.{Capture}
 use Rattle.pcapng_frames.specs.{capture_format}
-use Rattle.frame_records.specs.CaptureFile.{FileHasFrames, FileGives, is_cut, IsFrontOf, IsRefusedFile}
+use Rattle.frame_records.specs.CaptureFile.{FileHasFrames, FileGives, is_cut_off, IsFrontOf, IsRefusedFile}
 use Rattle.frame_records.specs.Records.{HasRecords}
 use Rattle.frame_records.specs.RecordVisitor.{KeepsRecordsOf}
 use Rattle.frame_records.specs.declared.weigh.Weigh.{Weigh}
@@ -24,13 +24,13 @@ front_seen_before_fault represents seen saw left now refusal fault is shows =
     subst (λ r. IsSeen capture_format [] represents seen saw left now (Err r)) is shows
 
 -- a fault of a kind that cuts a capture is the cut at its place
-pub front_ends_at_cut_fault : (file : List ℕ) (frames : List FrameValue) (fault : CaptureFault) → is_cut fault.kind ≡ true
+pub front_ends_at_cut_fault : (file : List ℕ) (frames : List FrameValue) (fault : CaptureFault) → is_cut_off fault.kind ≡ true
     → Format.has_fault_after capture_format file frames fault → IsFrontOf file frames fault.place
 front_ends_at_cut_fault file frames fault cut first = record { fault = fault; first = first; cut = cut; place_is = refl }
 
 -- what is known of the bytes of a capture that is cut
 front_is_told : (front : Bool) (left : Option (List ℕ)) (frames : List FrameValue) (fault : CaptureFault) → front ≡ true
-    → is_cut fault.kind ≡ true → IfSome left (λ file. Format.has_fault_after capture_format file frames fault)
+    → is_cut_off fault.kind ≡ true → IfSome left (λ file. Format.has_fault_after capture_format file frames fault)
     → IfSome left (λ file. FileGives front file frames (Some fault.place))
 front_is_told front None frames fault asked cut first = tt
 front_is_told front (Some file) frames fault asked cut first = (asked, front_ends_at_cut_fault file frames fault cut first)
@@ -52,7 +52,7 @@ pub front_records_up_to_cut : (weigh : Weigh) (front : Bool) (left : Option (Lis
     (records : Records) (result : Result Records ReadRefusal)
     → length frames ≤ 16777216 → KeepsRecordsOf weigh frames records → IfSome left (λ file. Format.has_fault_after capture_format file frames fault)
     → IfOk result (λ taken. taken ≡ record records { cut = Some fault.place }) → OnOk result (front ≡ true)
-    → OnOk result (is_cut fault.kind ≡ true) → IfOk result (HasRecords weigh front left)
+    → OnOk result (is_cut_off fault.kind ≡ true) → IfOk result (HasRecords weigh front left)
 front_records_up_to_cut weigh front left frames fault records (Err refusal) few kept after is asked cut = tt
 front_records_up_to_cut weigh front left frames fault records (Ok taken) few kept after is asked cut =
     let are = record_visitor_counts_exactly weigh frames records few kept in
@@ -82,7 +82,7 @@ pub front_is_decided : (front : Bool) (file : List ℕ)
     → IsFrontDecided front file
 front_is_decided front file (inl (frames, is)) = inl (frames, None, is)
 front_is_decided false file (inr (fault, has)) = inr (fault, record { first = has; no_front = λ (asked : false ≡ true) cut. cc })
-front_is_decided true file (inr (fault, has)) = elim (cases_Bool (is_cut fault.kind)) [
+front_is_decided true file (inr (fault, has)) = elim (cases_Bool (is_cut_off fault.kind)) [
   | inl cut ↦ inl (has.0, Some fault.place, (refl, front_ends_at_cut_fault file has.0 fault cut has.1))
   | inr other ↦ inr (fault, record { first = has; no_front = λ asked cut. cc })
 ]
@@ -91,11 +91,11 @@ module _ (laws : IsDecided capture_format) where
   -- no more frames are before a cut than in a capture, and its place is a number of 64 bits
   pub front_is_limited : (front : Bool) (file : List ℕ) (frames : List FrameValue) (cut : Option ℕ) → FileGives front file frames cut
       → (length frames ≤ frame_count_limit) × IfSome cut (λ place. place < 2 ^ 64)
-  front_is_limited front file frames None gives = (laws.limited file frames (laws.of_capture file frames gives), tt)
+  front_is_limited front file frames None gives = (laws.limited file frames (inl gives), tt)
   front_is_limited front file frames (Some place) (asked, front_of) =
       let fault = front_of.fault in
       let first = front_of.first in (
-        laws.limited file frames (laws.before_fault file frames fault first),
+        laws.limited file frames (inr (fault, first)),
         omega (arith, front_of.place_is, laws.place file frames fault first),
       )
 
@@ -105,7 +105,7 @@ module _ (laws : IsDecided capture_format) where
   front_is_not_refused front file frames None fault gives refused = laws.never_both file frames fault gives refused.first
   front_is_not_refused front file frames (Some place) fault (asked, front_of) refused =
       let same : fault ≡ front_of.fault = laws.one_fault file front_of.fault fault (frames, front_of.first) refused.first in
-      refused.no_front asked (ap (λ f. is_cut f.kind) same ∙ front_of.cut)
+      refused.no_front asked (ap (λ f. is_cut_off f.kind) same ∙ front_of.cut)
 
   -- the cut is one
   pub front_has_one_cut : (front other : Bool) (file : List ℕ) (frames others : List FrameValue) (cut other_cut : Option ℕ)

@@ -10,17 +10,17 @@ use Rattle.pcapng_frames.specs.{capture_format}
 abbrev pub FileHasFrames : List ℕ → List FrameValue → Type 0
 FileHasFrames file frames = Format.is_capture capture_format file frames
 
--- whether a capture with a fault of this kind is cut: it ends inside a frame, or inside a block
-abbrev pub is_cut : FaultKind → Bool
-is_cut CutFrame = true
-is_cut CutBlock = true
-is_cut _ = false
+-- whether a capture with a fault of this kind is cut off: it ends inside a frame, or inside a block
+abbrev pub is_cut_off : FaultKind → Bool
+is_cut_off CutFrame = true
+is_cut_off CutBlock = true
+is_cut_off _ = false
 
 -- the file is the front of a cut capture: its first fault is CutFrame or CutBlock at this place, and these are the frames before it
 pub record IsFrontOf (file : List ℕ) (frames : List FrameValue) (place : ℕ) : Type 0 where
   pub fault : CaptureFault
   pub first : Format.has_fault_after capture_format file frames fault
-  pub cut : is_cut fault.kind ≡ true
+  pub cut : is_cut_off fault.kind ≡ true
   pub place_is : place ≡ fault.place
 
 -- what is taken from a file: the frames of a whole capture, with no cut, or, where the front of a cut capture is asked for, those
@@ -33,4 +33,4 @@ FileGives front file frames (Some place) = (front ≡ true) × IsFrontOf file fr
 -- asked for
 pub record IsRefusedFile (front : Bool) (file : List ℕ) (fault : CaptureFault) : Type 0 where
   pub first : HasFault capture_format file fault
-  pub no_front : front ≡ true → is_cut fault.kind ≡ true → ⊥
+  pub no_front : front ≡ true → is_cut_off fault.kind ≡ true → ⊥

@@ -4,7 +4,7 @@ ghost use Rattle.std.specs.Prelude.{◌≡◌, ◌≤◌, ◌<◌, true, Some, v
 ghost use Rattle.std.specs.Io.KnownBytes.{IsAtEnd};
 ghost use Rattle.outside_io.specs.{ReadsFront};
 ghost use Rattle.pcap_frames.specs.{IsEndFault};
-ghost use Rattle.frame_records.specs.CaptureFile.{is_cut};
+ghost use Rattle.frame_records.specs.CaptureFile.{is_cut_off};
 ghost use Rattle.frame_records.specs.Records.{HasRecords, HasRefused};
 ghost use Rattle.frame_records.specs.RecordVisitor.{visitor_weighing};
 ghost use Rattle.prefix_lattice.specs.{record_limit};
@@ -75,10 +75,10 @@ fn read_weighed<S: Source, const PACKETS: bool>(
 fn up_to_cut(mut records: Records, fault: CaptureFault, front: bool) -> Result<Records, ReadRefusal>
     ensures taken { IfOk result (λ taken. taken ≡ record records { cut = Some fault.place }) }
     ensures asked { OnOk result (front ≡ true) }
-    ensures cut { OnOk result (is_cut fault.kind ≡ true) }
+    ensures cut { OnOk result (is_cut_off fault.kind ≡ true) }
     ensures ends { OnOk result (IsEndFault fault.kind) }
     ensures refused { IfErr result (λ refusal. refusal ≡ ReadRefusal.Capture fault) }
-    ensures other { OnErr result (front ≡ true → is_cut fault.kind ≡ true → ⊥) }
+    ensures other { OnErr result (front ≡ true → is_cut_off fault.kind ≡ true → ⊥) }
 {
     if !front {
         return Err(ReadRefusal::Capture(fault));

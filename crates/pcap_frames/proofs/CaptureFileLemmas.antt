@@ -8,16 +8,15 @@ use Rattle.pcap_frames.specs.FileOrder.{number_in_order}
 use Rattle.pcap_frames.specs.Frame.{FrameValue}
 use Rattle.pcap_frames.specs.Frame.{BeginsWithFrame, BeginsWithFrames, IsFrame, AreFrames, frame_count_limit}
 use Rattle.pcap_frames.specs.Decided.{IsDecided}
-use Rattle.pcap_frames.specs.CaptureFormat.{classic}
+use Rattle.pcap_frames.specs.CaptureFormat.{classic, Completes}
 use Rattle.pcap_frames.specs.CaptureFault.{ShowsFault, HasFaultAfter}
-use Rattle.pcap_frames.specs.FrameReader.{Completes}
 use Rattle.pcap_frames.specs.Header.{header_fault}
 use Rattle.pcap_frames.specs.declared.fault.CaptureFault.{CaptureFault}
 use Rattle.pcap_frames.proofs.FileNumberLemmas.{number_in_order-in_four_file_bytes}
 use Rattle.pcap_frames.proofs.BeginsFrameLemmas.{BeginsWithFrames-length}
 use Rattle.pcap_frames.proofs.EndFaultLemmas.{bytes_show_no_end_fault, header_shows_fault_near, frame_shows_fault_near}
 use Rattle.pcap_frames.proofs.FileSplitLemmas.{ShowsFault-longer_split_file}
-use Rattle.pcap_frames.proofs.FirstFaultLemmas.{ReachesFirstFault, reader_reaches_first_fault, capture_reaches_first_fault}
+use Rattle.pcap_frames.proofs.FirstFaultLemmas.{ReachesFirstFault, capture_reaches_first_fault}
 use Rattle.pcap_frames.proofs.FirstFaultLemmas.{frames_reach_first_fault, frames_before_first_fault_agree}
 use Rattle.pcap_frames.proofs.FirstFaultLemmas.{frames_before_first_fault_begin}
 use Rattle.pcap_frames.proofs.FirstFaultLemmas.{fronts_complete_to_first_fault, capture_or_first_fault}
@@ -122,12 +121,9 @@ fault_place_in_capture_file file frames fault (inr (inr in_frame)) =
 -- ---- the laws
 
 -- the frames that a front completes, in the words of where bytes end
-capture_file_is_completed : (file : List ℕ) (frames : List FrameValue) → ReachesFirstFault file frames → Completes file frames
-capture_file_is_completed file frames reached =
-    let fed = fronts_complete_to_first_fault file in
-    let same = frames_before_first_fault_agree file frames fed.0 reached
-    (reader_reaches_first_fault fed.1.0 file fed.0 fed.1.1) in
-    subst (Completes file) same fed.1
+capture_file_to_first_fault : (front : List ℕ) (frames : List FrameValue) → Completes classic front frames → ReachesFirstFault front frames
+capture_file_to_first_fault front frames (inl capture) = capture_reaches_first_fault front frames capture
+capture_file_to_first_fault front frames (inr fault) = frames_reach_first_fault front frames fault.0 fault.1
 
 pub classic_captures_are_decided : IsDecided classic
 classic_captures_are_decided = record {
@@ -140,23 +136,15 @@ classic_captures_are_decided = record {
   one_fault = file_has_one_first_fault;
   one_before = λ file frames others fault other here there.
       frames_before_first_fault_agree file frames others (frames_reach_first_fault file frames fault here) (frames_reach_first_fault file others other there);
-  some = fronts_complete_to_first_fault;
-  one = λ front frames others here there.
-      frames_before_first_fault_agree front frames others (reader_reaches_first_fault here.0 front frames here.1)
-      (reader_reaches_first_fault there.0 front others there.1);
   longer = λ front more frames others here there.
-      frames_before_first_fault_begin front more frames others (reader_reaches_first_fault here.0 front frames here.1)
-      (reader_reaches_first_fault there.0 (front ++ more) others there.1);
-  of_capture = λ file frames capture. capture_file_is_completed file frames (capture_reaches_first_fault file frames capture);
-  before_fault = λ file frames fault first.
-      capture_file_is_completed file frames (frames_reach_first_fault file frames fault first);
+      frames_before_first_fault_begin front more frames others (capture_file_to_first_fault front frames here)
+      (capture_file_to_first_fault (front ++ more) others there);
   shown = λ front more frames fault shows. inl (ShowsFault-longer_split_file front more frames fault shows);
   no_end_fault = bytes_show_no_end_fault;
   no_frame_first = λ front frames short here.
-      capture_file_begins_without_frame front frames short (reader_reaches_first_fault here.0 front frames here.1);
+      capture_file_begins_without_frame front frames short (capture_file_to_first_fault front frames here);
   no_fault_first = capture_file_begins_without_fault;
-  limited = λ front frames here. capture_file_is_limited front frames (reader_reaches_first_fault here.0 front frames here.1);
+  limited = λ front frames here. capture_file_is_limited front frames (capture_file_to_first_fault front frames here);
   place = fault_place_in_capture_file;
-  are_frames = λ front frames are here.
-      capture_file_has_valid_frames front frames are (reader_reaches_first_fault here.0 front frames here.1);
+  are_frames = λ front frames are here. capture_file_has_valid_frames front frames are (capture_file_to_first_fault front frames here);
 }

@@ -1,5 +1,5 @@
 -- Worked examples of what a reader keeps, returns and shows, between two pieces of a capture.
-use Rattle.std.proofs.Common.{inl, ℕ, ◌≡◌, ◌≤◌, List, [], ◌∷◌, ◌++◌, length, take, Some, None, Ok, Err, refl, ap}
+use Rattle.std.proofs.Common.{inl, inr, ℕ, ◌≡◌, ◌≤◌, List, [], ◌∷◌, ◌++◌, length, take, Some, None, Ok, Err, refl, ap}
 use Rattle.std.proofs.Common.{sym, subst₂, ◌∙◌, append-nil, subst, arith}
 use Rattle.pcap_frames.specs.declared.fault.FaultKind.TheVariants.{NotCapture, CutFrame}
 use Rattle.pcap_frames.specs.declared.fault.FeedFault.TheVariants.{Refused, OutOfMemory}
@@ -12,18 +12,19 @@ use Rattle.pcap_frames.specs.Frame.{FrameValue}
 use Rattle.pcap_frames.specs.Header.{order_of_magic, header_fault, header_fault_at}
 use Rattle.pcap_frames.specs.Frame.{frame_at, bytes_needed, frame_fault}
 use Rattle.pcap_frames.specs.FrameReader.{FramePlace, ReaderState, InHeader, InFrames, AtFault, LacksMemory}
-use Rattle.pcap_frames.specs.FrameReader.{IsInHeader, IsBehind, Represents, Completes}
+use Rattle.pcap_frames.specs.FrameReader.{IsInHeader, IsBehind, Represents}
 use Rattle.pcap_frames.specs.FrameReader.{frame_reader_stop}
 use Rattle.pcap_frames.specs.Front.{FrontValue}
 use Rattle.pcap_frames.specs.Part.{place_of_part, state_of_part, IsPartWithin}
 use Rattle.pcap_frames.specs.Part.{IsPartInStage}
 use Rattle.pcap_frames.specs.Reader.{frames_held, SplitsFrame}
-use Rattle.pcap_frames.specs.CaptureFormat.{classic}
+use Rattle.pcap_frames.specs.CaptureFormat.{classic, Completes}
 use Rattle.pcap_frames.specs.Visitor.{VisitorSees, RepresentSame}
 use Rattle.pcap_frames.specs.Feeding.{HasStopped, IsResultAfter, IfHadMemory, Advances, FeedsReader, ShowsBeginning}
 use Rattle.pcap_frames.specs.Feeding.{StepTakes, StepShowsFront}
 use Rattle.pcap_frames.specs.Feeding.{IsResultOf, IsFinalResult}
 use Rattle.pcap_frames.proofs.CaptureFileLemmas.{classic_captures_are_decided}
+use Rattle.pcap_frames.proofs.CompletedFrontLemmas.{completed_front_is_one}
 use Rattle.pcap_frames.proofs.Examples.{header, frame_bytes, frame, capture, cut_file, header_and_more}
 use Rattle.pcap_frames.proofs.Examples.{header_a_frame_and_a_rest, whole_frame, frame_of_three_bytes}
 use Rattle.pcap_frames.proofs.Examples.{header_and_frame, compressed_header, fault_of_a_cut_file}
@@ -101,13 +102,13 @@ reader_behind_the_header = record {
 pub reader_represents_the_cut_file : Represents (InFrames at) cut_file []
 reader_represents_the_cut_file = reader_behind_the_header
 
-pub cut_file_completes_no_frame : Completes cut_file []
-cut_file_completes_no_frame = (InFrames at, reader_represents_the_cut_file)
+pub cut_file_completes_no_frame : Completes classic cut_file []
+cut_file_completes_no_frame = inr (header_fault_at CutFrame 24, fault_of_a_cut_file)
 
-pub cut_file_completes_not_its_frame : Completes cut_file (frame ∷ []) → ⊥
+pub cut_file_completes_not_its_frame : Completes classic cut_file (frame ∷ []) → ⊥
 cut_file_completes_not_its_frame completes =
     absurd (let same : frame ∷ []
-    ≡ [] = classic_captures_are_decided.one cut_file [] (frame ∷ []) cut_file_completes_no_frame completes in cc)
+    ≡ [] = completed_front_is_one classic classic_captures_are_decided cut_file [] (frame ∷ []) cut_file_completes_no_frame completes in cc)
 
 pub reader_in_a_frame_goes_on : HasStopped (frame_reader_stop (InFrames at)) → ⊥
 reader_in_a_frame_goes_on stopped = stopped
@@ -176,8 +177,8 @@ reader_behind_the_frame = record {
   came_is = refl;
 }
 
-pub capture_completes_the_frame : Completes capture (frame ∷ [])
-capture_completes_the_frame = (InFrames behind_frame, reader_behind_the_frame)
+pub capture_completes_the_frame : Completes classic capture (frame ∷ [])
+capture_completes_the_frame = inl header_and_frame
 
 -- a reader in the header knows all its bytes
 in_header_advances : (new : ReaderState) (kept bytes : List ℕ) (given : List FrameValue)

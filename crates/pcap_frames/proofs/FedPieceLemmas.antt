@@ -5,11 +5,12 @@ use Rattle.std.proofs.lemmas.List.{append_cancel_left}
 use Rattle.pcap_frames.specs.declared.fault.FeedFault.{FeedFault}
 use Rattle.pcap_frames.specs.declared.fault.FeedFault.TheVariants.{Refused, OutOfMemory}
 use Rattle.pcap_frames.specs.Frame.{FrameValue, AreFrames}
-use Rattle.pcap_frames.specs.CaptureFormat.{Format}
+use Rattle.pcap_frames.specs.CaptureFormat.{Format, Completes}
 use Rattle.pcap_frames.specs.Decided.{IsDecided}
 use Rattle.pcap_frames.specs.Visitor.{VisitorSees, RepresentSame}
 use Rattle.pcap_frames.specs.Feeding.{Advances, FeedsReader, ShowsBeginning, IfHadMemory, IsResultOf}
 use Rattle.pcap_frames.specs.Feeding.{ReadsFormat, StepShowsFront}
+use Rattle.pcap_frames.proofs.CompletedFrontLemmas.{completed_front_is_one}
 
 -- frames and more frames
 pub AreFrames-of_fed_pieces : (frames more : List FrameValue) → AreFrames frames → AreFrames more → AreFrames (frames ++ more)
@@ -120,7 +121,7 @@ module _ {R V : Type 0} (format : Format) (stands : R → List ℕ → List Fram
             ap (λ l. bytes ++ l) fed.joined ∙ sym (append_assoc bytes fed.done rest) in
             let here = reads.completes now (bytes ++ fed.done) (frames ++ before.given) (step.reads bytes frames is) in
             let found = decided.longer (bytes ++ fed.done) rest (frames ++ before.given) (frames ++ more) here
-            (subst (λ l. format.completes l (frames ++ more)) whole completes) in (
+            (subst (λ l. Completes format l (frames ++ more)) whole completes) in (
               found.0,
               append_cancel_left frames more _ (found.1 ∙ append_assoc frames before.given found.0),
             );
@@ -189,7 +190,7 @@ module _ {R V : Type 0} (format : Format) (stands : R → List ℕ → List Fram
         begins = λ before frames more is completes.
             let here = reads.completes new (before ++ piece) (frames ++ feeds.given) (fed.reads before frames is) in
             let same : frames ++ more ≡ frames ++ feeds.given =
-            decided.one (before ++ piece) (frames ++ feeds.given) (frames ++ more) here completes in
+            completed_front_is_one format decided (before ++ piece) (frames ++ feeds.given) (frames ++ more) here completes in
             ([], append_cancel_left frames more feeds.given same ∙ sym (append-nil feeds.given));
       }
 

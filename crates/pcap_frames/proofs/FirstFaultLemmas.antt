@@ -15,7 +15,7 @@ use Rattle.pcap_frames.specs.Capture.{SplitsCapture, IsCapture}
 use Rattle.pcap_frames.specs.CaptureFormat.{classic, HasFault}
 use Rattle.pcap_frames.specs.CaptureFault.{ShowsFault, HasFaultAfter}
 use Rattle.pcap_frames.specs.FrameReader.{FramePlace, ReaderState, InHeader, InFrames, AtFault, LacksMemory}
-use Rattle.pcap_frames.specs.FrameReader.{IsInHeader, IsBehind, Represents, Completes, frame_reader_stop}
+use Rattle.pcap_frames.specs.FrameReader.{IsInHeader, IsBehind, Represents, frame_reader_stop}
 use Rattle.pcap_frames.proofs.FileHeaderLemmas.{file_header_shows_no_fault, file_header_is_whole}
 use Rattle.pcap_frames.proofs.FileHeaderLemmas.{IsHeader-in_longer_file}
 use Rattle.pcap_frames.proofs.BeginsFrameLemmas.{bytes_needed-where_frame_begins}
@@ -86,20 +86,6 @@ shown_reaches_first_fault bytes frames fault (inr shows) =
       splits = shows.splits;
       is_last = no_frame_behind_first_fault shows.order (length frames) _ shows.rest fault shows.shown;
     })
-
-pub reader_reaches_first_fault : (state : ReaderState) (bytes : List ℕ) (frames : List FrameValue)
-    → Represents state bytes frames → ReachesFirstFault bytes frames
-reader_reaches_first_fault (InHeader kept) bytes frames stands =
-    inl (record { none = λ order header. omega (arith, stands.short, header.whole); no_frame = stands.no_frame })
-reader_reaches_first_fault (InFrames at) bytes frames stands =
-    inr (record {
-      order = at.order;
-      rest = stands.rest;
-      splits = stands.splits;
-      is_last = inl (cut_frame_is_first_fault at.order stands.rest stands.cut);
-    })
-reader_reaches_first_fault (AtFault fault) bytes frames stands = shown_reaches_first_fault bytes frames fault stands
-reader_reaches_first_fault LacksMemory bytes frames stands = absurd stands
 
 -- two whole headers of one file have one order
 one_order_to_first_fault : (bytes : List ℕ) (order other : FileOrder) → IsHeader order bytes → IsHeader other bytes → other ≡ order
@@ -339,13 +325,13 @@ no_first_fault_means_cut order count place rest none (inr (inr full)) = elim (ca
   | inr empty ↦ omega (arith, frame_that_begins_needs_header order rest)
 ]
 
--- every front of a file completes some frames
-pub fronts_complete_to_first_fault : (bytes : List ℕ) → (frames : List FrameValue) × Completes bytes frames
+-- some reader represents every front of a file
+pub fronts_complete_to_first_fault : (bytes : List ℕ) → (frames : List FrameValue) × ((state : ReaderState) × Represents state bytes frames)
 fronts_complete_to_first_fault bytes = by_header (header_fault bytes) refl where
   behind : (order : FileOrder) → IsHeader order bytes
       → (front : FrontToFirstFault order 16777216 (drop 24 bytes)) (found : Option CaptureFault)
       → frame_fault order (length front.frames) (length bytes - length front.rest) front.rest ≡ found
-      → (frames : List FrameValue) × Completes bytes frames
+      → (frames : List FrameValue) × ((state : ReaderState) × Represents state bytes frames)
   behind order header front (Some fault) is = (
     front.frames,
     (
@@ -383,7 +369,7 @@ fronts_complete_to_first_fault bytes = by_header (header_fault bytes) refl where
       )
 
   by_header : (found : Option CaptureFault) → header_fault bytes ≡ found
-      → (frames : List FrameValue) × Completes bytes frames
+      → (frames : List FrameValue) × ((state : ReaderState) × Represents state bytes frames)
   by_header (Some fault) is = ([], (AtFault fault, inl (record { shown = is; none_before = refl })))
   by_header None is = elim (cases_lt (length bytes) 24) [
     | inl short ↦ ([], (InHeader bytes, record { kept_is = refl; short = short; none_shown = is; no_frame = refl }))

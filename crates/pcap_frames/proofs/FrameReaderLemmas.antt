@@ -12,7 +12,7 @@ use Rattle.pcap_frames.specs.FrameReader.{frame_reader_stop, frame_reader_extent
 use Rattle.pcap_frames.specs.Feeding.{ReadsFormat, fed_limit}
 use Rattle.pcap_frames.proofs.BeginsFrameLemmas.{BeginsWithFrames-length}
 use Rattle.pcap_frames.proofs.FileSplitLemmas.{ShowsFault-longer_split_file}
-use Rattle.pcap_frames.proofs.FirstFaultLemmas.{reader_that_goes_on_shows_no_first_fault}
+use Rattle.pcap_frames.proofs.FirstFaultLemmas.{reader_that_goes_on_shows_no_first_fault, capture_or_first_fault}
 use Rattle.pcap_frames.proofs.ReaderStepLemmas.{bytes_needed-reader_step_bound}
 
 frame_reader_counts : (state : ReaderState) (bytes : List ℕ) (frames : List FrameValue)
@@ -59,7 +59,7 @@ frame_reader_stays LacksMemory bytes more frames fault stands stopped = absurd s
 
 pub frame_reader_reads_format : ReadsFormat classic Represents frame_reader_stop frame_reader_extent
 frame_reader_reads_format = record {
-  completes = λ state bytes frames stands. (state, stands);
+  completes = capture_or_first_fault;
   refused = frame_reader_shows_fault;
   unrefused = reader_that_goes_on_shows_no_first_fault;
   stays = frame_reader_stays;

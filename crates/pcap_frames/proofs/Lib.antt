@@ -5,6 +5,7 @@ pub mod FileSplitLemmas
 pub mod ReaderStepLemmas
 pub mod FirstFaultLemmas
 pub mod FrameHeadLemmas
+pub mod CompletedFrontLemmas
 pub mod FedPieceLemmas
 pub mod FrameReaderLemmas
 pub mod CaptureFileLemmas

@@ -1,7 +1,7 @@
 -- A source that is read piece by piece, after some first bytes, with a reader of any format.
 use Rattle.std.proofs.Common.{ℕ, ◌≡◌, ◌-◌, ◌<◌, List, [], ◌++◌, length, Option, None, Some}
 use Rattle.std.proofs.Common.{IfSome, Ok, Err, sym, ap, ◌∙◌, arith, length-append, subst, refl}
-use Rattle.std.proofs.Common.{append-nil, append_assoc}
+use Rattle.std.proofs.Common.{append-nil, append_assoc, inl, inr}
 use Rattle.std.specs.Io.KnownBytes.{Consumes, Keeps, IsAtEnd}
 use Rattle.std.proofs.KnownBytes.{Consumes-nil, Consumes-trans, Consumes-kept, Consumes-whole}
 use Rattle.pcap_frames.specs.declared.fault.CaptureFault.{CaptureFault}
@@ -9,7 +9,7 @@ use Rattle.pcap_frames.specs.declared.fault.FeedFault.{FeedFault}
 use Rattle.pcap_frames.specs.declared.fault.FeedFault.TheVariants as feed
 use Rattle.pcap_frames.specs.declared.fault.ReadRefusal.TheVariants.{Capture}
 use Rattle.pcap_frames.specs.Frame.{FrameValue, AreFrames}
-use Rattle.pcap_frames.specs.CaptureFormat.{Format}
+use Rattle.pcap_frames.specs.CaptureFormat.{Format, Completes}
 use Rattle.pcap_frames.specs.Decided.{IsDecided}
 use Rattle.pcap_frames.specs.Visitor.{VisitorSees}
 use Rattle.pcap_frames.specs.Feeding.{ReadsFormat, IsResultAfter, IfHadMemory, FeedsReader, ShowsBeginning, IsFinalResult, fed_limit}
@@ -17,6 +17,7 @@ use Rattle.pcap_frames.specs.Reading.{refusal_of, ShowsCapture, ShowsBeforeFault
 use Rattle.pcap_frames.specs.Reading.{ShowsPart, IsSeen, IsReadingOf}
 use Rattle.pcap_frames.proofs.FedPieceLemmas.{AreFrames-of_fed_pieces, VisitorSees-no_fed_piece}
 use Rattle.pcap_frames.proofs.FedPieceLemmas.{VisitorSees-two_fed_pieces}
+use Rattle.pcap_frames.proofs.CompletedFrontLemmas.{completed_front}
 
 -- a reader that returns Ok goes on
 source_read_answer_goes_on : {T : Type 0} (stop : Option FeedFault) (x : T) → IsResultAfter stop (Ok x) → stop ≡ None
@@ -141,18 +142,18 @@ module _ {R V : Type 0} (format : Format) (first : List ℕ) (stands : R → Lis
           → HasReadPiece seen mid left now old piece → ShowsBeginning format stands represents mid saw old piece
           → ShowsPart format first represents seen saw left now
       source_read_is_cut_short seen mid saw left now old piece read cut =
-          let fed = decided.some (read.fed ++ piece) in
+          let fed = completed_front format decided (read.fed ++ piece) in
           let more = decided.longer read.fed piece read.frames fed.0 (reads.completes old read.fed read.frames read.is) fed.1 in
           let given =
           cut.begins read.fed read.frames more.0 read.is
-          (subst (format.completes (read.fed ++ piece)) more.1 fed.1) in
+          (subst (Completes format (read.fed ++ piece)) more.1 fed.1) in
           let joined : fed.0 ≡ (read.frames ++ cut.given) ++ given.0 = more.1 ∙ ap (λ l. read.frames ++ l) given.1
           ∙ sym (append_assoc read.frames cut.given given.0) in record {
             front = read.front;
             all = fed.0;
             frames = read.frames ++ cut.given;
             consumed = read.consumed;
-            completes = subst (λ l. format.completes l fed.0) read.joined fed.1;
+            completes = subst (λ l. Completes format l fed.0) read.joined fed.1;
             begins = (given.0, joined);
             are_frames = AreFrames-of_fed_pieces read.frames cut.given read.are_frames cut.are_frames;
             sees = VisitorSees-two_fed_pieces represents seen mid saw read.frames cut.given read.sees cut.sees;
@@ -182,7 +183,7 @@ module _ {R V : Type 0} (format : Format) (first : List ℕ) (stands : R → Lis
               frames = read.frames ++ feeds.given;
               consumed = read.consumed;
               fault_of_front = of_front;
-              limit = decided.limited (first ++ read.front) _ (decided.before_fault (first ++ read.front) _ fault of_front);
+              limit = decided.limited (first ++ read.front) _ (inr (fault, of_front));
               are_frames = AreFrames-of_fed_pieces read.frames feeds.given read.are_frames feeds.are_frames;
               sees = VisitorSees-two_fed_pieces represents seen mid saw read.frames feeds.given read.sees feeds.sees;
               fault_of_file = source_read_consumed_front left now read.front _ read.consumed of_file;
@@ -217,8 +218,7 @@ module _ {R V : Type 0} (format : Format) (first : List ℕ) (stands : R → Lis
           let whole : Consumes left after read.front =
           subst (Consumes left after) (append-nil read.front)
           (Consumes-trans left now after read.front [] read.consumed consumed) in
-          let limit = decided.limited (first ++ read.front) read.frames
-          (decided.of_capture (first ++ read.front) read.frames answer.0) in (
+          let limit = decided.limited (first ++ read.front) read.frames (inl answer.0) in (
             record {
               front = read.front;
               frames = read.frames;
@@ -252,8 +252,7 @@ module _ {R V : Type 0} (format : Format) (first : List ℕ) (stands : R → Lis
               frames = read.frames;
               consumed = whole;
               fault_of_front = of_front;
-              limit = decided.limited (first ++ read.front) read.frames
-                  (decided.before_fault (first ++ read.front) read.frames fault of_front);
+              limit = decided.limited (first ++ read.front) read.frames (inr (fault, of_front));
               are_frames = read.are_frames;
               sees = read.sees;
               fault_of_file = Consumes-whole left after read.front

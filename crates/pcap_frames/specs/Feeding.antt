@@ -5,7 +5,7 @@ use Rattle.pcap_frames.specs.declared.fault.FeedFault.{FeedFault}
 use Rattle.pcap_frames.specs.declared.fault.FeedFault.TheVariants.{Refused, OutOfMemory}
 use Rattle.pcap_frames.specs.declared.fault.CaptureFault.{CaptureFault}
 use Rattle.pcap_frames.specs.Frame.{FrameValue, AreFrames}
-use Rattle.pcap_frames.specs.CaptureFormat.{Format}
+use Rattle.pcap_frames.specs.CaptureFormat.{Format, Completes}
 use Rattle.pcap_frames.specs.Visitor.{VisitorSees}
 
 -- a reader stops for this reason
@@ -33,7 +33,7 @@ fed_limit = 2 ^ 57
 pub record ReadsFormat {R : Type 0} (format : Format) (represents : R → List ℕ → List FrameValue → Type 0)
     (stop : R → Option FeedFault) (extent : R → ℕ) : Type 0 where
   pub completes : (reader : R) (bytes : List ℕ) (frames : List FrameValue) → represents reader bytes frames
-      → format.completes bytes frames
+      → Completes format bytes frames
   pub refused : (reader : R) (bytes : List ℕ) (frames : List FrameValue) (fault : CaptureFault)
       → represents reader bytes frames → stop reader ≡ Some (Refused fault) → format.shows_fault bytes frames fault
   pub unrefused : (reader : R) (bytes : List ℕ) (frames others : List FrameValue) (fault : CaptureFault)
@@ -66,7 +66,7 @@ pub record ShowsBeginning {R V : Type 0} (format : Format) (stands : R → List 
   pub are_frames : AreFrames given
   pub sees : VisitorSees represents seen saw given
   pub begins : (before : List ℕ) (frames more : List FrameValue) → stands old before frames
-      → format.completes (before ++ bytes) (frames ++ more) → IsBeginning given more
+      → Completes format (before ++ bytes) (frames ++ more) → IsBeginning given more
 
 -- what feeding returns for bytes: they are refused exactly where they show a fault, unless memory ran out
 abbrev pub IsResultOf : {T : Type 0} → Format → List ℕ → Result T FeedFault → Type 0

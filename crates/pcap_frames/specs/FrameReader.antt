@@ -52,10 +52,6 @@ Represents (InFrames at) bytes frames = IsBehind at bytes frames
 Represents (AtFault fault) bytes frames = ShowsFault bytes frames fault
 Represents LacksMemory bytes frames = ⊥
 
--- the bytes at the front of a file contain exactly these whole frames
-abbrev pub Completes : List ℕ → List FrameValue → Type 0
-Completes bytes frames = (state : ReaderState) × Represents state bytes frames
-
 -- why a reader in this state takes no more bytes, if it has stopped
 abbrev pub frame_reader_stop : ReaderState → Option FeedFault
 frame_reader_stop (InHeader kept) = None

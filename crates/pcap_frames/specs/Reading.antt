@@ -9,7 +9,7 @@ use Rattle.pcap_frames.specs.declared.fault.ReadRefusal.TheVariants.{Capture, Re
 use Rattle.pcap_frames.specs.declared.fault.CaptureFault.{CaptureFault}
 use Rattle.pcap_frames.specs.Frame.{FrameValue, AreFrames, frame_count_limit}
 use Rattle.pcap_frames.specs.CaptureFault.{IsEndFault}
-use Rattle.pcap_frames.specs.CaptureFormat.{Format, HasFault}
+use Rattle.pcap_frames.specs.CaptureFormat.{Format, HasFault, Completes}
 use Rattle.pcap_frames.specs.Visitor.{VisitorSees}
 
 -- the fault of a reader as the refusal of reading a source
@@ -53,7 +53,7 @@ pub record ShowsFront {V : Type 0} (format : Format) (first : List ℕ) (represe
   pub front : List ℕ
   pub frames : List FrameValue
   pub consumed : Consumes left now front
-  pub completes : format.completes (first ++ front) frames
+  pub completes : Completes format (first ++ front) frames
   pub are_frames : AreFrames frames
   pub sees : VisitorSees represents seen saw frames
 
@@ -64,7 +64,7 @@ pub record ShowsPart {V : Type 0} (format : Format) (first : List ℕ) (represen
   pub all : List FrameValue
   pub frames : List FrameValue
   pub consumed : Consumes left now front
-  pub completes : format.completes (first ++ front) all
+  pub completes : Completes format (first ++ front) all
   pub begins : IsBeginning frames all
   pub are_frames : AreFrames frames
   pub sees : VisitorSees represents seen saw frames

@@ -2,11 +2,12 @@
 use Rattle.std.proofs.Common.{ℕ, zero, suc, ◌≡◌, ◌+◌, ◌≤◌, List, [], ◌∷◌, ◌++◌, length, drop, refl, sym, ap, ◌∙◌, arith}
 use Rattle.std.proofs.Common.{length-drop, subst, inl, inr, append-nil, append_assoc}
 use Rattle.std.proofs.lemmas.List.{drop-append-le}
+use Rattle.pcap_frames.specs.{FrameValue}
 use Rattle.pcapng_frames.specs.declared.verdict.Verdict.TheVariants.{IsWhole}
 use Rattle.pcapng_frames.specs.Block.{BlockValue, block_kind, block_at, block_length}
-use Rattle.pcapng_frames.specs.Section.{SectionPlace, after_block, after_blocks, frames_of_blocks, frames_of_content}
+use Rattle.pcapng_frames.specs.Section.{SectionPlace, before_blocks, after_block, after_blocks, frames_of_blocks, frames_of_content}
 use Rattle.pcapng_frames.specs.Verdict.{block_verdict}
-use Rattle.pcapng_frames.specs.NgCapture.{BeginsWithBlock, BeginsWithBlocks}
+use Rattle.pcapng_frames.specs.NgCapture.{BeginsWithBlock, BeginsWithBlocks, SplitsBlocks}
 use Rattle.pcapng_frames.proofs.VerdictLemmas.{verdict_stays, verdict_fits, verdict_waits_or_is_whole, verdict_is_wrong_or_whole, verdict_is_one}
 use Rattle.pcapng_frames.proofs.WholeBlockLemmas.{whole_block_is_long, block_at-of_longer_whole_block}
 
@@ -145,6 +146,13 @@ pub record LastBlockSplit (at : SectionPlace) (bytes : List ℕ) : Type 0 where
   pub rest : List ℕ
   pub begins : BeginsWithBlocks at bytes blocks rest
   pub no_more : block_verdict (after_blocks at blocks) rest ≡ IsWhole → ⊥
+
+-- the same from the first block of a file on, with the frames of the blocks
+pub record SplitsAllBlocks (bytes : List ℕ) (frames : List FrameValue) : Type 0 where
+  pub blocks : List BlockValue
+  pub rest : List ℕ
+  pub splits : SplitsBlocks bytes blocks rest frames
+  pub no_more : block_verdict (after_blocks before_blocks blocks) rest ≡ IsWhole → ⊥
 
 no_block_split : (at : SectionPlace) (bytes : List ℕ) → (block_verdict at bytes ≡ IsWhole → ⊥) → LastBlockSplit at bytes
 no_block_split at bytes none = record { blocks = []; rest = bytes; begins = refl; no_more = none }

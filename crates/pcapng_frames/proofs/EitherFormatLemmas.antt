@@ -2,7 +2,7 @@
 use Rattle.std.proofs.Common.{ℕ, ◌≡◌, ◌≤◌, Bool, true, false, List, ◌++◌, length, refl, sym, subst, inl, inr}
 use Rattle.std.proofs.lemmas.Bool.{cases_lt}
 use Rattle.outside_io.specs.{IsBeginning}
-use Rattle.pcap_frames.specs.{FrameValue, Format, IsDecided, classic}
+use Rattle.pcap_frames.specs.{FrameValue, Format, IsDecided, Completes, classic}
 use Rattle.pcap_frames.specs.declared.fault.CaptureFault.{CaptureFault}
 use Rattle.pcap_frames.specs.declared.file_order.FileOrder.TheVariants.{Big}
 use Rattle.pcapng_frames.specs.NgCapture.{pcapng}
@@ -23,7 +23,7 @@ module _ (ng : IsDecided pcapng) (other : IsDecided classic) where
   either_format_of file = either_format_by_beginning (begins_as_pcapng file)
 
   either_format_completes_more : (front more : List ℕ) (frames others : List FrameValue)
-      → Format.completes capture_format front frames → Format.completes capture_format (front ++ more) others
+      → Completes capture_format front frames → Completes capture_format (front ++ more) others
       → IsBeginning frames others
   either_format_completes_more front more frames others here there =
       let laws = either_format_of front in
@@ -31,7 +31,7 @@ module _ (ng : IsDecided pcapng) (other : IsDecided classic) where
         | inl short ↦ (others, rw (laws.no_frame_first front frames short here) refl)
         | inr four ↦
             laws.longer front more frames others here
-            (subst (λ begins. Format.completes (format_by_beginning begins) (front ++ more) others)
+            (subst (λ begins. Completes (format_by_beginning begins) (front ++ more) others)
             (either_format_stays front more four) there)
       ]
 
@@ -53,11 +53,7 @@ module _ (ng : IsDecided pcapng) (other : IsDecided classic) where
     one_list = λ file. IsDecided.one_list (either_format_of file) file;
     one_fault = λ file. IsDecided.one_fault (either_format_of file) file;
     one_before = λ file. IsDecided.one_before (either_format_of file) file;
-    some = λ front. IsDecided.some (either_format_of front) front;
-    one = λ front. IsDecided.one (either_format_of front) front;
     longer = either_format_completes_more;
-    of_capture = λ file. IsDecided.of_capture (either_format_of file) file;
-    before_fault = λ file. IsDecided.before_fault (either_format_of file) file;
     shown = either_format_shows_still;
     no_end_fault = λ front. IsDecided.no_end_fault (either_format_of front) front;
     no_frame_first = λ front. IsDecided.no_frame_first (either_format_of front) front;

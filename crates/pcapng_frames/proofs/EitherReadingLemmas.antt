@@ -8,7 +8,7 @@ use Rattle.pcap_frames.specs.{FrameValue, number_in_order, header_fault, header_
 use Rattle.pcap_frames.specs.declared.fault.FaultKind.TheVariants.{ShortHeader}
 use Rattle.pcap_frames.specs.declared.fault.ReadRefusal.{ReadRefusal}
 use Rattle.pcap_frames.specs.declared.fault.ReadRefusal.TheVariants.{Capture, ReadFault, OutOfMemory}
-use Rattle.pcap_frames.specs.{Format, IsDecided, HasFault, IsSeen, IsReadingOf}
+use Rattle.pcap_frames.specs.{Format, IsDecided, HasFault, Completes, IsSeen, IsReadingOf}
 use Rattle.pcapng_frames.specs.EitherFormat.{begins_as_pcapng, format_by_beginning, capture_format}
 use Rattle.pcapng_frames.specs.FirstBytes.{ReadsFewer}
 use Rattle.pcapng_frames.proofs.EitherFormatLemmas.{either_format_stays}
@@ -68,7 +68,7 @@ module _ (begins : Bool) (first : List ℕ) (four : 4 ≤ length first) (is : be
     front = first ++ shows.front;
     frames = shows.frames;
     consumed = Consumes-trans left now after first shows.front consumed shows.consumed;
-    completes = either_reading_says (λ format file. format.completes file shows.frames) shows.front shows.completes;
+    completes = either_reading_says (λ format file. Completes format file shows.frames) shows.front shows.completes;
     are_frames = shows.are_frames;
     sees = shows.sees;
   }
@@ -77,7 +77,7 @@ module _ (begins : Bool) (first : List ℕ) (four : 4 ≤ length first) (is : be
     all = shows.all;
     frames = shows.frames;
     consumed = Consumes-trans left now after first shows.front consumed shows.consumed;
-    completes = either_reading_says (λ format file. format.completes file shows.all) shows.front shows.completes;
+    completes = either_reading_says (λ format file. Completes format file shows.all) shows.front shows.completes;
     begins = shows.begins;
     are_frames = shows.are_frames;
     sees = shows.sees;
@@ -147,19 +147,16 @@ module _ {V : Type 0} (represents : V → List FrameValue → Type 0) (visitor :
       }
 
   -- a call of the source failed before four bytes
-  pub either_reading_fails_first : (left now : Option (List ℕ)) → IsDecided capture_format → ReadsFewer 4 left now
+  pub either_reading_fails_first : (left now : Option (List ℕ)) → ReadsFewer 4 left now
       → IsSeen capture_format [] represents visitor visitor left now (Err ReadFault)
-  either_reading_fails_first left now laws reads =
-      let completes = laws.some reads.read in record {
-        front = reads.read;
-        frames = [];
-        consumed = reads.consumed;
-        completes =
-            subst (Format.completes capture_format reads.read) (laws.no_frame_first reads.read completes.0 reads.few completes.1)
-            completes.1;
-        are_frames = tt;
-        sees = either_reading_shows_none;
-      }
+  either_reading_fails_first left now reads = record {
+    front = reads.read;
+    frames = [];
+    consumed = reads.consumed;
+    completes = inr (header_fault_at ShortHeader (length reads.read), either_reading_is_short reads.read reads.few);
+    are_frames = tt;
+    sees = either_reading_shows_none;
+  }
 
 pub either_reading_refuses_first : (left now : Option (List ℕ)) (bytes : List ℕ) (place : ℕ) → IsDecided capture_format
     → Consumes left now bytes → length bytes ≡ place → place < 4 → IsAtEnd now

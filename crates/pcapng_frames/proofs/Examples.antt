@@ -11,7 +11,7 @@ use Rattle.pcapng_frames.specs.Block.{block_count_limit, packet_data_place, pack
 use Rattle.pcapng_frames.specs.Block.{Section, Interface, Packet, BlockValue, block_at}
 use Rattle.pcapng_frames.specs.Section.{SectionPlace, before_blocks, after_block, after_blocks, frames_of_blocks}
 use Rattle.pcapng_frames.specs.Verdict.{tested, verdict_of, block_verdict}
-use Rattle.pcapng_frames.specs.NgCapture.{BeginsWithBlock, BeginsWithBlocks, SplitsBlocks, IsNgCapture, CompletesBlocks, ShowsNgFault, EndsInBlock}
+use Rattle.pcapng_frames.specs.NgCapture.{BeginsWithBlock, BeginsWithBlocks, SplitsBlocks, IsNgCapture, ShowsNgFault, EndsInBlock}
 use Rattle.pcap_frames.specs.{HasFault}
 use Rattle.pcapng_frames.specs.NgCapture.{HasNgFaultAfter, pcapng}
 use Rattle.pcapng_frames.proofs.BlockSplitLemmas.{split_block_stays, split_blocks_stay, split_blocks_then}
@@ -310,9 +310,6 @@ shows_other_tail = record {
 pub other_tail : HasNgFaultAfter (header_block ++ (interface_block ++ (take 64 packet_block ++ (72 ∷ 0 ∷ 0 ∷ 0 ∷ [])))) []
     (header_fault_at BadTail 48)
 other_tail = inl shows_other_tail
-
-pub capture_completes_its_frame : CompletesBlocks ng_capture (packet ∷ [])
-capture_completes_its_frame = ng_captures_decided.of_capture ng_capture (packet ∷ []) capture_of_a_packet
 
 pub capture_has_no_fault : (fault : CaptureFault) → HasFault pcapng ng_capture fault → ⊥
 capture_has_no_fault fault = ng_captures_decided.never_both ng_capture (packet ∷ []) fault capture_of_a_packet

@@ -3,7 +3,7 @@ use Rattle.std.proofs.Common.{ℕ, ◌≡◌, ◌≤◌, Bool, List, [], ◌∷�
 use Rattle.std.proofs.lemmas.Bool.{cases_Bool, cases_lt}
 use Rattle.std.proofs.lemmas.List.{nil_from_length}
 use Rattle.outside_io.specs.{IsBeginning}
-use Rattle.pcap_frames.specs.{number_in_order, FrameValue, AreFrames, header_fault_at, IsDecided}
+use Rattle.pcap_frames.specs.{number_in_order, FrameValue, AreFrames, header_fault_at, IsDecided, Completes}
 use Rattle.pcap_frames.specs.declared.fault.CaptureFault.{CaptureFault}
 use Rattle.pcap_frames.specs.declared.fault.FaultKind.TheVariants.{CutBlock}
 use Rattle.pcapng_frames.specs.declared.block.BlockKind.{BlockKind}
@@ -13,19 +13,20 @@ use Rattle.pcap_frames.specs.declared.file_order.FileOrder.{FileOrder}
 use Rattle.pcapng_frames.specs.Block.{BlockValue, block_kind, block_order, block_length, block_content}
 use Rattle.pcapng_frames.specs.Section.{SectionPlace, before_blocks, after_block, after_blocks, frames_of_blocks, frames_of_content, is_ethernet}
 use Rattle.pcapng_frames.specs.Verdict.{block_verdict}
-use Rattle.pcapng_frames.specs.NgCapture.{BeginsWithBlocks, SplitsBlocks, IsNgCapture, CompletesBlocks, ShowsNgFault, EndsInBlock}
+use Rattle.pcapng_frames.specs.NgCapture.{BeginsWithBlocks, SplitsBlocks, IsNgCapture, ShowsNgFault, EndsInBlock}
 use Rattle.pcapng_frames.specs.NgCapture.{HasNgFaultAfter, pcapng}
 use Rattle.pcapng_frames.proofs.VerdictLemmas.{VerdictTells, verdict_stays, verdict_fits, verdict_tells, verdict_on_nothing}
 use Rattle.pcapng_frames.proofs.VerdictLemmas.{verdict_waits_or_is_whole, verdict_is_wrong_or_whole, verdict_is_wrong_or_waits, verdict_is_one_kind}
 use Rattle.pcapng_frames.proofs.VerdictLemmas.{verdict_is_one}
 use Rattle.pcapng_frames.proofs.WholeBlockLemmas.{AreWholeBlockBytes, AreWholeBlockBytes-drop, IsFrame-in_whole_block}
-use Rattle.pcapng_frames.proofs.BlockSplitLemmas.{split_blocks_stay, frames_of_split_blocks, last_block_split_begins, last_block_split_is_one, last_block_split}
+use Rattle.pcapng_frames.proofs.BlockSplitLemmas.{SplitsAllBlocks, split_blocks_stay, frames_of_split_blocks}
+use Rattle.pcapng_frames.proofs.BlockSplitLemmas.{last_block_split_begins, last_block_split_is_one, last_block_split}
 use Rattle.pcapng_frames.proofs.NgLimitLemmas.{blocks_show_no_end_limit, ng_front_begins_without_frame, ng_front_begins_without_fault}
 use Rattle.pcapng_frames.proofs.NgLimitLemmas.{ng_frames_are_limited, ng_fault_place_is_limited}
 
--- ---- what completes the front of a file
+-- ---- all whole blocks at the front of a file
 
-ng_file_has_front : (front : List ℕ) → (frames : List FrameValue) × CompletesBlocks front frames
+ng_file_has_front : (front : List ℕ) → (frames : List FrameValue) × SplitsAllBlocks front frames
 ng_file_has_front front =
     let split = last_block_split before_blocks front in (
       frames_of_blocks before_blocks split.blocks,
@@ -56,15 +57,15 @@ ng_file_splits_once bytes blocks others rest last frames more here there ends en
       frames_are = there.frames_are ∙ ap (frames_of_blocks before_blocks) one.0 ∙ sym here.frames_are;
     }
 
-ng_file_front_is_one : (front : List ℕ) (frames others : List FrameValue) → CompletesBlocks front frames
-    → CompletesBlocks front others → others ≡ frames
+ng_file_front_is_one : (front : List ℕ) (frames others : List FrameValue) → SplitsAllBlocks front frames
+    → SplitsAllBlocks front others → others ≡ frames
 ng_file_front_is_one front frames others here there =
     let one = ng_file_splits_once front here.blocks there.blocks here.rest there.rest frames others here.splits there.splits
     here.no_more there.no_more in
     one.frames_are
 
-pub ng_file_front_begins : (front more : List ℕ) (frames others : List FrameValue) → CompletesBlocks front frames
-    → CompletesBlocks (front ++ more) others → IsBeginning frames others
+ng_file_front_begins : (front more : List ℕ) (frames others : List FrameValue) → SplitsAllBlocks front frames
+    → SplitsAllBlocks (front ++ more) others → IsBeginning frames others
 ng_file_front_begins front more frames others here there =
     let found = last_block_split_begins before_blocks front more here.blocks there.blocks here.rest there.rest
     here.splits.begins there.splits.begins there.no_more in
@@ -78,7 +79,7 @@ ng_file_front_begins front more frames others here there =
 
 -- ---- captures and faults are of files that no block can follow
 
-ng_file_of_capture : (file : List ℕ) (frames : List FrameValue) → IsNgCapture file frames → CompletesBlocks file frames
+ng_file_of_capture : (file : List ℕ) (frames : List FrameValue) → IsNgCapture file frames → SplitsAllBlocks file frames
 ng_file_of_capture file frames is = record {
   blocks = is.blocks;
   rest = [];
@@ -86,8 +87,8 @@ ng_file_of_capture file frames is = record {
   no_more = verdict_waits_or_is_whole _ (verdict_on_nothing (after_blocks before_blocks is.blocks) _);
 }
 
-pub ng_file_of_shown_fault : (file : List ℕ) (frames : List FrameValue) (fault : CaptureFault) → ShowsNgFault file frames fault
-    → CompletesBlocks file frames
+ng_file_of_shown_fault : (file : List ℕ) (frames : List FrameValue) (fault : CaptureFault) → ShowsNgFault file frames fault
+    → SplitsAllBlocks file frames
 ng_file_of_shown_fault file frames fault shows = record {
   blocks = shows.blocks;
   rest = shows.rest;
@@ -96,7 +97,7 @@ ng_file_of_shown_fault file frames fault shows = record {
 }
 
 ng_file_of_cut_block : (file : List ℕ) (frames : List FrameValue) (fault : CaptureFault) → EndsInBlock file frames fault
-    → CompletesBlocks file frames
+    → SplitsAllBlocks file frames
 ng_file_of_cut_block file frames fault ends = record {
   blocks = ends.blocks;
   rest = ends.rest;
@@ -105,7 +106,7 @@ ng_file_of_cut_block file frames fault ends = record {
 }
 
 ng_file_of_fault : (file : List ℕ) (frames : List FrameValue) (fault : CaptureFault) → HasNgFaultAfter file frames fault
-    → CompletesBlocks file frames
+    → SplitsAllBlocks file frames
 ng_file_of_fault file frames fault (inl shows) = ng_file_of_shown_fault file frames fault shows
 ng_file_of_fault file frames fault (inr ends) = ng_file_of_cut_block file frames fault ends
 
@@ -196,7 +197,7 @@ ng_file_has_one_fault file frames others fault other (inr ends) (inr ends_too) =
 -- ---- either
 
 -- the end of a file whose blocks are known: it is there, or inside a block
-ng_file_ends : (file : List ℕ) (frames : List FrameValue) (blocks : List BlockValue) (rest : List ℕ)
+pub ng_file_ends : (file : List ℕ) (frames : List FrameValue) (blocks : List BlockValue) (rest : List ℕ)
     → SplitsBlocks file blocks rest frames → block_verdict (after_blocks before_blocks blocks) rest ≡ Waits
     → IsNgCapture file frames ⊎ ((fault : CaptureFault) × HasNgFaultAfter file frames fault)
 ng_file_ends file frames [] rest splits waits =
@@ -231,7 +232,7 @@ ng_file_ends file frames (block ∷ blocks) rest splits waits = elim (cases_lt 0
       })
 ]
 
-ng_file_is_decided : (file : List ℕ) (frames : List FrameValue) → CompletesBlocks file frames
+ng_file_is_decided : (file : List ℕ) (frames : List FrameValue) → SplitsAllBlocks file frames
     → IsNgCapture file frames ⊎ ((fault : CaptureFault) × HasNgFaultAfter file frames fault)
 ng_file_is_decided file frames here =
     let at = after_blocks before_blocks here.blocks in
@@ -282,13 +283,18 @@ AreFrames-of_ng_file_blocks at bytes (block ∷ blocks) rest are begins =
     (AreFrames-of_ng_file_blocks (after_block at block) (drop block.size bytes) blocks rest
     (AreWholeBlockBytes-drop block.size bytes are) begins.1)
 
-ng_file_has_valid_frames : (file : List ℕ) (frames : List FrameValue) → AreWholeBlockBytes file → CompletesBlocks file frames
+ng_file_has_valid_frames : (file : List ℕ) (frames : List FrameValue) → AreWholeBlockBytes file → SplitsAllBlocks file frames
     → AreFrames frames
 ng_file_has_valid_frames file frames are here =
     subst AreFrames (sym here.splits.frames_are)
     (AreFrames-of_ng_file_blocks before_blocks file here.blocks here.rest are here.splits.begins)
 
 -- ---- the laws
+
+-- the frames that a front completes are those of all its whole blocks
+ng_file_is_completed : (front : List ℕ) (frames : List FrameValue) → Completes pcapng front frames → SplitsAllBlocks front frames
+ng_file_is_completed front frames (inl capture) = ng_file_of_capture front frames capture
+ng_file_is_completed front frames (inr fault) = ng_file_of_fault front frames fault.0 fault.1
 
 pub ng_captures_decided : IsDecided pcapng
 ng_captures_decided = record {
@@ -302,16 +308,13 @@ ng_captures_decided = record {
   one_fault = λ file fault other here there. ng_file_has_one_fault file here.0 there.0 fault other here.1 there.1;
   one_before = λ file frames others fault other here there.
       ng_file_front_is_one file frames others (ng_file_of_fault file frames fault here) (ng_file_of_fault file others other there);
-  some = ng_file_has_front;
-  one = ng_file_front_is_one;
-  longer = ng_file_front_begins;
-  of_capture = ng_file_of_capture;
-  before_fault = ng_file_of_fault;
+  longer = λ front more frames others here there.
+      ng_file_front_begins front more frames others (ng_file_is_completed front frames here) (ng_file_is_completed (front ++ more) others there);
   shown = λ front more frames fault shows. inl (ng_file_shows_still front more frames fault shows);
   no_end_fault = blocks_show_no_end_limit;
-  no_frame_first = ng_front_begins_without_frame;
+  no_frame_first = λ front frames short here. ng_front_begins_without_frame front frames short (ng_file_is_completed front frames here);
   no_fault_first = ng_front_begins_without_fault;
-  limited = ng_frames_are_limited;
+  limited = λ front frames here. ng_frames_are_limited front frames (ng_file_is_completed front frames here);
   place = ng_fault_place_is_limited;
-  are_frames = ng_file_has_valid_frames;
+  are_frames = λ front frames are here. ng_file_has_valid_frames front frames are (ng_file_is_completed front frames here);
 }

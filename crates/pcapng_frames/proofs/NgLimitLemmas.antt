@@ -15,11 +15,11 @@ use Rattle.pcapng_frames.specs.declared.verdict.Verdict.TheVariants.{Waits, IsWr
 use Rattle.pcapng_frames.specs.Block.{BlockContent, Section, Interface, Packet, Nothing, BlockValue, block_kind, block_order, block_length, order_of_section}
 use Rattle.pcapng_frames.specs.Section.{SectionPlace, before_blocks, after_block, after_blocks, frames_of_blocks, frames_of_content, is_ethernet}
 use Rattle.pcapng_frames.specs.Verdict.{tested, length_tested, tail_tested, kind_verdict, is_no_section, verdict_of, block_verdict}
-use Rattle.pcapng_frames.specs.NgCapture.{BeginsWithBlocks, CompletesBlocks, ShowsNgFault, HasNgFaultAfter}
+use Rattle.pcapng_frames.specs.NgCapture.{BeginsWithBlocks, ShowsNgFault, HasNgFaultAfter}
 use Rattle.pcapng_frames.specs.NgPart.{block_needs}
 use Rattle.pcapng_frames.proofs.BlockNumberLemmas.{number_in_order-of_four_block_bytes}
 use Rattle.pcapng_frames.proofs.KeptVerdictLemmas.{kept_verdict_has_room, kept_verdict_needs_more}
-use Rattle.pcapng_frames.proofs.BlockSplitLemmas.{split_block_fits, split_blocks_count, split_blocks_place}
+use Rattle.pcapng_frames.proofs.BlockSplitLemmas.{SplitsAllBlocks, split_block_fits, split_blocks_count, split_blocks_place}
 
 -- ---- a fault that is shown is not one of the end of a file
 
@@ -115,7 +115,7 @@ limit_of_block_frames at (block ∷ blocks) =
       length-append (frames_of_content at.interfaces block.content) (frames_of_blocks (after_block at block) blocks),
     )
 
-pub ng_frames_are_limited : (front : List ℕ) (frames : List FrameValue) → CompletesBlocks front frames → length frames ≤ frame_count_limit
+pub ng_frames_are_limited : (front : List ℕ) (frames : List FrameValue) → SplitsAllBlocks front frames → length frames ≤ frame_count_limit
 ng_frames_are_limited front frames here =
     omega (
       arith,
@@ -192,7 +192,7 @@ short_limit_waits rest short = elim (cases_lt (length rest) 1) [
   | inr some ↦ rw (le-ltb (length rest) 1 some, lt-ltb (length rest) 4 short) refl
 ]
 
-pub ng_front_begins_without_frame : (front : List ℕ) (frames : List FrameValue) → length front < 4 → CompletesBlocks front frames → frames ≡ []
+pub ng_front_begins_without_frame : (front : List ℕ) (frames : List FrameValue) → length front < 4 → SplitsAllBlocks front frames → frames ≡ []
 ng_front_begins_without_frame front frames short here =
     let none = short_limit_has_no_frame front here.blocks here.rest short here.splits.begins in
     subst (λ (b : List BlockValue). frames ≡ frames_of_blocks before_blocks b) none here.splits.frames_are

@@ -1,6 +1,6 @@
 -- What the reader of the pcapng format represents.
 use Rattle.std.proofs.Common.{ℕ, ◌≡◌, ◌≤◌, ◌<◌, List, [], ◌++◌, length, Some, None, refl, sym, ap, ◌∙◌, arith, subst, ◌⊎◌, inl, inr, append-nil}
-use Rattle.pcap_frames.specs.{FrameValue, StepTakes, ReadsFormat, fed_limit}
+use Rattle.pcap_frames.specs.{FrameValue, StepTakes, ReadsFormat, Completes, fed_limit}
 use Rattle.pcap_frames.specs.declared.fault.CaptureFault.{CaptureFault}
 use Rattle.pcap_frames.specs.declared.fault.FeedFault.{FeedFault}
 use Rattle.pcap_frames.specs.declared.fault.FeedFault.TheVariants.{Refused, OutOfMemory}
@@ -11,13 +11,12 @@ use Rattle.pcapng_frames.specs.declared.verdict.Verdict.TheVariants.{Waits}
 use Rattle.pcapng_frames.specs.Section.{SectionPlace, before_blocks, after_blocks}
 use Rattle.pcapng_frames.specs.Verdict.{block_verdict}
 use Rattle.pcapng_frames.specs.Kept.{KeptValue}
-use Rattle.pcapng_frames.specs.NgCapture.{CompletesBlocks, ShowsNgFault, pcapng}
+use Rattle.pcapng_frames.specs.NgCapture.{ShowsNgFault, pcapng}
 use Rattle.pcapng_frames.specs.NgReader.{BlockPlace, IsInBlock, NgReaderState, InBlocks, AtFault, LacksMemory, NgRepresents}
 use Rattle.pcapng_frames.specs.NgReader.{ng_reader_stop, ng_reader_extent}
 use Rattle.pcapng_frames.specs.NgPart.{state_of_part, IsPartInStage}
-use Rattle.pcapng_frames.proofs.VerdictLemmas.{verdict_waits_or_is_whole}
 use Rattle.pcapng_frames.proofs.BlockSplitLemmas.{split_blocks_place}
-use Rattle.pcapng_frames.proofs.NgFileLemmas.{ng_file_of_shown_fault, ng_file_shows_or_waits, ng_file_shows_still}
+use Rattle.pcapng_frames.proofs.NgFileLemmas.{ng_file_ends, ng_file_shows_or_waits, ng_file_shows_still}
 use Rattle.pcapng_frames.proofs.NgLimitLemmas.{limit_of_waiting_bytes}
 
 -- ---- what each state says of the bytes
@@ -28,14 +27,10 @@ ng_reader_block_waits : (at : BlockPlace) (bytes : List ℕ) (frames : List Fram
 ng_reader_block_waits at bytes frames stands = subst (λ s. block_verdict s stands.rest ≡ Waits) stands.section_is stands.waits
 
 ng_reader_completes : (state : NgReaderState) (bytes : List ℕ) (frames : List FrameValue) → NgRepresents state bytes frames
-    → CompletesBlocks bytes frames
-ng_reader_completes (InBlocks at) bytes frames stands = record {
-  blocks = stands.blocks;
-  rest = stands.rest;
-  splits = stands.splits;
-  no_more = verdict_waits_or_is_whole _ (ng_reader_block_waits at bytes frames stands);
-}
-ng_reader_completes (AtFault fault) bytes frames stands = ng_file_of_shown_fault bytes frames fault stands
+    → Completes pcapng bytes frames
+ng_reader_completes (InBlocks at) bytes frames stands =
+    ng_file_ends bytes frames stands.blocks stands.rest stands.splits (ng_reader_block_waits at bytes frames stands)
+ng_reader_completes (AtFault fault) bytes frames stands = inr (fault, inl stands)
 ng_reader_completes LacksMemory bytes frames stands = absurd stands
 
 ng_reader_shows_fault : (state : NgReaderState) (bytes : List ℕ) (frames : List FrameValue) (fault : CaptureFault)

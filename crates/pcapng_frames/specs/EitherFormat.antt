@@ -17,7 +17,6 @@ format_by_beginning false = classic
 abbrev pub capture_format : Format
 capture_format = record {
   is_capture = λ file frames. Format.is_capture (format_by_beginning (begins_as_pcapng file)) file frames;
-  completes = λ bytes frames. Format.completes (format_by_beginning (begins_as_pcapng bytes)) bytes frames;
   shows_fault = λ bytes frames fault. Format.shows_fault (format_by_beginning (begins_as_pcapng bytes)) bytes frames fault;
   has_fault_after = λ file frames fault. Format.has_fault_after (format_by_beginning (begins_as_pcapng file)) file frames fault;
 }

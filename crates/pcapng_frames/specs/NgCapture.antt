@@ -31,13 +31,6 @@ pub record IsNgCapture (file : List ℕ) (frames : List FrameValue) : Type 0 whe
   pub splits : SplitsBlocks file blocks [] frames
   pub some : 0 < length blocks
 
--- the bytes at the front of a file contain exactly these whole frames: they are blocks and a rest with no further whole block
-pub record CompletesBlocks (bytes : List ℕ) (frames : List FrameValue) : Type 0 where
-  pub blocks : List BlockValue
-  pub rest : List ℕ
-  pub splits : SplitsBlocks bytes blocks rest frames
-  pub no_more : block_verdict (after_blocks before_blocks blocks) rest ≡ IsWhole → ⊥
-
 -- the bytes at the front of a file show this fault, however the file continues, after these frames; its offset is that of the block
 pub record ShowsNgFault (bytes : List ℕ) (frames : List FrameValue) (fault : CaptureFault) : Type 0 where
   pub blocks : List BlockValue
@@ -63,7 +56,6 @@ HasNgFaultAfter file frames fault = ShowsNgFault file frames fault ⊎ EndsInBlo
 abbrev pub pcapng : Format
 pcapng = record {
   is_capture = IsNgCapture;
-  completes = CompletesBlocks;
   shows_fault = ShowsNgFault;
   has_fault_after = HasNgFaultAfter;
 }

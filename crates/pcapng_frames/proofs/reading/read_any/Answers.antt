@@ -13,7 +13,7 @@ returns-in_err-came-clause-seen g c =
     let p = err_from_is_err_and c.from_residual.result c.from_residual.ensures.1 in
     let few = subst (λ n. ReadsFewer n (g.S.Source.left c.args.source.now) (g.S.Source.left c.read_first.new.source))
     c.in_err-came.ensures.room c.in_err-came.ensures.part in
-    rw (p.1, p.2) (either_reading_fails_first g.V.FrameVisitor.represents _ _ _ c.any_captures_are_decided.ensures few)
+    rw (p.1, p.2) (either_reading_fails_first g.V.FrameVisitor.represents _ _ _ few)
 
 pub returns-then-came-lt4-clause-seen : goal.returns-then-came-lt4-clause-seen
 returns-then-came-lt4-clause-seen g c =
